@@ -1,0 +1,14 @@
+pub mod Tree
+pub mod Numbers
+pub mod Text
+pub mod Term
+pub mod Equal
+pub mod Answer
+pub mod Head
+pub mod Reading
+pub mod Rows
+pub mod Canonical
+pub mod Message
+pub mod AtomList
+pub mod Look
+pub mod Cases
