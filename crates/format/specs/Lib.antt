@@ -6,9 +6,10 @@ pub mod Equal
 pub mod Answer
 pub mod Head
 pub mod Reading
+pub mod AtomList
+pub mod Message
 pub mod Rows
 pub mod Canonical
-pub mod Message
-pub mod AtomList
+pub mod Writing
 pub mod Look
-pub mod Cases
+pub mod Answers
