@@ -19,9 +19,14 @@ pub big-append : (xs ys : List ℕ) → big-endian (xs ++ ys) ≡ big-endian xs 
 unfolding big-endian
 big-append [] ys = omega arith
 big-append (x ∷ xs) ys =
-    ap₂ (λ (n m : ℕ). x * 256 ^ n + m) (length-append xs ys) (big-append xs ys)
-    ∙ ap (λ (m : ℕ). x * m + (big-endian xs * 256 ^ length ys + big-endian ys)) (pow-add 256 (length xs) (length ys))
-    ∙ sym (ap (λ (m : ℕ). m + big-endian ys) (add-mul (x * 256 ^ length xs) (big-endian xs) (256 ^ length ys) ∙ ap (λ (m : ℕ). m + big-endian xs * 256 ^ length ys) (mul-assoc x (256 ^ length xs) (256 ^ length ys))) ∙ add-assoc (x * (256 ^ length xs * 256 ^ length ys)) (big-endian xs * 256 ^ length ys) (big-endian ys))
+    let p : ℕ = 256 ^ length xs in
+    let q : ℕ = 256 ^ length ys in
+    let b : ℕ = big-endian xs in
+    let c : ℕ = big-endian ys in
+    let e : 256 ^ length (xs ++ ys) ≡ p * q = ap (λ (n : ℕ). 256 ^ n) (length-append xs ys) ∙ pow-add 256 (length xs) (length ys) in
+    let f : (x * p + b) * q ≡ x * (p * q) + b * q = add-mul (x * p) b q ∙ ap (λ (m : ℕ). m + b * q) (mul-assoc x p q) in
+    ap₂ (λ (m n : ℕ). x * m + n) e (big-append xs ys)
+    ∙ sym (ap (λ (m : ℕ). m + c) f ∙ add-assoc (x * (p * q)) (b * q) c)
 
 -- a number from its halves
 pub big-halves : (s : List ℕ) (at i j : ℕ) → at + i + j ≤ length s
@@ -46,7 +51,8 @@ pub bytes-halves : (i j n : ℕ) → in-bytes (i + j) n ≡ in-bytes i (n / 256 
 unfolding in-bytes
 bytes-halves zero j n = ap (λ (k : ℕ). in-bytes k n) (zero-add j)
 bytes-halves (suc i) j n =
-    let e : n / 256 ^ (i + j) ≡ n / 256 ^ j / 256 ^ i = ap (λ (k : ℕ). n / 256 ^ k) (add-comm i j) ∙ ap (λ (m : ℕ). n / m) (pow-add 256 j i) ∙ sym (div-div-eq-div-mul n (256 ^ j) (256 ^ i)) in
+    let p : 256 ^ (i + j) ≡ 256 ^ j * 256 ^ i = ap (λ (k : ℕ). 256 ^ k) (add-comm i j) ∙ pow-add 256 j i in
+    let e : n / 256 ^ (i + j) ≡ n / 256 ^ j / 256 ^ i = ap (λ (m : ℕ). n / m) p ∙ sym (div-div-eq-div-mul n (256 ^ j) (256 ^ i)) in
     ap (λ (k : ℕ). in-bytes k n) (suc-add i j) ∙ ap₂ (λ (m : ℕ) (l : List ℕ). m % 256 ∷ l) e (bytes-halves i j n)
 
 -- k bytes hold a number's last k bytes
@@ -54,12 +60,15 @@ pub bytes-mod : (k n : ℕ) → in-bytes k (n % 256 ^ k) ≡ in-bytes k n
 unfolding in-bytes
 bytes-mod zero n = refl
 bytes-mod (suc k) n =
-    let p : 0 < 256 ^ k = one-le-pow k 256 (lit< tt) in
-    let e : n % 256 ^ suc k ≡ n / 256 ^ k % 256 * 256 ^ k + n % 256 ^ k = ap (λ (m : ℕ). n % m) (pow-succ' 256 k) ∙ mod-mul n {m = 256} {c = 256 ^ k} (lit< tt) p in
-    let h : n % 256 ^ suc k / 256 ^ k % 256 ≡ n / 256 ^ k % 256 = ap (λ (m : ℕ). m / 256 ^ k % 256) e ∙ ap (λ (m : ℕ). m % 256) (digits-div (n / 256 ^ k % 256) (mod-lt n p)) ∙ mod-mod (n / 256 ^ k) 256 in
-    let l : n % 256 ^ suc k % 256 ^ k ≡ n % 256 ^ k = ap (λ (m : ℕ). m % 256 ^ k) e ∙ digits-mod (n / 256 ^ k % 256) (mod-lt n p) in
-    ap₂ (λ (m : ℕ) (r : List ℕ). m ∷ r) h
-    (sym (bytes-mod k (n % 256 ^ suc k)) ∙ ap (λ (m : ℕ). in-bytes k m) l ∙ bytes-mod k n)
+    let c : ℕ = 256 ^ k in
+    let m : ℕ = n % 256 ^ suc k in
+    let p : 0 < c = one-le-pow k 256 (lit< tt) in
+    let e : m ≡ n / c % 256 * c + n % c = ap (λ (x : ℕ). n % x) (pow-succ' 256 k) ∙ mod-mul n {m = 256} {c = c} (lit< tt) p in
+    let high : m / c ≡ n / c % 256 = ap (λ (x : ℕ). x / c) e ∙ digits-div (n / c % 256) (mod-lt n p) in
+    let low : m % c ≡ n % c = ap (λ (x : ℕ). x % c) e ∙ digits-mod (n / c % 256) (mod-lt n p) in
+    ap₂ (λ (x : ℕ) (r : List ℕ). x ∷ r)
+    (ap (λ (x : ℕ). x % 256) high ∙ mod-mod (n / c) 256)
+    (sym (bytes-mod k m) ∙ ap (λ (x : ℕ). in-bytes k x) low ∙ bytes-mod k n)
 
 -- the stores of both halves
 pub put-halves : (d : List ℕ) (at i j n : ℕ) → sets (sets d at (in-bytes i (n / 256 ^ j))) (at + i) (in-bytes j (n % 256 ^ j)) ≡ sets d at (in-bytes (i + j) n)

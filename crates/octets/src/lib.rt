@@ -114,10 +114,10 @@ pub fn clear_bytes(d: &mut [u8], from: usize)
 pub fn clear_words(d: &mut [u64], from: usize)
     ensures { λ _. ⌜ now (d .exit) ≡ cleared from (now (d .entry)) ⌝ }
 {
-    let mut i = from;
-    while i < d.len() {
-        d[i] = 0;
-        i += 1;
+    let mut w = from;
+    while w < d.len() {
+        d[w] = 0;
+        w += 1;
     }
 }
 
