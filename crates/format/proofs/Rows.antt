@@ -1,6 +1,6 @@
 -- How many rows terms have, and where the rows of their parts stand.
 use mathlib.Core.Path.{_≡_, refl, sym, _∙_, ap, ap₂}
-use mathlib.Core.List.{List, [], _∷_, _++_, append-assoc}
+use mathlib.Core.List.{List, _++_, append-assoc}
 use mathlib.Core.Option.{Option, some}
 use Prim.Native.Nat.{ℕ, suc, _+_, max, _≤_, _<_}
 use native.Mathlib.Omega.{arith}
