@@ -1,3 +1,4 @@
+-- `text::put_latin1` meets its contract. The loop has written the first i characters. Assumes nothing.
 use mathlib.Core.Path.{_≡_, _∙_, ap}
 use Prim.Native.Nat.{ℕ, _+_, _-_, _≤_}
 use native.Mathlib.Omega.{arith}
@@ -16,7 +17,8 @@ abbrev μ-loop : tie.MeasureT-loop
 μ-loop src a n dst₀ b end₀ i₀ dst end i = n - i
 
 loop-holds : tie.Need-loop-holds Inv-loop μ-loop
-loop-holds c = let a = c .before .before .args in (omega arith, omega (arith, ap length (encodes-none (a .src .now) (a .a))), rw (encodes-none (a .src .now) (a .a)))
+loop-holds c =
+    let a = c .before .before .args in (omega arith, omega (arith, ap length (encodes-none (a .src .now) (a .a))), rw (encodes-none (a .src .now) (a .a)))
 
 add-put-character : tie.Need-add-put-character Inv-loop μ-loop
 add-put-character c = omega arith
@@ -25,7 +27,8 @@ shared-slice-read-put-character : tie.Need-shared-slice-read-put-character Inv-l
 shared-slice-read-put-character c = omega arith
 
 put-character-requires : tie.Need-put-character-requires Inv-loop μ-loop
-put-character-requires c κs = let a = c .before .before .before .before .before .before .args in
+put-character-requires c κs =
+    let a = c .before .before .before .before .before .before .args in
     let l = c .before .before .before .loop in
     omega (arith, room-for (a .src .now) (a .a) (l .i) (a .n) (omega arith) (omega arith), ap length (l .inv .2) ∙ length-sets (a .dst .now) (a .b) (encodes (take (l .i) (drop (a .a) (a .src .now)))))
 
@@ -36,7 +39,8 @@ loop-less : tie.Need-loop-less Inv-loop μ-loop
 loop-less c = omega arith
 
 loop-again : tie.Need-loop-again Inv-loop μ-loop
-loop-again c = let a = c .before .before .before .before .before .before .before .before .before .args in
+loop-again c =
+    let a = c .before .before .before .before .before .before .before .before .before .args in
     let l = c .before .before .before .before .before .before .loop in (
       omega arith,
       omega (arith, length-more (a .src .now) (a .a) (l .i) (omega arith)),
@@ -47,12 +51,14 @@ sub-result : tie.Need-sub-result Inv-loop μ-loop
 sub-result c = omega arith
 
 same-length : tie.Need-same-length Inv-loop μ-loop
-same-length c = let a = c .before .before .before .before .args in
+same-length c =
+    let a = c .before .before .before .before .args in
     let l = c .before .loop in
     ap length (l .inv .2) ∙ length-sets (a .dst .now) (a .b) (encodes (take (l .i) (drop (a .a) (a .src .now))))
 
 returns : tie.Need-returns Inv-loop μ-loop
-returns c = let a = c .before .before .before .before .args in
+returns c =
+    let a = c .before .before .before .before .args in
     let l = c .before .loop in
     let e : l .i ≡ a .n = omega arith in (
       omega (arith, ap (λ (n : ℕ). length (encodes (take n (drop (a .a) (a .src .now))))) e),

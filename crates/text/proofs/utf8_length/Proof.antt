@@ -1,3 +1,4 @@
+-- `text::utf8_length` meets its contract. The loop has counted the bytes of the first i characters. Assumes nothing.
 use mathlib.Core.Path.{_≡_, _∙_, ap}
 use Prim.Native.Nat.{ℕ, _-_, _*_, _≤_}
 use native.Mathlib.Omega.{arith}
@@ -15,7 +16,8 @@ abbrev μ-loop : tie.MeasureT-loop
 μ-loop s at n count₀ i₀ count i = n - i
 
 loop-holds : tie.Need-loop-holds Inv-loop μ-loop
-loop-holds c = let a = c .before .args in (omega arith, omega (arith, ap length (encodes-none (a .s .now) (a .at))), omega arith)
+loop-holds c =
+    let a = c .before .args in (omega arith, omega (arith, ap length (encodes-none (a .s .now) (a .at))), omega arith)
 
 add-width : tie.Need-add-width Inv-loop μ-loop
 add-width c = omega arith
@@ -36,12 +38,14 @@ loop-less : tie.Need-loop-less Inv-loop μ-loop
 loop-less c = omega arith
 
 loop-again : tie.Need-loop-again Inv-loop μ-loop
-loop-again c = let a = c .before .before .before .before .before .args in
+loop-again c =
+    let a = c .before .before .before .before .before .args in
     let l = c .before .before .before .loop in
     (omega arith, omega (arith, length-more (a .s .now) (a .at) (l .i) (omega arith)), omega arith)
 
 returns : tie.Need-returns Inv-loop μ-loop
-returns c = let a = c .before .before .before .args in
+returns c =
+    let a = c .before .before .before .args in
     let l = c .before .loop in
     let e : l .i ≡ a .n = omega arith in
     (l .inv .1 ∙ ap (λ (n : ℕ). length (encodes (take n (drop (a .at) (a .s .now))))) e, omega arith)
