@@ -1,0 +1,78 @@
+-- What the code says of a term's tag and fields, from what the definitions say.
+use mathlib.Core.Path.{_≡_}
+use mathlib.Core.Bool.{true, false}
+use mathlib.Core.List.{List}
+use Prim.Native.Nat.{ℕ, _+_, _≤_}
+use lib.ListN.{length}
+use Rattle.format.specs.Answer.{Answer, good, refused, Position}
+use Rattle.format.specs.Term.{Label}
+use Rattle.format.specs.Head.{any, an-atom, an-arity, parts, characters, elements, pairs, known, pid-fields, port-fields, reference-fields, old-reference-fields}
+use Rattle.format.specs.Head as format
+use Rattle.format.specs.Head.{bits-rule, bits-meaning, fields}
+use Rattle.format.specs.Rows.{kind-of}
+use Rattle.format.proofs.Bridge.{at-offset}
+use Rattle.heads.specs.declared.Wanted.{Wanted}
+use Rattle.heads.specs.declared.Wanted.the-variants.{Any, Atom, Arity}
+use Rattle.heads.specs.declared.Later.{Later}
+use Rattle.heads.specs.declared.Later.the-variants.{Known, Pid, Port, Reference, OldReference}
+use Rattle.heads.specs.declared.Head.{Head}
+use Rattle.heads.specs.declared.Head.the-variants.{Refused, Parts, Characters, Elements, Pairs}
+use Rattle.heads.specs.declared.Opening.{Opening}
+use Rattle.heads.specs.declared.Step.{Step}
+use Rattle.heads.specs.declared.Step.the-variants as step
+
+unfoldable pub wanted-of : Wanted → format.Wanted
+wanted-of Any = any
+wanted-of Atom = an-atom
+wanted-of Arity = an-arity
+
+-- the kind of the term, which its later fields do not change
+unfoldable pub kind-later : format.Later → ℕ
+kind-later (known l) = kind-of l
+kind-later (pid-fields w) = 10
+kind-later (port-fields v w) = 11
+kind-later (reference-fields k w) = 12
+kind-later old-reference-fields = 12
+
+unfoldable pub later-of : format.Later → Later
+later-of (known l) = Known
+later-of (pid-fields w) = Pid w
+later-of (port-fields v w) = Port v w
+later-of (reference-fields k w) = Reference k w
+later-of old-reference-fields = OldReference
+
+-- a head, and the offset past it
+unfoldable pub head-at : format.Head → ℕ → Head
+head-at (parts ws n l) next = Parts (kind-later l) (length ws) n (later-of l) next
+head-at (characters cs) next = Characters (length cs) next
+head-at (elements n) next = Elements n next
+head-at (pairs n) next = Pairs n next
+
+unfoldable pub head-of : Answer (format.Head × Position) → Head
+head-of (refused n p) = Refused n p
+head-of (good x) = head-at (x .0) (x .1 .at)
+
+-- the fields after the tag at `at` of a message
+unfoldable pub fields-of : format.Atoms → List ℕ → ℕ → format.Form → ℕ → Head
+fields-of atoms m at f rows = head-of (fields atoms at f (at-offset m (at + 1) rows))
+
+-- the width of a field, in bytes
+pub record Width (w : ℕ) : Type 0 where
+  pub some : 1 ≤ w
+  pub most : w ≤ 4
+  pub even : w ≡ 3 → ⊥
+
+-- the kind k of n bytes with `bits` bits in the last one; 0 where the rule is broken
+pub record Bits (n bits k : ℕ) : Type 0 where
+  pub broken : k ≡ 0 → bits-rule n bits ≡ false
+  pub kept : (k ≡ 0 → ⊥) → bits-rule n bits ≡ true
+  pub kind : (k ≡ 0 → ⊥) → (bs : List ℕ) → kind-of (bits-meaning bits bs) ≡ k
+
+unfoldable pub opening-of : Answer ((ℕ × format.Head) × Position) → Opening
+opening-of (refused n p) = record { place = p; head = Refused n p }
+opening-of (good x) = record { place = x .0 .0; head = head-at (x .0 .1) (x .1 .at) }
+
+-- later fields: where they end
+unfoldable pub step-of : Answer (Label × Position) → Step
+step-of (refused n p) = step.Refused n p
+step-of (good x) = step.Got (x .1 .at)
