@@ -6,13 +6,13 @@ use Prim.Native.Nat.{ℕ, zero, suc, _+_, _-_, _^_, _≤_, _<_}
 use native.Mathlib.Omega.{arith}
 use lib.ListN.{length, getD, take, drop, replicate, length-append, length-replicate, length-drop}
 use lib.Seq.{sets, sets-eq, getD-drop, drop-drop, drop-append-seam, drop-at, length-take-le, getD-append-add}
-use Rattle.format.specs.Tree.{Forest, node, _▹_, count, size, sizes}
+use Rattle.format.specs.Tree.{Forest, node, _▹_, _▹▹_, count, size, sizes}
 use Rattle.format.specs.Term.{Label, integer, float, atom, tuple, list, improper-list, binary, bitstring, map, pid, port, reference, export}
 use Rattle.format.specs.Answer.{good, refused}
 use Rattle.format.specs.Reading.{Place, tag-at, character-at, Located}
 use Rattle.format.specs.Message.{Terms}
 use Rattle.format.specs.Rows.{Row, tree-rows, rows, kind-of, kind-at, offset-of, whole-code, pack, Small-fields, kind-in, offset-in, whole-in, parts-in, size-in, word, words-of, table-after}
-use Rattle.format.proofs.Rows.{Each-node, Each-nodes, count-le-sizes, length-tree-rows, length-rows}
+use Rattle.format.proofs.Rows.{Each-node, Each-nodes, count-le-sizes, length-tree-rows, length-rows, rows-join}
 
 -- ---- a word
 
@@ -84,6 +84,18 @@ pub tag-of-kind : (l : Label) (p : Place) → (kind-at l p ≡ 14 → ⊥) → p
 unfolding kind-at offset-of
 tag-of-kind l (tag-at p) other = refl
 tag-of-kind l (character-at p) other = absurd (other refl)
+
+-- ---- the code of a whole
+
+pub no-whole : (w : Option ℕ) → whole-code w ≡ 0 → w ≡ none
+unfolding whole-code
+no-whole none e = refl
+no-whole (some n) e = absurd (omega arith)
+
+pub whole-at : (w : Option ℕ) (n : ℕ) → whole-code w ≡ n + 1 → w ≡ some n
+unfolding whole-code
+whole-at none n e = absurd (omega arith)
+whole-at (some m) n e = let same : m ≡ n = omega arith in ap (λ (k : ℕ). some k) same
 
 -- ---- the word of a row
 
@@ -216,6 +228,22 @@ pub record Rows-here (T : List ℕ) (whole : Option ℕ) (n : ℕ) (ts : Terms) 
 -- the row of a term with this label and these parts
 abbrev pub row-of : Option ℕ → Label × Place → Terms → Row
 row-of whole l ts = record { label = l .0; place = l .1; whole = whole; parts = count ts; size = suc (sizes ts) }
+
+-- a run of terms after another
+module _ {T : List ℕ} {whole : Option ℕ} {n : ℕ} (ts us : Terms) (h : Rows-here T whole n (ts ▹▹ us)) where
+  join-here : Here T n (words-of (rows whole n ts) ++ words-of (rows whole (n + sizes ts) us))
+  join-here = rw (rows-join, words-of-join) at (h .words)
+
+  pub left-here : Rows-here T whole n ts
+  left-here = record { words = here-left (words-of (rows whole n ts)) (words-of (rows whole (n + sizes ts) us)) join-here }
+
+  pub right-here : Rows-here T whole (n + sizes ts) us
+  right-here =
+      record {
+        words = here-right (sizes ts) (words-of (rows whole n ts)) (words-of (rows whole (n + sizes ts) us))
+            (length-words-of (rows whole n ts) ∙ length-rows whole n ts)
+            join-here;
+      }
 
 module _ {T : List ℕ} {whole : Option ℕ} {n : ℕ} where
   split-here : (t : Located) (ts : Terms) → Rows-here T whole n (t ▹ ts) → Here T n (words-of (tree-rows whole n t) ++ words-of (rows whole (n + size t) ts))
