@@ -1,1 +1,3 @@
 mod Leaves
+mod Texts
+mod LaterFields

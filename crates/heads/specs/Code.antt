@@ -1,14 +1,20 @@
 -- What the code says of a term's tag and fields, from what the definitions say.
 use mathlib.Core.Path.{_≡_}
-use mathlib.Core.Bool.{true, false}
-use mathlib.Core.List.{List}
-use Prim.Native.Nat.{ℕ, _+_, _≤_}
-use lib.ListN.{length}
+use mathlib.Core.Bool.{Bool, true, false}
+use mathlib.Core.List.{List, [], _∷_}
+use Prim.Native.Nat.{ℕ, zero, suc, _+_, _≤_}
+use lib.ListN.{length, take, drop}
 use Rattle.format.specs.Answer.{Answer, good, refused, Position}
 use Rattle.format.specs.Term.{Label}
 use Rattle.format.specs.Head.{any, an-atom, an-arity, parts, characters, elements, pairs, known, pid-fields, port-fields, reference-fields, old-reference-fields}
 use Rattle.format.specs.Head as format
-use Rattle.format.specs.Head.{bits-rule, bits-meaning, fields}
+use Rattle.format.specs.Head.{bits-rule, bits-meaning, fields, later}
+use Rattle.format.specs.Text.{Coding, latin-1, utf-8, check}
+use Rattle.format.specs.AtomList.{AtomList}
+use Rattle.format.specs.Numbers.{big-endian}
+use Rattle.text.specs.declared.Checked.{Checked}
+use Rattle.text.specs.declared.Checked.the-variants as checked
+use Rattle.text.specs.Shown.{shown}
 use Rattle.format.specs.Rows.{kind-of}
 use Rattle.format.proofs.Bridge.{at-offset}
 use Rattle.heads.specs.declared.Wanted.{Wanted}
@@ -76,3 +82,28 @@ opening-of (good x) = record { place = x .0 .0; head = head-at (x .0 .1) (x .1 .
 unfoldable pub step-of : Answer (Label × Position) → Step
 step-of (refused n p) = step.Refused n p
 step-of (good x) = step.Got (x .1 .at)
+
+-- the later fields, from `at` on, of the term at `place`
+unfoldable pub later-fields : List ℕ → ℕ → ℕ → format.Later → ℕ → Step
+later-fields m at place l rows = step-of (later place l (at-offset m at rows))
+
+-- k words of four bytes
+unfoldable pub words-at : List ℕ → ℕ → ℕ → List ℕ
+words-at m zero at = []
+words-at m (suc k) at = big-endian (take 4 (drop at m)) ∷ words-at m k (at + 4)
+
+-- the atom list as it is lent
+abbrev pub lent : ℕ → List ℕ → List ℕ → AtomList
+lent n places lengths = record { n = n; places = places; lengths = lengths }
+
+unfoldable pub coding-of : Bool → Coding
+coding-of true = latin-1
+coding-of false = utf-8
+
+unfoldable pub found-valid : Checked → Bool
+found-valid (checked.Characters n) = true
+found-valid (checked.Bad k) = false
+
+-- whether bytes are a text
+unfoldable pub is-text : Bool → List ℕ → Bool
+is-text latin bs = found-valid (shown (check (coding-of latin) bs))

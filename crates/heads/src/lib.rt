@@ -1,20 +1,20 @@
 // A term's tag and its fields: one small function for each layout, and the one that picks among them.
 ghost use mathlib.Core.Path.{_≡_};
-ghost use mathlib.Core.Bool.{true, false};
-ghost use mathlib.Core.List.{List};
-ghost use Prim.Native.Nat.{ℕ, _+_, _≤_, _<_};
-ghost use lib.Dec.{ltb};
+ghost use mathlib.Core.Bool.{true, _||_};
+ghost use Prim.Native.Nat.{ℕ, _+_, _*_, _≤_, _<_};
+ghost use lib.Dec.{eqb, ltb};
 ghost use lib.IntN.{ℤ};
 ghost use lib.ListN.{length, take, drop};
 ghost use Rattle.format.specs.Numbers.{big-endian};
 ghost use Rattle.format.specs.Term.{integer};
 ghost use Rattle.format.specs.Answer.{after, done};
 ghost use Rattle.format.specs.Answer as answer;
-ghost use Rattle.format.specs.Head.{Atoms, leaf, fields, tuple-ext, list-ext, map-ext, string-ext, binary-ext, bit-binary-ext, big-ext, new-float-ext, new-reference-ext, bits-rule, bits-meaning, finite};
+ghost use Rattle.format.specs.Head.{Atoms, leaf, tuple-ext, list-ext, map-ext, string-ext, binary-ext, bit-binary-ext, big-ext, new-float-ext, new-reference-ext, atom-ext, atom-cache-ref};
+ghost use Rattle.format.specs.Head.{pid-fields, port-fields, reference-fields, old-reference-fields, creation-rule, words-rule};
 ghost use Rattle.format.specs.Head as format;
-ghost use Rattle.format.specs.Rows.{kind-of};
+ghost use Rattle.format.specs.AtomList.{of-size, atoms-of};
 ghost use Rattle.format.proofs.Bridge.{at-offset};
-ghost use Rattle.heads.specs.Code.{Width, fields-of, Bits, head-of};
+ghost use Rattle.heads.specs.Code.{Width, Bits, head-of, fields-of, later-of, lent, found-valid, coding-of, is-text, words-at, later-fields};
 
 // Which terms may stand at a place.
 pub enum Wanted {
@@ -358,5 +358,259 @@ fn reference(msg: &[u8], at: usize, width: usize) -> Head
         count: 0,
         later: Later::Reference { words, width },
         next: at + 1 + 2,
+    }
+}
+
+// Whether a text was found.
+fn is_valid(c: text::Checked) -> bool
+    ensures { λ r. ⌜ r ≡ found-valid c ⌝ }
+{
+    match c {
+        text::Checked::Characters(_) => true,
+        text::Checked::Bad(_) => false,
+    }
+}
+
+// Whether bytes are a text, in Latin-1 or in UTF-8.
+fn is_text(s: &[u8], latin: bool) -> bool
+    ensures { λ r. ⌜ r ≡ is-text latin (now (s .entry)) ⌝ }
+{
+    if latin {
+        return is_valid(text::check_latin1(s));
+    }
+    is_valid(text::check_utf8(s))
+}
+
+// Tags 100 and 115 (Latin-1), 118 and 119 (UTF-8): a count of bytes, the bytes of a text.
+fn atom(msg: &[u8], at: usize, width: usize, latin: bool) -> Head
+    requires { ⌜ (at < length (now msg)) × Width width ⌝ }
+    ensures { λ r. ⌜ ((atoms : Atoms) (rows : ℕ) → r ≡ fields-of atoms (now (msg .entry)) at (atom-ext (coding-of latin) width) rows) ⌝ }
+{
+    let left = msg.len() - at - 1;
+    if left < width {
+        return Head::Refused {
+            number: 2,
+            place: at,
+        };
+    }
+    let n = number(msg, at + 1, width);
+    if left - width < n {
+        return Head::Refused {
+            number: 2,
+            place: at,
+        };
+    }
+    let from = at + 1 + width;
+    let end = from + n;
+    if !is_text(&msg[from..end], latin) {
+        return Head::Refused {
+            number: 5,
+            place: at,
+        };
+    }
+    Head::Parts {
+        kind: 3,
+        wanted: 0,
+        count: 0,
+        later: Later::Known,
+        next: at + 1 + width + n,
+    }
+}
+
+// Tag 82: an index of this list, and the text at its place.
+fn cached_atom(msg: &[u8], n: u8, places: &[u8], lengths: &[u16], at: usize) -> Head
+    requires { ⌜ (at < length (now msg)) × (of-size (lent n (now places) (now lengths)) ≡ true) ⌝ }
+    ensures { λ r. ⌜ ((rows : ℕ) → r ≡ fields-of (atoms-of (lent n (now (places .entry)) (now (lengths .entry)))) (now (msg .entry)) at atom-cache-ref rows) ⌝ }
+{
+    if msg.len() - at - 1 < 1 {
+        return Head::Refused {
+            number: 2,
+            place: at,
+        };
+    }
+    let i = octets::big1(msg, at + 1);
+    if octets::wide(n) <= i {
+        return Head::Refused {
+            number: 6,
+            place: at,
+        };
+    }
+    let length = lengths[i];
+    if 32 < length {
+        return Head::Refused {
+            number: 14,
+            place: 0,
+        };
+    }
+    let from = 32 * i;
+    let end = from + length as usize;
+    if !is_text(&places[from..end], false) {
+        return Head::Refused {
+            number: 14,
+            place: 0,
+        };
+    }
+    Head::Parts {
+        kind: 3,
+        wanted: 0,
+        count: 0,
+        later: Later::Known,
+        next: at + 1 + 1,
+    }
+}
+
+// Whether the number in `width` bytes is below `limit`.
+fn below(msg: &[u8], at: usize, width: usize, limit: usize) -> bool
+    requires { ⌜ (at + width ≤ length (now msg)) × (1 ≤ limit) × (limit ≤ 4294967296) ⌝ }
+    ensures { λ r. ⌜ r ≡ ltb (big-endian (take width (drop at (now (msg .entry))))) limit ⌝ }
+{
+    let mut n = 0usize;
+    let mut i = 0usize;
+    while i < width {
+        n = n * 256 + octets::wide(msg[at + i]);
+        if limit <= n {
+            return false;
+        }
+        i += 1;
+    }
+    true
+}
+
+// A Creation of one byte is at most 3.
+fn creation_fits(msg: &[u8], at: usize, width: usize) -> bool
+    requires { ⌜ at + width ≤ length (now msg) ⌝ }
+    ensures { λ r. ⌜ r ≡ creation-rule width (big-endian (take width (drop at (now (msg .entry))))) ⌝ }
+{
+    if width != 1 {
+        return true;
+    }
+    below(msg, at, 1, 4)
+}
+
+// A port's ID is under 2^28, but not in 8 bytes.
+fn port_id_fits(msg: &[u8], at: usize, width: usize) -> bool
+    requires { ⌜ at + width ≤ length (now msg) ⌝ }
+    ensures { λ r. ⌜ r ≡ (eqb width 8 || ltb (big-endian (take width (drop at (now (msg .entry))))) 268435456) ⌝ }
+{
+    if width == 8 {
+        return true;
+    }
+    below(msg, at, width, 268435456)
+}
+
+// With a Creation of one byte, the first word is under 2^18.
+fn words_fit(msg: &[u8], at: usize, words: usize, width: usize) -> bool
+    requires { ⌜ at + words * 4 ≤ length (now msg) ⌝ }
+    ensures { λ r. ⌜ r ≡ words-rule width (words-at (now (msg .entry)) words at) ⌝ }
+{
+    if words == 0 {
+        return true;
+    }
+    if width != 1 {
+        return true;
+    }
+    below(msg, at, 4, 262144)
+}
+
+// ID, Serial, Creation.
+fn pid_fields(msg: &[u8], at: usize, place: usize, width: usize) -> Step
+    requires { ⌜ at ≤ length (now msg) ⌝ }
+    ensures { λ r. ⌜ ((rows : ℕ) → r ≡ later-fields (now (msg .entry)) at place (pid-fields width) rows) ⌝ }
+{
+    let left = msg.len() - at;
+    if left < 8 {
+        return Step::Refused { number: 2, place };
+    }
+    if left - 8 < width {
+        return Step::Refused { number: 2, place };
+    }
+    if !below(msg, at, 4, 32768) {
+        return Step::Refused { number: 4, place };
+    }
+    if !below(msg, at + 4, 4, 8192) {
+        return Step::Refused { number: 4, place };
+    }
+    if !creation_fits(msg, at + 4 + 4, width) {
+        return Step::Refused { number: 4, place };
+    }
+    Step::Got {
+        next: at + 4 + 4 + width,
+    }
+}
+
+// ID, Creation.
+fn port_fields(msg: &[u8], at: usize, place: usize, id: usize, width: usize) -> Step
+    requires { ⌜ at ≤ length (now msg) ⌝ }
+    ensures { λ r. ⌜ ((rows : ℕ) → r ≡ later-fields (now (msg .entry)) at place (port-fields id width) rows) ⌝ }
+{
+    let left = msg.len() - at;
+    if left < id {
+        return Step::Refused { number: 2, place };
+    }
+    if left - id < width {
+        return Step::Refused { number: 2, place };
+    }
+    if !port_id_fits(msg, at, id) {
+        return Step::Refused { number: 4, place };
+    }
+    if !creation_fits(msg, at + id, width) {
+        return Step::Refused { number: 4, place };
+    }
+    Step::Got {
+        next: at + id + width,
+    }
+}
+
+// Creation, words.
+fn reference_fields(msg: &[u8], at: usize, place: usize, words: usize, width: usize) -> Step
+    requires { ⌜ at ≤ length (now msg) ⌝ }
+    ensures { λ r. ⌜ ((rows : ℕ) → r ≡ later-fields (now (msg .entry)) at place (reference-fields words width) rows) ⌝ }
+{
+    let left = msg.len() - at;
+    if left < width {
+        return Step::Refused { number: 2, place };
+    }
+    if (left - width) / 4 < words {
+        return Step::Refused { number: 2, place };
+    }
+    if !creation_fits(msg, at, width) {
+        return Step::Refused { number: 4, place };
+    }
+    if !words_fit(msg, at + width, words, width) {
+        return Step::Refused { number: 4, place };
+    }
+    Step::Got {
+        next: at + width + words * 4,
+    }
+}
+
+// One word, Creation of one byte.
+fn old_reference_fields(msg: &[u8], at: usize, place: usize) -> Step
+    requires { ⌜ at ≤ length (now msg) ⌝ }
+    ensures { λ r. ⌜ ((rows : ℕ) → r ≡ later-fields (now (msg .entry)) at place old-reference-fields rows) ⌝ }
+{
+    if msg.len() - at < 5 {
+        return Step::Refused { number: 2, place };
+    }
+    if !words_fit(msg, at, 1, 1) {
+        return Step::Refused { number: 4, place };
+    }
+    if !creation_fits(msg, at + 4, 1) {
+        return Step::Refused { number: 4, place };
+    }
+    Step::Got { next: at + 4 + 1 }
+}
+
+// The fields after the parts of the term at `place`: all are there (2) before one is judged (4).
+pub fn read_later(msg: &[u8], at: usize, place: usize, later: Later) -> Step
+    requires { ⌜ at ≤ length (now msg) ⌝ }
+    ensures { λ r. ⌜ ((l : format.Later) (rows : ℕ) → later-of l ≡ later → r ≡ later-fields (now (msg .entry)) at place l rows) ⌝ }
+{
+    match later {
+        Later::Known => Step::Got { next: at },
+        Later::Pid { width } => pid_fields(msg, at, place, width),
+        Later::Port { id, width } => port_fields(msg, at, place, id, width),
+        Later::Reference { words, width } => reference_fields(msg, at, place, words, width),
+        Later::OldReference => old_reference_fields(msg, at, place),
     }
 }
