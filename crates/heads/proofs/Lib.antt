@@ -1,3 +1,4 @@
 mod Leaves
 mod Texts
 mod LaterFields
+mod Tags

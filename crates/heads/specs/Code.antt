@@ -4,11 +4,11 @@ use mathlib.Core.Bool.{Bool, true, false}
 use mathlib.Core.List.{List, [], _∷_}
 use Prim.Native.Nat.{ℕ, zero, suc, _+_, _≤_}
 use lib.ListN.{length, take, drop}
-use Rattle.format.specs.Answer.{Answer, good, refused, Position}
+use Rattle.format.specs.Answer.{Answer, good, refused, Position, after}
 use Rattle.format.specs.Term.{Label}
 use Rattle.format.specs.Head.{any, an-atom, an-arity, parts, characters, elements, pairs, known, pid-fields, port-fields, reference-fields, old-reference-fields}
 use Rattle.format.specs.Head as format
-use Rattle.format.specs.Head.{bits-rule, bits-meaning, fields, later}
+use Rattle.format.specs.Head.{bits-rule, bits-meaning, fields, later, form-or, form-in, forms, one-of}
 use Rattle.format.specs.Text.{Coding, latin-1, utf-8, check}
 use Rattle.format.specs.AtomList.{AtomList}
 use Rattle.format.specs.Numbers.{big-endian}
@@ -107,3 +107,13 @@ found-valid (checked.Bad k) = false
 -- whether bytes are a text
 unfoldable pub is-text : Bool → List ℕ → Bool
 is-text latin bs = found-valid (shown (check (coding-of latin) bs))
+
+-- the fields that a tag has; refusal 3: a tag not in the table
+unfoldable pub tag-fields : format.Atoms → List ℕ → ℕ → ℕ → ℕ → Head
+tag-fields atoms m at tag rows = head-of (after (form-or 3 at (form-in forms tag) (at-offset m (at + 1) rows)) (fields atoms at))
+
+-- whether a term with this tag may stand where one is so wanted
+unfoldable pub allowed : Wanted → ℕ → Bool
+allowed Any tag = true
+allowed Atom tag = one-of tag (82 ∷ 100 ∷ 115 ∷ 118 ∷ 119 ∷ [])
+allowed Arity tag = one-of tag (97 ∷ [])

@@ -1,6 +1,7 @@
 // A term's tag and its fields: one small function for each layout, and the one that picks among them.
 ghost use mathlib.Core.Path.{_≡_};
 ghost use mathlib.Core.Bool.{true, _||_};
+ghost use mathlib.Core.List.{[], _∷_};
 ghost use Prim.Native.Nat.{ℕ, _+_, _*_, _≤_, _<_};
 ghost use lib.Dec.{eqb, ltb};
 ghost use lib.IntN.{ℤ};
@@ -10,11 +11,11 @@ ghost use Rattle.format.specs.Term.{integer};
 ghost use Rattle.format.specs.Answer.{after, done};
 ghost use Rattle.format.specs.Answer as answer;
 ghost use Rattle.format.specs.Head.{Atoms, leaf, tuple-ext, list-ext, map-ext, string-ext, binary-ext, bit-binary-ext, big-ext, new-float-ext, new-reference-ext, atom-ext, atom-cache-ref};
-ghost use Rattle.format.specs.Head.{pid-fields, port-fields, reference-fields, old-reference-fields, creation-rule, words-rule};
+ghost use Rattle.format.specs.Head.{pid-fields, port-fields, reference-fields, old-reference-fields, creation-rule, words-rule, one-of, head};
 ghost use Rattle.format.specs.Head as format;
 ghost use Rattle.format.specs.AtomList.{of-size, atoms-of};
 ghost use Rattle.format.proofs.Bridge.{at-offset};
-ghost use Rattle.heads.specs.Code.{Width, Bits, head-of, fields-of, later-of, lent, found-valid, coding-of, is-text, words-at, later-fields};
+ghost use Rattle.heads.specs.Code.{Width, Bits, head-of, fields-of, later-of, lent, found-valid, coding-of, is-text, words-at, later-fields, tag-fields, allowed, wanted-of};
 
 // Which terms may stand at a place.
 pub enum Wanted {
@@ -613,4 +614,114 @@ pub fn read_later(msg: &[u8], at: usize, place: usize, later: Later) -> Step
         Later::Reference { words, width } => reference_fields(msg, at, place, words, width),
         Later::OldReference => old_reference_fields(msg, at, place),
     }
+}
+
+// A head that has no fields.
+fn no_fields(at: usize, kind: usize, wanted: usize, later: Later) -> Head
+    requires { ⌜ at < 65536 ⌝ }
+    ensures { λ r. ⌜ r ≡ Head.Parts kind wanted 0 later (at + 1) ⌝ }
+{
+    Head::Parts {
+        kind,
+        wanted,
+        count: 0,
+        later,
+        next: at + 1,
+    }
+}
+
+// The fields that this tag has: the tag table.
+fn by_tag(msg: &[u8], n: u8, places: &[u8], lengths: &[u16], at: usize, tag: u8) -> Head
+    requires { ⌜ (at < length (now msg)) × (length (now msg) ≤ 65536) × (of-size (lent n (now places) (now lengths)) ≡ true) ⌝ }
+    ensures { λ r. ⌜ ((rows : ℕ) → r ≡ tag-fields (atoms-of (lent n (now (places .entry)) (now (lengths .entry)))) (now (msg .entry)) at tag rows) ⌝ }
+{
+    match tag {
+        97 => integer(msg, at, 1),
+        98 => integer(msg, at, 4),
+        110 => big(msg, at, 1),
+        111 => big(msg, at, 4),
+        70 => float(msg, at),
+        100 => atom(msg, at, 2, true),
+        115 => atom(msg, at, 1, true),
+        118 => atom(msg, at, 2, false),
+        119 => atom(msg, at, 1, false),
+        82 => cached_atom(msg, n, places, lengths, at),
+        104 => tuple(msg, at, 1),
+        105 => tuple(msg, at, 4),
+        106 => Head::Characters {
+            count: 0,
+            next: at + 1,
+        },
+        107 => string(msg, at),
+        108 => list(msg, at),
+        109 => binary(msg, at),
+        77 => bitstring(msg, at),
+        116 => map(msg, at),
+        88 => no_fields(at, 10, 1, Later::Pid { width: 4 }),
+        103 => no_fields(at, 10, 1, Later::Pid { width: 1 }),
+        89 => no_fields(at, 11, 1, Later::Port { id: 4, width: 4 }),
+        102 => no_fields(at, 11, 1, Later::Port { id: 4, width: 1 }),
+        120 => no_fields(at, 11, 1, Later::Port { id: 8, width: 4 }),
+        90 => reference(msg, at, 4),
+        114 => reference(msg, at, 1),
+        101 => no_fields(at, 12, 1, Later::OldReference),
+        113 => no_fields(at, 13, 3, Later::Known),
+        _ => Head::Refused {
+            number: 3,
+            place: at,
+        },
+    }
+}
+
+// Whether this is an atom's tag.
+fn is_atom_tag(tag: u8) -> bool
+    ensures { λ r. ⌜ r ≡ one-of tag (82 ∷ 100 ∷ 115 ∷ 118 ∷ 119 ∷ []) ⌝ }
+{
+    match tag {
+        82 => true,
+        100 => true,
+        115 => true,
+        118 => true,
+        119 => true,
+        _ => false,
+    }
+}
+
+// Whether a term with this tag may stand where one is so wanted.
+fn may_stand(wanted: Wanted, tag: u8) -> bool
+    ensures { λ r. ⌜ r ≡ allowed wanted tag ⌝ }
+{
+    match wanted {
+        Wanted::Any => true,
+        Wanted::Atom => is_atom_tag(tag),
+        Wanted::Arity => tag == 97,
+    }
+}
+
+// A term's tag and the fields before its first part.
+pub fn read_head(
+    msg: &[u8],
+    n: u8,
+    places: &[u8],
+    lengths: &[u16],
+    at: usize,
+    wanted: Wanted,
+) -> Head
+    requires { ⌜ (at ≤ length (now msg)) × (length (now msg) ≤ 65536) × (of-size (lent n (now places) (now lengths)) ≡ true) ⌝ }
+    ensures { λ r. ⌜ ((rows : ℕ) → r ≡ head-of (head (atoms-of (lent n (now (places .entry)) (now (lengths .entry)))) (wanted-of wanted) (at-offset (now (msg .entry)) at rows))) ⌝ }
+{
+    if msg.len() <= at {
+        return Head::Refused {
+            number: 2,
+            place: at,
+        };
+    }
+    let tag = msg[at];
+    if !may_stand(wanted, tag) {
+        return Head::Refused {
+            number: 4,
+            place: at,
+        };
+    }
+    by_tag(msg, n, places, lengths, at, tag)
 }
