@@ -2,14 +2,14 @@
 use mathlib.Core.Path.{_≡_, refl, sym, _∙_, ap}
 use mathlib.Core.Bool.{true, false}
 use mathlib.Core.List.{List, [], _∷_}
-use mathlib.Core.Option.{Option, none, some}
+use mathlib.Core.Option.{none, some}
 use Prim.Native.Nat.{ℕ, zero, suc, _+_, _-_, _≤_, _<_}
 use native.Mathlib.Numerals.{add-one}
 use native.Mathlib.Omega.{arith}
 use lib.ListN.{length, getD, drop, drop-of-length-le}
 use lib.Seq.{drop-cons}
 use Rattle.format.specs.Text as text
-use Rattle.format.specs.Text.{Range, _to_, holds, Line, line, lines, Begun, begun, first, valid, invalid-at, emit, decode, utf-8, check}
+use Rattle.format.specs.Text.{Range, _to_, holds, Line, line, lines, begun, first, valid, invalid-at, emit, decode, utf-8, check}
 use Rattle.format.proofs.Text.{decode-first, between, pending}
 use Rattle.text.specs.Shown.{shown}
 use Rattle.text.specs.Characters.{more, text-from, onward, Within, due, Completes, CharacterAt}

@@ -2,6 +2,7 @@
 ghost use mathlib.Core.Path.{_≡_};
 ghost use Prim.Native.Nat.{_+_, _*_, _≤_, _<_};
 ghost use lib.ListN.{length, take, drop};
+ghost use lib.Seq.{sets};
 ghost use Rattle.format.specs.Text.{_to_, holds, utf-8, latin-1, check, encode, encodes};
 ghost use Rattle.text.specs.Shown.{shown};
 ghost use Rattle.text.specs.Characters.{due, Completes, CharacterAt};
@@ -119,4 +120,56 @@ pub fn check_latin1(s: &[u8]) -> Checked
         return Checked::Bad(255);
     }
     Checked::Characters(s.len())
+}
+
+// The number of bytes that a Latin-1 character has in UTF-8.
+fn width(b: u8) -> usize
+    ensures { λ r. ⌜ (r ≡ length (encode b)) × (r ≤ 2) ⌝ }
+{
+    if b < 0x80 {
+        return 1;
+    }
+    2
+}
+
+// The number of bytes that the n Latin-1 characters from `at` on have in UTF-8.
+pub fn utf8_length(s: &[u8], at: usize, n: usize) -> usize
+    requires { ⌜ (at + n ≤ length (now s)) × (n ≤ 65536) ⌝ }
+    ensures { λ r. ⌜ (r ≡ length (encodes (take n (drop at (now (s .entry)))))) × (r ≤ 2 * n) ⌝ }
+{
+    let mut count = 0;
+    let mut i = 0;
+    while i < n {
+        count += width(s[at + i]);
+        i += 1;
+    }
+    count
+}
+
+// Writes a Latin-1 character in UTF-8 from `at` on; the offset past it.
+fn put_character(b: u8, dst: &mut [u8], at: usize) -> usize
+    requires { ⌜ at + length (encode b) ≤ length (now dst) ⌝ }
+    ensures { λ r. ⌜ (r ≡ at + length (encode b)) × (now (dst .exit) ≡ sets (now (dst .entry)) at (encode b)) ⌝ }
+{
+    if b < 0x80 {
+        dst[at] = b;
+        return at + 1;
+    }
+    dst[at] = 0xC0 + b / 64;
+    dst[at + 1] = 0x80 + b % 64;
+    at + 2
+}
+
+// Writes the n Latin-1 characters of `src` from `a` on in UTF-8 into `dst` from `b` on; the number of bytes.
+pub fn put_latin1(src: &[u8], a: usize, n: usize, dst: &mut [u8], b: usize) -> usize
+    requires { ⌜ (a + n ≤ length (now src)) × (n ≤ 65536) × (b + length (encodes (take n (drop a (now src)))) ≤ length (now dst)) ⌝ }
+    ensures { λ r. ⌜ (r ≡ length (encodes (take n (drop a (now (src .entry)))))) × (now (dst .exit) ≡ sets (now (dst .entry)) b (encodes (take n (drop a (now (src .entry)))))) ⌝ }
+{
+    let mut end = b;
+    let mut i = 0;
+    while i < n {
+        end = put_character(src[a + i], dst, end);
+        i += 1;
+    }
+    end - b
 }

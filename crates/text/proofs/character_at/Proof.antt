@@ -1,3 +1,4 @@
+-- `text::character_at` meets its contract. A byte that is past some lines of the table is in the next, or past it too. Assumes nothing.
 use mathlib.Core.Path.{sym, _∙_}
 use native.Mathlib.Omega.{arith}
 use Rattle.format.specs.Text.{lines}

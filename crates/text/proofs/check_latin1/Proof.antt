@@ -1,3 +1,4 @@
+-- `text::check_latin1` meets its contract. The test is the definition's. Assumes nothing.
 use borrow.Author.Tests.{lt-leb, le-leb}
 use Rattle.format.specs.Text.{check}
 use Rattle.text.specs.Shown.{shown}

@@ -1,3 +1,4 @@
+-- `text::check_utf8` meets its contract. The loop's invariant: as many characters as counted stand before the offset. Assumes nothing.
 use Prim.Native.Nat.{_-_, _≤_}
 use native.Mathlib.Omega.{arith}
 use lib.ListN.{length}
@@ -30,7 +31,8 @@ enum-known-place : tie.Need-enum-known-place Inv-loop μ-loop
 enum-known-place c = search needs
 
 returns-2 : tie.Need-returns-2 Inv-loop μ-loop
-returns-2 c = let l = c .before .before .before .before .before .before .loop in
+returns-2 c =
+    let l = c .before .before .before .before .before .before .loop in
     counted-bad _ _ _ (l .inv .2) (l .inv .1) (c .before .before .before .before .if1 .left) _ (rw (c .before .place .given .1) at (c .before .before .before .character-at .ensures))
 
 add-count : tie.Need-add-count Inv-loop μ-loop

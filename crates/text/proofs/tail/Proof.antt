@@ -1,3 +1,4 @@
+-- `text::tail` meets its contract. The loop's invariant: whatever the bytes still due come to, the whole comes to. Assumes nothing.
 use mathlib.Core.Path.{sym, _∙_}
 use Prim.Native.Nat.{_+_, _<_, _≤_}
 use native.Mathlib.Omega.{arith}
@@ -26,7 +27,8 @@ loop-holds : tie.Need-loop-holds Inv-loop μ-loop
 loop-holds c = (omega arith, omega arith, λ _ h. h)
 
 returns : tie.Need-returns Inv-loop μ-loop
-returns c = let l = c .before .before .loop in l .inv .2 _ (due-cut _ _ _ _ _ (c .before .loop-test .taken) (c .if1 .taken))
+returns c =
+    let l = c .before .before .loop in l .inv .2 _ (due-cut _ _ _ _ _ (c .before .loop-test .taken) (c .if1 .taken))
 
 shared-slice-read-within : tie.Need-shared-slice-read-within Inv-loop μ-loop
 shared-slice-read-within c = omega arith
@@ -35,7 +37,8 @@ within-requires : tie.Need-within-requires Inv-loop μ-loop
 within-requires c κs = search needs
 
 returns-2 : tie.Need-returns-2 Inv-loop μ-loop
-returns-2 c = let l = c .before .before .before .before .before .loop in
+returns-2 c =
+    let l = c .before .before .before .before .before .loop in
     l .inv .2 _ (due-bad _ _ _ _ _ (c .before .before .before .before .loop-test .taken) (omega arith) (sym (c .before .within .ensures) ∙ not-true _ (c .if2 .taken)))
 
 add-at-2 : tie.Need-add-at-2 Inv-loop μ-loop
@@ -48,14 +51,16 @@ loop-less : tie.Need-loop-less Inv-loop μ-loop
 loop-less c = omega arith
 
 loop-again : tie.Need-loop-again Inv-loop μ-loop
-loop-again c = let l = c .before .before .before .before .before .loop in (
-  omega arith,
-  omega arith,
-  λ d h. l .inv .2 _ (due-more _ _ _ _ _ (c .before .before .before .before .loop-test .taken) d (omega arith) (sym (c .before .within .ensures) ∙ not-false _ (c .if2 .left)) h),
-)
+loop-again c =
+    let l = c .before .before .before .before .before .loop in (
+      omega arith,
+      omega arith,
+      λ d h. l .inv .2 _ (due-more _ _ _ _ _ (c .before .before .before .before .loop-test .taken) d (omega arith) (sym (c .before .within .ensures) ∙ not-false _ (c .if2 .left)) h),
+    )
 
 returns-3 : tie.Need-returns-3 Inv-loop μ-loop
-returns-3 c = let l = c .before .loop in l .inv .2 _ (due-none _ _ _ _ _ (omega arith) (l .inv .0))
+returns-3 c =
+    let l = c .before .loop in l .inv .2 _ (due-none _ _ _ _ _ (omega arith) (l .inv .0))
 
 pub tail-spec : {M : Type 1} → statement M
 tail-spec =
