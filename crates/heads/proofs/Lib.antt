@@ -2,3 +2,4 @@ mod Leaves
 mod Texts
 mod LaterFields
 mod Tags
+pub mod Found

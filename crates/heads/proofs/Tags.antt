@@ -98,13 +98,13 @@ module _ (at tag : ℕ) (s : Position) where
       let l = listed ts h tag e in
       ap (λ (t : Bool). (elim t as (λ _. Reading Form) [ true ↦ form-or 4 at (form-in forms tag) | false ↦ refuse 4 at ]) s) e ∙ rw (l .1)
 
-  stands : (w : Wanted) → allowed w tag ≡ true → form at (wanted-of w) tag s ≡ form-or 3 at (form-in forms tag) s
+  pub stands : (w : Wanted) → allowed w tag ≡ true → form at (wanted-of w) tag s ≡ form-or 3 at (form-in forms tag) s
   unfolding form wanted-of allowed forms form-in Listed
   stands Any e = refl
   stands Atom e = only (82 ∷ 100 ∷ 115 ∷ 118 ∷ 119 ∷ []) ((atom-cache-ref, refl), ((atom-ext latin-1 2, refl), ((atom-ext latin-1 1, refl), ((atom-ext utf-8 2, refl), ((atom-ext utf-8 1, refl), tt))))) e
   stands Arity e = only (97 ∷ []) ((small-integer-ext, refl), tt) e
 
-  fails : (w : Wanted) → allowed w tag ≡ false → form at (wanted-of w) tag s ≡ refused 4 at
+  pub fails : (w : Wanted) → allowed w tag ≡ false → form at (wanted-of w) tag s ≡ refused 4 at
   unfolding form wanted-of allowed
   fails Any e = let z : _≡_ {A = ℕ} 0 1 = cc in absurd (omega arith)
   fails Atom e = ap (λ (t : Bool). (elim t as (λ _. Reading Form) [ true ↦ form-or 4 at (form-in forms tag) | false ↦ refuse 4 at ]) s) e
