@@ -3,3 +3,4 @@ mod Texts
 mod LaterFields
 mod Tags
 pub mod Found
+mod Openings

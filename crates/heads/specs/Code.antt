@@ -1,9 +1,10 @@
 -- What the code says of a term's tag and fields, from what the definitions say.
 use mathlib.Core.Path.{_≡_}
-use mathlib.Core.Bool.{Bool, true, false}
+use mathlib.Core.Bool.{Bool, true, false, _&&_}
 use mathlib.Core.List.{List, [], _∷_}
-use Prim.Native.Nat.{ℕ, zero, suc, _+_, _≤_}
-use lib.ListN.{length, take, drop}
+use Prim.Native.Nat.{ℕ, zero, suc, _+_, _-_, _≤_}
+use lib.Dec.{eqb, leb}
+use lib.ListN.{length, getD, take, drop}
 use Rattle.format.specs.Answer.{Answer, good, refused, Position, after}
 use Rattle.format.specs.Term.{Label}
 use Rattle.format.specs.Head.{any, an-atom, an-arity, parts, characters, elements, pairs, known, pid-fields, port-fields, reference-fields, old-reference-fields}
@@ -15,6 +16,7 @@ use Rattle.format.specs.Numbers.{big-endian}
 use Rattle.text.specs.declared.Checked.{Checked}
 use Rattle.text.specs.declared.Checked.the-variants as checked
 use Rattle.text.specs.Shown.{shown}
+use Rattle.format.specs.Reading.{opening}
 use Rattle.format.specs.Rows.{kind-of}
 use Rattle.format.proofs.Bridge.{at-offset}
 use Rattle.heads.specs.declared.Wanted.{Wanted}
@@ -117,3 +119,22 @@ unfoldable pub allowed : Wanted → ℕ → Bool
 allowed Any tag = true
 allowed Atom tag = one-of tag (82 ∷ 100 ∷ 115 ∷ 118 ∷ 119 ∷ [])
 allowed Arity tag = one-of tag (97 ∷ [])
+
+-- whether a 108 of length 0 stands at an offset
+unfoldable pub empty-at : List ℕ → ℕ → Bool
+empty-at m at = leb 5 (length m - at) && eqb (getD m at 0) 108 && eqb (big-endian (take 4 (drop (at + 1) m))) 0
+
+-- the bytes left bound the 108s of length 0 as long as they are as many as those of the message
+pub record Skipped (m : List ℕ) (at place : ℕ) : Type 0 where
+  pub inside : place ≤ length m
+  pub stops : empty-at m place ≡ false
+  pub opens : (atoms : format.Atoms) (rows : ℕ) (bound : List ℕ) → length m - at ≤ length bound
+      → (rest : List ℕ) × (length m - place ≤ length rest) × (opening atoms bound any (at-offset m at rows) ≡ opening atoms rest any (at-offset m place rows))
+
+-- a head with the offset of its tag; a refusal with its own place
+unfoldable pub opened-at : ℕ → Head → Opening
+opened-at at (Refused n p) = record { place = p; head = Refused n p }
+opened-at at (Parts k w c l next) = record { place = at; head = Parts k w c l next }
+opened-at at (Characters c next) = record { place = at; head = Characters c next }
+opened-at at (Elements c next) = record { place = at; head = Elements c next }
+opened-at at (Pairs c next) = record { place = at; head = Pairs c next }

@@ -13,9 +13,10 @@ ghost use Rattle.format.specs.Answer as answer;
 ghost use Rattle.format.specs.Head.{Atoms, leaf, tuple-ext, list-ext, map-ext, string-ext, binary-ext, bit-binary-ext, big-ext, new-float-ext, new-reference-ext, atom-ext, atom-cache-ref};
 ghost use Rattle.format.specs.Head.{pid-fields, port-fields, reference-fields, old-reference-fields, creation-rule, words-rule, one-of, head};
 ghost use Rattle.format.specs.Head as format;
+ghost use Rattle.format.specs.Reading.{opening};
 ghost use Rattle.format.specs.AtomList.{of-size, atoms-of};
 ghost use Rattle.format.proofs.Bridge.{at-offset};
-ghost use Rattle.heads.specs.Code.{Width, Bits, head-of, fields-of, later-of, lent, found-valid, coding-of, is-text, words-at, later-fields, tag-fields, allowed, wanted-of};
+ghost use Rattle.heads.specs.Code.{Width, Bits, head-of, fields-of, later-of, lent, found-valid, coding-of, is-text, words-at, later-fields, tag-fields, allowed, wanted-of, empty-at, Skipped, opened-at, opening-of};
 
 // Which terms may stand at a place.
 pub enum Wanted {
@@ -724,4 +725,95 @@ pub fn read_head(
         };
     }
     by_tag(msg, n, places, lengths, at, tag)
+}
+
+// Whether a 108 of length 0 stands here.
+fn empty_list_at(msg: &[u8], at: usize) -> bool
+    requires { ⌜ at ≤ length (now msg) ⌝ }
+    ensures { λ r. ⌜ r ≡ empty-at (now (msg .entry)) at ⌝ }
+{
+    if msg.len() - at < 5 {
+        return false;
+    }
+    if msg[at] != 108 {
+        return false;
+    }
+    octets::big4(msg, at + 1) == 0
+}
+
+// The offset past all 108s of length 0.
+fn skip_empty(msg: &[u8], at: usize) -> usize
+    requires { ⌜ at ≤ length (now msg) ⌝ }
+    ensures { λ r. ⌜ Skipped (now (msg .entry)) at r ⌝ }
+{
+    let mut place = at;
+    while empty_list_at(msg, place) {
+        place += 5;
+    }
+    place
+}
+
+// A head with the offset of its tag; a refusal with its own place.
+fn opened(at: usize, head: Head) -> Opening
+    ensures { λ r. ⌜ r ≡ opened-at at head ⌝ }
+{
+    match head {
+        Head::Refused { number, place } => Opening {
+            place,
+            head: Head::Refused { number, place },
+        },
+        Head::Parts {
+            kind,
+            wanted,
+            count,
+            later,
+            next,
+        } => Opening {
+            place: at,
+            head: Head::Parts {
+                kind,
+                wanted,
+                count,
+                later,
+                next,
+            },
+        },
+        Head::Characters { count, next } => Opening {
+            place: at,
+            head: Head::Characters { count, next },
+        },
+        Head::Elements { count, next } => Opening {
+            place: at,
+            head: Head::Elements { count, next },
+        },
+        Head::Pairs { count, next } => Opening {
+            place: at,
+            head: Head::Pairs { count, next },
+        },
+    }
+}
+
+// A term's tag and fields, with the tag's offset: what stands in the place of a 108 of length 0 is taken.
+pub fn read_opening(
+    msg: &[u8],
+    n: u8,
+    places: &[u8],
+    lengths: &[u16],
+    at: usize,
+    wanted: Wanted,
+) -> Opening
+    requires { ⌜ (at ≤ length (now msg)) × (length (now msg) ≤ 65536) × (of-size (lent n (now places) (now lengths)) ≡ true) ⌝ }
+    ensures { λ r. ⌜ ((rows : ℕ) → r ≡ opening-of (opening (atoms-of (lent n (now (places .entry)) (now (lengths .entry)))) (drop at (now (msg .entry))) (wanted-of wanted) (at-offset (now (msg .entry)) at rows))) ⌝ }
+{
+    match wanted {
+        Wanted::Any => {
+            let place = skip_empty(msg, at);
+            opened(
+                place,
+                read_head(msg, n, places, lengths, place, Wanted::Any),
+            )
+        }
+        Wanted::Atom => opened(at, read_head(msg, n, places, lengths, at, Wanted::Atom)),
+        Wanted::Arity => opened(at, read_head(msg, n, places, lengths, at, Wanted::Arity)),
+    }
 }
