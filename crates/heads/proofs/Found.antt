@@ -3,26 +3,22 @@ use mathlib.Core.Path.{_≡_, refl, sym, ap, ap₂, _∙_}
 use mathlib.Core.Bool.{Bool, true, false, _&&_, _||_}
 use mathlib.Core.List.{List, [], _∷_}
 use mathlib.Core.Option.{Option, none, some}
-use Prim.Native.Nat.{ℕ, zero, suc, _+_, _-_, _<_, _≤_}
+use Prim.Native.Nat.{ℕ, _+_, _<_, _≤_}
 use native.Mathlib.Omega.{arith}
 use lib.Dec.{eqb, leb, ltb}
-use lib.ListN.{length, getD, take, drop}
+use lib.ListN.{length, getD}
 use borrow.Author.Tests.{eqb-true}
-use Rattle.format.specs.Numbers.{big-endian}
 use Rattle.format.specs.Text.{check}
-use Rattle.format.specs.Term.{Label, integer, float, atom, tuple, list, improper-list, binary, bitstring, map, pid, port, reference, export}
-use Rattle.format.specs.Answer.{Answer, good, refused, Position, Reading, after, rule, byte, bytes, number}
-use Rattle.format.specs.Head.{Atoms, any, an-atom, an-arity, Form, small-integer-ext, integer-ext, new-float-ext, atom-cache-ref, nil-ext, string-ext, list-ext, binary-ext, bit-binary-ext, map-ext, reference-ext, export-ext, big-ext, tuple-ext, pid-ext, new-reference-ext, atom-ext, port-ext, text-or, finite, bits-rule, forms, form-in, form-or, form, fields, head, later, known, pid-fields, port-fields, reference-fields, old-reference-fields, parts, characters, elements, pairs}
+use Rattle.format.specs.Answer.{Answer, Position, Reading, after, rule, byte, bytes, number}
+use Rattle.format.specs.Head.{Atoms, an-atom, an-arity, Form, small-integer-ext, integer-ext, new-float-ext, atom-cache-ref, nil-ext, string-ext, list-ext, binary-ext, bit-binary-ext, map-ext, reference-ext, export-ext, big-ext, tuple-ext, pid-ext, new-reference-ext, atom-ext, port-ext, text-or, finite, bits-rule, forms, form-in, form-or, form, fields, head, later, known, parts, characters, elements, pairs}
 use Rattle.format.specs.Head as format
 use Rattle.format.specs.Reading.{empty-108}
-use Rattle.format.specs.Rows.{kind-of}
-use Rattle.format.proofs.Bridge.{at-offset, byte-at, byte-end, number-at, number-end}
+use Rattle.format.proofs.Bridge.{at-offset, byte-at, byte-end}
 use Rattle.format.proofs.Opening.{by-less}
 use Rattle.format.proofs.Holds.{Holds, next, weaken, bind, done-holds, refused-holds}
 use Rattle.format.proofs.Invariant.{In-step, on-byte, fields-kept, form-kept}
 use Rattle.heads.specs.declared.Wanted.{Wanted}
-use Rattle.heads.specs.declared.Wanted.the-variants.{Any, Atom, Arity}
-use Rattle.heads.specs.Code.{kind-later, wanted-of, allowed}
+use Rattle.heads.specs.Code.{wanted-of, allowed}
 use Rattle.heads.proofs.Tags.{stands, fails}
 
 -- Positions of a message from offset `from` on, with these rows taken
@@ -95,7 +91,7 @@ record Shape (p : Bool) (h : format.Head) : Type 0 where
   filled : p ≡ true → empty-108 h ≡ false
 
 -- after any step
-any-step : {A B : Type 0} (o : Answer (A × Position)) {f : A → Reading B} {Q : B → Position → Type 0} → ((a : A) (t : Position) → Holds (f a t) Q) → Holds (after o f) Q
+pub any-step : {A B : Type 0} (o : Answer (A × Position)) {f : A → Reading B} {Q : B → Position → Type 0} → ((a : A) (t : Position) → Holds (f a t) Q) → Holds (after o f) Q
 any-step o k = bind {o = o} (record { known = λ a t e. k a t })
 
 full : (l : List format.Wanted) (n : ℕ) (x : format.Later) → Wants l → Shape true (parts l n x)

@@ -9,7 +9,7 @@ use lib.Dec.{eqb, leb, ltb, lit<}
 use lib.ListN.{length, getD, take, drop}
 use borrow.Author.Tests.{lt-ltb, le-ltb, le-leb, lt-leb, eq-eqb, ne-eqb, not-true, not-false}
 use Rattle.format.specs.Numbers.{big-endian}
-use Rattle.format.specs.Answer.{Answer, good, refused, Position}
+use Rattle.format.specs.Answer.{good, refused}
 use Rattle.format.specs.Head.{known, pid-fields, port-fields, reference-fields, old-reference-fields, later, words, words-rule, creation-rule}
 use Rattle.format.specs.Head as format
 use Rattle.format.proofs.Bridge.{at-offset, number-at, number-end}

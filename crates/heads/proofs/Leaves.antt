@@ -1,23 +1,22 @@
 -- What the fields before the first part say, from the tests that the code makes. Assumes nothing.
 use mathlib.Core.Path.{_≡_, refl, sym, ap, ap₂, _∙_}
-use mathlib.Core.Bool.{Bool, true, false, not, _&&_, _||_}
-use mathlib.Core.List.{List, [], _∷_}
-use Prim.Native.Nat.{ℕ, zero, suc, _+_, _-_, _/_, _%_, _^_, _<_, _≤_}
+use mathlib.Core.Bool.{Bool, true, false, _&&_, _||_}
+use mathlib.Core.List.{List}
+use Prim.Native.Nat.{ℕ, zero, suc, _+_, _-_, _/_, _%_, _<_, _≤_}
 use native.Mathlib.Omega.{arith}
-use lib.Dec.{eqb, leb, ltb}
+use lib.Dec.{eqb, leb}
 use lib.IntN.{ℤ}
 use lib.ListN.{length, take, drop}
-use borrow.Author.Tests.{lt-ltb, le-ltb, le-leb, lt-leb, eq-eqb, ne-eqb}
+use borrow.Author.Tests.{le-leb, lt-leb, eq-eqb, ne-eqb}
 use Rattle.format.specs.Numbers.{big-endian}
 use Rattle.format.specs.Term.{Label, integer, binary, bitstring}
 use Rattle.format.specs.Answer.{after, done, number}
-use Rattle.format.specs.Head.{Atoms, Form, fields, leaf, tuple-ext, list-ext, map-ext, string-ext, binary-ext, bit-binary-ext, big-ext, new-float-ext, new-reference-ext, finite, bits-rule, bits-meaning, clear-low}
+use Rattle.format.specs.Head.{Atoms, fields, leaf, tuple-ext, list-ext, map-ext, string-ext, binary-ext, bit-binary-ext, big-ext, new-float-ext, new-reference-ext, finite, bits-rule, bits-meaning, clear-low}
 use Rattle.format.specs.Rows.{kind-of}
 use Rattle.format.proofs.Bridge.{at-offset, number-at, number-end, bytes-at, bytes-end}
 use Rattle.format.proofs.Opening.{by-less}
 use Rattle.octets.proofs.Parts.{length-part}
-use Rattle.heads.specs.declared.Later.the-variants.{Known, Pid, Port, Reference, OldReference}
-use Rattle.heads.specs.declared.Head.{Head}
+use Rattle.heads.specs.declared.Later.the-variants.{Known, Reference}
 use Rattle.heads.specs.declared.Head.the-variants.{Refused, Parts, Characters, Elements, Pairs}
 use Rattle.heads.specs.Code.{Bits, head-of, head-at, fields-of, kind-later, later-of}
 

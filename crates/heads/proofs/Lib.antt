@@ -4,3 +4,4 @@ mod LaterFields
 mod Tags
 pub mod Found
 mod Openings
+pub mod OpeningFacts

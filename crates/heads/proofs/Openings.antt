@@ -2,14 +2,13 @@
 use mathlib.Core.Path.{_≡_, refl, sym, ap, _∙_}
 use mathlib.Core.Bool.{Bool, true, false, _&&_}
 use mathlib.Core.List.{List, [], _∷_}
-use mathlib.Core.Option.{Option, none, some}
 use Prim.Native.Nat.{ℕ, zero, suc, _+_, _-_, _<_, _≤_}
 use native.Mathlib.Omega.{arith}
 use lib.Dec.{eqb, leb}
 use lib.ListN.{length, getD, take, drop, length-drop}
 use borrow.Author.Tests.{eqb-true, eqb-false, leb-true, le-leb, lt-leb, eq-eqb, ne-eqb}
 use Rattle.format.specs.Numbers.{big-endian}
-use Rattle.format.specs.Answer.{Answer, good, refused, Position, Reading, after, done, number}
+use Rattle.format.specs.Answer.{Answer, good, refused, Position, Reading, after, done}
 use Rattle.format.specs.Head.{Atoms, any, forms, form-in, form-or, form, fields, list-ext, head, parts, characters, elements, pairs}
 use Rattle.format.specs.Head as format
 use Rattle.format.specs.Reading.{empty-108, opening}
@@ -17,15 +16,12 @@ use Rattle.format.proofs.Bridge.{at-offset, byte-at, byte-end, number-at, numbe
 use Rattle.format.proofs.Opening.{by-less}
 use Rattle.format.proofs.Holds.{Holds, done-holds, refused-holds}
 use Rattle.heads.specs.declared.Wanted.{Wanted}
-use Rattle.heads.specs.declared.Wanted.the-variants.{Any, Atom, Arity}
+use Rattle.heads.specs.declared.Wanted.the-variants.{Any}
 use Rattle.heads.specs.declared.Head.{Head}
 use Rattle.heads.specs.declared.Opening.{Opening}
 use Rattle.heads.specs.Code.{head-of, head-at, opening-of, opened-at, wanted-of, allowed, empty-at, Skipped}
+use Rattle.heads.proofs.Texts.{both}
 use Rattle.heads.proofs.Found.{not-108}
-
-both : (s t : Bool) → (s && t) ≡ true → (s ≡ true) × (t ≡ true)
-both true t e = (refl, e)
-both false t e = let z : _≡_ {A = ℕ} 0 1 = cc in absurd (omega arith)
 
 module _ (m : List ℕ) (p : ℕ) where
   pub empty-short : length m - p < 5 → false ≡ empty-at m p

@@ -9,7 +9,7 @@ use lib.Dec.{eqb}
 use lib.ListN.{length, getD}
 use borrow.Author.Tests.{eqb-true, ne-eqb}
 use Rattle.format.specs.Text.{latin-1, utf-8}
-use Rattle.format.specs.Answer.{Answer, good, refused, Position, Reading, after, refuse}
+use Rattle.format.specs.Answer.{refused, Position, Reading, refuse}
 use Rattle.format.specs.Head.{Atoms, Form, forms, form-in, form-or, form, fields, head, tagged, one-of, small-integer-ext, atom-ext, atom-cache-ref, nil-ext, pid-ext, port-ext, reference-ext, export-ext}
 use Rattle.format.specs.Rows.{kind-of}
 use Rattle.format.proofs.Bridge.{at-offset, byte-at, byte-end}

@@ -1,15 +1,14 @@
 -- What the fields of atoms say, from the tests that the code makes. Assumes nothing.
-use mathlib.Core.Path.{_≡_, refl, sym, ap, _∙_}
+use mathlib.Core.Path.{_≡_, refl}
 use mathlib.Core.Bool.{Bool, true, false, _&&_}
 use mathlib.Core.List.{List}
 use Prim.Native.Nat.{ℕ, _+_, _-_, _*_, _<_, _≤_}
 use native.Mathlib.Omega.{arith}
-use lib.Dec.{eqb, leb}
+use lib.Dec.{eqb}
 use lib.ListN.{length, getD, take, drop}
 use borrow.Author.Tests.{lt-ltb, le-ltb, le-leb, lt-leb, eqb-true}
 use Rattle.format.specs.Numbers.{big-endian}
 use Rattle.format.specs.Text.{Checked, valid, invalid-at, latin-1, utf-8, check}
-use Rattle.format.specs.Answer.{Answer}
 use Rattle.format.specs.Head.{Atoms, fields, text-or, atom-ext, atom-cache-ref}
 use Rattle.format.specs.AtomList.{AtomList, of-size, place-length, place-bytes, place-text, atoms-of}
 use Rattle.format.specs.Rows.{kind-of}
@@ -40,7 +39,7 @@ pub text-utf8 : (latin : Bool) (bs : List ℕ) (c : code.Checked) (r : Bool) →
 unfolding is-text coding-of
 text-utf8 latin bs c r e f g = rw (g, f, e)
 
-both : (s t : Bool) → (s && t) ≡ true → (s ≡ true) × (t ≡ true)
+pub both : (s t : Bool) → (s && t) ≡ true → (s ≡ true) × (t ≡ true)
 both true t e = (refl, e)
 both false t e = let z : _≡_ {A = ℕ} 0 1 = cc in absurd (omega arith)
 

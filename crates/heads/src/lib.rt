@@ -16,7 +16,7 @@ ghost use Rattle.format.specs.Head as format;
 ghost use Rattle.format.specs.Reading.{opening};
 ghost use Rattle.format.specs.AtomList.{of-size, atoms-of};
 ghost use Rattle.format.proofs.Bridge.{at-offset};
-ghost use Rattle.heads.specs.Code.{Width, Bits, head-of, fields-of, later-of, lent, found-valid, coding-of, is-text, words-at, later-fields, tag-fields, allowed, wanted-of, empty-at, Skipped, opened-at, opening-of};
+ghost use Rattle.heads.specs.Code.{Width, Bits, head-of, fields-of, later-of, step-of, lent, found-valid, coding-of, is-text, words-at, later-fields, tag-fields, allowed, wanted-of, empty-at, Skipped, opened-at, opening-of};
 
 // Which terms may stand at a place.
 pub enum Wanted {
@@ -606,7 +606,7 @@ fn old_reference_fields(msg: &[u8], at: usize, place: usize) -> Step
 // The fields after the parts of the term at `place`: all are there (2) before one is judged (4).
 pub fn read_later(msg: &[u8], at: usize, place: usize, later: Later) -> Step
     requires { ⌜ at ≤ length (now msg) ⌝ }
-    ensures { λ r. ⌜ ((l : format.Later) (rows : ℕ) → later-of l ≡ later → r ≡ later-fields (now (msg .entry)) at place l rows) ⌝ }
+    ensures { λ r. ⌜ ((l : format.Later) → later-of l ≡ later → (rows : ℕ) → r ≡ step-of (format.later place l (at-offset (now (msg .entry)) at rows))) ⌝ }
 {
     match later {
         Later::Known => Step::Got { next: at },

@@ -1,14 +1,10 @@
+-- `heads::atom` meets its contract. Count, bytes, text. Assumes nothing.
 use Rattle.heads.proofs.LaterFields.{refuted, confirmed}
 use Rattle.heads.proofs.Texts.{atom-short, atom-cut, atom-bad, atom-there}
 use native.Mathlib.Omega.{arith}
-use mathlib.Core.Path.{_≡_, sym, ap, _∙_}
 use borrow.Author.Needs.{needs}
 use Rattle.heads.proofs.atom.Statement.{statement}
 use Rattle.heads.proofs.atom.Tie as tie
-use Rattle.heads.proofs.atom.Reads as reads
-use Rattle.heads.proofs.atom.Lts as lts
-use Rattle.heads.proofs.is_text.Reads as is-text-reads
-use Rattle.heads.proofs.number.Reads as number-reads
 
 sub-left : tie.Need-sub-left
 sub-left c = search needs

@@ -1,15 +1,13 @@
+-- `heads::below` meets its contract. The loop's invariant: the bytes so far give a number below the limit. Assumes nothing.
 use Rattle.format.specs.Numbers.{big-endian}
 use lib.ListN.{take, drop}
-use Prim.Native.Nat.{_+_, _-_, _≤_, _<_}
+use Prim.Native.Nat.{_-_, _≤_, _<_}
 use mathlib.Core.Path.{refl}
 use Rattle.heads.proofs.LaterFields.{below-not, below-more, below-all}
 use native.Mathlib.Omega.{arith}
-use mathlib.Core.Path.{_≡_, sym, ap, _∙_}
+use mathlib.Core.Path.{_≡_}
 use Rattle.heads.proofs.below.Statement.{statement}
 use Rattle.heads.proofs.below.Tie as tie
-use Rattle.heads.proofs.below.Reads as reads
-use Rattle.heads.proofs.below.Lts as lts
-use Rattle.octets.proofs.wide.Reads as wide-reads
 
 abbrev Inv-loop : tie.InvT-loop
 Inv-loop msg at width limit n₀ i₀ n i = (i ≤ width) × (n ≡ big-endian (take i (drop at msg))) × (n < limit)

@@ -1,13 +1,9 @@
+-- `heads::big` meets its contract. Count, sign and digits, in that order. Assumes nothing.
 use Rattle.heads.proofs.Leaves.{big-short, big-cut, big-sign, big-there}
 use native.Mathlib.Omega.{arith}
-use mathlib.Core.Path.{sym, ap, _∙_}
 use borrow.Author.Needs.{needs}
 use Rattle.heads.proofs.big.Statement.{statement}
 use Rattle.heads.proofs.big.Tie as tie
-use Rattle.heads.proofs.big.Reads as reads
-use Rattle.heads.proofs.big.Lts as lts
-use Rattle.heads.proofs.number.Reads as number-reads
-use Rattle.octets.proofs.big1.Reads as big1-reads
 
 sub-left : tie.Need-sub-left
 sub-left c = search needs

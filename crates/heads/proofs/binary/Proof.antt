@@ -1,12 +1,9 @@
+-- `heads::binary` meets its contract. Assumes nothing.
 use Rattle.heads.proofs.Leaves.{binary-short, binary-cut, binary-there}
 use native.Mathlib.Omega.{arith}
-use mathlib.Core.Path.{sym, ap, _∙_}
 use borrow.Author.Needs.{needs}
 use Rattle.heads.proofs.binary.Statement.{statement}
 use Rattle.heads.proofs.binary.Tie as tie
-use Rattle.heads.proofs.binary.Reads as reads
-use Rattle.heads.proofs.binary.Lts as lts
-use Rattle.octets.proofs.big4.Reads as big4-reads
 
 sub-left : tie.Need-sub-left
 sub-left c = search needs

@@ -1,10 +1,7 @@
+-- `heads::bits_kind` meets its contract. Assumes nothing.
 use Rattle.heads.proofs.Leaves.{bits-none, bits-over-none, bits-few, bits-many, bits-all, bits-part}
-use native.Mathlib.Omega.{arith}
-use mathlib.Core.Path.{sym, ap, _∙_}
 use Rattle.heads.proofs.bits_kind.Statement.{statement}
 use Rattle.heads.proofs.bits_kind.Tie as tie
-use Rattle.heads.proofs.bits_kind.Reads as reads
-use Rattle.heads.proofs.bits_kind.Lts as lts
 
 returns : tie.Need-returns
 returns c = bits-none _ _ (c .before .if1 .taken) (c .if2 .taken)

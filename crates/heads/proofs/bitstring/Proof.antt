@@ -1,14 +1,9 @@
+-- `heads::bitstring` meets its contract. Assumes nothing.
 use Rattle.heads.proofs.Leaves.{bits-short, bits-cut, bits-broken, bits-there}
 use native.Mathlib.Omega.{arith}
-use mathlib.Core.Path.{sym, ap, _∙_}
 use borrow.Author.Needs.{needs}
 use Rattle.heads.proofs.bitstring.Statement.{statement}
 use Rattle.heads.proofs.bitstring.Tie as tie
-use Rattle.heads.proofs.bitstring.Reads as reads
-use Rattle.heads.proofs.bitstring.Lts as lts
-use Rattle.heads.proofs.bits_kind.Reads as bits-kind-reads
-use Rattle.octets.proofs.big1.Reads as big1-reads
-use Rattle.octets.proofs.big4.Reads as big4-reads
 
 sub-left : tie.Need-sub-left
 sub-left c = search needs

@@ -1,3 +1,4 @@
+-- `heads::by_tag` meets its contract. At each tag of the table, its layout. Assumes nothing.
 use Rattle.heads.specs.Code.{fields-of, coding-of}
 use Rattle.format.specs.Head.{forms, form-in, fields, atom-cache-ref, atom-ext, big-ext, binary-ext, bit-binary-ext, export-ext, integer-ext, list-ext, map-ext, new-float-ext, new-reference-ext, nil-ext, pid-ext, port-ext, reference-ext, small-integer-ext, string-ext, tuple-ext}
 use Rattle.format.specs.Text.{latin-1, utf-8}
@@ -5,26 +6,10 @@ use Rattle.format.specs.Numbers.{signed32}
 use lib.IntN.{pos}
 use mathlib.Core.Path.{refl}
 use Rattle.heads.proofs.Tags.{at-tag, no-tag, Absent, nil-head, pid-head, port-head, old-head, export-head}
-use native.Mathlib.Omega.{arith}
-use mathlib.Core.Path.{_≡_, sym, ap, _∙_}
+use mathlib.Core.Path.{_∙_}
 use borrow.Author.Needs.{needs}
 use Rattle.heads.proofs.by_tag.Statement.{statement}
 use Rattle.heads.proofs.by_tag.Tie as tie
-use Rattle.heads.proofs.by_tag.Reads as reads
-use Rattle.heads.proofs.by_tag.Lts as lts
-use Rattle.heads.proofs.atom.Reads as atom-reads
-use Rattle.heads.proofs.big.Reads as big-reads
-use Rattle.heads.proofs.binary.Reads as binary-reads
-use Rattle.heads.proofs.bitstring.Reads as bitstring-reads
-use Rattle.heads.proofs.cached_atom.Reads as cached-atom-reads
-use Rattle.heads.proofs.float.Reads as float-reads
-use Rattle.heads.proofs.integer.Reads as integer-reads
-use Rattle.heads.proofs.list.Reads as list-reads
-use Rattle.heads.proofs.map.Reads as map-reads
-use Rattle.heads.proofs.no_fields.Reads as no-fields-reads
-use Rattle.heads.proofs.reference.Reads as reference-reads
-use Rattle.heads.proofs.string.Reads as string-reads
-use Rattle.heads.proofs.tuple.Reads as tuple-reads
 
 integer-requires : tie.Need-integer-requires
 integer-requires c κs = search needs

@@ -1,15 +1,10 @@
+-- `heads::cached_atom` meets its contract. The index, then the length, then the text. Assumes nothing.
 use Rattle.heads.proofs.LaterFields.{refuted, confirmed}
 use Rattle.heads.proofs.Texts.{sizes-of, cached-short, cached-past, cached-long, cached-bad, cached-there}
 use native.Mathlib.Omega.{arith}
-use mathlib.Core.Path.{_≡_, sym, ap, _∙_}
 use borrow.Author.Needs.{needs}
 use Rattle.heads.proofs.cached_atom.Statement.{statement}
 use Rattle.heads.proofs.cached_atom.Tie as tie
-use Rattle.heads.proofs.cached_atom.Reads as reads
-use Rattle.heads.proofs.cached_atom.Lts as lts
-use Rattle.heads.proofs.is_text.Reads as is-text-reads
-use Rattle.octets.proofs.big1.Reads as big1-reads
-use Rattle.octets.proofs.wide.Reads as wide-reads
 
 sub-if1 : tie.Need-sub-if1
 sub-if1 c = search needs

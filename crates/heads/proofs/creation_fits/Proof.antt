@@ -1,12 +1,9 @@
+-- `heads::creation_fits` meets its contract. Assumes nothing.
 use Rattle.heads.proofs.LaterFields.{creation-any, creation-one}
 use native.Mathlib.Omega.{arith}
-use mathlib.Core.Path.{_≡_, sym, ap, _∙_}
 use borrow.Author.Needs.{needs}
 use Rattle.heads.proofs.creation_fits.Statement.{statement}
 use Rattle.heads.proofs.creation_fits.Tie as tie
-use Rattle.heads.proofs.creation_fits.Reads as reads
-use Rattle.heads.proofs.creation_fits.Lts as lts
-use Rattle.heads.proofs.below.Reads as below-reads
 
 returns : tie.Need-returns
 returns c = creation-any _ _ (c .if1 .taken)

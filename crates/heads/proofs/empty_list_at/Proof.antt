@@ -1,12 +1,8 @@
+-- `heads::empty_list_at` meets its contract. Assumes nothing.
 use Rattle.heads.proofs.Openings.{empty-short, empty-other, empty-count}
-use native.Mathlib.Omega.{arith}
-use mathlib.Core.Path.{_≡_, sym, ap, _∙_}
 use borrow.Author.Needs.{needs}
 use Rattle.heads.proofs.empty_list_at.Statement.{statement}
 use Rattle.heads.proofs.empty_list_at.Tie as tie
-use Rattle.heads.proofs.empty_list_at.Reads as reads
-use Rattle.heads.proofs.empty_list_at.Lts as lts
-use Rattle.octets.proofs.big4.Reads as big4-reads
 
 sub-if1 : tie.Need-sub-if1
 sub-if1 c = search needs

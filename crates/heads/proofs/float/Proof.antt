@@ -1,12 +1,9 @@
+-- `heads::float` meets its contract. The bits, then the exponent. Assumes nothing.
 use Rattle.heads.proofs.Leaves.{float-short, float-odd, float-there}
 use native.Mathlib.Omega.{arith}
-use mathlib.Core.Path.{sym, ap, _∙_}
 use borrow.Author.Needs.{needs}
 use Rattle.heads.proofs.float.Statement.{statement}
 use Rattle.heads.proofs.float.Tie as tie
-use Rattle.heads.proofs.float.Reads as reads
-use Rattle.heads.proofs.float.Lts as lts
-use Rattle.octets.proofs.big8.Reads as big8-reads
 
 sub-if1 : tie.Need-sub-if1
 sub-if1 c = search needs

@@ -1,11 +1,9 @@
+-- `heads::integer` meets its contract. The number is there, or it ends. Assumes nothing.
 use Rattle.heads.proofs.Leaves.{integer-short, integer-there}
 use native.Mathlib.Omega.{arith}
-use mathlib.Core.Path.{sym, ap, _∙_}
 use borrow.Author.Needs.{needs}
 use Rattle.heads.proofs.integer.Statement.{statement}
 use Rattle.heads.proofs.integer.Tie as tie
-use Rattle.heads.proofs.integer.Reads as reads
-use Rattle.heads.proofs.integer.Lts as lts
 
 sub-if1 : tie.Need-sub-if1
 sub-if1 c = search needs

@@ -1,11 +1,8 @@
+-- `heads::is_atom_tag` meets its contract. Assumes nothing.
 use mathlib.Core.Path.{refl}
 use Rattle.heads.proofs.Tags.{atom-tag, no-atom-tag}
-use native.Mathlib.Omega.{arith}
-use mathlib.Core.Path.{_≡_, sym, ap, _∙_}
 use Rattle.heads.proofs.is_atom_tag.Statement.{statement}
 use Rattle.heads.proofs.is_atom_tag.Tie as tie
-use Rattle.heads.proofs.is_atom_tag.Reads as reads
-use Rattle.heads.proofs.is_atom_tag.Lts as lts
 
 returns : tie.Need-returns
 returns c = atom-tag _ 82 (c .match .keys1) refl

@@ -1,14 +1,8 @@
+-- `heads::is_text` meets its contract. Assumes nothing.
 use Rattle.heads.proofs.Texts.{text-latin, text-utf8}
-use native.Mathlib.Omega.{arith}
-use mathlib.Core.Path.{_≡_, sym, ap, _∙_}
 use borrow.Author.Needs.{needs}
 use Rattle.heads.proofs.is_text.Statement.{statement}
 use Rattle.heads.proofs.is_text.Tie as tie
-use Rattle.heads.proofs.is_text.Reads as reads
-use Rattle.heads.proofs.is_text.Lts as lts
-use Rattle.heads.proofs.is_valid.Reads as is-valid-reads
-use Rattle.text.proofs.check_latin1.Reads as check-latin1-reads
-use Rattle.text.proofs.check_utf8.Reads as check-utf8-reads
 
 check-latin1-requires : tie.Need-check-latin1-requires
 check-latin1-requires c κs = search needs

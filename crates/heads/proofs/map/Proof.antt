@@ -1,12 +1,9 @@
+-- `heads::map` meets its contract. Assumes nothing.
 use Rattle.heads.proofs.Leaves.{map-short, map-there}
 use native.Mathlib.Omega.{arith}
-use mathlib.Core.Path.{sym, ap, _∙_}
 use borrow.Author.Needs.{needs}
 use Rattle.heads.proofs.map.Statement.{statement}
 use Rattle.heads.proofs.map.Tie as tie
-use Rattle.heads.proofs.map.Reads as reads
-use Rattle.heads.proofs.map.Lts as lts
-use Rattle.octets.proofs.big4.Reads as big4-reads
 
 sub-if1 : tie.Need-sub-if1
 sub-if1 c = search needs

@@ -1,14 +1,11 @@
+-- `heads::may_stand` meets its contract. Assumes nothing.
 use Rattle.heads.specs.Code.{allowed}
 use Rattle.heads.specs.declared.Wanted.{Wanted}
 use Rattle.heads.proofs.Tags.{arity-tag}
-use native.Mathlib.Omega.{arith}
-use mathlib.Core.Path.{_≡_, sym, ap, _∙_}
+use mathlib.Core.Path.{sym, ap, _∙_}
 use borrow.Author.Needs.{needs}
 use Rattle.heads.proofs.may_stand.Statement.{statement}
 use Rattle.heads.proofs.may_stand.Tie as tie
-use Rattle.heads.proofs.may_stand.Reads as reads
-use Rattle.heads.proofs.may_stand.Lts as lts
-use Rattle.heads.proofs.is_atom_tag.Reads as is-atom-tag-reads
 
 enum-told : tie.Need-enum-told
 enum-told c = search needs

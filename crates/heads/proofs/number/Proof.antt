@@ -1,13 +1,9 @@
+-- `heads::number` meets its contract. The width picks the reader. Assumes nothing.
 use native.Mathlib.Omega.{arith}
-use mathlib.Core.Path.{_≡_, sym, ap, _∙_}
+use mathlib.Core.Path.{_≡_}
 use borrow.Author.Needs.{needs}
 use Rattle.heads.proofs.number.Statement.{statement}
 use Rattle.heads.proofs.number.Tie as tie
-use Rattle.heads.proofs.number.Reads as reads
-use Rattle.heads.proofs.number.Lts as lts
-use Rattle.octets.proofs.big1.Reads as big1-reads
-use Rattle.octets.proofs.big2.Reads as big2-reads
-use Rattle.octets.proofs.big4.Reads as big4-reads
 
 big1-requires : tie.Need-big1-requires
 big1-requires c κs = search needs

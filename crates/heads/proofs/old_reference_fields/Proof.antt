@@ -1,13 +1,9 @@
+-- `heads::old_reference_fields` meets its contract. Assumes nothing.
 use Rattle.heads.proofs.LaterFields.{old-short, old-words, old-creation, old-there, refuted, confirmed}
 use native.Mathlib.Omega.{arith}
-use mathlib.Core.Path.{_≡_, sym, ap, _∙_}
 use borrow.Author.Needs.{needs}
 use Rattle.heads.proofs.old_reference_fields.Statement.{statement}
 use Rattle.heads.proofs.old_reference_fields.Tie as tie
-use Rattle.heads.proofs.old_reference_fields.Reads as reads
-use Rattle.heads.proofs.old_reference_fields.Lts as lts
-use Rattle.heads.proofs.creation_fits.Reads as creation-fits-reads
-use Rattle.heads.proofs.words_fit.Reads as words-fit-reads
 
 sub-if1 : tie.Need-sub-if1
 sub-if1 c = search needs

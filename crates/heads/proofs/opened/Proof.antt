@@ -1,11 +1,9 @@
+-- `heads::opened` meets its contract. Assumes nothing.
 use Rattle.heads.specs.Code.{opened-at}
-use native.Mathlib.Omega.{arith}
-use mathlib.Core.Path.{_≡_, sym, ap, _∙_}
+use mathlib.Core.Path.{sym, ap}
 use borrow.Author.Needs.{needs}
 use Rattle.heads.proofs.opened.Statement.{statement}
 use Rattle.heads.proofs.opened.Tie as tie
-use Rattle.heads.proofs.opened.Reads as reads
-use Rattle.heads.proofs.opened.Lts as lts
 
 enum-known-head : tie.Need-enum-known-head
 enum-known-head c = search needs

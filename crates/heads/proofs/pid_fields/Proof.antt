@@ -1,13 +1,9 @@
+-- `heads::pid_fields` meets its contract. Assumes nothing.
 use Rattle.heads.proofs.LaterFields.{pid-short, pid-cut, pid-id, pid-serial, pid-creation, pid-there, refuted, confirmed}
 use native.Mathlib.Omega.{arith}
-use mathlib.Core.Path.{_≡_, sym, ap, _∙_}
 use borrow.Author.Needs.{needs}
 use Rattle.heads.proofs.pid_fields.Statement.{statement}
 use Rattle.heads.proofs.pid_fields.Tie as tie
-use Rattle.heads.proofs.pid_fields.Reads as reads
-use Rattle.heads.proofs.pid_fields.Lts as lts
-use Rattle.heads.proofs.below.Reads as below-reads
-use Rattle.heads.proofs.creation_fits.Reads as creation-fits-reads
 
 sub-left : tie.Need-sub-left
 sub-left c = search needs

@@ -1,13 +1,9 @@
+-- `heads::port_fields` meets its contract. Assumes nothing.
 use Rattle.heads.proofs.LaterFields.{port-short, port-cut, port-id, port-creation, port-there, refuted, confirmed}
 use native.Mathlib.Omega.{arith}
-use mathlib.Core.Path.{_≡_, sym, ap, _∙_}
 use borrow.Author.Needs.{needs}
 use Rattle.heads.proofs.port_fields.Statement.{statement}
 use Rattle.heads.proofs.port_fields.Tie as tie
-use Rattle.heads.proofs.port_fields.Reads as reads
-use Rattle.heads.proofs.port_fields.Lts as lts
-use Rattle.heads.proofs.creation_fits.Reads as creation-fits-reads
-use Rattle.heads.proofs.port_id_fits.Reads as port-id-fits-reads
 
 sub-left : tie.Need-sub-left
 sub-left c = search needs

@@ -1,12 +1,9 @@
+-- `heads::port_id_fits` meets its contract. Assumes nothing.
 use borrow.Author.Tests.{eq-eqb, ne-eqb}
-use native.Mathlib.Omega.{arith}
-use mathlib.Core.Path.{_≡_, sym, ap, _∙_}
+use mathlib.Core.Path.{_∙_}
 use borrow.Author.Needs.{needs}
 use Rattle.heads.proofs.port_id_fits.Statement.{statement}
 use Rattle.heads.proofs.port_id_fits.Tie as tie
-use Rattle.heads.proofs.port_id_fits.Reads as reads
-use Rattle.heads.proofs.port_id_fits.Lts as lts
-use Rattle.heads.proofs.below.Reads as below-reads
 
 returns : tie.Need-returns
 returns c = simp (eq-eqb _ _ (c .if1 .taken))

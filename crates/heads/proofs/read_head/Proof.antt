@@ -1,14 +1,10 @@
+-- `heads::read_head` meets its contract. No tag, a tag that may not stand, or its fields. Assumes nothing.
 use Rattle.heads.proofs.LaterFields.{refuted, confirmed}
 use Rattle.heads.proofs.Tags.{head-past, head-barred, head-known}
 use native.Mathlib.Omega.{arith}
-use mathlib.Core.Path.{_≡_, sym, ap, _∙_}
 use borrow.Author.Needs.{needs}
 use Rattle.heads.proofs.read_head.Statement.{statement}
 use Rattle.heads.proofs.read_head.Tie as tie
-use Rattle.heads.proofs.read_head.Reads as reads
-use Rattle.heads.proofs.read_head.Lts as lts
-use Rattle.heads.proofs.by_tag.Reads as by-tag-reads
-use Rattle.heads.proofs.may_stand.Reads as may-stand-reads
 
 returns : tie.Need-returns
 returns c = λ rows. head-past _ _ _ _ _ (c .if1 .taken)

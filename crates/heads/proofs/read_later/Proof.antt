@@ -1,15 +1,10 @@
+-- `heads::read_later` meets its contract. Each kind of later fields has its own function. Assumes nothing.
+use Rattle.heads.specs.Code.{later-fields}
 use Rattle.heads.proofs.LaterFields.{by-later, settled}
-use native.Mathlib.Omega.{arith}
-use mathlib.Core.Path.{_≡_, sym, ap, _∙_}
+use mathlib.Core.Path.{sym, ap, _∙_}
 use borrow.Author.Needs.{needs}
 use Rattle.heads.proofs.read_later.Statement.{statement}
 use Rattle.heads.proofs.read_later.Tie as tie
-use Rattle.heads.proofs.read_later.Reads as reads
-use Rattle.heads.proofs.read_later.Lts as lts
-use Rattle.heads.proofs.old_reference_fields.Reads as old-reference-fields-reads
-use Rattle.heads.proofs.pid_fields.Reads as pid-fields-reads
-use Rattle.heads.proofs.port_fields.Reads as port-fields-reads
-use Rattle.heads.proofs.reference_fields.Reads as reference-fields-reads
 
 enum-told : tie.Need-enum-told
 enum-told c = search needs
@@ -39,24 +34,24 @@ old-reference-fields-requires : tie.Need-old-reference-fields-requires
 old-reference-fields-requires c κs = search needs
 
 returns : tie.Need-returns
-unfolding by-later
-returns c = λ l rows e. sym (settled _ _ _ _ l ∙ ap (by-later _ _ _ _) (e ∙ c .enum-told .given .1))
+unfolding by-later later-fields
+returns c = λ l e rows. sym (settled _ _ _ _ l ∙ ap (by-later _ _ _ _) (e ∙ c .enum-told .given .1))
 
 returns-2 : tie.Need-returns-2
-unfolding by-later
-returns-2 c = λ l rows e. c .pid-fields .ensures rows ∙ sym (settled _ _ _ _ l ∙ ap (by-later _ _ _ _) (e ∙ c .before .before .later .given .1))
+unfolding by-later later-fields
+returns-2 c = λ l e rows. c .pid-fields .ensures rows ∙ sym (settled _ _ _ _ l ∙ ap (by-later _ _ _ _) (e ∙ c .before .before .later .given .1))
 
 returns-3 : tie.Need-returns-3
-unfolding by-later
-returns-3 c = λ l rows e. c .port-fields .ensures rows ∙ sym (settled _ _ _ _ l ∙ ap (by-later _ _ _ _) (e ∙ c .before .before .later2 .given .1))
+unfolding by-later later-fields
+returns-3 c = λ l e rows. c .port-fields .ensures rows ∙ sym (settled _ _ _ _ l ∙ ap (by-later _ _ _ _) (e ∙ c .before .before .later2 .given .1))
 
 returns-4 : tie.Need-returns-4
-unfolding by-later
-returns-4 c = λ l rows e. c .reference-fields .ensures rows ∙ sym (settled _ _ _ _ l ∙ ap (by-later _ _ _ _) (e ∙ c .before .before .later3 .given .1))
+unfolding by-later later-fields
+returns-4 c = λ l e rows. c .reference-fields .ensures rows ∙ sym (settled _ _ _ _ l ∙ ap (by-later _ _ _ _) (e ∙ c .before .before .later3 .given .1))
 
 returns-5 : tie.Need-returns-5
-unfolding by-later
-returns-5 c = λ l rows e. c .old-reference-fields .ensures rows ∙ sym (settled _ _ _ _ l ∙ ap (by-later _ _ _ _) (e ∙ c .before .enum-told2 .given .1))
+unfolding by-later later-fields
+returns-5 c = λ l e rows. c .old-reference-fields .ensures rows ∙ sym (settled _ _ _ _ l ∙ ap (by-later _ _ _ _) (e ∙ c .before .enum-told2 .given .1))
 
 pub read-later-spec : {M : Type 1} → statement M
 read-later-spec =

@@ -1,17 +1,11 @@
+-- `heads::read_opening` meets its contract. No 108 of length 0 is left where the head is read. Assumes nothing.
 use Rattle.heads.specs.Code.{allowed}
 use Rattle.heads.specs.declared.Wanted.the-variants.{Atom, Arity}
 use mathlib.Core.Path.{refl}
 use Rattle.heads.proofs.Openings.{opening-any, opening-only}
-use native.Mathlib.Omega.{arith}
-use mathlib.Core.Path.{_≡_, sym, ap, _∙_}
 use borrow.Author.Needs.{needs}
 use Rattle.heads.proofs.read_opening.Statement.{statement}
 use Rattle.heads.proofs.read_opening.Tie as tie
-use Rattle.heads.proofs.read_opening.Reads as reads
-use Rattle.heads.proofs.read_opening.Lts as lts
-use Rattle.heads.proofs.opened.Reads as opened-reads
-use Rattle.heads.proofs.read_head.Reads as read-head-reads
-use Rattle.heads.proofs.skip_empty.Reads as skip-empty-reads
 
 enum-told : tie.Need-enum-told
 enum-told c = search needs

@@ -1,12 +1,9 @@
+-- `heads::reference` meets its contract. Assumes nothing.
 use Rattle.heads.proofs.Leaves.{reference-short, reference-none, reference-many, reference-there}
 use native.Mathlib.Omega.{arith}
-use mathlib.Core.Path.{sym, ap, _∙_}
 use borrow.Author.Needs.{needs}
 use Rattle.heads.proofs.reference.Statement.{statement}
 use Rattle.heads.proofs.reference.Tie as tie
-use Rattle.heads.proofs.reference.Reads as reads
-use Rattle.heads.proofs.reference.Lts as lts
-use Rattle.octets.proofs.big2.Reads as big2-reads
 
 sub-if1 : tie.Need-sub-if1
 sub-if1 c = search needs

@@ -1,13 +1,9 @@
+-- `heads::reference_fields` meets its contract. Assumes nothing.
 use Rattle.heads.proofs.LaterFields.{reference-short, reference-cut, reference-creation, reference-words, reference-there, refuted, confirmed}
 use native.Mathlib.Omega.{arith}
-use mathlib.Core.Path.{_≡_, sym, ap, _∙_}
 use borrow.Author.Needs.{needs}
 use Rattle.heads.proofs.reference_fields.Statement.{statement}
 use Rattle.heads.proofs.reference_fields.Tie as tie
-use Rattle.heads.proofs.reference_fields.Reads as reads
-use Rattle.heads.proofs.reference_fields.Lts as lts
-use Rattle.heads.proofs.creation_fits.Reads as creation-fits-reads
-use Rattle.heads.proofs.words_fit.Reads as words-fit-reads
 
 sub-left : tie.Need-sub-left
 sub-left c = search needs

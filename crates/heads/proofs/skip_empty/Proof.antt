@@ -1,13 +1,11 @@
+-- `heads::skip_empty` meets its contract. The loop's invariant: every 108 of length 0 so far is passed. Assumes nothing.
 use lib.ListN.{length}
 use Prim.Native.Nat.{_≤_, _-_}
 use Rattle.heads.proofs.Openings.{Passed, passed-none, passed-more, empty-inside}
 use native.Mathlib.Omega.{arith}
-use mathlib.Core.Path.{_≡_, sym, ap, _∙_}
+use mathlib.Core.Path.{sym, _∙_}
 use Rattle.heads.proofs.skip_empty.Statement.{statement}
 use Rattle.heads.proofs.skip_empty.Tie as tie
-use Rattle.heads.proofs.skip_empty.Reads as reads
-use Rattle.heads.proofs.skip_empty.Lts as lts
-use Rattle.heads.proofs.empty_list_at.Reads as empty-list-at-reads
 
 abbrev Inv-loop : tie.InvT-loop
 Inv-loop msg at place₀ place = (place ≤ length msg) × Passed msg at place

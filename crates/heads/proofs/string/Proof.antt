@@ -1,12 +1,9 @@
+-- `heads::string` meets its contract. Assumes nothing.
 use Rattle.heads.proofs.Leaves.{string-short, string-cut, string-there}
 use native.Mathlib.Omega.{arith}
-use mathlib.Core.Path.{sym, ap, _∙_}
 use borrow.Author.Needs.{needs}
 use Rattle.heads.proofs.string.Statement.{statement}
 use Rattle.heads.proofs.string.Tie as tie
-use Rattle.heads.proofs.string.Reads as reads
-use Rattle.heads.proofs.string.Lts as lts
-use Rattle.octets.proofs.big2.Reads as big2-reads
 
 sub-left : tie.Need-sub-left
 sub-left c = search needs

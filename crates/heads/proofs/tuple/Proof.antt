@@ -1,12 +1,9 @@
+-- `heads::tuple` meets its contract. Assumes nothing.
 use Rattle.heads.proofs.Leaves.{tuple-short, tuple-there}
 use native.Mathlib.Omega.{arith}
-use mathlib.Core.Path.{sym, ap, _∙_}
 use borrow.Author.Needs.{needs}
 use Rattle.heads.proofs.tuple.Statement.{statement}
 use Rattle.heads.proofs.tuple.Tie as tie
-use Rattle.heads.proofs.tuple.Reads as reads
-use Rattle.heads.proofs.tuple.Lts as lts
-use Rattle.heads.proofs.number.Reads as number-reads
 
 sub-if1 : tie.Need-sub-if1
 sub-if1 c = search needs

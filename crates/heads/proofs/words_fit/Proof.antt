@@ -1,12 +1,10 @@
+-- `heads::words_fit` meets its contract. Assumes nothing.
 use Rattle.heads.proofs.LaterFields.{words-none, words-any, words-first}
 use native.Mathlib.Omega.{arith}
-use mathlib.Core.Path.{_≡_, sym, ap, _∙_}
+use mathlib.Core.Path.{_∙_}
 use borrow.Author.Needs.{needs}
 use Rattle.heads.proofs.words_fit.Statement.{statement}
 use Rattle.heads.proofs.words_fit.Tie as tie
-use Rattle.heads.proofs.words_fit.Reads as reads
-use Rattle.heads.proofs.words_fit.Lts as lts
-use Rattle.heads.proofs.below.Reads as below-reads
 
 returns : tie.Need-returns
 returns c = words-none _ _ _ _ (c .if1 .taken)
