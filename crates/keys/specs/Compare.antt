@@ -1,0 +1,37 @@
+-- Terms compared by their rows, said of the table's words alone, with the tests of the code in their order.
+use mathlib.Core.Bool.{Bool, true, false, cond}
+use mathlib.Core.List.{List}
+use Prim.Native.Nat.{ℕ, zero, suc, _+_, _-_}
+use lib.Dec.{eqb, leb}
+use lib.ListN.{length, getD}
+use Rattle.format.specs.Rows.{size-in}
+
+-- do two words of rows say the same fields and number of parts?
+module _ (same-row : ℕ → ℕ → Bool) (T : List ℕ) where
+  -- the n rows from a on and those from b on
+  unfoldable pub same-rows : ℕ → ℕ → ℕ → Bool
+  same-rows zero a b = true
+  same-rows (suc n) a b = cond (same-row (getD T a 0) (getD T b 0)) (same-rows n (a + 1) (b + 1)) false
+
+  -- the terms whose rows start at a and b
+  unfoldable pub same-from : ℕ → ℕ → Bool
+  same-from a b =
+      cond (leb (length T) a) false
+      (cond (leb (length T) b) false
+      (cond (eqb (size-in (getD T a 0)) (size-in (getD T b 0))) (same-rows (size-in (getD T a 0)) a b) false))
+
+-- how many rows the term at a row and the next one have
+unfoldable pub pair-size : List ℕ → ℕ → ℕ
+pair-size T a = size-in (getD T a 0) + size-in (getD T (a + size-in (getD T a 0)) 0)
+
+module _ (same-row : ℕ → ℕ → Bool) (T : List ℕ) where
+  -- is the term at the row `key` equal to a key of the pairs from the row `at` on? In at most n steps
+  unfoldable pub among-steps : ℕ → ℕ → ℕ → Bool
+  among-steps zero at key = false
+  among-steps (suc n) at key =
+      cond (leb key at) false
+      (cond (same-from same-row T key at) true
+      (cond (eqb (pair-size T at) 0) false (among-steps n (at + pair-size T at) key)))
+
+  unfoldable pub among-from : ℕ → ℕ → Bool
+  among-from first key = cond (leb (length T) key) false (among-steps (key - first) first key)
