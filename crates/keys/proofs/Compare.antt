@@ -5,18 +5,18 @@ use mathlib.Core.List.{List, [], _∷_, _++_}
 use mathlib.Core.Option.{Option, some}
 use Prim.Native.Nat.{ℕ, zero, suc, _+_, _-_, _≤_, _<_}
 use native.Mathlib.Omega.{arith}
-use lib.Dec.{eqb, leb}
+use lib.Dec.{eqb}
 use lib.ListN.{length, getD}
 use borrow.Author.Tests.{le-leb, lt-leb, ne-eqb, eqb-true, eqb-false}
-use Rattle.format.specs.Tree.{Tree, Forest, node, none, _▹_, _▹▹_, count, size, sizes}
+use Rattle.format.specs.Tree.{node, none, _▹_, _▹▹_, size, sizes}
 use Rattle.format.specs.Term.{Label, Term}
 use Rattle.format.specs.Equal.{term-discrete, decided, same, among}
-use Rattle.format.specs.Reading.{Place, Located, meaning}
+use Rattle.format.specs.Reading.{Located, meaning}
 use Rattle.format.specs.Message.{Terms, meanings}
 use Rattle.format.specs.Rows.{Row, tree-rows, rows, word, words-of, size-in}
 use Rattle.format.proofs.Preorder.{nodes, all-nodes, nodes-prefix}
 use Rattle.format.proofs.Rows.{size-meaning, size-positive, count-relabels, length-tree-rows}
-use Rattle.format.proofs.Words.{Here, here-word, here-rest, Each-row, Small-row, Tree-here, Rows-here, node-packed, node-below, first-here, others-here, length-words-of, row-of, Word-of}
+use Rattle.format.proofs.Words.{Here, here-word, here-rest, Each-row, Small-row, Tree-here, Rows-here, node-packed, node-below, first-here, others-here, row-of}
 use Rattle.keys.specs.Compare.{same-rows, same-from, pair-size, among-steps, among-from}
 
 -- ---- tests that tell a fact
@@ -143,21 +143,21 @@ or-later true false y = refl
 or-later false true y = refl
 or-later false false y = refl
 
-among-ended : (same-row : ℕ → ℕ → Bool) (T : List ℕ) (n at key : ℕ) → key ≤ at → among-steps same-row T n at key ≡ false
+pub among-ended : (alike : ℕ → ℕ → Bool) (T : List ℕ) (n at key : ℕ) → key ≤ at → among-steps alike T n at key ≡ false
 unfolding among-steps
-among-ended same-row T zero at key h = refl
-among-ended same-row T (suc n) at key h = rw (le-leb key at h)
+among-ended alike T zero at key h = refl
+among-ended alike T (suc n) at key h = rw (le-leb key at h)
 
 -- ---- over a comparison of words that tells whether two known rows say the same
 
 module _
-    (same-row : ℕ → ℕ → Bool)
+    (alike : ℕ → ℕ → Bool)
     (Known : Row → Type 0)
     (small : (r : Row) → Known r → Small-row r)
-    (row-tells : (r q : Row) → Known r → Known q → Tells (same-row (word r) (word q)) (own r ≡ own q))
+    (row-tells : (r q : Row) → Known r → Known q → Tells (alike (word r) (word q)) (own r ≡ own q))
     (T : List ℕ) where
   rows-tell : (n a b : ℕ) (rs qs : List Row) → length rs ≡ n → length qs ≡ n → Each-row Known rs → Each-row Known qs → Here T a (words-of rs) → Here T b (words-of qs)
-      → Tells (same-rows same-row T n a b) (owns rs ≡ owns qs)
+      → Tells (same-rows alike T n a b) (owns rs ≡ owns qs)
   unfolding same-rows owns Each-row words-of
   rows-tell zero a b [] [] e f k m h g = (λ _. refl, λ _. refl)
   rows-tell zero a b [] (q ∷ qs) e f k m h g = absurd (omega arith)
@@ -166,15 +166,15 @@ module _
   rows-tell (suc n) a b (r ∷ rs) [] e f k m h g = absurd (omega arith)
   rows-tell (suc n) a b (r ∷ rs) (q ∷ qs) e f k m h g =
       rw (here-word h, here-word g)
-      (tells-cons (own r) (own q) (owns rs) (owns qs) (same-row (word r) (word q)) (same-rows same-row T n (a + 1) (b + 1))
+      (tells-cons (own r) (own q) (owns rs) (owns qs) (alike (word r) (word q)) (same-rows alike T n (a + 1) (b + 1))
       (row-tells r q (k .0) (m .0))
       (rows-tell n (a + 1) (b + 1) rs qs (omega arith) (omega arith) (k .1) (m .1) (here-rest h) (here-rest g)))
 
   -- two terms whose rows stand in the table
   module _ (whole whole′ : Option ℕ) (a b : ℕ) (t u : Located) (k : Known-tree Known T whole a t) (m : Known-tree Known T whole′ b u) where
-    sizes-tell : size t ≡ size u → Tells (same-rows same-row T (size t) a b) (meaning t ≡ meaning u)
+    sizes-tell : size t ≡ size u → Tells (same-rows alike T (size t) a b) (meaning t ≡ meaning u)
     sizes-tell e =
-        let h : Tells (same-rows same-row T (size t) a b) (owns (tree-rows whole a t) ≡ owns (tree-rows whole′ b u))
+        let h : Tells (same-rows alike T (size t) a b) (owns (tree-rows whole a t) ≡ owns (tree-rows whole′ b u))
         = rows-tell (size t) a b (tree-rows whole a t) (tree-rows whole′ b u) (length-tree-rows whole a t) (length-tree-rows whole′ b u ∙ sym e) (k .known) (m .known) (k .stands .tree-words) (m .stands .tree-words) in
         let x : owns (tree-rows whole a t) ≡ nodes (meaning t) = owns-tree whole a t in
         let y : owns (tree-rows whole′ b u) ≡ nodes (meaning u) = owns-tree whole′ b u in (
@@ -183,13 +183,13 @@ module _
         )
 
     -- they compare as their meanings do
-    pub same-from-same : same-from same-row T a b ≡ same (meaning t) (meaning u)
+    pub same-from-same : same-from alike T a b ≡ same (meaning t) (meaning u)
     unfolding same-from
     same-from-same =
         rw (lt-leb (length T) a (tree-below t k), lt-leb (length T) b (tree-below u m), tree-size small t k, tree-size small u m)
         (tells-same _ _ (go (eqb (size t) (size u)) refl) (same-tells (meaning t) (meaning u)))
       where
-        go : (z : Bool) → eqb (size t) (size u) ≡ z → Tells (cond z (same-rows same-row T (size t) a b) false) (meaning t ≡ meaning u)
+        go : (z : Bool) → eqb (size t) (size u) ≡ z → Tells (cond z (same-rows alike T (size t) a b) false) (meaning t ≡ meaning u)
         go true e = sizes-tell (eqb-true (size t) (size u) e)
         go false e = (λ f. absurd (not-false f), λ f. absurd (eqb-false (size t) (size u) e (sym (size-meaning t) ∙ ap size f ∙ size-meaning u)))
 
@@ -202,10 +202,10 @@ module _
         rw e (ap (λ (i : ℕ). size k + i) (tree-size small v (first-known (others-known h))))
 
     pairs-tell : (n at : ℕ) {ts : Terms} {ks ls : List Term} → Pairs ts ks ls → key ≡ at + sizes ts → sizes ts ≤ n → Known-rows Known T whole at ts
-        → (among (meaning u) ks || among-steps same-row T n at key) ≡ among (meaning u) ls
+        → (among (meaning u) ks || among-steps alike T n at key) ≡ among (meaning u) ls
     unfolding among-steps among
     pairs-tell n at {ks = ks} no-pair e h g =
-        ap (λ (b : Bool). among (meaning u) ks || b) (among-ended same-row T n at key (omega arith)) ∙ or-false (among (meaning u) ks)
+        ap (λ (b : Bool). among (meaning u) ks || b) (among-ended alike T n at key (omega arith)) ∙ or-false (among (meaning u) ks)
     pairs-tell zero at (a-pair {k = k} p) e h g = absurd (omega (arith, size-positive k))
     pairs-tell (suc n) at {ks = ks} (a-pair {k = k} {v = v} {ts = ts} p) e h g =
         let some : 1 ≤ size k = size-positive k in
@@ -216,11 +216,11 @@ module _
           pair-sizes g,
           ne-eqb (size k + size v) 0 (λ z. omega arith),
         )
-        (or-later (among (meaning u) ks) (same (meaning u) (meaning k)) (among-steps same-row T n (at + (size k + size v)) key)
+        (or-later (among (meaning u) ks) (same (meaning u) (meaning k)) (among-steps alike T n (at + (size k + size v)) key)
         ∙ pairs-tell n (at + (size k + size v)) p (omega arith) (omega arith) (subst (λ (i : ℕ). Known-rows Known T whole i ts) past (others-known (others-known g))))
 
     -- it is compared with each key
     pub among-from-among : (first : ℕ) {ts : Terms} {ks : List Term} → Keys-of ts ks → key ≡ first + sizes ts → Known-rows Known T whole first ts
-        → among-from same-row T first key ≡ among (meaning u) ks
+        → among-from alike T first key ≡ among (meaning u) ks
     unfolding among-from among
     among-from-among first p e g = rw (lt-leb (length T) key (tree-below u m)) (pairs-tell (key - first) first p e (omega arith) g)

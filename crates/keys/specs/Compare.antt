@@ -4,14 +4,25 @@ use mathlib.Core.List.{List}
 use Prim.Native.Nat.{ℕ, zero, suc, _+_, _-_}
 use lib.Dec.{eqb, leb}
 use lib.ListN.{length, getD}
-use Rattle.format.specs.Rows.{size-in}
+use Rattle.format.specs.Rows.{kind-in, parts-in, size-in}
+
+-- the kind of a term: a character of a 107 is an integer
+unfoldable pub plain-kind : ℕ → ℕ
+plain-kind k = cond (eqb k 14) 1 k
 
 -- do two words of rows say the same fields and number of parts?
-module _ (same-row : ℕ → ℕ → Bool) (T : List ℕ) where
+unfoldable pub same-row : List ℕ → List ℕ → List ℕ → ℕ → ℕ → Bool
+same-row m places lengths v w =
+    cond (eqb (plain-kind (kind-in v)) (plain-kind (kind-in w)))
+    (cond (eqb (parts-in v) (parts-in w)) true false)
+    false
+
+-- over such a comparison of words
+module _ (alike : ℕ → ℕ → Bool) (T : List ℕ) where
   -- the n rows from a on and those from b on
   unfoldable pub same-rows : ℕ → ℕ → ℕ → Bool
   same-rows zero a b = true
-  same-rows (suc n) a b = cond (same-row (getD T a 0) (getD T b 0)) (same-rows n (a + 1) (b + 1)) false
+  same-rows (suc n) a b = cond (alike (getD T a 0) (getD T b 0)) (same-rows n (a + 1) (b + 1)) false
 
   -- the terms whose rows start at a and b
   unfoldable pub same-from : ℕ → ℕ → Bool
@@ -24,14 +35,21 @@ module _ (same-row : ℕ → ℕ → Bool) (T : List ℕ) where
 unfoldable pub pair-size : List ℕ → ℕ → ℕ
 pair-size T a = size-in (getD T a 0) + size-in (getD T (a + size-in (getD T a 0)) 0)
 
-module _ (same-row : ℕ → ℕ → Bool) (T : List ℕ) where
+module _ (alike : ℕ → ℕ → Bool) (T : List ℕ) where
   -- is the term at the row `key` equal to a key of the pairs from the row `at` on? In at most n steps
   unfoldable pub among-steps : ℕ → ℕ → ℕ → Bool
   among-steps zero at key = false
   among-steps (suc n) at key =
       cond (leb key at) false
-      (cond (same-from same-row T key at) true
+      (cond (same-from alike T key at) true
       (cond (eqb (pair-size T at) 0) false (among-steps n (at + pair-size T at) key)))
 
   unfoldable pub among-from : ℕ → ℕ → Bool
   among-from first key = cond (leb (length T) key) false (among-steps (key - first) first key)
+
+-- the same over the message and the atom list
+abbrev pub same-terms-raw : List ℕ → List ℕ → List ℕ → List ℕ → ℕ → ℕ → Bool
+same-terms-raw m places lengths = same-from (same-row m places lengths)
+
+abbrev pub among-rows : List ℕ → List ℕ → List ℕ → List ℕ → ℕ → ℕ → Bool
+among-rows m places lengths = among-from (same-row m places lengths)
