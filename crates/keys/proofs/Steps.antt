@@ -1,13 +1,13 @@
 -- One law for each way through the functions that compare rows.
-use mathlib.Core.Path.{_≡_, refl, sym, ap, _∙_}
+use mathlib.Core.Path.{_≡_, sym, ap, _∙_}
 use mathlib.Core.Bool.{Bool, true, false}
 use mathlib.Core.List.{List}
-use Prim.Native.Nat.{ℕ, zero, suc, _+_, _-_, _≤_, _<_}
+use Prim.Native.Nat.{ℕ, suc, _+_, _-_, _≤_, _<_}
 use native.Mathlib.Omega.{arith}
 use lib.ListN.{length, getD}
 use borrow.Author.Tests.{le-leb, lt-leb, eq-eqb, ne-eqb}
-use Rattle.format.specs.Rows.{kind-in, parts-in, size-in}
-use Rattle.keys.specs.Compare.{plain-kind, same-row, same-rows, same-from, pair-size, among-steps, among-from}
+use Rattle.format.specs.Rows.{kind-in, offset-in, parts-in, size-in}
+use Rattle.keys.specs.Compare.{plain-kind, same-fields, same-row, same-rows, same-from, pair-size, among-steps, among-from}
 use Rattle.keys.proofs.Compare.{among-ended}
 
 -- ---- kinds
@@ -32,9 +32,9 @@ module _ (m places lengths : List ℕ) (v w k k′ x x′ : ℕ) (a : k ≡ kind
     unfolding same-row
     parts-differ h = rw (← a, ← b, ← c, ← d, eq-eqb x x′ e, ← f, ← g, ne-eqb n n′ h)
 
-    pub fields-decide : n ≡ n′ → true ≡ same-row m places lengths v w
+    pub fields-decide : n ≡ n′ → (o o′ : ℕ) → o ≡ offset-in v → o′ ≡ offset-in w → (r : Bool) → r ≡ same-fields m places lengths k o k′ o′ → r ≡ same-row m places lengths v w
     unfolding same-row
-    fields-decide h = rw (← a, ← b, ← c, ← d, eq-eqb x x′ e, ← f, ← g, eq-eqb n n′ h)
+    fields-decide h o o′ i j r t = t ∙ rw (i, j) (rw (← a, ← b, ← c, ← d, eq-eqb x x′ e, ← f, ← g, eq-eqb n n′ h))
 
 -- ---- pairs
 

@@ -4,17 +4,21 @@ use mathlib.Core.List.{List}
 use Prim.Native.Nat.{ℕ, zero, suc, _+_, _-_}
 use lib.Dec.{eqb, leb}
 use lib.ListN.{length, getD}
-use Rattle.format.specs.Rows.{kind-in, parts-in, size-in}
+use Rattle.format.specs.Rows.{kind-in, offset-in, parts-in, size-in}
 
 -- the kind of a term: a character of a 107 is an integer
 unfoldable pub plain-kind : ℕ → ℕ
 plain-kind k = cond (eqb k 14) 1 k
 
+-- are the own fields of the terms of these kinds at these offsets equal?
+unfoldable pub same-fields : List ℕ → List ℕ → List ℕ → ℕ → ℕ → ℕ → ℕ → Bool
+same-fields m places lengths kind offset kind′ offset′ = true
+
 -- do two words of rows say the same fields and number of parts?
 unfoldable pub same-row : List ℕ → List ℕ → List ℕ → ℕ → ℕ → Bool
 same-row m places lengths v w =
     cond (eqb (plain-kind (kind-in v)) (plain-kind (kind-in w)))
-    (cond (eqb (parts-in v) (parts-in w)) true false)
+    (cond (eqb (parts-in v) (parts-in w)) (same-fields m places lengths (kind-in v) (offset-in v) (kind-in w) (offset-in w)) false)
     false
 
 -- over such a comparison of words

@@ -2,8 +2,9 @@
 ghost use mathlib.Core.Path.{_≡_};
 ghost use Prim.Native.Nat.{_+_, _<_};
 ghost use lib.ListN.{getD};
-ghost use Rattle.keys.specs.Compare.{plain-kind, same-row, same-rows, pair-size, same-terms-raw, among-rows};
+ghost use Rattle.keys.specs.Compare.{plain-kind, same-fields, same-row, same-rows, pair-size, same-terms-raw, among-rows};
 use row::kind_in;
+use row::offset_in;
 use row::parts_in;
 use row::size_in;
 
@@ -27,6 +28,21 @@ fn plain_kind(kind: usize) -> usize
     kind
 }
 
+// Whether the own fields of the terms of these kinds at these offsets are equal.
+fn same_fields(
+    msg: &[u8],
+    places: &[u8],
+    lengths: &[u16],
+    kind: usize,
+    offset: usize,
+    kind2: usize,
+    offset2: usize,
+) -> bool
+    ensures { λ r. ⌜ r ≡ same-fields (now (msg .entry)) (now (places .entry)) (now (lengths .entry)) kind offset kind2 offset2 ⌝ }
+{
+    true
+}
+
 // Whether two words of rows say the same fields and number of parts.
 fn same_row(msg: &[u8], places: &[u8], lengths: &[u16], v: u64, w: u64) -> bool
     ensures { λ r. ⌜ r ≡ same-row (now (msg .entry)) (now (places .entry)) (now (lengths .entry)) v w ⌝ }
@@ -39,7 +55,15 @@ fn same_row(msg: &[u8], places: &[u8], lengths: &[u16], v: u64, w: u64) -> bool
     if parts_in(v) != parts_in(w) {
         return false;
     }
-    true
+    same_fields(
+        msg,
+        places,
+        lengths,
+        kind,
+        offset_in(v),
+        other,
+        offset_in(w),
+    )
 }
 
 // The n rows from a on, and those from b on.

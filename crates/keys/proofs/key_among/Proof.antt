@@ -1,15 +1,11 @@
-use Rattle.keys.proofs.Steps.{Among-left, no-such-row, among-start, among-found, among-stuck, among-later, among-none}
-use Rattle.keys.specs.Compare.{same-row, among-rows}
+use Prim.Native.Nat.{_-_, _<_}
+use native.Mathlib.Omega.{arith}
 use lib.ListN.{length}
 use borrow.Author.Needs.{needs}
-use native.Mathlib.Omega.{arith}
-use Prim.Native.Nat.{_-_, _<_}
+use Rattle.keys.specs.Compare.{same-row, among-rows}
+use Rattle.keys.proofs.Steps.{Among-left, no-such-row, among-start, among-found, among-stuck, among-later, among-none}
 use Rattle.keys.proofs.key_among.Statement.{statement}
 use Rattle.keys.proofs.key_among.Tie as tie
-use Rattle.keys.proofs.key_among.Reads as reads
-use Rattle.keys.proofs.key_among.Lts as lts
-use Rattle.keys.proofs.pair_size.Reads as pair-size-reads
-use Rattle.keys.proofs.same_terms.Reads as same-terms-reads
 
 abbrev Inv-loop : tie.InvT-loop
 Inv-loop msg places lengths table first key at₀ at = (key < length table) × Among-left (same-row msg places lengths) table at key (among-rows msg places lengths table first key)
@@ -17,43 +13,33 @@ Inv-loop msg places lengths table first key at₀ at = (key < length table) × A
 abbrev μ-loop : tie.MeasureT-loop
 μ-loop msg places lengths table first key at₀ at = key - at
 
--- src/lib.rt:116:9
 returns : tie.Need-returns Inv-loop μ-loop
 returns c = no-such-row _ _ _ _ (c .if1 .taken)
 
--- src/lib.rt:119:5
 loop-holds : tie.Need-loop-holds Inv-loop μ-loop
 loop-holds c = (c .if1 .left, among-start _ _ _ _ (c .if1 .left))
 
--- src/lib.rt:120:12
 same-terms-requires : tie.Need-same-terms-requires Inv-loop μ-loop
 same-terms-requires c κs = search needs
 
--- src/lib.rt:121:13
 returns-2 : tie.Need-returns-2 Inv-loop μ-loop
 returns-2 c = among-found _ _ _ _ _ (c .before .before .before .loop .inv .1) (c .before .before .loop-test .taken) _ (c .before .same-terms .ensures) (c .if2 .taken)
 
--- src/lib.rt:123:13
 pair-size-requires : tie.Need-pair-size-requires Inv-loop μ-loop
 pair-size-requires c κs = omega arith
 
--- src/lib.rt:125:13
 returns-3 : tie.Need-returns-3 Inv-loop μ-loop
 returns-3 c = among-stuck _ _ _ _ _ (c .before .before .before .before .before .loop .inv .1) (c .before .before .before .before .loop-test .taken) _ (c .before .before .before .same-terms .ensures) (c .before .before .if2 .left) _ (c .before .pair-size .ensures .0) (c .if3 .taken)
 
--- src/lib.rt:127:9
 add-at : tie.Need-add-at Inv-loop μ-loop
 add-at c = omega arith
 
--- src/lib.rt:119:5
 loop-less : tie.Need-loop-less Inv-loop μ-loop
 loop-less c = omega arith
 
--- src/lib.rt:119:5
 loop-again : tie.Need-loop-again Inv-loop μ-loop
 loop-again c = (c .before .before .before .before .before .loop .inv .0, among-later _ _ _ _ _ (c .before .before .before .before .before .loop .inv .1) (c .before .before .before .before .loop-test .taken) _ (c .before .before .before .same-terms .ensures) (c .before .before .if2 .left) _ (c .before .pair-size .ensures .0) (c .if3 .left))
 
--- src/lib.rt:105:1
 returns-4 : tie.Need-returns-4 Inv-loop μ-loop
 returns-4 c = among-none _ _ _ _ _ (c .before .loop .inv .1) (c .loop-test .left)
 

@@ -1,14 +1,10 @@
 use Rattle.keys.proofs.Steps.{kind-character, kind-plain}
 use Rattle.keys.proofs.plain_kind.Statement.{statement}
 use Rattle.keys.proofs.plain_kind.Tie as tie
-use Rattle.keys.proofs.plain_kind.Reads as reads
-use Rattle.keys.proofs.plain_kind.Lts as lts
 
--- src/lib.rt:25:9
 returns : tie.Need-returns
 returns c = kind-character _ (c .if1 .taken)
 
--- src/lib.rt:21:1
 returns-2 : tie.Need-returns-2
 returns-2 c = kind-plain _ (c .if1 .left)
 

@@ -1,16 +1,12 @@
-use Rattle.keys.proofs.Steps.{rows-start, rows-differ, rows-next, rows-ended}
-use Rattle.keys.specs.Compare.{same-row, same-rows}
+use mathlib.Core.Path.{_≡_}
+use Prim.Native.Nat.{_+_, _-_, _≤_}
+use native.Mathlib.Omega.{arith}
 use borrow.Author.Tests.{not-true, not-false}
 use borrow.Author.Needs.{needs}
-use native.Mathlib.Omega.{arith}
-use Prim.Native.Nat.{_+_, _-_, _≤_}
-use mathlib.Core.Path.{_≡_}
+use Rattle.keys.specs.Compare.{same-row, same-rows}
+use Rattle.keys.proofs.Steps.{rows-start, rows-differ, rows-next, rows-ended}
 use Rattle.keys.proofs.same_rows.Statement.{statement}
 use Rattle.keys.proofs.same_rows.Tie as tie
-use Rattle.keys.proofs.same_rows.Reads as reads
-use Rattle.keys.proofs.same_rows.Lts as lts
-use Rattle.keys.proofs.same_row.Reads as same-row-reads
-use Rattle.keys.proofs.word_at.Reads as word-at-reads
 
 abbrev Inv-loop : tie.InvT-loop
 Inv-loop msg places lengths table n a b i₀ i = (i ≤ n) × (same-rows (same-row msg places lengths) table (n - i) (a + i) (b + i) ≡ same-rows (same-row msg places lengths) table n a b)
@@ -18,47 +14,36 @@ Inv-loop msg places lengths table n a b i₀ i = (i ≤ n) × (same-rows (same-r
 abbrev μ-loop : tie.MeasureT-loop
 μ-loop msg places lengths table n a b i₀ i = n - i
 
--- src/lib.rt:59:5
 loop-holds : tie.Need-loop-holds Inv-loop μ-loop
 loop-holds c = (omega arith, rows-start _ _ _ _ _)
 
--- src/lib.rt:60:32
 add-word-at : tie.Need-add-word-at Inv-loop μ-loop
 add-word-at c = omega arith
 
--- src/lib.rt:60:13
 word-at-requires : tie.Need-word-at-requires Inv-loop μ-loop
 word-at-requires c κs = search needs
 
--- src/lib.rt:61:32
 add-word-at-2 : tie.Need-add-word-at-2 Inv-loop μ-loop
 add-word-at-2 c = omega arith
 
--- src/lib.rt:61:13
 word-at-requires-2 : tie.Need-word-at-requires-2 Inv-loop μ-loop
 word-at-requires-2 c κs = search needs
 
--- src/lib.rt:62:13
 same-row-requires : tie.Need-same-row-requires Inv-loop μ-loop
 same-row-requires c κs = search needs
 
--- src/lib.rt:63:13
 returns : tie.Need-returns Inv-loop μ-loop
 returns c = rows-differ (same-row _ _ _) _ _ _ _ _ _ (c .before .before .before .before .before .loop .inv .1) (c .before .before .before .before .loop-test .taken) _ _ (c .before .before .before .word-at .ensures) (c .before .before .word-at2 .ensures) _ (c .before .same-row .ensures) (not-true _ (c .if1 .taken))
 
--- src/lib.rt:65:9
 add-i : tie.Need-add-i Inv-loop μ-loop
 add-i c = omega arith
 
--- src/lib.rt:59:5
 loop-less : tie.Need-loop-less Inv-loop μ-loop
 loop-less c = omega arith
 
--- src/lib.rt:59:5
 loop-again : tie.Need-loop-again Inv-loop μ-loop
 loop-again c = (omega arith, rows-next (same-row _ _ _) _ _ _ _ _ _ (c .before .before .before .before .before .loop .inv .1) (c .before .before .before .before .loop-test .taken) _ _ (c .before .before .before .word-at .ensures) (c .before .before .word-at2 .ensures) _ (c .before .same-row .ensures) (not-false _ (c .if1 .left)))
 
--- src/lib.rt:46:1
 returns-2 : tie.Need-returns-2 Inv-loop μ-loop
 returns-2 c = rows-ended (same-row _ _ _) _ _ _ _ _ _ (c .before .loop .inv .1) (c .loop-test .left)
 

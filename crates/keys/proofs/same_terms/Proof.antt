@@ -1,53 +1,38 @@
-use Rattle.keys.proofs.Steps.{past-first, past-second, sizes-differ, sizes-same}
 use borrow.Author.Needs.{needs}
+use Rattle.keys.proofs.Steps.{past-first, past-second, sizes-differ, sizes-same}
 use Rattle.keys.proofs.same_terms.Statement.{statement}
 use Rattle.keys.proofs.same_terms.Tie as tie
-use Rattle.keys.proofs.same_terms.Reads as reads
-use Rattle.keys.proofs.same_terms.Lts as lts
-use Rattle.keys.proofs.same_rows.Reads as same-rows-reads
-use Rattle.row.proofs.size_in.Reads as size-in-reads
 
--- src/lib.rt:82:9
 returns : tie.Need-returns
 returns c = past-first _ _ _ _ (c .if1 .taken)
 
--- src/lib.rt:85:9
 returns-2 : tie.Need-returns-2
 returns-2 c = past-second _ _ _ _ (c .before .if1 .left) (c .if2 .taken)
 
--- src/lib.rt:87:21
 mul-size-in : tie.Need-mul-size-in
 mul-size-in c = search needs
 
--- src/lib.rt:87:21
 shared-slice-read-size-in : tie.Need-shared-slice-read-size-in
 shared-slice-read-size-in c = search needs
 
--- src/lib.rt:87:9
 size-in-requires : tie.Need-size-in-requires
 size-in-requires c κs = search needs
 
--- src/lib.rt:88:21
 mul-size-in-2 : tie.Need-mul-size-in-2
 mul-size-in-2 c = search needs
 
--- src/lib.rt:88:21
 shared-slice-read-size-in-2 : tie.Need-shared-slice-read-size-in-2
 shared-slice-read-size-in-2 c = search needs
 
--- src/lib.rt:88:13
 size-in-requires-2 : tie.Need-size-in-requires-2
 size-in-requires-2 c κs = search needs
 
--- src/lib.rt:89:9
 returns-3 : tie.Need-returns-3
 returns-3 c = sizes-differ _ _ _ _ (c .before .before .before .before .before .before .if1 .left) (c .before .before .before .before .before .if2 .left) _ _ (c .before .before .before .size-in .ensures .0) (c .before .size-in2 .ensures .0) (c .if3 .taken)
 
--- src/lib.rt:91:5
 same-rows-requires : tie.Need-same-rows-requires
 same-rows-requires c κs = search needs
 
--- src/lib.rt:71:1
 returns-4 : tie.Need-returns-4
 returns-4 c = sizes-same _ _ _ _ (c .before .before .before .before .before .before .before .if1 .left) (c .before .before .before .before .before .before .if2 .left) _ _ (c .before .before .before .before .size-in .ensures .0) (c .before .before .size-in2 .ensures .0) _ (c .before .if3 .left) (c .same-rows .ensures)
 
