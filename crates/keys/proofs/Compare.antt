@@ -76,7 +76,7 @@ mutual
       owns-join (tree-rows whole n t) (rows whole (n + size t) ts)
       ∙ ap₂ (λ (xs ys : List (Label × ℕ)). xs ++ ys) (owns-tree whole n t) (owns-rows whole (n + size t) ts)
 
-each-row-split : (P : Row → Type 0) (rs qs : List Row) → Each-row P (rs ++ qs) → Each-row P rs × Each-row P qs
+pub each-row-split : (P : Row → Type 0) (rs qs : List Row) → Each-row P (rs ++ qs) → Each-row P rs × Each-row P qs
 unfolding Each-row
 each-row-split P [] qs h = (tt, h)
 each-row-split P (r ∷ rs) qs h = let g : Each-row P rs × Each-row P qs = each-row-split P rs qs (h .1) in ((h .0, g .0), g .1)

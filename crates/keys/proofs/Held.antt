@@ -7,7 +7,7 @@ use Prim.Native.Nat.{ℕ, _+_}
 use native.Mathlib.Omega.{arith}
 use lib.Dec.{eqb}
 use borrow.Author.Tests.{eq-eqb, ne-eqb, eqb-true}
-use Rattle.format.specs.Tree.{node, none, _▹_, size, sizes}
+use Rattle.format.specs.Tree.{node, none, _▹_, _▹▹_, size, sizes}
 use Rattle.format.specs.Term.{Label, Term}
 use Rattle.format.specs.Equal.{same, among}
 use Rattle.format.specs.Head.{Atoms}
@@ -15,9 +15,10 @@ use Rattle.format.specs.Reading.{Place, tag-at, character-at, Located, meaning}
 use Rattle.format.specs.Message.{Terms}
 use Rattle.format.specs.Rows.{Row, tree-rows, rows, word, kind-of, kind-at, offset-of}
 use Rattle.format.proofs.Backed.{Label-at, Backed, Backeds}
-use Rattle.format.proofs.Words.{Each-row, each-row-join, Small-row, Word-of, word-packed, Between, kind-of-range, Tree-here, Rows-here}
+use Rattle.format.proofs.Rows.{rows-join}
+use Rattle.format.proofs.Words.{Each-row, each-row-join, Small-row, Word-of, word-packed, Between, kind-of-range, Tree-here, Rows-here, left-here, right-here, first-here}
 use Rattle.keys.specs.Compare.{plain-kind, same-fields, same-row, same-terms-raw, among-rows}
-use Rattle.keys.proofs.Compare.{Tells, own, Known-tree, Known-rows, same-from-same, among-from-among, Keys-of}
+use Rattle.keys.proofs.Compare.{Tells, own, each-row-split, Known-tree, Known-rows, same-from-same, among-from-among, Keys-of}
 
 -- a test that is decided by two others in turn
 both-tell : {P Q : Type 0} (b c : Bool) → Tells b P → (b ≡ true → Tells c Q) → Tells (cond b c false) (P × Q)
@@ -64,6 +65,34 @@ module _ (message : List ℕ) (cap : ℕ) (atoms : Atoms) where
     pub stand : Rows-here T whole n ts
     pub all-small : Each-row Small-row (rows whole n ts)
     pub all-backed : Backeds message cap atoms ts
+
+  backed-left : (ts us : Terms) → Backeds message cap atoms (ts ▹▹ us) → Backeds message cap atoms ts
+  backed-left none us b = tt
+  backed-left (t ▹ ts) us b = (b .0, backed-left ts us (b .1))
+
+  backed-right : (ts us : Terms) → Backeds message cap atoms (ts ▹▹ us) → Backeds message cap atoms us
+  backed-right none us b = b
+  backed-right (t ▹ ts) us b = backed-right ts us (b .1)
+
+  -- a run of terms after another
+  module _ {T : List ℕ} {whole : Option ℕ} {n : ℕ} (ts us : Terms) (h : Held-rows T whole n (ts ▹▹ us)) where
+    small-both : Each-row Small-row (rows whole n ts) × Each-row Small-row (rows whole (n + sizes ts) us)
+    small-both = each-row-split Small-row (rows whole n ts) (rows whole (n + sizes ts) us) (rw rows-join at (h .all-small))
+
+    pub held-left : Held-rows T whole n ts
+    held-left = record { stand = left-here ts us (h .stand); all-small = small-both .0; all-backed = backed-left ts us (h .all-backed) }
+
+    pub held-right : Held-rows T whole (n + sizes ts) us
+    held-right = record { stand = right-here ts us (h .stand); all-small = small-both .1; all-backed = backed-right ts us (h .all-backed) }
+
+  pub held-first : {T : List ℕ} {whole : Option ℕ} {n : ℕ} (t : Located) (ts : Terms) → Held-rows T whole n (t ▹ ts) → Held T whole n t
+  unfolding rows
+  held-first {T} {whole} {n} t ts h =
+      record {
+        stands = first-here (h .stand);
+        small = each-row-split Small-row (tree-rows whole n t) (rows whole (n + size t) ts) (h .all-small) .0;
+        backed = h .all-backed .0;
+      }
 
   -- where the fields of two nodes of one kind are compared as their labels are
   module _
@@ -113,3 +142,9 @@ module _ (message : List ℕ) (cap : ℕ) (atoms : Atoms) where
           → Held-rows T whole first ts → Held T whole′ key u → among-rows message places lengths T first key ≡ among (meaning u) ks
       among-rows-among {whole} {whole′} {first} {key} ts u p e h g =
           among-from-among (same-row message places lengths) Known (λ r k. k .0) row-tells T whole whole′ key u (known-tree u g) first p e (known-rows ts h)
+
+      -- the same of the last of terms, after pairs
+      pub last-among : {whole : Option ℕ} {first : ℕ} (ts : Terms) (u : Located) {ks : List Term} → Keys-of ts ks → Held-rows T whole first (ts ▹▹ (u ▹ none))
+          → among-rows message places lengths T first (first + sizes ts) ≡ among (meaning u) ks
+      last-among ts u p h =
+          among-rows-among ts u p refl (held-left ts (u ▹ none) h) (held-first u none (held-right ts (u ▹ none) h))

@@ -1,3 +1,4 @@
+-- `keys::plain_kind` meets its contract.
 use Rattle.keys.proofs.Steps.{kind-character, kind-plain}
 use Rattle.keys.proofs.plain_kind.Statement.{statement}
 use Rattle.keys.proofs.plain_kind.Tie as tie
