@@ -7,6 +7,9 @@ use native.Mathlib.Omega.{arith}
 use lib.ListN.{length, getD}
 use borrow.Author.Tests.{le-leb, lt-leb, eq-eqb, ne-eqb}
 use Rattle.format.specs.Rows.{kind-in, offset-in, parts-in, size-in}
+use Rattle.contents.specs.declared.Content.{Content}
+use Rattle.contents.specs.Found.{content-of}
+use Rattle.contents.specs.Same.{same-contents}
 use Rattle.keys.specs.Compare.{plain-kind, same-fields, same-row, same-rows, same-from, pair-size, among-steps, among-from}
 use Rattle.keys.proofs.Compare.{among-ended}
 
@@ -19,6 +22,13 @@ kind-character k e = rw (eq-eqb k 14 e)
 pub kind-plain : (k : ℕ) → (k ≡ 14 → ⊥) → k ≡ plain-kind k
 unfolding plain-kind
 kind-plain k e = rw (ne-eqb k 14 e)
+
+-- ---- own fields
+
+pub fields-found : (m places lengths : List ℕ) (k o k′ o′ : ℕ) (a b : Content) (r : Bool) → a ≡ content-of m places lengths k o → b ≡ content-of m places lengths k′ o′
+    → r ≡ same-contents m places a b → r ≡ same-fields m places lengths k o k′ o′
+unfolding same-fields
+fields-found m places lengths k o k′ o′ a b r e f g = g ∙ rw (e, f)
 
 -- ---- two rows
 

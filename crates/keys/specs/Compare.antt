@@ -5,6 +5,8 @@ use Prim.Native.Nat.{ℕ, zero, suc, _+_, _-_}
 use lib.Dec.{eqb, leb}
 use lib.ListN.{length, getD}
 use Rattle.format.specs.Rows.{kind-in, offset-in, parts-in, size-in}
+use Rattle.contents.specs.Found.{content-of}
+use Rattle.contents.specs.Same.{same-contents}
 
 -- the kind of a term: a character of a 107 is an integer
 unfoldable pub plain-kind : ℕ → ℕ
@@ -12,7 +14,8 @@ plain-kind k = cond (eqb k 14) 1 k
 
 -- are the own fields of the terms of these kinds at these offsets equal?
 unfoldable pub same-fields : List ℕ → List ℕ → List ℕ → ℕ → ℕ → ℕ → ℕ → Bool
-same-fields m places lengths kind offset kind′ offset′ = true
+same-fields m places lengths kind offset kind′ offset′ =
+    same-contents m places (content-of m places lengths kind offset) (content-of m places lengths kind′ offset′)
 
 -- do two words of rows say the same fields and number of parts?
 unfoldable pub same-row : List ℕ → List ℕ → List ℕ → ℕ → ℕ → Bool

@@ -3,6 +3,8 @@ ghost use mathlib.Core.Path.{_≡_};
 ghost use Prim.Native.Nat.{_+_, _<_};
 ghost use lib.ListN.{getD};
 ghost use Rattle.keys.specs.Compare.{plain-kind, same-fields, same-row, same-rows, pair-size, same-terms-raw, among-rows};
+use contents::content_at;
+use contents::same_content;
 use row::kind_in;
 use row::offset_in;
 use row::parts_in;
@@ -40,7 +42,9 @@ fn same_fields(
 ) -> bool
     ensures { λ r. ⌜ r ≡ same-fields (now (msg .entry)) (now (places .entry)) (now (lengths .entry)) kind offset kind2 offset2 ⌝ }
 {
-    true
+    let a = content_at(msg, places, lengths, kind, offset);
+    let b = content_at(msg, places, lengths, kind2, offset2);
+    same_content(msg, places, a, b)
 }
 
 // Whether two words of rows say the same fields and number of parts.
