@@ -53,7 +53,7 @@ module _ (message : List ℕ) (cap : ℕ) (atoms : Atoms) where
   plain-kind-of : (l : Label) (p : Place) → Label-at message cap atoms p l → plain-kind (kind-at l p) ≡ kind-of l
   unfolding plain-kind kind-at kind-of
   plain-kind-of l (tag-at p) h = let r : Between 1 13 (kind-of l) = kind-of-range l in rw (ne-eqb (kind-of l) 14 (λ e. omega arith))
-  plain-kind-of l (character-at p) h = sym (ap kind-of h)
+  plain-kind-of l (character-at p) h = sym (ap kind-of (h .1))
 
   -- the rows of a term, of terms, stand in the table from row n on and are small, and the message backs them
   pub record Held (T : List ℕ) (whole : Option ℕ) (n : ℕ) (t : Located) : Type 0 where
