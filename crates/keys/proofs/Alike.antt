@@ -8,9 +8,9 @@ use native.Mathlib.Omega.{arith}
 use lib.Dec.{eqb, leb, ltb}
 use lib.ListN.{length, getD, take, drop, length-drop}
 use lib.Seq.{take-add, take-suc, drop-drop, getD-drop}
-use borrow.Author.Tests.{le-leb, le-ltb, eq-eqb, ne-eqb, eqb-true, eqb-false, leb-true, ltb-true, ltb-false}
+use borrow.Author.Tests.{le-leb, le-ltb, ne-eqb, eqb-true, eqb-false}
 use Rattle.format.specs.Numbers.{big-endian, little-endian, with-sign}
-use Rattle.format.specs.Text.{Checked, valid, invalid-at, utf-8, check, encodes}
+use Rattle.format.specs.Text.{valid, utf-8, check, encodes}
 use Rattle.format.specs.Term.{Label, integer, float, atom, tuple, list, improper-list, binary, bitstring, map, pid, port, reference, export}
 use Rattle.format.specs.Head.{clear-low}
 use Rattle.format.specs.AtomList.{AtomList}
@@ -19,11 +19,11 @@ use Rattle.octets.proofs.Parts.{length-part, getD-part}
 use Rattle.contents.specs.declared.Content.{Content}
 use Rattle.contents.specs.declared.Content.the-variants.{Nothing, Whole, Big, Float, Text, Bytes, Bits, Pid, Port, Reference}
 use Rattle.contents.specs.declared.Flat.{Flat}
-use Rattle.contents.specs.Found.{choose, value}
+use Rattle.contents.specs.Found.{choose, value, content-of}
 use Rattle.contents.specs.Meaning.{stretch, sign, words-at, characters-of, coded, bare, label-of}
 use Rattle.contents.specs.Same.{same-bool, same-list, high, same-part, same-stretch, same-spelling, same-text, same-last, same-bits, same-words, numbers-of, stretch-of, flat-of, same-numbers, source, same-atoms, same-stretches, same-flat, same-contents}
 use Rattle.contents.proofs.Lists.{same-true, same-self}
-use Rattle.keys.proofs.Compare.{Tells}
+use Rattle.keys.proofs.Tells.{Tells, not-so, tells-as, then-tells, eqb-tells}
 
 -- A text that was read: Latin-1 of at most 255 bytes, or valid UTF-8
 abbrev pub Readable : Bool → List ℕ → Type 0
@@ -43,13 +43,12 @@ Sound m places (Pid i s c) = Unit {0}
 Sound m places (Port i c) = Unit {0}
 Sound m places (Reference c start n) = start + 4 * n ≤ length m
 
+-- what is found of a row of this kind at this offset says the label
+pub record Says (atoms : AtomList) (m : List ℕ) (kind p : ℕ) (x : Label) : Type 0 where
+  pub means : label-of m atoms kind (content-of m (atoms .places) (atoms .lengths) kind p) ≡ x
+  pub sound : Sound m (atoms .places) (content-of m (atoms .places) (atoms .lengths) kind p)
+
 -- ---- tests in turn
-
-not-so : {P : Type 0} → false ≡ true → P
-not-so e = let z : _≡_ {A = ℕ} 0 1 = cc in absurd (omega arith)
-
-eqb-tells : (a b : ℕ) → Tells (eqb a b) (a ≡ b)
-eqb-tells a b = (eqb-true a b, eq-eqb a b)
 
 bool-tells : (a b : Bool) → Tells (same-bool a b) (a ≡ b)
 unfolding same-bool
@@ -60,16 +59,6 @@ bool-tells false false = (λ _. refl, λ _. refl)
 
 list-tells : (xs ys : List ℕ) → Tells (same-list xs ys) (xs ≡ ys)
 list-tells xs ys = (same-true xs ys, λ e. rw e (same-self ys))
-
--- both tests, the second where the first holds
-then-tells : {P Q : Type 0} (b c : Bool) → Tells b P → (P → Tells c Q) → Tells (choose b c false) (P × Q)
-unfolding choose
-then-tells true c p q = let k = q (p .0 refl) in (λ e. (p .0 refl, k .0 e), λ h. k .1 (h .1))
-then-tells false c p q = (not-so, λ h. p .1 (h .0))
-
--- the same fact said in another way
-tells-as : {P Q : Type 0} (b : Bool) → (P → Q) → (Q → P) → Tells b P → Tells b Q
-tells-as b f g t = (λ e. f (t .0 e), λ q. t .1 (g q))
 
 -- ---- stretches
 
@@ -262,7 +251,7 @@ module _ (m : List ℕ) (bits i j : ℕ) where
 -- ---- words
 
 -- numbers of as many bytes are settled by them
-abbrev Big-same : Type 0
+abbrev pub Big-same : Type 0
 Big-same = (xs ys : List ℕ) → Under 256 xs → Under 256 ys → length xs ≡ length ys → big-endian xs ≡ big-endian ys → xs ≡ ys
 
 module _ (big-same : Big-same) (m : List ℕ) (u : Under 256 m) where

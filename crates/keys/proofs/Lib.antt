@@ -1,4 +1,5 @@
+pub mod Tells
 pub mod Compare
 pub mod Steps
-pub mod Held
 pub mod Alike
+pub mod Held

@@ -1,16 +1,16 @@
 -- Terms compared by their rows, said of the table's words alone, with the tests of the code in their order.
-use mathlib.Core.Bool.{Bool, true, false, cond}
+use mathlib.Core.Bool.{Bool, true, false}
 use mathlib.Core.List.{List}
 use Prim.Native.Nat.{ℕ, zero, suc, _+_, _-_}
 use lib.Dec.{eqb, leb}
 use lib.ListN.{length, getD}
 use Rattle.format.specs.Rows.{kind-in, offset-in, parts-in, size-in}
-use Rattle.contents.specs.Found.{content-of}
+use Rattle.contents.specs.Found.{choose, content-of}
 use Rattle.contents.specs.Same.{same-contents}
 
 -- the kind of a term: a character of a 107 is an integer
 unfoldable pub plain-kind : ℕ → ℕ
-plain-kind k = cond (eqb k 14) 1 k
+plain-kind k = choose (eqb k 14) 1 k
 
 -- are the own fields of the terms of these kinds at these offsets equal?
 unfoldable pub same-fields : List ℕ → List ℕ → List ℕ → ℕ → ℕ → ℕ → ℕ → Bool
@@ -20,8 +20,8 @@ same-fields m places lengths kind offset kind′ offset′ =
 -- do two words of rows say the same fields and number of parts?
 unfoldable pub same-row : List ℕ → List ℕ → List ℕ → ℕ → ℕ → Bool
 same-row m places lengths v w =
-    cond (eqb (plain-kind (kind-in v)) (plain-kind (kind-in w)))
-    (cond (eqb (parts-in v) (parts-in w)) (same-fields m places lengths (kind-in v) (offset-in v) (kind-in w) (offset-in w)) false)
+    choose (eqb (plain-kind (kind-in v)) (plain-kind (kind-in w)))
+    (choose (eqb (parts-in v) (parts-in w)) (same-fields m places lengths (kind-in v) (offset-in v) (kind-in w) (offset-in w)) false)
     false
 
 -- over such a comparison of words
@@ -29,14 +29,14 @@ module _ (alike : ℕ → ℕ → Bool) (T : List ℕ) where
   -- the n rows from a on and those from b on
   unfoldable pub same-rows : ℕ → ℕ → ℕ → Bool
   same-rows zero a b = true
-  same-rows (suc n) a b = cond (alike (getD T a 0) (getD T b 0)) (same-rows n (a + 1) (b + 1)) false
+  same-rows (suc n) a b = choose (alike (getD T a 0) (getD T b 0)) (same-rows n (a + 1) (b + 1)) false
 
   -- the terms whose rows start at a and b
   unfoldable pub same-from : ℕ → ℕ → Bool
   same-from a b =
-      cond (leb (length T) a) false
-      (cond (leb (length T) b) false
-      (cond (eqb (size-in (getD T a 0)) (size-in (getD T b 0))) (same-rows (size-in (getD T a 0)) a b) false))
+      choose (leb (length T) a) false
+      (choose (leb (length T) b) false
+      (choose (eqb (size-in (getD T a 0)) (size-in (getD T b 0))) (same-rows (size-in (getD T a 0)) a b) false))
 
 -- how many rows the term at a row and the next one have
 unfoldable pub pair-size : List ℕ → ℕ → ℕ
@@ -47,12 +47,12 @@ module _ (alike : ℕ → ℕ → Bool) (T : List ℕ) where
   unfoldable pub among-steps : ℕ → ℕ → ℕ → Bool
   among-steps zero at key = false
   among-steps (suc n) at key =
-      cond (leb key at) false
-      (cond (same-from alike T key at) true
-      (cond (eqb (pair-size T at) 0) false (among-steps n (at + pair-size T at) key)))
+      choose (leb key at) false
+      (choose (same-from alike T key at) true
+      (choose (eqb (pair-size T at) 0) false (among-steps n (at + pair-size T at) key)))
 
   unfoldable pub among-from : ℕ → ℕ → Bool
-  among-from first key = cond (leb (length T) key) false (among-steps (key - first) first key)
+  among-from first key = choose (leb (length T) key) false (among-steps (key - first) first key)
 
 -- the same over the message and the atom list
 abbrev pub same-terms-raw : List ℕ → List ℕ → List ℕ → List ℕ → ℕ → ℕ → Bool
