@@ -9,3 +9,5 @@ pub mod There
 pub mod Says
 pub mod Layouts
 pub mod Again
+pub mod Tells
+pub mod Alike

@@ -19,7 +19,7 @@ use Rattle.format.proofs.Rows.{size-meaning, size-positive, count-relabels, len
 use Rattle.format.proofs.Words.{Here, here-word, here-rest, Each-row, Small-row, Tree-here, Rows-here, node-packed, node-below, first-here, others-here, row-of}
 use Rattle.contents.specs.Found.{choose}
 use Rattle.keys.specs.Compare.{same-rows, same-from, pair-size, among-steps, among-from}
-use Rattle.keys.proofs.Tells.{Tells, not-so, tells-same, tells-as, then-tells}
+use Rattle.contents.proofs.Tells.{Tells, not-so, tells-same, tells-as, then-tells}
 
 -- ---- equal terms
 

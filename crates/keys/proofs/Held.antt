@@ -15,15 +15,16 @@ use Rattle.format.specs.AtomList.{AtomList, atoms-of}
 use Rattle.format.specs.Reading.{Place, tag-at, character-at, Located, meaning}
 use Rattle.format.specs.Message.{Terms}
 use Rattle.format.specs.Rows.{Row, tree-rows, rows, word, kind-of, kind-at, offset-of}
-use Rattle.format.proofs.Text.{Under}
 use Rattle.format.proofs.Backed.{Label-at, Backed, Backeds}
 use Rattle.format.proofs.Rows.{rows-join}
 use Rattle.format.proofs.Words.{Each-row, each-row-join, Small-row, Word-of, word-packed, Between, kind-of-range, Tree-here, Rows-here, left-here, right-here, first-here}
 use Rattle.contents.specs.Found.{choose}
 use Rattle.contents.specs.Meaning.{bare}
 use Rattle.keys.specs.Compare.{plain-kind, same-fields, same-row, same-terms-raw, among-rows}
-use Rattle.keys.proofs.Tells.{Tells, tells-as, then-tells, eqb-tells}
-use Rattle.keys.proofs.Alike.{Big-same, Says, alike}
+use Rattle.contents.proofs.Tells.{Tells, tells-as, then-tells, eqb-tells}
+use Rattle.contents.proofs.Says.{Lent, Says}
+use Rattle.contents.proofs.Again.{content-says}
+use Rattle.contents.proofs.Alike.{alike}
 use Rattle.keys.proofs.Compare.{own, each-row-split, Known-tree, Known-rows, same-from-same, among-from-among, Keys-of}
 
 each-row-both : (P Q : Row → Type 0) (rs : List Row) → Each-row P rs → Each-row Q rs → Each-row (λ r. P r × Q r) rs
@@ -101,13 +102,7 @@ bare-plain k = go (eqb k 14) refl
     go true e = ap bare (sym (eqb-true k 14 e))
     go false e = refl
 
-module _
-    (list : AtomList)
-    (message : List ℕ)
-    (cap : ℕ)
-    (bytes : Under 256 message)
-    (big-same : Big-same)
-    (says : (l : Label) (p : Place) → Label-at message cap (atoms-of list) p l → Says list message (kind-at l p) (offset-of p) l) where
+module _ (list : AtomList) (message : List ℕ) (lent : Lent list message) (cap : ℕ) where
   abbrev places : List ℕ
   places = list .places
 
@@ -122,14 +117,14 @@ module _
       → Tells (same-fields message places lengths (kind-at l p) (offset-of p) (kind-at l′ p′) (offset-of p′)) (l ≡ l′)
   unfolding same-fields
   fields-tell l l′ p p′ h g e =
-      let s : Says list message (kind-at l p) (offset-of p) l = says l p h in
-      let r : Says list message (kind-at l′ p′) (offset-of p′) l′ = says l′ p′ g in
+      let s : Says list message (kind-at l p) (offset-of p) l = content-says list message lent cap l p h in
+      let r : Says list message (kind-at l′ p′) (offset-of p′) l′ = content-says list message lent cap l′ p′ g in
       let k : bare (kind-at l p) ≡ bare (kind-at l′ p′)
       = sym (bare-plain (kind-at l p))
       ∙ ap bare (plain-kind-of message cap atoms l p h ∙ e ∙ sym (plain-kind-of message cap atoms l′ p′ g))
       ∙ bare-plain (kind-at l′ p′) in
       tells-as _ (λ x. sym (s .means) ∙ x ∙ r .means) (λ x. s .means ∙ x ∙ sym (r .means))
-      (alike big-same message list bytes (kind-at l p) (kind-at l′ p′) k _ _ (s .sound) (r .sound))
+      (alike message list (lent .under) (kind-at l p) (kind-at l′ p′) k _ _ (s .sound) (r .sound))
 
   abbrev Known : Row → Type 0
   Known r = Small-row r × Backed-row message cap atoms r

@@ -1,5 +1,3 @@
-pub mod Tells
 pub mod Compare
 pub mod Steps
-pub mod Alike
 pub mod Held

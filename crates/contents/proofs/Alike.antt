@@ -3,7 +3,7 @@ use mathlib.Core.Path.{_≡_, refl, sym, _∙_, ap, ap₂, subst}
 use mathlib.Core.Bool.{Bool, true, false}
 use mathlib.Core.List.{List, [], _∷_, _++_}
 use Prim.Native.Nat.{ℕ, zero, suc, _+_, _*_, _-_, _/_, _^_, _≤_, _<_}
-use native.Mathlib.Nat.{pow-succ', pow-le-pow-right}
+use native.Mathlib.Nat.{pow-le-pow-right, one-le-pow}
 use native.Mathlib.Omega.{arith}
 use lib.Dec.{eqb, leb, ltb}
 use lib.ListN.{length, getD, take, drop, length-drop}
@@ -14,41 +14,19 @@ use Rattle.format.specs.Text.{valid, utf-8, check, encodes}
 use Rattle.format.specs.Term.{Label, integer, float, atom, tuple, list, improper-list, binary, bitstring, map, pid, port, reference, export}
 use Rattle.format.specs.Head.{clear-low}
 use Rattle.format.specs.AtomList.{AtomList}
+use Rattle.format.proofs.Opening.{by-less}
 use Rattle.format.proofs.Text.{Under, utf8-encodes, utf8-spelt, latin1-characters}
-use Rattle.octets.proofs.Parts.{length-part, getD-part}
+use Rattle.octets.proofs.Parts.{length-part}
 use Rattle.contents.specs.declared.Content.{Content}
 use Rattle.contents.specs.declared.Content.the-variants.{Nothing, Whole, Big, Float, Text, Bytes, Bits, Pid, Port, Reference}
 use Rattle.contents.specs.declared.Flat.{Flat}
-use Rattle.contents.specs.Found.{choose, value, content-of}
+use Rattle.contents.specs.Found.{choose, value}
 use Rattle.contents.specs.Meaning.{stretch, sign, words-at, characters-of, coded, bare, label-of}
 use Rattle.contents.specs.Same.{same-bool, same-list, high, same-part, same-stretch, same-spelling, same-text, same-last, same-bits, same-words, numbers-of, stretch-of, flat-of, same-numbers, source, same-atoms, same-stretches, same-flat, same-contents}
 use Rattle.contents.proofs.Lists.{same-true, same-self}
-use Rattle.keys.proofs.Tells.{Tells, not-so, tells-as, then-tells, eqb-tells}
-
--- A text that was read: Latin-1 of at most 255 bytes, or valid UTF-8
-abbrev pub Readable : Bool → List ℕ → Type 0
-Readable true bs = Under 256 bs × (length bs ≤ 255)
-Readable false bs = (cs : List ℕ) × (check utf-8 bs ≡ valid cs)
-
--- What holds of a content that is found of a node: its stretches are there, and a number has one content only
-abbrev pub Sound : List ℕ → List ℕ → Content → Type 0
-Sound m places Nothing = Unit {0}
-Sound m places (Whole negative n) = (n < 18446744073709551616) × (n ≡ 0 → negative ≡ false)
-Sound m places (Big negative start n) = (8 < n) × (start + n ≤ length m) × (getD m (start + (n - 1)) 0 ≡ 0 → ⊥)
-Sound m places (Float bits) = Unit {0}
-Sound m places (Text latin1 listed start n) = (start + n ≤ length (source m places listed)) × Readable latin1 (stretch (source m places listed) start n)
-Sound m places (Bytes start n) = start + n ≤ length m
-Sound m places (Bits bits start n) = start + n ≤ length m
-Sound m places (Pid i s c) = Unit {0}
-Sound m places (Port i c) = Unit {0}
-Sound m places (Reference c start n) = start + 4 * n ≤ length m
-
--- what is found of a row of this kind at this offset says the label
-pub record Says (atoms : AtomList) (m : List ℕ) (kind p : ℕ) (x : Label) : Type 0 where
-  pub means : label-of m atoms kind (content-of m (atoms .places) (atoms .lengths) kind p) ≡ x
-  pub sound : Sound m (atoms .places) (content-of m (atoms .places) (atoms .lengths) kind p)
-
--- ---- tests in turn
+use Rattle.contents.proofs.Values.{under-part, big-same, little-same, little-least, little-small}
+use Rattle.contents.proofs.Says.{Sound, Readable}
+use Rattle.contents.proofs.Tells.{Tells, not-so, tells-as, then-tells, eqb-tells}
 
 bool-tells : (a b : Bool) → Tells (same-bool a b) (a ≡ b)
 unfolding same-bool
@@ -75,16 +53,6 @@ module _ (a : List ℕ) (i : ℕ) (b : List ℕ) (j : ℕ) where
       (λ e. let f : n ≡ k = sym (length-part a i n h) ∙ ap length e ∙ length-part b j k l in (f, e ∙ ap (λ (x : ℕ). stretch b j x) (sym f)))
       (then-tells (eqb n k) (same-part a i b j n) (eqb-tells n k) (λ f. part-tells n h (omega arith)))
 
-under-drop : (k n : ℕ) (xs : List ℕ) → Under k xs → Under k (drop n xs)
-under-drop k zero xs u = u
-under-drop k (suc n) [] u = tt
-under-drop k (suc n) (x ∷ xs) u = under-drop k n xs (u .1)
-
-under-take : (k n : ℕ) (xs : List ℕ) → Under k xs → Under k (take n xs)
-under-take k zero xs u = tt
-under-take k (suc n) [] u = tt
-under-take k (suc n) (x ∷ xs) u = (u .0, under-take k n xs (u .1))
-
 -- ---- signs and digits
 
 -- a sign and a magnitude, zero never negative, are settled by the number
@@ -103,49 +71,30 @@ positive : (a : Bool) (n : ℕ) → (n ≡ 0 → a ≡ false) → a ≡ true →
 positive a zero h e = not-so (sym (h refl) ∙ e)
 positive a (suc n) h e = omega arith
 
--- the highest digit is not zero
-abbrev Top : List ℕ → Type 0
-Top [] = ⊥
-Top (d ∷ []) = d ≡ 0 → ⊥
-Top (d ∷ e ∷ ds) = Top (e ∷ ds)
+-- Digits of which the highest is not zero
+module _ (m : List ℕ) (u : Under 256 m) where
+  abbrev Topped : ℕ → ℕ → Type 0
+  Topped i n = (0 < n) × (i + n ≤ length m) × (getD m (i + (n - 1)) 0 ≡ 0 → ⊥)
 
-little-some : (ds : List ℕ) → Top ds → 0 < little-endian ds
-unfolding little-endian
-little-some [] t = absurd t
-little-some (d ∷ []) t = omega arith
-little-some (d ∷ e ∷ ds) t = let h : 0 < little-endian (e ∷ ds) = little-some (e ∷ ds) t in omega arith
+  topped-some : (i n : ℕ) → Topped i n → 0 < little-endian (stretch m i n)
+  topped-some i n h = omega (arith, little-least m i n (h .0) (h .1) (h .2), one-le-pow (n - 1) 256 (omega arith))
 
--- such digits are settled by their number
-little-settles : (ds es : List ℕ) → Under 256 ds → Under 256 es → Top ds → Top es → little-endian ds ≡ little-endian es → ds ≡ es
-unfolding little-endian
-little-settles [] es u v t s e = absurd t
-little-settles (d ∷ ds) [] u v t s e = absurd s
-little-settles (d ∷ []) (e ∷ []) u v t s h = let x : d ≡ e = omega arith in ap (λ (y : ℕ). y ∷ []) x
-little-settles (d ∷ []) (e ∷ f ∷ fs) u v t s h = let k : 0 < little-endian (f ∷ fs) = little-some (f ∷ fs) s in absurd (omega arith)
-little-settles (d ∷ c ∷ ds) (e ∷ []) u v t s h = let k : 0 < little-endian (c ∷ ds) = little-some (c ∷ ds) t in absurd (omega arith)
-little-settles (d ∷ c ∷ ds) (e ∷ f ∷ fs) u v t s h =
-    let x : d ≡ e = omega arith in
-    let more : c ∷ ds ≡ f ∷ fs = little-settles (c ∷ ds) (f ∷ fs) (u .1) (v .1) t s (omega arith) in
-    ap₂ (λ (y : ℕ) (ys : List ℕ). y ∷ ys) x more
+  -- more of them make a larger number
+  topped-more : (i n j l : ℕ) → n < l → i + n ≤ length m → Topped j l → little-endian (stretch m i n) ≡ little-endian (stretch m j l) → ⊥
+  topped-more i n j l h g t e =
+      let a : little-endian (stretch m i n) < 256 ^ n = rw (length-part m i n g) at (little-small (stretch m i n) (under-part m i n u)) in
+      let b : 256 ^ (l - 1) ≤ little-endian (stretch m j l) = little-least m j l (t .0) (t .1) (t .2) in
+      let c : 256 ^ n ≤ 256 ^ (l - 1) = pow-le-pow-right {n = 256} (omega arith) {i = n} {j = l - 1} (omega arith) in
+      omega arith
 
-top-of : (ds : List ℕ) (n : ℕ) → length ds ≡ suc n → (getD ds n 0 ≡ 0 → ⊥) → Top ds
-top-of [] n e h = absurd (omega arith)
-top-of (d ∷ []) zero e h = h
-top-of (d ∷ []) (suc n) e h = absurd (omega arith)
-top-of (d ∷ c ∷ ds) zero e h = absurd (omega arith)
-top-of (d ∷ c ∷ ds) (suc n) e h = top-of (c ∷ ds) n (omega arith) h
-
--- more than 8 such digits make a large number
-little-large : (ds : List ℕ) (n : ℕ) → length ds ≡ suc n → Top ds → 256 ^ n ≤ little-endian ds
-unfolding little-endian
-little-large [] n e t = absurd t
-little-large (d ∷ []) zero e t = omega arith
-little-large (d ∷ []) (suc n) e t = absurd (omega arith)
-little-large (d ∷ c ∷ ds) zero e t = absurd (omega arith)
-little-large (d ∷ c ∷ ds) (suc n) e t =
-    let h : 256 ^ n ≤ little-endian (c ∷ ds) = little-large (c ∷ ds) n (omega arith) t in
-    let p : 256 ^ suc n ≡ 256 * 256 ^ n = pow-succ' 256 n in
-    omega arith
+  -- so they are settled by their number
+  topped-same : (i n j l : ℕ) → Topped i n → Topped j l → little-endian (stretch m i n) ≡ little-endian (stretch m j l) → stretch m i n ≡ stretch m j l
+  topped-same i n j l t s e =
+      by-less n l (λ h. absurd (topped-more i n j l h (t .1) s e)) λ h.
+      by-less l n (λ g. absurd (topped-more j l i n g (s .1) t (sym e))) λ g.
+      little-same (stretch m i n) (stretch m j l) (under-part m i n u) (under-part m j l u)
+      (length-part m i n (t .1) ∙ omega (arith, h, g) ∙ sym (length-part m j l (s .1)))
+      e
 
 -- ---- lists in two
 
@@ -250,14 +199,7 @@ module _ (m : List ℕ) (bits i j : ℕ) where
 
 -- ---- words
 
--- numbers of as many bytes are settled by them
-abbrev pub Big-same : Type 0
-Big-same = (xs ys : List ℕ) → Under 256 xs → Under 256 ys → length xs ≡ length ys → big-endian xs ≡ big-endian ys → xs ≡ ys
-
-module _ (big-same : Big-same) (m : List ℕ) (u : Under 256 m) where
-  under-stretch : (i n : ℕ) → Under 256 (stretch m i n)
-  under-stretch i n = under-take 256 n (drop i m) (under-drop 256 i m u)
-
+module _ (m : List ℕ) (u : Under 256 m) where
   words-settle : (n i j : ℕ) → i + 4 * n ≤ length m → j + 4 * n ≤ length m → words-at m i n ≡ words-at m j n → stretch m i (4 * n) ≡ stretch m j (4 * n)
   unfolding words-at
   words-settle zero i j h g e = refl
@@ -266,7 +208,7 @@ module _ (big-same : Big-same) (m : List ℕ) (u : Under 256 m) where
       let x : value m 4 i ≡ value m 4 j = cc in
       let y : words-at m (i + 4) n ≡ words-at m (j + 4) n = cc in
       let p : stretch m i 4 ≡ stretch m j 4
-      = big-same (stretch m i 4) (stretch m j 4) (under-stretch i 4) (under-stretch j 4) (length-part m i 4 (omega arith) ∙ sym (length-part m j 4 (omega arith))) x in
+      = big-same (stretch m i 4) (stretch m j 4) (under-part m i 4 u) (under-part m j 4 u) (length-part m i 4 (omega arith) ∙ sym (length-part m j 4 (omega arith))) x in
       let q : stretch m (i + 4) (4 * n) ≡ stretch m (j + 4) (4 * n) = words-settle n (i + 4) (j + 4) (omega arith) (omega arith) y in
       rw four (stretch-split m i 4 (4 * n) ∙ ap₂ (λ (xs ys : List ℕ). xs ++ ys) p q ∙ sym (stretch-split m j 4 (4 * n)))
 
@@ -391,7 +333,7 @@ numbers-tell f g =
     then-tells (eqb (f .second) (g .second)) _ (eqb-tells _ _) λ _.
     eqb-tells (f .third) (g .third)
 
-module _ (big-same : Big-same) (m : List ℕ) (atoms : AtomList) (u : Under 256 m) (k k′ : ℕ) (same-kind : bare k ≡ bare k′) where
+module _ (m : List ℕ) (atoms : AtomList) (u : Under 256 m) (k k′ : ℕ) (same-kind : bare k ≡ bare k′) where
   abbrev places : List ℕ
   places = atoms .places
 
@@ -459,7 +401,7 @@ module _ (big-same : Big-same) (m : List ℕ) (atoms : AtomList) (u : Under 256 
   references : (x i n y j l : ℕ) → i + 4 * n ≤ length m → j + 4 * l ≤ length m → Alike (Reference x i n) (Reference y j l)
   unfolding flat-of stretch-of same-stretches choose label-of
   references x i n y j l h g =
-      by-stretches (Reference x i n) (Reference y j l) (λ _. words-tell big-same m u i n j l h g)
+      by-stretches (Reference x i n) (Reference y j l) (λ _. words-tell m u i n j l h g)
       (λ p. ap₂ reference (p .0 .1 .1 .0) (p .1))
       (λ e. let f : x ≡ y = cc in let q : words-at m i n ≡ words-at m j l = cc in ((refl, (refl, (f, (refl, refl)))), q))
 
@@ -469,21 +411,16 @@ module _ (big-same : Big-same) (m : List ℕ) (atoms : AtomList) (u : Under 256 
       by-stretches (Text a b i n) (Text c d j l) (λ _. text-tells (source m places b) i n a (source m places d) j l c (h .0) (g .0) (h .1) (g .1)) (λ p. ap atom (p .1))
       (λ e. let q : coded a (stretch (source m places b) i n) ≡ coded c (stretch (source m places d) j l) = cc in ((refl, (refl, (refl, (refl, refl)))), q))
 
-  large : (i n : ℕ) → 8 < n → i + n ≤ length m → (getD m (i + (n - 1)) 0 ≡ 0 → ⊥) → Top (stretch m i n)
-  large i n h g t =
-      let e : n ≡ suc (n - 1) = omega arith in
-      top-of (stretch m i n) (n - 1) (length-part m i n g ∙ e) (λ z. t (sym (getD-part 0 m i n (n - 1) (omega arith)) ∙ z))
-
   bigs : (a : Bool) (i n : ℕ) (b : Bool) (j l : ℕ) → Sound m places (Big a i n) → Sound m places (Big b j l) → Alike (Big a i n) (Big b j l)
   unfolding flat-of stretch-of same-stretches choose label-of
   bigs a i n b j l h g =
-      let t : Top (stretch m i n) = large i n (h .0) (h .1) (h .2) in
-      let s : Top (stretch m j l) = large j l (g .0) (g .1) (g .2) in
+      let t : Topped m u i n = (omega (arith, h .0), h .1, h .2) in
+      let s : Topped m u j l = (omega (arith, g .0), g .1, g .2) in
       by-stretches (Big a i n) (Big b j l) (λ _. stretch-tells m i m j n l (h .1) (g .1))
       (λ p. ap₂ (λ (x : Bool) (y : List ℕ). integer (with-sign (sign x) (little-endian y))) (p .0 .1 .0) (p .1))
       (λ e.
-      let p = signed-both a b (little-endian (stretch m i n)) (little-endian (stretch m j l)) (λ _. little-some (stretch m i n) t) (λ _. little-some (stretch m j l) s) e in
-      let q : stretch m i n ≡ stretch m j l = little-settles (stretch m i n) (stretch m j l) (under-stretch big-same m u i n) (under-stretch big-same m u j l) t s (p .1) in
+      let p = signed-both a b (little-endian (stretch m i n)) (little-endian (stretch m j l)) (λ _. topped-some m u i n t) (λ _. topped-some m u j l s) e in
+      let q : stretch m i n ≡ stretch m j l = topped-same m u i n j l t s (p .1) in
       ((refl, (p .0, (refl, (refl, refl)))), q))
 
   one-case : (c d : Content) → code c ≡ code d → Sound m places c → Sound m places d → Alike c d
@@ -503,10 +440,9 @@ module _ (big-same : Big-same) (m : List ℕ) (atoms : AtomList) (u : Under 256 
   big-whole : (a : Bool) (i n : ℕ) (b : Bool) (l : ℕ) → Sound m places (Big a i n) → Sound m places (Whole b l)
       → _≡_ {A = Label} (integer (with-sign (sign a) (little-endian (stretch m i n)))) (integer (with-sign (sign b) l)) → ⊥
   big-whole a i n b l h g e =
-      let t : Top (stretch m i n) = large i n (h .0) (h .1) (h .2) in
-      let p = signed-both a b (little-endian (stretch m i n)) l (λ _. little-some (stretch m i n) t) (positive b l (g .1)) e in
-      let f : length (stretch m i n) ≡ suc (n - 1) = length-part m i n (h .1) ∙ omega (arith, h .0) in
-      let q : 256 ^ (n - 1) ≤ little-endian (stretch m i n) = little-large (stretch m i n) (n - 1) f t in
+      let t : Topped m u i n = (omega (arith, h .0), h .1, h .2) in
+      let p = signed-both a b (little-endian (stretch m i n)) l (λ _. topped-some m u i n t) (positive b l (g .1)) e in
+      let q : 256 ^ (n - 1) ≤ little-endian (stretch m i n) = little-least m i n (t .0) (t .1) (t .2) in
       let r : 256 ^ 8 ≤ 256 ^ (n - 1) = pow-le-pow-right {n = 256} (omega arith) {i = 8} {j = n - 1} (omega (arith, h .0)) in
       omega (arith, p .1, g .0)
 
