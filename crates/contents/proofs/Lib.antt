@@ -9,5 +9,3 @@ pub mod There
 pub mod Says
 pub mod Layouts
 pub mod Again
-pub mod Tells
-pub mod Alike
