@@ -8,4 +8,5 @@ pub mod Read
 pub mod There
 pub mod Says
 pub mod Layouts
+pub mod Alike
 pub mod Again
