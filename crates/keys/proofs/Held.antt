@@ -96,19 +96,14 @@ module _ (message : List ℕ) (cap : ℕ) (atoms : Atoms) where
       }
 
 module _ (list : AtomList) (message : List ℕ) (lent : Lent list message) (cap : ℕ) where
-  abbrev places : List ℕ
-  places = list .places
-
-  abbrev lengths : List ℕ
-  lengths = list .lengths
-
-  abbrev atoms : Atoms
+  -- what reading asks of the list
+  abbrev pub atoms : Atoms
   atoms = atoms-of list
 
-  abbrev Known : Row → Type 0
+  abbrev pub Known : Row → Type 0
   Known r = Small-row r × Backed-row message cap atoms r
 
-  row-agrees : (r q : Row) → Known r → Known q → Agree (same-row message places lengths (word r) (word q)) (own r ≡ own q)
+  row-agrees : (r q : Row) → Known r → Known q → Agree (same-row message (list .places) (list .lengths) (word r) (word q)) (own r ≡ own q)
   unfolding same-row same-fields
   row-agrees r q k m =
       let v : Word-of r (word r) = word-packed r (k .0) in
@@ -138,18 +133,18 @@ module _ (list : AtomList) (message : List ℕ) (lent : Lent list message) (cap 
 
     -- two terms compare as their meanings do
     pub same-terms-same : {whole whole′ : Option ℕ} {a b : ℕ} (t u : Located) → Held message cap atoms T whole a t → Held message cap atoms T whole′ b u
-        → same-terms-raw message places lengths T a b ≡ same (meaning t) (meaning u)
+        → same-terms-raw message (list .places) (list .lengths) T a b ≡ same (meaning t) (meaning u)
     same-terms-same {whole} {whole′} {a} {b} t u h g =
-        same-from-same (same-row message places lengths) Known (λ r k. k .0) row-agrees T whole whole′ a b t u (known-tree t h) (known-tree u g)
+        same-from-same (same-row message (list .places) (list .lengths)) Known (λ r k. k .0) row-agrees T whole whole′ a b t u (known-tree t h) (known-tree u g)
 
     -- a term right past pairs is compared with each of their keys
     pub among-rows-among : {whole whole′ : Option ℕ} {first key : ℕ} (ts : Terms) (u : Located) {ks : List Term} → Keys-of ts ks → key ≡ first + sizes ts
-        → Held-rows message cap atoms T whole first ts → Held message cap atoms T whole′ key u → among-rows message places lengths T first key ≡ among (meaning u) ks
+        → Held-rows message cap atoms T whole first ts → Held message cap atoms T whole′ key u → among-rows message (list .places) (list .lengths) T first key ≡ among (meaning u) ks
     among-rows-among {whole} {whole′} {first} {key} ts u p e h g =
-        among-from-among (same-row message places lengths) Known (λ r k. k .0) row-agrees T whole whole′ key u (known-tree u g) first p e (known-rows ts h)
+        among-from-among (same-row message (list .places) (list .lengths)) Known (λ r k. k .0) row-agrees T whole whole′ key u (known-tree u g) first p e (known-rows ts h)
 
     -- the same of the last of terms, after pairs
     pub last-among : {whole : Option ℕ} {first : ℕ} (ts : Terms) (u : Located) {ks : List Term} → Keys-of ts ks → Held-rows message cap atoms T whole first (ts ▹▹ (u ▹ none))
-        → among-rows message places lengths T first (first + sizes ts) ≡ among (meaning u) ks
+        → among-rows message (list .places) (list .lengths) T first (first + sizes ts) ≡ among (meaning u) ks
     last-among ts u p h =
         among-rows-among ts u p refl (held-left message cap atoms ts (u ▹ none) h) (held-first message cap atoms u none (held-right message cap atoms ts (u ▹ none) h))
