@@ -8,7 +8,7 @@ use native.Mathlib.Numerals.{add-one}
 use lib.ListN.{length, set, drop, replicate}
 use lib.Seq.{sets}
 use Rattle.format.specs.Tree.{Forest, node, none, _▹_, _▹▹_, count, size, sizes}
-use Rattle.format.specs.Term.{Label, list, map}
+use Rattle.format.specs.Term.{Label}
 use Rattle.format.specs.Answer.{Answer, good, refused, Position, Reading, after, done}
 use Rattle.format.specs.Head.{Atoms, Wanted, any, Head, parts, characters, elements, pairs, Later, later}
 use Rattle.format.specs.AtomList.{AtomList}
@@ -107,7 +107,7 @@ module _ (atoms : Atoms) (cap left : ℕ) (m : List ℕ) (place : ℕ) (h : Head
           let w : whole-of (row + 1) ≡ some row = rw (add-one row) in
           let ws : List ℕ = words-of (rows (some row) (row + 1) ts) in
           let i : v ≡ pack (kind-of (f .are .x .1)) place (whole-code (whole-of whole)) (count ts) (suc (sizes ts))
-          = is ∙ rw (f .kind-is, g, b, code-of-whole whole) in
+          = cc (code-of-whole whole, f .kind-is) in
           let t : T′ ≡ sets T (row + 1) ws = f .are .table-is ∙ rw w in
           rw (body-inner low, f .are .is) (
             ap (step.Got end) a,

@@ -114,13 +114,13 @@ module _ (m : List ℕ) (cap row whole : ℕ) (T T′ : List ℕ) where
 
   -- the words of terms, and then of others
   module _ (ts : Terms) (end : ℕ) (e : T′ ≡ sets T row (words-of (rows (whole-of whole) row ts))) (f : end ≡ row + sizes ts) where
-    joined-words : (us : Terms) → sets T′ end (words-of (rows (whole-of whole) end us)) ≡ sets T row (words-of (rows (whole-of whole) row (ts ▹▹ us)))
+    pub joined-words : (us : Terms) → sets T′ end (words-of (rows (whole-of whole) end us)) ≡ sets T row (words-of (rows (whole-of whole) row (ts ▹▹ us)))
     joined-words us =
         rw (e, f, rows-join (whole-of whole) row ts us, words-of-join)
         (sets-at T row (words-of (rows (whole-of whole) row ts)) (words-of (rows (whole-of whole) (row + sizes ts) us)) (row + sizes ts)
         (ap (λ (k : ℕ). row + k) (length-words-of (rows (whole-of whole) row ts) ∙ length-rows (whole-of whole) row ts)))
 
-    joined-end : (us : Terms) → end + sizes us ≡ row + sizes (ts ▹▹ us)
+    pub joined-end : (us : Terms) → end + sizes us ≡ row + sizes (ts ▹▹ us)
     joined-end us = omega (arith, sizes-join ts us)
 
     -- some terms in turn, and then others

@@ -3,3 +3,5 @@ pub mod Found
 pub mod Openings
 pub mod Runs
 pub mod Bodies
+pub mod Inner
+pub mod Entries
