@@ -103,6 +103,17 @@ module _ (atoms : Atoms) (cap deep : ℕ) (m : List ℕ) (start first all : ℕ)
     unfolding entries
     next-pair = let e : more ≡ suc (more - 1) = omega arith in ap (λ (n : ℕ). entries Part (i .earlier) n (at-offset m at row)) e
 
+    -- one more pair is read
+    pair-read : (k v : Located) (next end next′ end′ : ℕ) → Part any (at-offset m at row) ≡ good (k, at-offset m next end) → among (meaning k) (i .earlier) ≡ false
+        → Part any (at-offset m next end) ≡ good (v, at-offset m next′ end′)
+        → entries Part [] all (at-offset m start first)
+        ≡ after (entries Part (meaning k ∷ i .earlier) (more - 1) (at-offset m next′ end′)) (λ us. done ((i .ts ▹▹ (k ▹ v ▹ none)) ▹▹ us))
+    pair-read k v next end next′ end′ e new f =
+        i .goes
+        ∙ rw (next-pair, e, new, f)
+        (after-after (entries Part (meaning k ∷ i .earlier) (more - 1) (at-offset m next′ end′)) _ _
+        ∙ after-same (entries Part (meaning k ∷ i .earlier) (more - 1) (at-offset m next′ end′)) _ _ (λ us u. ap (λ (x : Terms). good (x, u)) (two-more (i .ts) us k v)))
+
     module _ (r : Step) (T′ : List ℕ) (d : TermDone m cap row first T (Part (wanted-of Any) (at-offset m at row)) r T′) where
       pub key-refused : (k p place : ℕ) (U : List ℕ) → r ≡ step.Refused k p → Map-done place (found.Refused k p) U
       unfolding inner Done wanted-of
@@ -188,8 +199,5 @@ module _ (atoms : Atoms) (cap deep : ℕ) (m : List ℕ) (start first all : ℕ)
                 many = omega (arith, count-join ts (k ▹ v ▹ none), i .many);
                 backed = backing.joined m cap atoms ts (k ▹ v ▹ none) (i .backed) (backed-key, (bv, tt));
                 placed = each-nodes-join (Placed 65536) ts (k ▹ v ▹ none) (i .placed) (key .from, (value .from, tt));
-                goes = i .goes
-                    ∙ rw (next-pair, key .is, sym is-among ∙ new, value .is)
-                    (after-after (entries Part (meaning k ∷ i .earlier) (more - 1) (at-offset m next′ end′)) _ _
-                    ∙ after-same (entries Part (meaning k ∷ i .earlier) (more - 1) (at-offset m next′ end′)) _ _ (λ us u. ap (λ (x : Terms). good (x, u)) (two-more ts us k v)));
+                goes = pair-read k v next end next′ end′ (key .is) (sym is-among ∙ new) (value .is);
               }
