@@ -34,8 +34,7 @@ use Rattle.terms.specs.declared.Parts.the-variants as found
 use Rattle.terms.specs.Code.{whole-of, asked, Room, Fits, Sound, Opens, inner, Stored, Done, TermDone, RunDone, PartsDone}
 use Rattle.terms.proofs.Characters.{code-of-whole, row-free, row-none}
 use Rattle.terms.proofs.Found.{Found, step-found, step-refused, Parts-found, parts-found, parts-refused, join-parts}
-use Rattle.terms.proofs.Openings.{Opened, opened-refused, In-place, placed-at, later-in-place, later-kind}
-use Rattle.terms.proofs.Openings as openings
+use Rattle.terms.proofs.Openings.{Opened-at, opened-refused}
 use Rattle.terms.proofs.Runs.{after-same, after-after, run-each}
 
 -- ---- `read_term`
@@ -46,7 +45,7 @@ module _ (atoms : Atoms) (cap left : ℕ) (w : Wanted) (m : List ℕ) (at row wh
   unfolding one-term Done
   term-refused R n p e f = rw (opened-refused atoms m at row w R n p e f)
 
-  pub term-opened : {place : ℕ} {head : code.Head} (o : Opened atoms m at row w place head) (r : Step)
+  pub term-opened : {place : ℕ} {head : code.Head} (o : Opened-at atoms m at row w place head) (r : Step)
       → ((h : Head) (next : ℕ) → head ≡ head-at h next → Sound m place next h → TermDone m cap row whole T (body atoms cap left place h (at-offset m next row)) r U)
       → TermDone m cap row whole T (term atoms cap left w (at-offset m at row)) r U
   unfolding one-term

@@ -31,8 +31,9 @@ use Rattle.terms.specs.declared.Parts.{Parts}
 use Rattle.terms.specs.declared.Parts.the-variants as found
 use Rattle.terms.specs.Code.{whole-of, asked, Fits, Sound, Opens, inner, last, Stored, Done, TermDone, RunDone, PartsDone}
 use Rattle.terms.proofs.Found.{Found, step-found, step-refused, join-parts, joined-words, joined-end}
-use Rattle.terms.proofs.Openings.{Opened, opened-refused, head-refused, In-place, placed-at, later-in-place, later-kind}
-use Rattle.terms.proofs.Openings as openings
+use Rattle.heads.proofs.Found.{Past, past-is}
+use Rattle.heads.proofs.OpeningFacts.{later-kind}
+use Rattle.terms.proofs.Openings.{Opened-at, opened-refused, head-refused, later-past}
 use Rattle.terms.proofs.Runs.{run-each}
 
 -- ---- what a head promises, from the code's head
@@ -61,19 +62,19 @@ module _ (m : List ℕ) (place : ℕ) (head H : code.Head) (o : Opens m place he
 pub opens-place : (m : List ℕ) (place : ℕ) (head : code.Head) → Opens m place head → place < length m
 opens-place m place head o = omega (arith, o .sound .before, o .sound .end)
 
-characters-span : (place n next : ℕ) (h : Head) (at : ℕ) → head-at h at ≡ heads.Characters n next → Fits place at h → (n ≡ 0 → ⊥) → place + 3 + n ≤ at
+characters-span : (m : List ℕ) (place n next : ℕ) (h : Head) (at : ℕ) → head-at h at ≡ heads.Characters n next → Fits m place h → (n ≡ 0 → ⊥) → place + 3 + n ≤ length m
 unfolding head-at Fits
-characters-span place n next (parts ws k l) at e f some = let z : _≡_ {A = ℕ} 0 1 = cc in absurd (omega arith)
-characters-span place n next (elements k) at e f some = let z : _≡_ {A = ℕ} 0 1 = cc in absurd (omega arith)
-characters-span place n next (pairs k) at e f some = let z : _≡_ {A = ℕ} 0 1 = cc in absurd (omega arith)
-characters-span place n next (characters cs) at e f some =
+characters-span m place n next (parts ws k l) at e f some = let z : _≡_ {A = ℕ} 0 1 = cc in absurd (omega arith)
+characters-span m place n next (elements k) at e f some = let z : _≡_ {A = ℕ} 0 1 = cc in absurd (omega arith)
+characters-span m place n next (pairs k) at e f some = let z : _≡_ {A = ℕ} 0 1 = cc in absurd (omega arith)
+characters-span m place n next (characters cs) at e f some =
     let g : length cs ≡ n = cc in
-    let z : place + 3 + length cs ≤ at = f (λ zero-length. some (sym g ∙ zero-length)) in
+    let z : place + 3 + length cs ≤ length m = f (λ zero-length. some (sym g ∙ zero-length)) in
     omega arith
 
 pub opens-span : (m : List ℕ) (place : ℕ) (head : code.Head) (n next : ℕ) → Opens m place head → head ≡ heads.Characters n next → length m ≤ 65536 → (n ≡ 0 → ⊥) → place + 3 + n ≤ 65536
 opens-span m place head n next o e short some =
-    omega (arith, characters-span place n next (o .h) (o .next) (sym (o .is) ∙ e) (o .sound .fits) some, o .sound .end)
+    omega (arith, characters-span m place n next (o .h) (o .next) (sym (o .is) ∙ e) (o .sound .fits) some)
 
 -- ---- `read_inner`
 
@@ -147,12 +148,12 @@ later-read m at place l r R end near e f = go (later place l (at-offset m at r))
     go : (o : Answer (Label × Position)) → later place l (at-offset m at r) ≡ o → step-of o ≡ fields.Got end → Later-read m at place l r end
     go (refused n p) g h = let z : _≡_ {A = ℕ} 0 1 = cc in absurd (omega arith)
     go (good y) g h =
-        let i : In-place m r at (y .1) = later-in-place m r place l at (at-offset m at r) (openings.here m r at near) .known (y .0) (y .1) g in
+        let i : Past m at r (y .1) = later-past m r place l at near .known (y .0) (y .1) g in
         let a : y .1 .at ≡ end = cc in
         record {
           label = y .0;
-          is = g ∙ ap (λ (s : Position). good (y .0, s)) (placed-at m r i ∙ ap (λ (k : ℕ). at-offset m k r) a);
-          near = omega (arith, i .inside);
+          is = g ∙ ap (λ (s : Position). good (y .0, s)) (past-is m at r (y .1) i ∙ ap (λ (k : ℕ). at-offset m k r) a);
+          near = omega (arith, i .in-step .inside);
           kind-is = later-kind place l (at-offset m at r) .known (y .0) (y .1) g;
         }
 
@@ -273,7 +274,7 @@ module _ (atoms : Atoms) (cap deep : ℕ) (m : List ℕ) (at row : ℕ) where
       ap₂ refused a b
   tail-refused (b ∷ bound) k p h e = rw e
 
-  module _ {place : ℕ} {head : code.Head} (o : Opened atoms m at row (wanted-of Any) place head) where
+  module _ {place : ℕ} {head : code.Head} (o : Opened-at atoms m at row (wanted-of Any) place head) where
     -- a tail that is a 108 is joined on
     pub tail-joins : (bound : List ℕ) (n next : ℕ) → length m - at ≤ length bound → head ≡ heads.Elements n next
         → (bound′ : List ℕ) × (length m - next ≤ length bound′) × (next ≤ length m) × (at < next)
@@ -339,7 +340,7 @@ module _ (atoms : Atoms) (cap deep : ℕ) (m : List ℕ) (at row whole : ℕ) (T
   tailed-refused R n p U e f =
       i .goes (found.Refused n p) U (rw (tail-refused atoms cap deep m at row (i .bound) n p (i .enough) (opened-refused atoms m at row (wanted-of Any) R n p e f)))
 
-  module _ {place : ℕ} {head : code.Head} (o : Opened atoms m at row (wanted-of Any) place head) where
+  module _ {place : ℕ} {head : code.Head} (o : Opened-at atoms m at row (wanted-of Any) place head) where
     pub tailed-last : (r : Parts) (U : List ℕ) → ((n next : ℕ) → head ≡ heads.Elements n next → ⊥)
         → ((h : Head) (next : ℕ) → head ≡ head-at h next → Sound m place next h → PartsDone m before cap row whole T (last atoms cap deep place h (at-offset m next row)) r U) → All r U
     tailed-last r U other d =

@@ -20,7 +20,7 @@ use Rattle.format.proofs.Bridge.{at-offset}
 use Rattle.format.proofs.Rows.{Each-node, Each-nodes}
 use Rattle.format.proofs.Words.{Placed}
 use Rattle.heads.specs.declared.Head as code
-use Rattle.heads.specs.Code.{head-at, Never}
+use Rattle.heads.specs.Code.{head-at}
 use Rattle.terms.specs.declared.Step.{Step}
 use Rattle.terms.specs.declared.Step.the-variants as step
 use Rattle.terms.specs.declared.Parts.{Parts}
@@ -40,6 +40,9 @@ unfoldable pub character-words : ℕ → ℕ → ℕ → List ℕ
 character-words whole at zero = []
 character-words whole at (suc n) = pack 14 at whole 0 1 ∷ character-words whole (at + 1) n
 
+unfoldable pub Never : Type 0
+Never = ⊥
+
 -- what the reader is given: a table with room for cap rows, of which those below `row` are taken
 pub record Room (m : List ℕ) (atoms : AtomList) (T : List ℕ) (cap at row whole : ℕ) : Type 0 where
   pub sized : of-size atoms ≡ true
@@ -51,17 +54,17 @@ pub record Room (m : List ℕ) (atoms : AtomList) (T : List ℕ) (cap at row who
   pub inside : whole ≤ row
   pub never : Never
 
--- what a head promises of the bytes before `next`
-unfoldable pub Fits : ℕ → ℕ → Head → Type 0
-Fits place next (parts ws n l) = ws ≡ asked (length ws)
-Fits place next (characters cs) = (length cs ≡ 0 → ⊥) → place + 3 + length cs ≤ next
-Fits place next (elements n) = Unit {0}
-Fits place next (pairs n) = Unit {0}
+-- what a head at `place` of a message promises of what it says: parts are asked for by their number, characters stand in the message
+unfoldable pub Fits : List ℕ → ℕ → Head → Type 0
+Fits m place (parts ws n l) = ws ≡ asked (length ws)
+Fits m place (characters cs) = (length cs ≡ 0 → ⊥) → place + 3 + length cs ≤ length m
+Fits m place (elements n) = Unit {0}
+Fits m place (pairs n) = Unit {0}
 
 pub record Sound (m : List ℕ) (place next : ℕ) (h : Head) : Type 0 where
   pub before : place < next
   pub end : next ≤ length m
-  pub fits : Fits place next h
+  pub fits : Fits m place h
 
 -- a head that was read at `place`
 pub record Opens (m : List ℕ) (place : ℕ) (head : code.Head) : Type 0 where

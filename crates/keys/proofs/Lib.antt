@@ -1,0 +1,4 @@
+pub mod Compare
+pub mod Steps
+pub mod Held
+pub mod Alike
