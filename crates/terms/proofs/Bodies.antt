@@ -26,7 +26,7 @@ use Rattle.heads.specs.declared.Opening.{Opening}
 use Rattle.heads.specs.declared.Step as later-step
 use Rattle.heads.specs.declared.Step.the-variants as fields
 use Rattle.heads.specs.declared.Wanted.the-variants.{Any}
-use Rattle.heads.specs.Code.{wanted-of, kind-later, later-of, head-at, opening-of, step-of, later-fields}
+use Rattle.heads.specs.Code.{wanted-of, kind-later, later-of, head-at, opening-of, step-of}
 use Rattle.terms.specs.declared.Step.{Step}
 use Rattle.terms.specs.declared.Step.the-variants as step
 use Rattle.terms.specs.declared.Parts.{Parts}

@@ -31,10 +31,20 @@ use Rattle.terms.specs.declared.Step.{Step}
 use Rattle.terms.specs.declared.Step.the-variants as step
 use Rattle.terms.specs.declared.Parts.{Parts}
 use Rattle.terms.specs.declared.Parts.the-variants as found
-use Rattle.terms.specs.Code.{whole-of, Room, inner, Done, TermDone, PartsDone}
+use Rattle.terms.specs.Code.{whole-of, Never, Room, inner, Done, TermDone, PartsDone}
 use Rattle.terms.proofs.Characters.{code-of-whole}
 use Rattle.terms.proofs.Found.{Found, step-found, step-refused, joined-words}
 use Rattle.terms.proofs.Runs.{after-same, after-after}
+
+-- a key past pairs is compared with each key of theirs
+abbrev pub Told : List ℕ → ℕ → Atoms → List ℕ → List ℕ → ℕ → Type 0
+Told m cap atoms places lengths first =
+    (S : List ℕ) (us : Terms) (u : Located) (ks : List Term) → Keys-of us ks → Held-rows m cap atoms S (whole-of first) first (us ▹▹ (u ▹ none))
+    → among-rows m places lengths S first (first + sizes us) ≡ among (meaning u) ks
+
+pub keys-told : (m : List ℕ) (cap : ℕ) (atoms : Atoms) (places lengths : List ℕ) (first : ℕ) → Never → Told m cap atoms places lengths first
+unfolding Never
+keys-told m cap atoms places lengths first n = absurd n
 
 -- ts ▹▹ the two, and then the others
 two-more : (ts us : Terms) (k v : Located) → ts ▹▹ (k ▹ v ▹ us) ≡ (ts ▹▹ (k ▹ v ▹ none)) ▹▹ us
@@ -121,8 +131,7 @@ module _ (atoms : Atoms) (cap deep : ℕ) (m : List ℕ) (start first all : ℕ)
           rw (i .goes, next-pair, step-refused _ _ _ m cap row T (Part any (at-offset m at row)) r T′ k p e d)
 
       module _ (list : AtomList) (places lengths : List ℕ) (room : Room m list T cap at row first) (next end : ℕ) (e : r ≡ step.Got next end)
-          (tell : (S : List ℕ) (us : Terms) (u : Located) (ks : List Term) → Keys-of us ks → Held-rows m cap atoms S (whole-of first) first (us ▹▹ (u ▹ none))
-          → among-rows m places lengths S first (first + sizes us) ≡ among (meaning u) ks)
+          (tell : Told m cap atoms places lengths first)
           (b : Bool) (judged : b ≡ among-rows m places lengths T′ first row) where
         abbrev key : Found size (λ t. words-of (tree-rows (whole-of first) row t)) (Each-node (Placed 65536)) m cap row T (Part (wanted-of Any) (at-offset m at row)) next end T′
         key = step-found size _ _ m cap row T (Part (wanted-of Any) (at-offset m at row)) r T′ next end e d

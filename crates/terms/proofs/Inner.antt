@@ -24,7 +24,7 @@ use Rattle.heads.specs.declared.Opening.{Opening}
 use Rattle.heads.specs.declared.Step as later-step
 use Rattle.heads.specs.declared.Step.the-variants as fields
 use Rattle.heads.specs.declared.Wanted.the-variants.{Any}
-use Rattle.heads.specs.Code.{wanted-of, kind-later, later-of, head-at, opening-of, step-of, later-fields}
+use Rattle.heads.specs.Code.{wanted-of, kind-later, later-of, head-at, opening-of, step-of}
 use Rattle.terms.specs.declared.Step.{Step}
 use Rattle.terms.specs.declared.Step.the-variants as step
 use Rattle.terms.specs.declared.Parts.{Parts}
@@ -141,8 +141,8 @@ record Later-read (m : List ℕ) (at place : ℕ) (l : Later) (r end : ℕ) : Ty
   pub near : end ≤ length m
   pub kind-is : kind-of label ≡ kind-later l
 
-later-read : (m : List ℕ) (at place : ℕ) (l : Later) (r : ℕ) (R : later-step.Step) (end : ℕ) → at ≤ length m → R ≡ later-fields m at place l r → R ≡ fields.Got end → Later-read m at place l r end
-unfolding later-fields step-of
+later-read : (m : List ℕ) (at place : ℕ) (l : Later) (r : ℕ) (R : later-step.Step) (end : ℕ) → at ≤ length m → R ≡ step-of (later place l (at-offset m at r)) → R ≡ fields.Got end → Later-read m at place l r end
+unfolding step-of
 later-read m at place l r R end near e f = go (later place l (at-offset m at r)) refl (sym e ∙ f)
   where
     go : (o : Answer (Label × Position)) → later place l (at-offset m at r) ≡ o → step-of o ≡ fields.Got end → Later-read m at place l r end
@@ -157,9 +157,9 @@ later-read m at place l r R end near e f = go (later place l (at-offset m at r))
           kind-is = later-kind place l (at-offset m at r) .known (y .0) (y .1) g;
         }
 
-later-refused : (m : List ℕ) (at place : ℕ) (l : Later) (r : ℕ) (R : later-step.Step) (n p : ℕ) → R ≡ later-fields m at place l r → R ≡ fields.Refused n p
+later-refused : (m : List ℕ) (at place : ℕ) (l : Later) (r : ℕ) (R : later-step.Step) (n p : ℕ) → R ≡ step-of (later place l (at-offset m at r)) → R ≡ fields.Refused n p
     → later place l (at-offset m at r) ≡ refused n p
-unfolding later-fields step-of
+unfolding step-of
 later-refused m at place l r R n p e f = go (later place l (at-offset m at r)) refl (sym e ∙ f)
   where
     go : (o : Answer (Label × Position)) → later place l (at-offset m at r) ≡ o → step-of o ≡ fields.Refused n p → later place l (at-offset m at r) ≡ refused n p
@@ -191,7 +191,7 @@ module _ (atoms : Atoms) (cap deep : ℕ) (m : List ℕ) (place at row : ℕ) (T
     parts-second k p U f =
         rw (ran .is, any-run (term atoms cap deep) n (at-offset m next end), step-refused _ _ _ m cap end T′ (each (term atoms cap deep) (replicate n (wanted-of Any)) (at-offset m next end)) r′ T″ k p f d′)
 
-    module _ (next′ end′ : ℕ) (e′ : r′ ≡ step.Got next′ end′) (R : later-step.Step) (g : R ≡ later-fields m next′ place l end′) where
+    module _ (next′ end′ : ℕ) (e′ : r′ ≡ step.Got next′ end′) (R : later-step.Step) (g : R ≡ step-of (later place l (at-offset m next′ end′))) where
       abbrev ran′ : Found sizes (λ ts. words-of (rows (whole-of row) end ts)) (λ ts. (count ts ≡ n) × Each-nodes (Placed 65536) ts) m cap end T′
           (each (term atoms cap deep) (replicate n (wanted-of Any)) (at-offset m next end)) next′ end′ T″
       ran′ = step-found sizes _ _ m cap end T′ (each (term atoms cap deep) (replicate n (wanted-of Any)) (at-offset m next end)) r′ T″ next′ end′ e′ d′
@@ -227,6 +227,13 @@ module _ (atoms : Atoms) (cap deep : ℕ) (m : List ℕ) (place at row : ℕ) (T
           )
 
 -- ---- `read_list`
+
+-- terms in turn take as many rows as there are or more
+pub run-many : (m : List ℕ) (n cap row whole : ℕ) (T : List ℕ) (o : Answer (Terms × Position)) (r : Step) (T′ : List ℕ) (next end : ℕ) → RunDone m n cap row whole T o r T′ → r ≡ step.Got next end
+    → (row + n ≤ end) × (next ≤ length m)
+run-many m n cap row whole T o r T′ next end d e =
+    let f = step-found sizes (λ ts. words-of (rows (whole-of whole) row ts)) (λ ts. (count ts ≡ n) × Each-nodes (Placed 65536) ts) m cap row T o r T′ next end e d in
+    (omega (arith, f .rows-are, f .from .0, count-le-sizes (f .x)), f .near)
 
 module _ (atoms : Atoms) (cap deep : ℕ) (m : List ℕ) (place at row : ℕ) (T : List ℕ) (n : ℕ) (r : Step) (T′ : List ℕ)
     (d : RunDone m n cap row row T (each (term atoms cap deep) (replicate n (wanted-of Any)) (at-offset m at row)) r T′) where

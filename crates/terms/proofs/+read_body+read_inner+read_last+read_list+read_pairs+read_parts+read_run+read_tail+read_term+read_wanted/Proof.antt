@@ -1,4 +1,21 @@
-use Prim.Native.Nat.{ℕ, _<_}
+use Rattle.terms.proofs.Entries.{Entered, entered-none, entries-many, entries-end, key-refused, key-twice, value-refused, entered-more, keys-told}
+use Rattle.terms.proofs.Inner.{opens-near, opens-place, opens-span, inner-refused, inner-parts, inner-characters, inner-elements, inner-pairs, parts-first, parts-second, parts-later-refused, parts-got, run-many, list-first, list-then, Tailed, tailed-none, tailed-refused, tailed-last, tailed-run-refused, tailed-further, tailed-more, last-characters, last-refused, last-got}
+use Rattle.terms.proofs.Bodies.{term-refused, term-opened, body-deep, body-full, body-refused, body-got, body-small, parts-past, room-inside, room-at}
+use Rattle.terms.proofs.Runs.{room-after, run-none, run-refused, run-more, wanted-refused, wanted-more}
+use Rattle.terms.proofs.Openings.{opened, opens}
+use Rattle.terms.specs.Code.{Room, RunDone, PartsDone}
+use Rattle.terms.specs.declared.Step.{Step}
+use Rattle.heads.specs.Code.{lent, wanted-of}
+use Rattle.format.proofs.Bridge.{at-offset}
+use Rattle.format.specs.Reading.{each, tail, body, term}
+use Rattle.format.specs.AtomList.{atoms-of}
+use types.Run.{miss}
+use lib.ListN.{length, drop, replicate, length-set}
+use mathlib.Core.List.{List, [], _∷_}
+use mathlib.Core.Path.{_≡_, refl, _∙_}
+use native.Mathlib.Omega.{arith}
+use borrow.Author.Needs.{needs}
+use Prim.Native.Nat.{ℕ, _+_, _-_, _*_, _≤_, _<_}
 use borrow.Fn.Kinds.{In}
 use borrow.Fn.PlainCycle.{Measures, is, falls, and}
 use Rattle.terms.proofs.read_body.Reads as read-body
@@ -45,34 +62,34 @@ use Rattle.terms.proofs.+read_body+read_inner+read_last+read_list+read_
 }
 
 abbrev μ-read-body : Measures 4 read-body-kinds.ps ℕ
-μ-read-body κs a = ?
+μ-read-body κs a = a .1 .1 .1 .1 .1 .1 .1 .1 .1 .0 * 8 + 0
 
 abbrev μ-read-inner : Measures 4 read-inner-kinds.ps ℕ
-μ-read-inner κs a = ?
+μ-read-inner κs a = a .1 .1 .1 .1 .1 .1 .1 .1 .0 * 8 + 5
 
 abbrev μ-read-last : Measures 4 read-last-kinds.ps ℕ
-μ-read-last κs a = ?
+μ-read-last κs a = a .1 .1 .1 .1 .1 .1 .1 .1 .1 .0 * 8 + 1
 
 abbrev μ-read-list : Measures 4 read-list-kinds.ps ℕ
-μ-read-list κs a = ?
+μ-read-list κs a = a .1 .1 .1 .1 .1 .1 .1 .0 * 8 + 4
 
 abbrev μ-read-pairs : Measures 4 read-pairs-kinds.ps ℕ
-μ-read-pairs κs a = ?
+μ-read-pairs κs a = a .1 .1 .1 .1 .1 .1 .1 .0 * 8 + 2
 
 abbrev μ-read-parts : Measures 4 read-parts-kinds.ps ℕ
-μ-read-parts κs a = ?
+μ-read-parts κs a = a .1 .1 .1 .1 .1 .1 .1 .1 .0 * 8 + 4
 
 abbrev μ-read-run : Measures 4 read-run-kinds.ps ℕ
-μ-read-run κs a = ?
+μ-read-run κs a = a .1 .1 .1 .1 .1 .1 .1 .1 .0 * 8 + 2
 
 abbrev μ-read-tail : Measures 4 read-tail-kinds.ps ℕ
-μ-read-tail κs a = ?
+μ-read-tail κs a = a .1 .1 .1 .1 .1 .1 .1 .1 .0 * 8 + 3
 
 abbrev μ-read-term : Measures 4 read-term-kinds.ps ℕ
-μ-read-term κs a = ?
+μ-read-term κs a = a .1 .1 .1 .1 .1 .1 .1 .1 .0 * 8 + 1
 
 abbrev μ-read-wanted : Measures 4 read-wanted-kinds.ps ℕ
-μ-read-wanted κs a = ?
+μ-read-wanted κs a = a .1 .1 .1 .1 .1 .1 .1 .1 .0 * 8 + 3
 
 abbrev read-body-at : ℕ → In 4 read-body-kinds.ps
 read-body-at t = and 4 read-body-kinds.ps (is 4 read-body-kinds.ps μ-read-body t) read-body.Pre
@@ -155,7 +172,7 @@ read-body-returns : (t : ℕ) → read-body-lts.Need-returns (
   pack-reads.Asked,
   pack-reads.Learnt,
 ) (read-body-at t) read-body.Post
-read-body-returns t c = ?
+read-body-returns t c = λ h next e s. body-deep _ _ _ _ _ h next _ _ _ _ (c .if1 .taken)
 
 -- src/lib.rt:93:9
 read-body-returns-2 : (t : ℕ) → read-body-lts.Need-returns-2 (
@@ -164,7 +181,7 @@ read-body-returns-2 : (t : ℕ) → read-body-lts.Need-returns-2 (
   pack-reads.Asked,
   pack-reads.Learnt,
 ) (read-body-at t) read-body.Post
-read-body-returns-2 t c = ?
+read-body-returns-2 t c = λ h next e s. body-full _ _ _ _ _ h next _ _ _ (c .before .if1 .left) _ (c .if2 .taken)
 
 -- src/lib.rt:95:67
 read-body-add-read-inner : (t : ℕ) → read-body-lts.Need-add-read-inner (
@@ -173,7 +190,7 @@ read-body-add-read-inner : (t : ℕ) → read-body-lts.Need-add-read-inner (
   pack-reads.Asked,
   pack-reads.Learnt,
 ) (read-body-at t) read-body.Post
-read-body-add-read-inner t c = ?
+read-body-add-read-inner t c = omega arith
 
 -- src/lib.rt:95:76
 read-body-sub-read-inner : (t : ℕ) → read-body-lts.Need-sub-read-inner (
@@ -182,7 +199,7 @@ read-body-sub-read-inner : (t : ℕ) → read-body-lts.Need-sub-read-inner (
   pack-reads.Asked,
   pack-reads.Learnt,
 ) (read-body-at t) read-body.Post
-read-body-sub-read-inner t c = ?
+read-body-sub-read-inner t c = omega arith
 
 -- src/lib.rt:95:11
 read-body-read-inner-requires : (t : ℕ) → read-body-lts.Need-read-inner-requires (
@@ -191,7 +208,7 @@ read-body-read-inner-requires : (t : ℕ) → read-body-lts.Need-read-inner-requ
   pack-reads.Asked,
   pack-reads.Learnt,
 ) (read-body-at t) read-body.Post
-read-body-read-inner-requires t c κs = ?
+read-body-read-inner-requires t c κs = (omega (arith, c .before .before .before .before .before .before .before .pre .0, c .before .before .if1 .left), (room-inside _ _ _ _ _ _ _ (c .before .before .before .before .before .before .before .pre .1 .0) (c .before .if2 .left), c .before .before .before .before .before .before .before .pre .1 .1))
 
 -- src/lib.rt:96:26
 read-body-enum-known-number : (t : ℕ) → read-body-lts.Need-enum-known-number (
@@ -200,7 +217,7 @@ read-body-enum-known-number : (t : ℕ) → read-body-lts.Need-enum-known-number
   pack-reads.Asked,
   pack-reads.Learnt,
 ) (read-body-at t) read-body.Post
-read-body-enum-known-number t c = ?
+read-body-enum-known-number t c = search needs
 
 -- src/lib.rt:98:13
 read-body-enum-known-next : (t : ℕ) → read-body-lts.Need-enum-known-next (
@@ -209,7 +226,7 @@ read-body-enum-known-next : (t : ℕ) → read-body-lts.Need-enum-known-next (
   pack-reads.Asked,
   pack-reads.Learnt,
 ) (read-body-at t) read-body.Post
-read-body-enum-known-next t c = ?
+read-body-enum-known-next t c = search needs
 
 -- src/lib.rt:103:63
 read-body-sub-pack : (t : ℕ) → read-body-lts.Need-sub-pack (
@@ -218,7 +235,7 @@ read-body-sub-pack : (t : ℕ) → read-body-lts.Need-sub-pack (
   pack-reads.Asked,
   pack-reads.Learnt,
 ) (read-body-at t) read-body.Post
-read-body-sub-pack t c = ?
+read-body-sub-pack t c = let o = c .before .before .before .before .before .before .before .before .before .before .before .before .before .pre .1 .1 in let g = parts-past _ _ _ _ _ _ _ _ _ _ _ _ _ (c .before .next .given .1) (c .before .before .before .before .before .read-inner .ensures (o .h) (o .next) (o .is) (o .sound)) in omega arith
 
 -- src/lib.rt:103:26
 read-body-pack-requires : (t : ℕ) → read-body-lts.Need-pack-requires (
@@ -227,7 +244,7 @@ read-body-pack-requires : (t : ℕ) → read-body-lts.Need-pack-requires (
   pack-reads.Asked,
   pack-reads.Learnt,
 ) (read-body-at t) read-body.Post
-read-body-pack-requires t c κs = ?
+read-body-pack-requires t c κs = let o = c .before .before .before .before .before .before .before .before .before .before .before .before .before .pre .1 .1 in body-small _ _ _ _ _ (o .h) (o .next) _ _ _ (c .before .before .before .before .before .before .before .before .if1 .left) (c .before .before .before .before .before .before .before .if2 .left) _ _ (c .before .before .before .before .before .read-inner .ensures (o .h) (o .next) (o .is) (o .sound)) _ _ _ _ _ _ (c .before .next .given .1) (c .before .before .before .before .before .before .before .before .before .before .before .before .before .pre .1 .0) (omega (arith, opens-place _ _ _ (c .before .before .before .before .before .before .before .before .before .before .before .before .before .pre .1 .1), c .before .before .before .before .before .before .before .before .before .before .before .before .before .pre .1 .0 .short))
 
 -- src/lib.rt:103:13
 read-body-mul-table : (t : ℕ) → read-body-lts.Need-mul-table (
@@ -236,7 +253,7 @@ read-body-mul-table : (t : ℕ) → read-body-lts.Need-mul-table (
   pack-reads.Asked,
   pack-reads.Learnt,
 ) (read-body-at t) read-body.Post
-read-body-mul-table t c = ?
+read-body-mul-table t c = omega arith
 
 -- src/lib.rt:103:13
 read-body-slice-write-table : (t : ℕ) → read-body-lts.Need-slice-write-table (
@@ -245,7 +262,7 @@ read-body-slice-write-table : (t : ℕ) → read-body-lts.Need-slice-write-table
   pack-reads.Asked,
   pack-reads.Learnt,
 ) (read-body-at t) read-body.Post
-read-body-slice-write-table t c = ?
+read-body-slice-write-table t c = omega (arith, c .before .before .before .before .before .before .read-inner .kept .1 .1 .1 .1 .0)
 
 -- src/lib.rt:73:1
 read-body-same-length : (t : ℕ) → read-body-lts.Need-same-length (
@@ -254,7 +271,7 @@ read-body-same-length : (t : ℕ) → read-body-lts.Need-same-length (
   pack-reads.Asked,
   pack-reads.Learnt,
 ) (read-body-at t) read-body.Post
-read-body-same-length t c = ?
+read-body-same-length t c = c .before .before .before .before .before .read-inner .kept .1 .1 .1 .1 .0
 
 -- src/lib.rt:73:1
 read-body-returns-3 : (t : ℕ) → read-body-lts.Need-returns-3 (
@@ -263,7 +280,7 @@ read-body-returns-3 : (t : ℕ) → read-body-lts.Need-returns-3 (
   pack-reads.Asked,
   pack-reads.Learnt,
 ) (read-body-at t) read-body.Post
-read-body-returns-3 t c = ?
+read-body-returns-3 t c = λ h next e s. body-refused _ _ _ _ _ h next _ _ _ (c .before .before .before .before .before .before .before .before .if1 .left) (c .before .before .before .before .before .before .before .if2 .left) _ _ (c .before .before .before .before .before .read-inner .ensures h next e s) _ _ _ (c .before .number .given .1)
 
 -- src/lib.rt:73:1
 read-body-same-length-2 : (t : ℕ) → read-body-lts.Need-same-length-2 (
@@ -272,7 +289,7 @@ read-body-same-length-2 : (t : ℕ) → read-body-lts.Need-same-length-2 (
   pack-reads.Asked,
   pack-reads.Learnt,
 ) (read-body-at t) read-body.Post
-read-body-same-length-2 t c = ?
+read-body-same-length-2 t c = simp length-set (c .before .before .before .before .before .before .read-inner .kept .1 .1 .1 .1 .0)
 
 -- src/lib.rt:73:1
 read-body-returns-4 : (t : ℕ) → read-body-lts.Need-returns-4 (
@@ -281,7 +298,7 @@ read-body-returns-4 : (t : ℕ) → read-body-lts.Need-returns-4 (
   pack-reads.Asked,
   pack-reads.Learnt,
 ) (read-body-at t) read-body.Post
-read-body-returns-4 t c = ?
+read-body-returns-4 t c = λ h next e s. body-got _ _ _ _ _ h next _ _ _ (c .before .before .before .before .before .before .before .before .before .if1 .left) (c .before .before .before .before .before .before .before .before .if2 .left) _ _ (c .before .before .before .before .before .before .read-inner .ensures h next e s) _ _ _ _ _ (c .before .before .next .given .1) (omega (arith, opens-place _ _ _ (c .before .before .before .before .before .before .before .before .before .before .before .before .before .before .pre .1 .1), c .before .before .before .before .before .before .before .before .before .before .before .before .before .before .pre .1 .0 .short)) (c .pack .ensures)
 
 -- src/lib.rt:126:25
 read-inner-enum-known-head : (t : ℕ) → read-inner-lts.Need-enum-known-head (
@@ -294,7 +311,7 @@ read-inner-enum-known-head : (t : ℕ) → read-inner-lts.Need-enum-known-head (
   read-pairs-below t,
   read-pairs.Post,
 ) (read-inner-at t) read-inner.Post
-read-inner-enum-known-head t c = ?
+read-inner-enum-known-head t c = search needs
 
 -- src/lib.rt:128:13
 read-inner-enum-known-head-2 : (t : ℕ) → read-inner-lts.Need-enum-known-head-2 (
@@ -307,7 +324,7 @@ read-inner-enum-known-head-2 : (t : ℕ) → read-inner-lts.Need-enum-known-head
   read-pairs-below t,
   read-pairs.Post,
 ) (read-inner-at t) read-inner.Post
-read-inner-enum-known-head-2 t c = ?
+read-inner-enum-known-head-2 t c = search needs
 
 -- src/lib.rt:133:14
 read-inner-read-parts-requires : (t : ℕ) → read-inner-lts.Need-read-parts-requires (
@@ -320,7 +337,7 @@ read-inner-read-parts-requires : (t : ℕ) → read-inner-lts.Need-read-parts-re
   read-pairs-below t,
   read-pairs.Post,
 ) (read-inner-at t) read-inner.Post
-read-inner-read-parts-requires t c κs = ?
+read-inner-read-parts-requires t c κs = (omega (arith, c .before .before .before .before .before .before .before .before .pre .0), room-at _ _ _ _ _ _ _ _ (c .before .before .before .before .before .before .before .before .pre .1 .0) (opens-near _ _ _ _ (c .before .before .before .before .before .before .before .before .pre .1 .1) (c .before .before .head2 .given .1)))
 
 -- src/lib.rt:136:28
 read-inner-enum-known-head-3 : (t : ℕ) → read-inner-lts.Need-enum-known-head-3 (
@@ -333,7 +350,7 @@ read-inner-enum-known-head-3 : (t : ℕ) → read-inner-lts.Need-enum-known-head
   read-pairs-below t,
   read-pairs.Post,
 ) (read-inner-at t) read-inner.Post
-read-inner-enum-known-head-3 t c = ?
+read-inner-enum-known-head-3 t c = search needs
 
 -- src/lib.rt:137:13
 read-inner-read-characters-requires : (t : ℕ) → read-inner-lts.Need-read-characters-requires (
@@ -346,7 +363,7 @@ read-inner-read-characters-requires : (t : ℕ) → read-inner-lts.Need-read-cha
   read-pairs-below t,
   read-pairs.Post,
 ) (read-inner-at t) read-inner.Post
-read-inner-read-characters-requires t c κs = ?
+read-inner-read-characters-requires t c κs = (omega arith, omega arith, omega arith, omega arith, omega arith, opens-span _ _ _ _ _ (c .before .before .before .before .before .before .before .before .pre .1 .1) (c .before .before .head3 .given .1) (c .before .before .before .before .before .before .before .before .pre .1 .0 .short))
 
 -- src/lib.rt:139:26
 read-inner-enum-known-head-4 : (t : ℕ) → read-inner-lts.Need-enum-known-head-4 (
@@ -359,7 +376,7 @@ read-inner-enum-known-head-4 : (t : ℕ) → read-inner-lts.Need-enum-known-head
   read-pairs-below t,
   read-pairs.Post,
 ) (read-inner-at t) read-inner.Post
-read-inner-enum-known-head-4 t c = ?
+read-inner-enum-known-head-4 t c = search needs
 
 -- src/lib.rt:140:13
 read-inner-read-list-requires : (t : ℕ) → read-inner-lts.Need-read-list-requires (
@@ -372,7 +389,7 @@ read-inner-read-list-requires : (t : ℕ) → read-inner-lts.Need-read-list-requ
   read-pairs-below t,
   read-pairs.Post,
 ) (read-inner-at t) read-inner.Post
-read-inner-read-list-requires t c κs = ?
+read-inner-read-list-requires t c κs = (omega (arith, c .before .before .before .before .before .before .before .before .pre .0), room-at _ _ _ _ _ _ _ _ (c .before .before .before .before .before .before .before .before .pre .1 .0) (opens-near _ _ _ _ (c .before .before .before .before .before .before .before .before .pre .1 .1) (c .before .before .head4 .given .1)))
 
 -- src/lib.rt:142:23
 read-inner-enum-known-head-5 : (t : ℕ) → read-inner-lts.Need-enum-known-head-5 (
@@ -385,7 +402,7 @@ read-inner-enum-known-head-5 : (t : ℕ) → read-inner-lts.Need-enum-known-head
   read-pairs-below t,
   read-pairs.Post,
 ) (read-inner-at t) read-inner.Post
-read-inner-enum-known-head-5 t c = ?
+read-inner-enum-known-head-5 t c = search needs
 
 -- src/lib.rt:143:13
 read-inner-read-pairs-requires : (t : ℕ) → read-inner-lts.Need-read-pairs-requires (
@@ -398,7 +415,7 @@ read-inner-read-pairs-requires : (t : ℕ) → read-inner-lts.Need-read-pairs-re
   read-pairs-below t,
   read-pairs.Post,
 ) (read-inner-at t) read-inner.Post
-read-inner-read-pairs-requires t c κs = ?
+read-inner-read-pairs-requires t c κs = (omega (arith, c .before .before .before .before .before .before .before .before .pre .0), room-at _ _ _ _ _ _ _ _ (c .before .before .before .before .before .before .before .before .pre .1 .0) (opens-near _ _ _ _ (c .before .before .before .before .before .before .before .before .pre .1 .1) (c .before .before .head5 .given .1)))
 
 -- src/lib.rt:110:1
 read-inner-returns : (t : ℕ) → read-inner-lts.Need-returns (
@@ -411,7 +428,7 @@ read-inner-returns : (t : ℕ) → read-inner-lts.Need-returns (
   read-pairs-below t,
   read-pairs.Post,
 ) (read-inner-at t) read-inner.Post
-read-inner-returns t c = ?
+read-inner-returns t c = inner-refused _ _ _ _ _ _ _ _ _ _ _ _ (c .before .head .given .1)
 
 -- src/lib.rt:110:1
 read-inner-same-length : (t : ℕ) → read-inner-lts.Need-same-length (
@@ -424,7 +441,7 @@ read-inner-same-length : (t : ℕ) → read-inner-lts.Need-same-length (
   read-pairs-below t,
   read-pairs.Post,
 ) (read-inner-at t) read-inner.Post
-read-inner-same-length t c = ?
+read-inner-same-length t c = c .before .before .read-parts .kept .1 .1 .1 .1 .0
 
 -- src/lib.rt:110:1
 read-inner-returns-2 : (t : ℕ) → read-inner-lts.Need-returns-2 (
@@ -437,7 +454,7 @@ read-inner-returns-2 : (t : ℕ) → read-inner-lts.Need-returns-2 (
   read-pairs-below t,
   read-pairs.Post,
 ) (read-inner-at t) read-inner.Post
-read-inner-returns-2 t c = ?
+read-inner-returns-2 t c = inner-parts _ _ _ _ _ _ _ _ _ _ _ _ _ _ _ (c .before .before .before .before .before .head2 .given .1) (c .before .before .read-parts .ensures)
 
 -- src/lib.rt:110:1
 read-inner-same-length-2 : (t : ℕ) → read-inner-lts.Need-same-length-2 (
@@ -450,7 +467,7 @@ read-inner-same-length-2 : (t : ℕ) → read-inner-lts.Need-same-length-2 (
   read-pairs-below t,
   read-pairs.Post,
 ) (read-inner-at t) read-inner.Post
-read-inner-same-length-2 t c = ?
+read-inner-same-length-2 t c = c .before .before .read-characters .kept .0
 
 -- src/lib.rt:110:1
 read-inner-returns-3 : (t : ℕ) → read-inner-lts.Need-returns-3 (
@@ -463,7 +480,7 @@ read-inner-returns-3 : (t : ℕ) → read-inner-lts.Need-returns-3 (
   read-pairs-below t,
   read-pairs.Post,
 ) (read-inner-at t) read-inner.Post
-read-inner-returns-3 t c = ?
+read-inner-returns-3 t c = inner-characters _ _ _ _ _ _ _ _ _ _ _ _ (c .before .before .before .before .before .head3 .given .1) (λ cs e near. c .before .before .read-characters .ensures _ _ cs e near)
 
 -- src/lib.rt:110:1
 read-inner-same-length-3 : (t : ℕ) → read-inner-lts.Need-same-length-3 (
@@ -476,7 +493,7 @@ read-inner-same-length-3 : (t : ℕ) → read-inner-lts.Need-same-length-3 (
   read-pairs-below t,
   read-pairs.Post,
 ) (read-inner-at t) read-inner.Post
-read-inner-same-length-3 t c = ?
+read-inner-same-length-3 t c = c .before .before .read-list .kept .1 .1 .1 .1 .0
 
 -- src/lib.rt:110:1
 read-inner-returns-4 : (t : ℕ) → read-inner-lts.Need-returns-4 (
@@ -489,7 +506,7 @@ read-inner-returns-4 : (t : ℕ) → read-inner-lts.Need-returns-4 (
   read-pairs-below t,
   read-pairs.Post,
 ) (read-inner-at t) read-inner.Post
-read-inner-returns-4 t c = ?
+read-inner-returns-4 t c = inner-elements _ _ _ _ _ _ _ _ _ _ _ _ (c .before .before .before .before .before .head4 .given .1) (c .before .before .read-list .ensures _)
 
 -- src/lib.rt:110:1
 read-inner-same-length-4 : (t : ℕ) → read-inner-lts.Need-same-length-4 (
@@ -502,7 +519,7 @@ read-inner-same-length-4 : (t : ℕ) → read-inner-lts.Need-same-length-4 (
   read-pairs-below t,
   read-pairs.Post,
 ) (read-inner-at t) read-inner.Post
-read-inner-same-length-4 t c = ?
+read-inner-same-length-4 t c = c .before .before .read-pairs .kept .1 .1 .1 .1 .0
 
 -- src/lib.rt:110:1
 read-inner-returns-5 : (t : ℕ) → read-inner-lts.Need-returns-5 (
@@ -515,7 +532,7 @@ read-inner-returns-5 : (t : ℕ) → read-inner-lts.Need-returns-5 (
   read-pairs-below t,
   read-pairs.Post,
 ) (read-inner-at t) read-inner.Post
-read-inner-returns-5 t c = ?
+read-inner-returns-5 t c = inner-pairs _ _ _ _ _ _ _ _ _ _ _ _ (c .before .before .before .before .before .head5 .given .1) (c .before .before .read-pairs .ensures _)
 
 -- src/lib.rt:449:28
 read-last-enum-known-head : (t : ℕ) → read-last-lts.Need-enum-known-head (
@@ -524,7 +541,7 @@ read-last-enum-known-head : (t : ℕ) → read-last-lts.Need-enum-known-head (
   read-body-below t,
   read-body.Post,
 ) (read-last-at t) read-last.Post
-read-last-enum-known-head t c = ?
+read-last-enum-known-head t c = search needs
 
 -- src/lib.rt:450:13
 read-last-read-characters-requires : (t : ℕ) → read-last-lts.Need-read-characters-requires (
@@ -533,7 +550,7 @@ read-last-read-characters-requires : (t : ℕ) → read-last-lts.Need-read-chara
   read-body-below t,
   read-body.Post,
 ) (read-last-at t) read-last.Post
-read-last-read-characters-requires t c κs = ?
+read-last-read-characters-requires t c κs = (omega arith, omega arith, omega arith, omega arith, omega arith, opens-span _ _ _ _ _ (c .before .before .before .before .before .before .before .before .pre .1 .1) (c .before .before .head .given .1) (c .before .before .before .before .before .before .before .before .pre .1 .0 .short))
 
 -- src/lib.rt:452:20
 read-last-read-body-requires : (t : ℕ) → read-last-lts.Need-read-body-requires (
@@ -542,7 +559,7 @@ read-last-read-body-requires : (t : ℕ) → read-last-lts.Need-read-body-requir
   read-body-below t,
   read-body.Post,
 ) (read-last-at t) read-last.Post
-read-last-read-body-requires t c κs = ?
+read-last-read-body-requires t c κs = (omega (arith, c .before .before .before .before .before .before .pre .0), (c .before .before .before .before .before .before .pre .1 .0, c .before .before .before .before .before .before .pre .1 .1))
 
 -- src/lib.rt:455:29
 read-last-enum-known-number : (t : ℕ) → read-last-lts.Need-enum-known-number (
@@ -551,7 +568,7 @@ read-last-enum-known-number : (t : ℕ) → read-last-lts.Need-enum-known-number
   read-body-below t,
   read-body.Post,
 ) (read-last-at t) read-last.Post
-read-last-enum-known-number t c = ?
+read-last-enum-known-number t c = search needs
 
 -- src/lib.rt:456:25
 read-last-enum-known-next : (t : ℕ) → read-last-lts.Need-enum-known-next (
@@ -560,7 +577,7 @@ read-last-enum-known-next : (t : ℕ) → read-last-lts.Need-enum-known-next (
   read-body-below t,
   read-body.Post,
 ) (read-last-at t) read-last.Post
-read-last-enum-known-next t c = ?
+read-last-enum-known-next t c = search needs
 
 -- src/lib.rt:459:24
 read-last-add-t26 : (t : ℕ) → read-last-lts.Need-add-t26 (
@@ -569,7 +586,7 @@ read-last-add-t26 : (t : ℕ) → read-last-lts.Need-add-t26 (
   read-body-below t,
   read-body.Post,
 ) (read-last-at t) read-last.Post
-read-last-add-t26 t c = ?
+read-last-add-t26 t c = omega arith
 
 -- src/lib.rt:431:1
 read-last-same-length : (t : ℕ) → read-last-lts.Need-same-length (
@@ -578,7 +595,7 @@ read-last-same-length : (t : ℕ) → read-last-lts.Need-same-length (
   read-body-below t,
   read-body.Post,
 ) (read-last-at t) read-last.Post
-read-last-same-length t c = ?
+read-last-same-length t c = c .before .before .read-characters .kept .0
 
 -- src/lib.rt:431:1
 read-last-returns : (t : ℕ) → read-last-lts.Need-returns (
@@ -587,7 +604,7 @@ read-last-returns : (t : ℕ) → read-last-lts.Need-returns (
   read-body-below t,
   read-body.Post,
 ) (read-last-at t) read-last.Post
-read-last-returns t c = ?
+read-last-returns t c = last-characters _ _ _ _ _ _ _ _ _ _ _ _ _ _ (c .before .before .before .before .before .head .given .1) (λ cs e near. c .before .before .read-characters .ensures _ _ cs e near)
 
 -- src/lib.rt:431:1
 read-last-same-length-2 : (t : ℕ) → read-last-lts.Need-same-length-2 (
@@ -596,7 +613,7 @@ read-last-same-length-2 : (t : ℕ) → read-last-lts.Need-same-length-2 (
   read-body-below t,
   read-body.Post,
 ) (read-last-at t) read-last.Post
-read-last-same-length-2 t c = ?
+read-last-same-length-2 t c = c .before .before .before .before .before .read-body .kept .1 .1 .1 .1 .0
 
 -- src/lib.rt:431:1
 read-last-returns-2 : (t : ℕ) → read-last-lts.Need-returns-2 (
@@ -605,7 +622,7 @@ read-last-returns-2 : (t : ℕ) → read-last-lts.Need-returns-2 (
   read-body-below t,
   read-body.Post,
 ) (read-last-at t) read-last.Post
-read-last-returns-2 t c = ?
+read-last-returns-2 t c = λ h next e s. last-refused _ _ _ _ _ _ _ _ _ _ (λ k p e. miss (0 ∷ 1 ∷ 3 ∷ 4 ∷ []) 2 tt (rw e at (c .before .before .before .before .before .before .before .match .keys2))) h next e _ _ _ _ _ (c .before .number .given .1) (c .before .before .before .before .before .read-body .ensures h next e s)
 
 -- src/lib.rt:431:1
 read-last-same-length-3 : (t : ℕ) → read-last-lts.Need-same-length-3 (
@@ -614,7 +631,7 @@ read-last-same-length-3 : (t : ℕ) → read-last-lts.Need-same-length-3 (
   read-body-below t,
   read-body.Post,
 ) (read-last-at t) read-last.Post
-read-last-same-length-3 t c = ?
+read-last-same-length-3 t c = c .before .before .before .before .before .read-body .kept .1 .1 .1 .1 .0
 
 -- src/lib.rt:431:1
 read-last-returns-3 : (t : ℕ) → read-last-lts.Need-returns-3 (
@@ -623,7 +640,7 @@ read-last-returns-3 : (t : ℕ) → read-last-lts.Need-returns-3 (
   read-body-below t,
   read-body.Post,
 ) (read-last-at t) read-last.Post
-read-last-returns-3 t c = ?
+read-last-returns-3 t c = λ h next e s. last-got _ _ _ _ _ _ _ _ _ _ (λ k p e. miss (0 ∷ 1 ∷ 3 ∷ 4 ∷ []) 2 tt (rw e at (c .before .before .before .before .before .before .before .match .keys2))) h next e _ _ _ _ (c .before .next .given .1) (c .before .before .before .before .before .read-body .ensures h next e s)
 
 -- src/lib.rt:353:11
 read-list-read-run-requires : (t : ℕ) → read-list-lts.Need-read-run-requires (
@@ -632,7 +649,7 @@ read-list-read-run-requires : (t : ℕ) → read-list-lts.Need-read-run-requires
   read-tail-below t,
   read-tail.Post,
 ) (read-list-at t) read-list.Post
-read-list-read-run-requires t c κs = ?
+read-list-read-run-requires t c κs = (omega (arith, c .before .before .before .before .before .pre .0), c .before .before .before .before .before .pre .1)
 
 -- src/lib.rt:367:25
 read-list-enum-known-number : (t : ℕ) → read-list-lts.Need-enum-known-number (
@@ -641,7 +658,7 @@ read-list-enum-known-number : (t : ℕ) → read-list-lts.Need-enum-known-number
   read-tail-below t,
   read-tail.Post,
 ) (read-list-at t) read-list.Post
-read-list-enum-known-number t c = ?
+read-list-enum-known-number t c = search needs
 
 -- src/lib.rt:368:21
 read-list-enum-known-next : (t : ℕ) → read-list-lts.Need-enum-known-next (
@@ -650,7 +667,7 @@ read-list-enum-known-next : (t : ℕ) → read-list-lts.Need-enum-known-next (
   read-tail-below t,
   read-tail.Post,
 ) (read-list-at t) read-list.Post
-read-list-enum-known-next t c = ?
+read-list-enum-known-next t c = search needs
 
 -- src/lib.rt:368:37
 read-list-read-tail-requires : (t : ℕ) → read-list-lts.Need-read-tail-requires (
@@ -659,7 +676,7 @@ read-list-read-tail-requires : (t : ℕ) → read-list-lts.Need-read-tail-requir
   read-tail-below t,
   read-tail.Post,
 ) (read-list-at t) read-list.Post
-read-list-read-tail-requires t c κs = ?
+read-list-read-tail-requires t c κs = (omega (arith, c .before .before .before .before .before .before .before .before .before .before .before .before .pre .0), (room-after _ _ _ _ _ _ _ _ _ _ _ _ _ _ _ (c .before .before .before .before .before .before .before .before .before .before .before .before .pre .1) (c .before .before .before .before .before .before .read-run .ensures) (c .before .before .next .given .1) (c .before .before .before .before .before .before .read-run .kept .1 .1 .1 .1 .0), omega (arith, run-many _ _ _ _ _ _ _ _ _ _ _ (c .before .before .before .before .before .before .read-run .ensures) (c .before .before .next .given .1) .0)))
 
 -- src/lib.rt:338:1
 read-list-same-length : (t : ℕ) → read-list-lts.Need-same-length (
@@ -668,7 +685,7 @@ read-list-same-length : (t : ℕ) → read-list-lts.Need-same-length (
   read-tail-below t,
   read-tail.Post,
 ) (read-list-at t) read-list.Post
-read-list-same-length t c = ?
+read-list-same-length t c = c .before .before .before .before .before .read-run .kept .1 .1 .1 .1 .0
 
 -- src/lib.rt:338:1
 read-list-returns : (t : ℕ) → read-list-lts.Need-returns (
@@ -677,7 +694,7 @@ read-list-returns : (t : ℕ) → read-list-lts.Need-returns (
   read-tail-below t,
   read-tail.Post,
 ) (read-list-at t) read-list.Post
-read-list-returns t c = ?
+read-list-returns t c = λ place. list-first _ _ _ _ place _ _ _ _ _ _ (c .before .before .before .before .before .read-run .ensures) _ _ _ (c .before .number .given .1)
 
 -- src/lib.rt:338:1
 read-list-same-length-2 : (t : ℕ) → read-list-lts.Need-same-length-2 (
@@ -686,7 +703,7 @@ read-list-same-length-2 : (t : ℕ) → read-list-lts.Need-same-length-2 (
   read-tail-below t,
   read-tail.Post,
 ) (read-list-at t) read-list.Post
-read-list-same-length-2 t c = ?
+read-list-same-length-2 t c = c .before .before .read-tail .kept .1 .1 .1 .1 .0 ∙ c .before .before .before .before .before .before .before .before .before .read-run .kept .1 .1 .1 .1 .0
 
 -- src/lib.rt:338:1
 read-list-returns-2 : (t : ℕ) → read-list-lts.Need-returns-2 (
@@ -695,15 +712,17 @@ read-list-returns-2 : (t : ℕ) → read-list-lts.Need-returns-2 (
   read-tail-below t,
   read-tail.Post,
 ) (read-list-at t) read-list.Post
-read-list-returns-2 t c = ?
+read-list-returns-2 t c = λ place. list-then _ _ _ _ place _ _ _ _ _ _ (c .before .before .before .before .before .before .before .before .before .read-run .ensures) _ _ _ _ (c .before .before .before .before .before .next .given .1) (c .before .before .read-tail .ensures)
 
 abbrev read-pairs-Inv-loop : read-pairs-lts.InvT-loop
 read-pairs-Inv-loop msg n places lengths table₀ at row deep cap count at-now₀ row-now₀ more₀ table at-now row-now more =
-    ?
+    Room msg (lent n places lengths) table cap at-now row-now row
+    × (length table ≡ length table₀)
+    × Entered (atoms-of (lent n places lengths)) cap deep msg at row count table₀ at-now row-now more table
 
 abbrev read-pairs-μ-loop : read-pairs-lts.MeasureT-loop
 read-pairs-μ-loop msg n places lengths table₀ at row deep cap count at-now₀ row-now₀ more₀ table at-now row-now more =
-    ?
+    more
 
 -- src/lib.rt:485:5
 read-pairs-loop-holds : (t : ℕ) → read-pairs-lts.Need-loop-holds (
@@ -712,7 +731,7 @@ read-pairs-loop-holds : (t : ℕ) → read-pairs-lts.Need-loop-holds (
   key-among-reads.Asked,
   key-among-reads.Learnt,
 ) (read-pairs-at t) read-pairs.Post read-pairs-Inv-loop read-pairs-μ-loop
-read-pairs-loop-holds t c = ?
+read-pairs-loop-holds t c = (c .before .before .before .before .pre .1, refl, entered-none _ _ _ _ _ _ _ _)
 
 -- src/lib.rt:486:15
 read-pairs-read-term-requires : (t : ℕ) → read-pairs-lts.Need-read-term-requires (
@@ -721,7 +740,7 @@ read-pairs-read-term-requires : (t : ℕ) → read-pairs-lts.Need-read-term-requ
   key-among-reads.Asked,
   key-among-reads.Learnt,
 ) (read-pairs-at t) read-pairs.Post read-pairs-Inv-loop read-pairs-μ-loop
-read-pairs-read-term-requires t c κs = ?
+read-pairs-read-term-requires t c κs = (omega (arith, c .before .before .before .before .before .before .before .pre .0), c .before .before .loop .inv .0)
 
 -- src/lib.rt:499:29
 read-pairs-enum-known-number : (t : ℕ) → read-pairs-lts.Need-enum-known-number (
@@ -730,7 +749,7 @@ read-pairs-enum-known-number : (t : ℕ) → read-pairs-lts.Need-enum-known-numb
   key-among-reads.Asked,
   key-among-reads.Learnt,
 ) (read-pairs-at t) read-pairs.Post read-pairs-Inv-loop read-pairs-μ-loop
-read-pairs-enum-known-number t c = ?
+read-pairs-enum-known-number t c = search needs
 
 -- src/lib.rt:499:48
 read-pairs-same-length : (t : ℕ) → read-pairs-lts.Need-same-length (
@@ -739,7 +758,7 @@ read-pairs-same-length : (t : ℕ) → read-pairs-lts.Need-same-length (
   key-among-reads.Asked,
   key-among-reads.Learnt,
 ) (read-pairs-at t) read-pairs.Post read-pairs-Inv-loop read-pairs-μ-loop
-read-pairs-same-length t c = ?
+read-pairs-same-length t c = c .before .before .before .before .before .read-term .kept .1 .1 .1 .1 .0 ∙ c .before .before .before .before .before .before .before .before .loop .inv .1
 
 -- src/lib.rt:499:48
 read-pairs-returns : (t : ℕ) → read-pairs-lts.Need-returns (
@@ -748,7 +767,10 @@ read-pairs-returns : (t : ℕ) → read-pairs-lts.Need-returns (
   key-among-reads.Asked,
   key-among-reads.Learnt,
 ) (read-pairs-at t) read-pairs.Post read-pairs-Inv-loop read-pairs-μ-loop
-read-pairs-returns t c = ?
+read-pairs-returns t c = 
+    let i = c .before .before .before .before .before .before .before .before .loop in
+    let e : i .more ≡ 0 → ⊥ = omega arith in
+    λ place. key-refused _ _ _ _ _ _ _ _ _ _ _ _ (i .inv .2) e _ _ (c .before .before .before .before .before .read-term .ensures) _ _ place _ (c .before .number .given .1)
 
 -- src/lib.rt:500:25
 read-pairs-enum-known-next : (t : ℕ) → read-pairs-lts.Need-enum-known-next (
@@ -757,7 +779,7 @@ read-pairs-enum-known-next : (t : ℕ) → read-pairs-lts.Need-enum-known-next (
   key-among-reads.Asked,
   key-among-reads.Learnt,
 ) (read-pairs-at t) read-pairs.Post read-pairs-Inv-loop read-pairs-μ-loop
-read-pairs-enum-known-next t c = ?
+read-pairs-enum-known-next t c = search needs
 
 -- src/lib.rt:501:20
 read-pairs-key-among-requires : (t : ℕ) → read-pairs-lts.Need-key-among-requires (
@@ -766,7 +788,7 @@ read-pairs-key-among-requires : (t : ℕ) → read-pairs-lts.Need-key-among-requ
   key-among-reads.Asked,
   key-among-reads.Learnt,
 ) (read-pairs-at t) read-pairs.Post read-pairs-Inv-loop read-pairs-μ-loop
-read-pairs-key-among-requires t c κs = ?
+read-pairs-key-among-requires t c κs = search needs
 
 -- src/lib.rt:502:21
 read-pairs-same-length-2 : (t : ℕ) → read-pairs-lts.Need-same-length-2 (
@@ -775,7 +797,7 @@ read-pairs-same-length-2 : (t : ℕ) → read-pairs-lts.Need-same-length-2 (
   key-among-reads.Asked,
   key-among-reads.Learnt,
 ) (read-pairs-at t) read-pairs.Post read-pairs-Inv-loop read-pairs-μ-loop
-read-pairs-same-length-2 t c = ?
+read-pairs-same-length-2 t c = c .before .before .before .before .before .before .before .before .read-term .kept .1 .1 .1 .1 .0 ∙ c .before .before .before .before .before .before .before .before .before .before .before .loop .inv .1
 
 -- src/lib.rt:502:21
 read-pairs-returns-2 : (t : ℕ) → read-pairs-lts.Need-returns-2 (
@@ -784,7 +806,10 @@ read-pairs-returns-2 : (t : ℕ) → read-pairs-lts.Need-returns-2 (
   key-among-reads.Asked,
   key-among-reads.Learnt,
 ) (read-pairs-at t) read-pairs.Post read-pairs-Inv-loop read-pairs-μ-loop
-read-pairs-returns-2 t c = ?
+read-pairs-returns-2 t c = 
+    let i = c .before .before .before .before .before .before .before .before .before .before .before .loop in
+    let e : i .more ≡ 0 → ⊥ = omega arith in
+    λ place. key-twice _ _ _ _ _ _ _ _ _ _ _ _ (i .inv .2) e _ _ (c .before .before .before .before .before .before .before .before .read-term .ensures) _ _ _ (i .inv .0) _ _ (c .before .before .before .before .next .given .1) (keys-told _ _ _ _ _ _ (i .inv .0 .never)) _ (c .before .key-among .ensures) place _ (c .if1 .taken)
 
 -- src/lib.rt:507:23
 read-pairs-read-term-requires-2 : (t : ℕ) → read-pairs-lts.Need-read-term-requires-2 (
@@ -793,7 +818,7 @@ read-pairs-read-term-requires-2 : (t : ℕ) → read-pairs-lts.Need-read-term-re
   key-among-reads.Asked,
   key-among-reads.Learnt,
 ) (read-pairs-at t) read-pairs.Post read-pairs-Inv-loop read-pairs-μ-loop
-read-pairs-read-term-requires-2 t c κs = ?
+read-pairs-read-term-requires-2 t c κs = (omega (arith, c .before .before .before .before .before .before .before .before .before .before .before .before .before .before .before .before .before .pre .0), room-after _ _ _ _ _ _ _ _ _ _ _ _ _ _ _ (c .before .before .before .before .before .before .before .before .before .before .before .before .loop .inv .0) (c .before .before .before .before .before .before .before .before .before .read-term .ensures) (c .before .before .before .before .before .next .given .1) (c .before .before .before .before .before .before .before .before .before .read-term .kept .1 .1 .1 .1 .0))
 
 -- src/lib.rt:520:37
 read-pairs-enum-known-number-2 : (t : ℕ) → read-pairs-lts.Need-enum-known-number-2 (
@@ -802,7 +827,7 @@ read-pairs-enum-known-number-2 : (t : ℕ) → read-pairs-lts.Need-enum-known-nu
   key-among-reads.Asked,
   key-among-reads.Learnt,
 ) (read-pairs-at t) read-pairs.Post read-pairs-Inv-loop read-pairs-μ-loop
-read-pairs-enum-known-number-2 t c = ?
+read-pairs-enum-known-number-2 t c = search needs
 
 -- src/lib.rt:520:56
 read-pairs-same-length-3 : (t : ℕ) → read-pairs-lts.Need-same-length-3 (
@@ -811,7 +836,7 @@ read-pairs-same-length-3 : (t : ℕ) → read-pairs-lts.Need-same-length-3 (
   key-among-reads.Asked,
   key-among-reads.Learnt,
 ) (read-pairs-at t) read-pairs.Post read-pairs-Inv-loop read-pairs-μ-loop
-read-pairs-same-length-3 t c = ?
+read-pairs-same-length-3 t c = c .before .before .before .before .before .read-term2 .kept .1 .1 .1 .1 .0 ∙ c .before .before .before .before .before .before .before .before .before .before .before .before .before .before .before .read-term .kept .1 .1 .1 .1 .0 ∙ c .before .before .before .before .before .before .before .before .before .before .before .before .before .before .before .before .before .before .loop .inv .1
 
 -- src/lib.rt:520:56
 read-pairs-returns-3 : (t : ℕ) → read-pairs-lts.Need-returns-3 (
@@ -820,7 +845,10 @@ read-pairs-returns-3 : (t : ℕ) → read-pairs-lts.Need-returns-3 (
   key-among-reads.Asked,
   key-among-reads.Learnt,
 ) (read-pairs-at t) read-pairs.Post read-pairs-Inv-loop read-pairs-μ-loop
-read-pairs-returns-3 t c = ?
+read-pairs-returns-3 t c = 
+    let i = c .before .before .before .before .before .before .before .before .before .before .before .before .before .before .before .before .before .before .loop in
+    let e : i .more ≡ 0 → ⊥ = omega arith in
+    λ place. value-refused _ _ _ _ _ _ _ _ _ _ _ _ (i .inv .2) e _ _ (c .before .before .before .before .before .before .before .before .before .before .before .before .before .before .before .read-term .ensures) _ _ _ (i .inv .0) _ _ (c .before .before .before .before .before .before .before .before .before .before .before .next .given .1) (keys-told _ _ _ _ _ _ (i .inv .0 .never)) _ (c .before .before .before .before .before .before .before .before .key-among .ensures) (c .before .before .before .before .before .before .before .if1 .left) _ _ (c .before .before .before .before .before .read-term2 .ensures) _ _ place _ (c .before .number2 .given .1)
 
 -- src/lib.rt:521:33
 read-pairs-enum-known-next-2 : (t : ℕ) → read-pairs-lts.Need-enum-known-next-2 (
@@ -829,7 +857,7 @@ read-pairs-enum-known-next-2 : (t : ℕ) → read-pairs-lts.Need-enum-known-next
   key-among-reads.Asked,
   key-among-reads.Learnt,
 ) (read-pairs-at t) read-pairs.Post read-pairs-Inv-loop read-pairs-μ-loop
-read-pairs-enum-known-next-2 t c = ?
+read-pairs-enum-known-next-2 t c = search needs
 
 -- src/lib.rt:528:9
 read-pairs-sub-more : (t : ℕ) → read-pairs-lts.Need-sub-more (
@@ -838,7 +866,7 @@ read-pairs-sub-more : (t : ℕ) → read-pairs-lts.Need-sub-more (
   key-among-reads.Asked,
   key-among-reads.Learnt,
 ) (read-pairs-at t) read-pairs.Post read-pairs-Inv-loop read-pairs-μ-loop
-read-pairs-sub-more t c = ?
+read-pairs-sub-more t c = omega arith
 
 -- src/lib.rt:485:5
 read-pairs-loop-less : (t : ℕ) → read-pairs-lts.Need-loop-less (
@@ -847,7 +875,7 @@ read-pairs-loop-less : (t : ℕ) → read-pairs-lts.Need-loop-less (
   key-among-reads.Asked,
   key-among-reads.Learnt,
 ) (read-pairs-at t) read-pairs.Post read-pairs-Inv-loop read-pairs-μ-loop
-read-pairs-loop-less t c = ?
+read-pairs-loop-less t c = omega arith
 
 -- src/lib.rt:485:5
 read-pairs-loop-again : (t : ℕ) → read-pairs-lts.Need-loop-again (
@@ -856,7 +884,10 @@ read-pairs-loop-again : (t : ℕ) → read-pairs-lts.Need-loop-again (
   key-among-reads.Asked,
   key-among-reads.Learnt,
 ) (read-pairs-at t) read-pairs.Post read-pairs-Inv-loop read-pairs-μ-loop
-read-pairs-loop-again t c = ?
+read-pairs-loop-again t c = 
+    let i = c .before .before .before .before .before .before .before .before .before .before .before .before .before .before .before .before .before .before .loop in
+    let e : i .more ≡ 0 → ⊥ = omega arith in
+    (room-after _ _ _ _ _ _ _ _ _ _ _ _ _ _ _ (room-after _ _ _ _ _ _ _ _ _ _ _ _ _ _ _ (i .inv .0) (c .before .before .before .before .before .before .before .before .before .before .before .before .before .before .before .read-term .ensures) (c .before .before .before .before .before .before .before .before .before .before .before .next .given .1) (c .before .before .before .before .before .before .before .before .before .before .before .before .before .before .before .read-term .kept .1 .1 .1 .1 .0)) (c .before .before .before .before .before .read-term2 .ensures) (c .before .next2 .given .1) (c .before .before .before .before .before .read-term2 .kept .1 .1 .1 .1 .0), c .before .before .before .before .before .read-term2 .kept .1 .1 .1 .1 .0 ∙ c .before .before .before .before .before .before .before .before .before .before .before .before .before .before .before .read-term .kept .1 .1 .1 .1 .0 ∙ i .inv .1, entered-more _ _ _ _ _ _ _ _ _ _ _ _ (i .inv .2) e _ _ (c .before .before .before .before .before .before .before .before .before .before .before .before .before .before .before .read-term .ensures) _ _ _ (i .inv .0) _ _ (c .before .before .before .before .before .before .before .before .before .before .before .next .given .1) (keys-told _ _ _ _ _ _ (i .inv .0 .never)) _ (c .before .before .before .before .before .before .before .before .key-among .ensures) (c .before .before .before .before .before .before .before .if1 .left) _ _ (c .before .before .before .before .before .read-term2 .ensures) _ _ (c .before .next2 .given .1))
 
 -- src/lib.rt:533:16
 read-pairs-mul-t34 : (t : ℕ) → read-pairs-lts.Need-mul-t34 (
@@ -865,7 +896,10 @@ read-pairs-mul-t34 : (t : ℕ) → read-pairs-lts.Need-mul-t34 (
   key-among-reads.Asked,
   key-among-reads.Learnt,
 ) (read-pairs-at t) read-pairs.Post read-pairs-Inv-loop read-pairs-μ-loop
-read-pairs-mul-t34 t c = ?
+read-pairs-mul-t34 t c = 
+    let i = c .before .loop in
+    let e : i .more ≡ 0 = omega arith in
+    let a = entries-many _ _ _ _ _ _ _ _ _ _ _ _ (i .inv .2) (i .inv .0 .low) e in omega (arith, i .inv .0 .few)
 
 -- src/lib.rt:467:1
 read-pairs-same-length-4 : (t : ℕ) → read-pairs-lts.Need-same-length-4 (
@@ -874,7 +908,7 @@ read-pairs-same-length-4 : (t : ℕ) → read-pairs-lts.Need-same-length-4 (
   key-among-reads.Asked,
   key-among-reads.Learnt,
 ) (read-pairs-at t) read-pairs.Post read-pairs-Inv-loop read-pairs-μ-loop
-read-pairs-same-length-4 t c = ?
+read-pairs-same-length-4 t c = c .before .loop .inv .1
 
 -- src/lib.rt:467:1
 read-pairs-returns-4 : (t : ℕ) → read-pairs-lts.Need-returns-4 (
@@ -883,7 +917,10 @@ read-pairs-returns-4 : (t : ℕ) → read-pairs-lts.Need-returns-4 (
   key-among-reads.Asked,
   key-among-reads.Learnt,
 ) (read-pairs-at t) read-pairs.Post read-pairs-Inv-loop read-pairs-μ-loop
-read-pairs-returns-4 t c = ?
+read-pairs-returns-4 t c = 
+    let i = c .before .loop in
+    let e : i .more ≡ 0 = omega arith in
+    λ place. entries-end _ _ _ _ _ _ _ _ _ _ _ _ (i .inv .2) place e (i .inv .0 .low) (i .inv .0 .near)
 
 -- src/lib.rt:168:11
 read-parts-read-wanted-requires : (t : ℕ) → read-parts-lts.Need-read-wanted-requires (
@@ -894,7 +931,7 @@ read-parts-read-wanted-requires : (t : ℕ) → read-parts-lts.Need-read-wanted-
   read-later-reads.Asked,
   read-later-reads.Learnt,
 ) (read-parts-at t) read-parts.Post
-read-parts-read-wanted-requires t c κs = ?
+read-parts-read-wanted-requires t c κs = (omega (arith, c .before .before .before .before .before .pre .0), c .before .before .before .before .before .pre .1)
 
 -- src/lib.rt:169:25
 read-parts-enum-known-number : (t : ℕ) → read-parts-lts.Need-enum-known-number (
@@ -905,7 +942,7 @@ read-parts-enum-known-number : (t : ℕ) → read-parts-lts.Need-enum-known-numb
   read-later-reads.Asked,
   read-later-reads.Learnt,
 ) (read-parts-at t) read-parts.Post
-read-parts-enum-known-number t c = ?
+read-parts-enum-known-number t c = search needs
 
 -- src/lib.rt:170:21
 read-parts-enum-known-next : (t : ℕ) → read-parts-lts.Need-enum-known-next (
@@ -916,7 +953,7 @@ read-parts-enum-known-next : (t : ℕ) → read-parts-lts.Need-enum-known-next (
   read-later-reads.Asked,
   read-later-reads.Learnt,
 ) (read-parts-at t) read-parts.Post
-read-parts-enum-known-next t c = ?
+read-parts-enum-known-next t c = search needs
 
 -- src/lib.rt:170:43
 read-parts-read-run-requires : (t : ℕ) → read-parts-lts.Need-read-run-requires (
@@ -927,7 +964,7 @@ read-parts-read-run-requires : (t : ℕ) → read-parts-lts.Need-read-run-requir
   read-later-reads.Asked,
   read-later-reads.Learnt,
 ) (read-parts-at t) read-parts.Post
-read-parts-read-run-requires t c κs = ?
+read-parts-read-run-requires t c κs = (omega (arith, c .before .before .before .before .before .before .before .before .before .before .before .before .pre .0), room-after _ _ _ _ _ _ _ _ _ _ _ _ _ _ _ (c .before .before .before .before .before .before .before .before .before .before .before .before .pre .1) (c .before .before .before .before .before .before .read-wanted .ensures) (c .before .before .next .given .1) (c .before .before .before .before .before .before .read-wanted .kept .1 .1 .1 .1 .0))
 
 -- src/lib.rt:184:29
 read-parts-enum-known-number-2 : (t : ℕ) → read-parts-lts.Need-enum-known-number-2 (
@@ -938,7 +975,7 @@ read-parts-enum-known-number-2 : (t : ℕ) → read-parts-lts.Need-enum-known-nu
   read-later-reads.Asked,
   read-later-reads.Learnt,
 ) (read-parts-at t) read-parts.Post
-read-parts-enum-known-number-2 t c = ?
+read-parts-enum-known-number-2 t c = search needs
 
 -- src/lib.rt:185:25
 read-parts-enum-known-next-2 : (t : ℕ) → read-parts-lts.Need-enum-known-next-2 (
@@ -949,7 +986,7 @@ read-parts-enum-known-next-2 : (t : ℕ) → read-parts-lts.Need-enum-known-next
   read-later-reads.Asked,
   read-later-reads.Learnt,
 ) (read-parts-at t) read-parts.Post
-read-parts-enum-known-next-2 t c = ?
+read-parts-enum-known-next-2 t c = search needs
 
 -- src/lib.rt:185:47
 read-parts-read-later-requires : (t : ℕ) → read-parts-lts.Need-read-later-requires (
@@ -960,7 +997,7 @@ read-parts-read-later-requires : (t : ℕ) → read-parts-lts.Need-read-later-re
   read-later-reads.Asked,
   read-later-reads.Learnt,
 ) (read-parts-at t) read-parts.Post
-read-parts-read-later-requires t c κs = ?
+read-parts-read-later-requires t c κs = run-many _ _ _ _ _ _ _ _ _ _ _ (c .before .before .before .before .before .read-run .ensures) (c .before .next2 .given .1) .1
 
 -- src/lib.rt:186:40
 read-parts-enum-known-number-3 : (t : ℕ) → read-parts-lts.Need-enum-known-number-3 (
@@ -971,7 +1008,7 @@ read-parts-enum-known-number-3 : (t : ℕ) → read-parts-lts.Need-enum-known-nu
   read-later-reads.Asked,
   read-later-reads.Learnt,
 ) (read-parts-at t) read-parts.Post
-read-parts-enum-known-number-3 t c = ?
+read-parts-enum-known-number-3 t c = search needs
 
 -- src/lib.rt:187:36
 read-parts-enum-known-next-3 : (t : ℕ) → read-parts-lts.Need-enum-known-next-3 (
@@ -982,7 +1019,7 @@ read-parts-enum-known-next-3 : (t : ℕ) → read-parts-lts.Need-enum-known-next
   read-later-reads.Asked,
   read-later-reads.Learnt,
 ) (read-parts-at t) read-parts.Post
-read-parts-enum-known-next-3 t c = ?
+read-parts-enum-known-next-3 t c = search needs
 
 -- src/lib.rt:190:28
 read-parts-add-t37 : (t : ℕ) → read-parts-lts.Need-add-t37 (
@@ -993,7 +1030,7 @@ read-parts-add-t37 : (t : ℕ) → read-parts-lts.Need-add-t37 (
   read-later-reads.Asked,
   read-later-reads.Learnt,
 ) (read-parts-at t) read-parts.Post
-read-parts-add-t37 t c = ?
+read-parts-add-t37 t c = let a = run-many _ _ _ _ _ _ _ _ _ _ _ (c .before .before .before .before .before .before .before .before .before .before .before .before .before .before .before .before .read-wanted .ensures) (c .before .before .before .before .before .before .before .before .before .before .before .before .next .given .1) in let b = run-many _ _ _ _ _ _ _ _ _ _ _ (c .before .before .before .before .before .before .before .before .before .read-run .ensures) (c .before .before .before .before .before .next2 .given .1) in omega arith
 
 -- src/lib.rt:149:1
 read-parts-same-length : (t : ℕ) → read-parts-lts.Need-same-length (
@@ -1004,7 +1041,7 @@ read-parts-same-length : (t : ℕ) → read-parts-lts.Need-same-length (
   read-later-reads.Asked,
   read-later-reads.Learnt,
 ) (read-parts-at t) read-parts.Post
-read-parts-same-length t c = ?
+read-parts-same-length t c = c .before .before .before .before .before .read-wanted .kept .1 .1 .1 .1 .0
 
 -- src/lib.rt:149:1
 read-parts-returns : (t : ℕ) → read-parts-lts.Need-returns (
@@ -1015,7 +1052,7 @@ read-parts-returns : (t : ℕ) → read-parts-lts.Need-returns (
   read-later-reads.Asked,
   read-later-reads.Learnt,
 ) (read-parts-at t) read-parts.Post
-read-parts-returns t c = ?
+read-parts-returns t c = λ l kind later. parts-first _ _ _ _ _ _ _ _ _ _ l _ _ (c .before .before .before .before .before .read-wanted .ensures) _ _ _ (c .before .number .given .1)
 
 -- src/lib.rt:149:1
 read-parts-same-length-2 : (t : ℕ) → read-parts-lts.Need-same-length-2 (
@@ -1026,7 +1063,7 @@ read-parts-same-length-2 : (t : ℕ) → read-parts-lts.Need-same-length-2 (
   read-later-reads.Asked,
   read-later-reads.Learnt,
 ) (read-parts-at t) read-parts.Post
-read-parts-same-length-2 t c = ?
+read-parts-same-length-2 t c = c .before .before .before .before .before .read-run .kept .1 .1 .1 .1 .0 ∙ c .before .before .before .before .before .before .before .before .before .before .before .before .read-wanted .kept .1 .1 .1 .1 .0
 
 -- src/lib.rt:149:1
 read-parts-returns-2 : (t : ℕ) → read-parts-lts.Need-returns-2 (
@@ -1037,7 +1074,7 @@ read-parts-returns-2 : (t : ℕ) → read-parts-lts.Need-returns-2 (
   read-later-reads.Asked,
   read-later-reads.Learnt,
 ) (read-parts-at t) read-parts.Post
-read-parts-returns-2 t c = ?
+read-parts-returns-2 t c = λ l kind later. parts-second _ _ _ _ _ _ _ _ _ _ l _ _ (c .before .before .before .before .before .before .before .before .before .before .before .before .read-wanted .ensures) _ _ (c .before .before .before .before .before .before .before .before .next .given .1) _ _ (c .before .before .before .before .before .read-run .ensures) _ _ _ (c .before .number2 .given .1)
 
 -- src/lib.rt:149:1
 read-parts-same-length-3 : (t : ℕ) → read-parts-lts.Need-same-length-3 (
@@ -1048,7 +1085,7 @@ read-parts-same-length-3 : (t : ℕ) → read-parts-lts.Need-same-length-3 (
   read-later-reads.Asked,
   read-later-reads.Learnt,
 ) (read-parts-at t) read-parts.Post
-read-parts-same-length-3 t c = ?
+read-parts-same-length-3 t c = c .before .before .before .before .before .before .before .before .before .read-run .kept .1 .1 .1 .1 .0 ∙ c .before .before .before .before .before .before .before .before .before .before .before .before .before .before .before .before .read-wanted .kept .1 .1 .1 .1 .0
 
 -- src/lib.rt:149:1
 read-parts-returns-3 : (t : ℕ) → read-parts-lts.Need-returns-3 (
@@ -1059,7 +1096,7 @@ read-parts-returns-3 : (t : ℕ) → read-parts-lts.Need-returns-3 (
   read-later-reads.Asked,
   read-later-reads.Learnt,
 ) (read-parts-at t) read-parts.Post
-read-parts-returns-3 t c = ?
+read-parts-returns-3 t c = λ l kind later. parts-later-refused _ _ _ _ _ _ _ _ _ _ l _ _ (c .before .before .before .before .before .before .before .before .before .before .before .before .before .before .before .before .read-wanted .ensures) _ _ (c .before .before .before .before .before .before .before .before .before .before .before .before .next .given .1) _ _ (c .before .before .before .before .before .before .before .before .before .read-run .ensures) _ _ (c .before .before .before .before .before .next2 .given .1) _ (c .before .before .before .read-later .ensures l later _) _ _ _ (c .before .number3 .given .1)
 
 -- src/lib.rt:149:1
 read-parts-same-length-4 : (t : ℕ) → read-parts-lts.Need-same-length-4 (
@@ -1070,7 +1107,7 @@ read-parts-same-length-4 : (t : ℕ) → read-parts-lts.Need-same-length-4 (
   read-later-reads.Asked,
   read-later-reads.Learnt,
 ) (read-parts-at t) read-parts.Post
-read-parts-same-length-4 t c = ?
+read-parts-same-length-4 t c = c .before .before .before .before .before .before .before .before .before .read-run .kept .1 .1 .1 .1 .0 ∙ c .before .before .before .before .before .before .before .before .before .before .before .before .before .before .before .before .read-wanted .kept .1 .1 .1 .1 .0
 
 -- src/lib.rt:149:1
 read-parts-returns-4 : (t : ℕ) → read-parts-lts.Need-returns-4 (
@@ -1081,15 +1118,19 @@ read-parts-returns-4 : (t : ℕ) → read-parts-lts.Need-returns-4 (
   read-later-reads.Asked,
   read-later-reads.Learnt,
 ) (read-parts-at t) read-parts.Post
-read-parts-returns-4 t c = ?
+read-parts-returns-4 t c = λ l kind later. parts-got _ _ _ _ _ _ _ _ _ _ l _ _ (c .before .before .before .before .before .before .before .before .before .before .before .before .before .before .before .before .read-wanted .ensures) _ _ (c .before .before .before .before .before .before .before .before .before .before .before .before .next .given .1) _ _ (c .before .before .before .before .before .before .before .before .before .read-run .ensures) _ _ (c .before .before .before .before .before .next2 .given .1) _ (c .before .before .before .read-later .ensures l later _) _ _ kind (c .before .next3 .given .1)
 
 abbrev read-run-Inv-loop : read-run-lts.InvT-loop
 read-run-Inv-loop msg n places lengths table₀ at row whole deep cap wanted count at-now₀ row-now₀ more₀ table at-now row-now more =
-    ?
+    Room msg (lent n places lengths) table cap at-now row-now whole
+    × (length table ≡ length table₀)
+    × ((s : Step) (U : List ℕ)
+    → RunDone msg more cap row-now whole table (each (term (atoms-of (lent n places lengths)) cap deep) (replicate more (wanted-of wanted)) (at-offset msg at-now row-now)) s U
+    → RunDone msg count cap row whole table₀ (each (term (atoms-of (lent n places lengths)) cap deep) (replicate count (wanted-of wanted)) (at-offset msg at row)) s U)
 
 abbrev read-run-μ-loop : read-run-lts.MeasureT-loop
 read-run-μ-loop msg n places lengths table₀ at row whole deep cap wanted count at-now₀ row-now₀ more₀ table at-now row-now more =
-    ?
+    more
 
 -- src/lib.rt:269:5
 read-run-loop-holds :
@@ -1100,21 +1141,21 @@ read-run-loop-holds :
     read-run.Post
     read-run-Inv-loop
     read-run-μ-loop
-read-run-loop-holds t c = ?
+read-run-loop-holds t c = (c .before .before .before .before .pre .1, refl, λ s U d. d)
 
 -- src/lib.rt:270:15
 read-run-read-term-requires : (t : ℕ) → read-run-lts.Need-read-term-requires (
   read-term-below t,
   read-term.Post,
 ) (read-run-at t) read-run.Post read-run-Inv-loop read-run-μ-loop
-read-run-read-term-requires t c κs = ?
+read-run-read-term-requires t c κs = (omega (arith, c .before .before .before .before .before .before .before .pre .0), c .before .before .loop .inv .0)
 
 -- src/lib.rt:273:29
 read-run-enum-known-number : (t : ℕ) → read-run-lts.Need-enum-known-number (
   read-term-below t,
   read-term.Post,
 ) (read-run-at t) read-run.Post read-run-Inv-loop read-run-μ-loop
-read-run-enum-known-number t c = ?
+read-run-enum-known-number t c = search needs
 
 -- src/lib.rt:273:48
 read-run-same-length :
@@ -1125,7 +1166,7 @@ read-run-same-length :
     read-run.Post
     read-run-Inv-loop
     read-run-μ-loop
-read-run-same-length t c = ?
+read-run-same-length t c = c .before .before .before .before .before .read-term .kept .1 .1 .1 .1 .0 ∙ c .before .before .before .before .before .before .before .before .loop .inv .1
 
 -- src/lib.rt:273:48
 read-run-returns :
@@ -1136,14 +1177,17 @@ read-run-returns :
     read-run.Post
     read-run-Inv-loop
     read-run-μ-loop
-read-run-returns t c = ?
+read-run-returns t c = 
+    let i = c .before .before .before .before .before .before .before .before .loop in
+    let e : i .more ≡ 0 → ⊥ = omega arith in
+    i .inv .2 _ _ (run-refused _ _ _ _ _ _ _ _ _ e _ _ _ _ _ (c .before .number .given .1) (c .before .before .before .before .before .read-term .ensures))
 
 -- src/lib.rt:274:25
 read-run-enum-known-next : (t : ℕ) → read-run-lts.Need-enum-known-next (
   read-term-below t,
   read-term.Post,
 ) (read-run-at t) read-run.Post read-run-Inv-loop read-run-μ-loop
-read-run-enum-known-next t c = ?
+read-run-enum-known-next t c = search needs
 
 -- src/lib.rt:279:9
 read-run-sub-more :
@@ -1154,7 +1198,7 @@ read-run-sub-more :
     read-run.Post
     read-run-Inv-loop
     read-run-μ-loop
-read-run-sub-more t c = ?
+read-run-sub-more t c = omega arith
 
 -- src/lib.rt:269:5
 read-run-loop-less :
@@ -1165,7 +1209,7 @@ read-run-loop-less :
     read-run.Post
     read-run-Inv-loop
     read-run-μ-loop
-read-run-loop-less t c = ?
+read-run-loop-less t c = omega arith
 
 -- src/lib.rt:269:5
 read-run-loop-again :
@@ -1176,14 +1220,17 @@ read-run-loop-again :
     read-run.Post
     read-run-Inv-loop
     read-run-μ-loop
-read-run-loop-again t c = ?
+read-run-loop-again t c = 
+    let i = c .before .before .before .before .before .before .before .before .loop in
+    let e : i .more ≡ 0 → ⊥ = omega arith in
+    (room-after _ _ _ _ _ _ _ _ _ _ _ _ _ _ _ (i .inv .0) (c .before .before .before .before .before .read-term .ensures) (c .before .next .given .1) (c .before .before .before .before .before .read-term .kept .1 .1 .1 .1 .0), c .before .before .before .before .before .read-term .kept .1 .1 .1 .1 .0 ∙ i .inv .1, λ s U d. i .inv .2 s U (run-more _ _ _ _ _ _ _ _ _ e _ _ _ _ s U (c .before .next .given .1) (c .before .before .before .before .before .read-term .ensures) d))
 
 -- src/lib.rt:249:1
 read-run-same-length-2 : (t : ℕ) → read-run-lts.Need-same-length-2 (
   read-term-below t,
   read-term.Post,
 ) (read-run-at t) read-run.Post read-run-Inv-loop read-run-μ-loop
-read-run-same-length-2 t c = ?
+read-run-same-length-2 t c = c .before .loop .inv .1
 
 -- src/lib.rt:249:1
 read-run-returns-2 :
@@ -1194,15 +1241,22 @@ read-run-returns-2 :
     read-run.Post
     read-run-Inv-loop
     read-run-μ-loop
-read-run-returns-2 t c = ?
+read-run-returns-2 t c = 
+    let i = c .before .loop in
+    let e : i .more ≡ 0 = omega arith in
+    i .inv .2 _ _ (run-none _ _ _ _ _ _ _ _ _ e (i .inv .0 .low) (i .inv .0 .near))
 
 abbrev read-tail-Inv-loop : read-tail-lts.InvT-loop
 read-tail-Inv-loop msg n places lengths table₀ at row whole deep cap before at-now₀ row-now₀ sum₀ table at-now row-now sum =
-    ?
+    Room msg (lent n places lengths) table cap at-now row-now whole
+    × (length table ≡ length table₀)
+    × (sum ≤ row-now)
+    × Tailed (atoms-of (lent n places lengths)) cap deep msg at-now row-now whole table sum
+    (PartsDone msg before cap row whole table₀ (tail (atoms-of (lent n places lengths)) cap deep (body (atoms-of (lent n places lengths)) cap deep) (drop at msg) (at-offset msg at row)))
 
 abbrev read-tail-μ-loop : read-tail-lts.MeasureT-loop
 read-tail-μ-loop msg n places lengths table₀ at row whole deep cap before at-now₀ row-now₀ sum₀ table at-now row-now sum =
-    ?
+    length msg - at-now
 
 -- src/lib.rt:394:5
 read-tail-loop-holds : (t : ℕ) → read-tail-lts.Need-loop-holds (
@@ -1213,7 +1267,7 @@ read-tail-loop-holds : (t : ℕ) → read-tail-lts.Need-loop-holds (
   read-last-below t,
   read-last.Post,
 ) (read-tail-at t) read-tail.Post read-tail-Inv-loop read-tail-μ-loop
-read-tail-loop-holds t c = ?
+read-tail-loop-holds t c = (c .before .before .before .before .pre .1 .0, refl, c .before .before .before .before .pre .1 .1, tailed-none _ _ _ _ _ _ _ _ _)
 
 -- src/lib.rt:395:13
 read-tail-read-opening-requires : (t : ℕ) → read-tail-lts.Need-read-opening-requires (
@@ -1224,7 +1278,7 @@ read-tail-read-opening-requires : (t : ℕ) → read-tail-lts.Need-read-opening-
   read-last-below t,
   read-last.Post,
 ) (read-tail-at t) read-tail.Post read-tail-Inv-loop read-tail-μ-loop
-read-tail-read-opening-requires t c κs = ?
+read-tail-read-opening-requires t c κs = (c .loop .inv .0 .near, c .loop .inv .0 .short, c .loop .inv .0 .sized)
 
 -- src/lib.rt:399:30
 read-tail-enum-known-head : (t : ℕ) → read-tail-lts.Need-enum-known-head (
@@ -1235,7 +1289,7 @@ read-tail-enum-known-head : (t : ℕ) → read-tail-lts.Need-enum-known-head (
   read-last-below t,
   read-last.Post,
 ) (read-tail-at t) read-tail.Post read-tail-Inv-loop read-tail-μ-loop
-read-tail-enum-known-head t c = ?
+read-tail-enum-known-head t c = search needs
 
 -- src/lib.rt:399:53
 read-tail-read-run-requires : (t : ℕ) → read-tail-lts.Need-read-run-requires (
@@ -1246,7 +1300,7 @@ read-tail-read-run-requires : (t : ℕ) → read-tail-lts.Need-read-run-requires
   read-last-below t,
   read-last.Post,
 ) (read-tail-at t) read-tail.Post read-tail-Inv-loop read-tail-μ-loop
-read-tail-read-run-requires t c κs = ?
+read-tail-read-run-requires t c κs = (omega (arith, c .before .before .before .before .before .before .before .before .before .before .pre .0), room-at _ _ _ _ _ _ _ _ (c .before .before .before .before .before .loop .inv .0) (opens-near _ _ _ _ (opens _ _ _ _ _ (opened _ _ _ (c .before .before .before .before .before .loop .row-now) _ _ (c .before .before .before .before .read-opening .ensures) (λ k p e. miss (3 ∷ []) 0 tt (rw e at (c .before .before .before .match .keys1))) (c .before .before .before .before .before .loop .inv .0 .near))) (c .before .before .head .given .1)))
 
 -- src/lib.rt:413:33
 read-tail-enum-known-number : (t : ℕ) → read-tail-lts.Need-enum-known-number (
@@ -1257,7 +1311,7 @@ read-tail-enum-known-number : (t : ℕ) → read-tail-lts.Need-enum-known-number
   read-last-below t,
   read-last.Post,
 ) (read-tail-at t) read-tail.Post read-tail-Inv-loop read-tail-μ-loop
-read-tail-enum-known-number t c = ?
+read-tail-enum-known-number t c = search needs
 
 -- src/lib.rt:413:52
 read-tail-same-length : (t : ℕ) → read-tail-lts.Need-same-length (
@@ -1268,7 +1322,7 @@ read-tail-same-length : (t : ℕ) → read-tail-lts.Need-same-length (
   read-last-below t,
   read-last.Post,
 ) (read-tail-at t) read-tail.Post read-tail-Inv-loop read-tail-μ-loop
-read-tail-same-length t c = ?
+read-tail-same-length t c = c .before .before .before .before .before .read-run .kept .1 .1 .1 .1 .0 ∙ c .before .before .before .before .before .before .before .before .before .before .before .loop .inv .1
 
 -- src/lib.rt:413:52
 read-tail-returns : (t : ℕ) → read-tail-lts.Need-returns (
@@ -1279,7 +1333,7 @@ read-tail-returns : (t : ℕ) → read-tail-lts.Need-returns (
   read-last-below t,
   read-last.Post,
 ) (read-tail-at t) read-tail.Post read-tail-Inv-loop read-tail-μ-loop
-read-tail-returns t c = ?
+read-tail-returns t c = tailed-run-refused _ _ _ _ _ _ _ _ _ _ (c .before .before .before .before .before .before .before .before .before .before .before .loop .inv .3) (opened _ _ _ (c .before .before .before .before .before .before .before .before .before .before .before .loop .row-now) _ _ (c .before .before .before .before .before .before .before .before .before .before .read-opening .ensures) (λ k p e. miss (3 ∷ []) 0 tt (rw e at (c .before .before .before .before .before .before .before .before .before .match .keys1))) (c .before .before .before .before .before .before .before .before .before .before .before .loop .inv .0 .near)) _ _ (c .before .before .before .before .before .before .before .before .head .given .1) _ _ (c .before .before .before .before .before .read-run .ensures) _ _ _ (c .before .number .given .1)
 
 -- src/lib.rt:414:29
 read-tail-enum-known-next : (t : ℕ) → read-tail-lts.Need-enum-known-next (
@@ -1290,7 +1344,7 @@ read-tail-enum-known-next : (t : ℕ) → read-tail-lts.Need-enum-known-next (
   read-last-below t,
   read-last.Post,
 ) (read-tail-at t) read-tail.Post read-tail-Inv-loop read-tail-μ-loop
-read-tail-enum-known-next t c = ?
+read-tail-enum-known-next t c = search needs
 
 -- src/lib.rt:417:21
 read-tail-add-sum : (t : ℕ) → read-tail-lts.Need-add-sum (
@@ -1301,7 +1355,7 @@ read-tail-add-sum : (t : ℕ) → read-tail-lts.Need-add-sum (
   read-last-below t,
   read-last.Post,
 ) (read-tail-at t) read-tail.Post read-tail-Inv-loop read-tail-μ-loop
-read-tail-add-sum t c = ?
+read-tail-add-sum t c = let a = run-many _ _ _ _ _ _ _ _ _ _ _ (c .before .before .before .before .before .read-run .ensures) (c .before .next .given .1) in let b = room-after _ _ _ _ _ _ _ _ _ _ _ _ _ _ _ (room-at _ _ _ _ _ _ _ _ (c .before .before .before .before .before .before .before .before .before .before .before .loop .inv .0) (opens-near _ _ _ _ (opens _ _ _ _ _ (opened _ _ _ (c .before .before .before .before .before .before .before .before .before .before .before .loop .row-now) _ _ (c .before .before .before .before .before .before .before .before .before .before .read-opening .ensures) (λ k p e. miss (3 ∷ []) 0 tt (rw e at (c .before .before .before .before .before .before .before .before .before .match .keys1))) (c .before .before .before .before .before .before .before .before .before .before .before .loop .inv .0 .near))) (c .before .before .before .before .before .before .before .before .head .given .1))) (c .before .before .before .before .before .read-run .ensures) (c .before .next .given .1) (c .before .before .before .before .before .read-run .kept .1 .1 .1 .1 .0) in omega arith
 
 -- src/lib.rt:394:5
 read-tail-loop-less : (t : ℕ) → read-tail-lts.Need-loop-less (
@@ -1312,7 +1366,7 @@ read-tail-loop-less : (t : ℕ) → read-tail-lts.Need-loop-less (
   read-last-below t,
   read-last.Post,
 ) (read-tail-at t) read-tail.Post read-tail-Inv-loop read-tail-μ-loop
-read-tail-loop-less t c = ?
+read-tail-loop-less t c = let a = tailed-further _ _ _ _ _ _ _ _ _ _ (c .before .before .before .before .before .before .before .before .before .before .before .loop .inv .3) (opened _ _ _ (c .before .before .before .before .before .before .before .before .before .before .before .loop .row-now) _ _ (c .before .before .before .before .before .before .before .before .before .before .read-opening .ensures) (λ k p e. miss (3 ∷ []) 0 tt (rw e at (c .before .before .before .before .before .before .before .before .before .match .keys1))) (c .before .before .before .before .before .before .before .before .before .before .before .loop .inv .0 .near)) _ _ (c .before .before .before .before .before .before .before .before .head .given .1) _ _ (c .before .before .before .before .before .read-run .ensures) _ _ (c .before .next .given .1) in omega (arith, run-many _ _ _ _ _ _ _ _ _ _ _ (c .before .before .before .before .before .read-run .ensures) (c .before .next .given .1) .1)
 
 -- src/lib.rt:394:5
 read-tail-loop-again : (t : ℕ) → read-tail-lts.Need-loop-again (
@@ -1323,7 +1377,7 @@ read-tail-loop-again : (t : ℕ) → read-tail-lts.Need-loop-again (
   read-last-below t,
   read-last.Post,
 ) (read-tail-at t) read-tail.Post read-tail-Inv-loop read-tail-μ-loop
-read-tail-loop-again t c = ?
+read-tail-loop-again t c = (room-after _ _ _ _ _ _ _ _ _ _ _ _ _ _ _ (room-at _ _ _ _ _ _ _ _ (c .before .before .before .before .before .before .before .before .before .before .before .loop .inv .0) (opens-near _ _ _ _ (opens _ _ _ _ _ (opened _ _ _ (c .before .before .before .before .before .before .before .before .before .before .before .loop .row-now) _ _ (c .before .before .before .before .before .before .before .before .before .before .read-opening .ensures) (λ k p e. miss (3 ∷ []) 0 tt (rw e at (c .before .before .before .before .before .before .before .before .before .match .keys1))) (c .before .before .before .before .before .before .before .before .before .before .before .loop .inv .0 .near))) (c .before .before .before .before .before .before .before .before .head .given .1))) (c .before .before .before .before .before .read-run .ensures) (c .before .next .given .1) (c .before .before .before .before .before .read-run .kept .1 .1 .1 .1 .0), c .before .before .before .before .before .read-run .kept .1 .1 .1 .1 .0 ∙ c .before .before .before .before .before .before .before .before .before .before .before .loop .inv .1, omega (arith, run-many _ _ _ _ _ _ _ _ _ _ _ (c .before .before .before .before .before .read-run .ensures) (c .before .next .given .1) .0), tailed-more _ _ _ _ _ _ _ _ _ _ (c .before .before .before .before .before .before .before .before .before .before .before .loop .inv .3) (opened _ _ _ (c .before .before .before .before .before .before .before .before .before .before .before .loop .row-now) _ _ (c .before .before .before .before .before .before .before .before .before .before .read-opening .ensures) (λ k p e. miss (3 ∷ []) 0 tt (rw e at (c .before .before .before .before .before .before .before .before .before .match .keys1))) (c .before .before .before .before .before .before .before .before .before .before .before .loop .inv .0 .near)) _ _ (c .before .before .before .before .before .before .before .before .head .given .1) _ _ (c .before .before .before .before .before .read-run .ensures) _ _ (c .before .next .given .1))
 
 -- src/lib.rt:420:29
 read-tail-enum-known-head-2 : (t : ℕ) → read-tail-lts.Need-enum-known-head-2 (
@@ -1334,7 +1388,7 @@ read-tail-enum-known-head-2 : (t : ℕ) → read-tail-lts.Need-enum-known-head-2
   read-last-below t,
   read-last.Post,
 ) (read-tail-at t) read-tail.Post read-tail-Inv-loop read-tail-μ-loop
-read-tail-enum-known-head-2 t c = ?
+read-tail-enum-known-head-2 t c = search needs
 
 -- src/lib.rt:420:48
 read-tail-same-length-2 : (t : ℕ) → read-tail-lts.Need-same-length-2 (
@@ -1345,7 +1399,7 @@ read-tail-same-length-2 : (t : ℕ) → read-tail-lts.Need-same-length-2 (
   read-last-below t,
   read-last.Post,
 ) (read-tail-at t) read-tail.Post read-tail-Inv-loop read-tail-μ-loop
-read-tail-same-length-2 t c = ?
+read-tail-same-length-2 t c = c .before .before .before .before .loop .inv .1
 
 -- src/lib.rt:420:48
 read-tail-returns-2 : (t : ℕ) → read-tail-lts.Need-returns-2 (
@@ -1356,7 +1410,7 @@ read-tail-returns-2 : (t : ℕ) → read-tail-lts.Need-returns-2 (
   read-last-below t,
   read-last.Post,
 ) (read-tail-at t) read-tail.Post read-tail-Inv-loop read-tail-μ-loop
-read-tail-returns-2 t c = ?
+read-tail-returns-2 t c = tailed-refused _ _ _ _ _ _ _ _ _ _ (c .before .before .before .before .loop .inv .3) _ _ _ _ (c .before .before .before .read-opening .ensures) (c .before .head2 .given .1)
 
 -- src/lib.rt:422:17
 read-tail-read-last-requires : (t : ℕ) → read-tail-lts.Need-read-last-requires (
@@ -1367,7 +1421,9 @@ read-tail-read-last-requires : (t : ℕ) → read-tail-lts.Need-read-last-requir
   read-last-below t,
   read-last.Post,
 ) (read-tail-at t) read-tail.Post read-tail-Inv-loop read-tail-μ-loop
-read-tail-read-last-requires t c κs = ?
+read-tail-read-last-requires t c κs = 
+    let o = (opened _ _ _ (c .before .before .before .loop .row-now) _ _ (c .before .before .read-opening .ensures) (λ k p e. miss (1 ∷ 2 ∷ 4 ∷ []) 0 tt (rw e at (c .before .match .keys3))) (c .before .before .before .loop .inv .0 .near)) in
+    (omega (arith, c .before .before .before .before .before .before .before .before .pre .0), (room-at _ _ _ _ _ _ _ _ (c .before .before .before .loop .inv .0) (omega (arith, o .sound .before, o .sound .end)), opens _ _ _ _ _ o, c .before .before .before .loop .inv .2))
 
 -- src/lib.rt:422:17
 read-tail-same-length-3 : (t : ℕ) → read-tail-lts.Need-same-length-3 (
@@ -1378,7 +1434,7 @@ read-tail-same-length-3 : (t : ℕ) → read-tail-lts.Need-same-length-3 (
   read-last-below t,
   read-last.Post,
 ) (read-tail-at t) read-tail.Post read-tail-Inv-loop read-tail-μ-loop
-read-tail-same-length-3 t c = ?
+read-tail-same-length-3 t c = c .before .before .read-last .kept .1 .1 .1 .1 .0 ∙ c .before .before .before .before .before .before .loop .inv .1
 
 -- src/lib.rt:422:17
 read-tail-returns-3 : (t : ℕ) → read-tail-lts.Need-returns-3 (
@@ -1389,7 +1445,7 @@ read-tail-returns-3 : (t : ℕ) → read-tail-lts.Need-returns-3 (
   read-last-below t,
   read-last.Post,
 ) (read-tail-at t) read-tail.Post read-tail-Inv-loop read-tail-μ-loop
-read-tail-returns-3 t c = ?
+read-tail-returns-3 t c = tailed-last _ _ _ _ _ _ _ _ _ _ (c .before .before .before .before .before .before .loop .inv .3) (opened _ _ _ (c .before .before .before .before .before .before .loop .row-now) _ _ (c .before .before .before .before .before .read-opening .ensures) (λ k p e. miss (1 ∷ 2 ∷ 4 ∷ []) 0 tt (rw e at (c .before .before .before .before .match .keys3))) (c .before .before .before .before .before .before .loop .inv .0 .near)) _ _ (λ k p e. miss (1 ∷ 2 ∷ 4 ∷ []) 3 tt (rw e at (c .before .before .before .before .match .keys3))) (c .before .before .read-last .ensures)
 
 -- src/lib.rt:63:9
 read-term-read-opening-requires : (t : ℕ) → read-term-lts.Need-read-opening-requires (
@@ -1398,7 +1454,7 @@ read-term-read-opening-requires : (t : ℕ) → read-term-lts.Need-read-opening-
   read-body-below t,
   read-body.Post,
 ) (read-term-at t) read-term.Post
-read-term-read-opening-requires t c κs = ?
+read-term-read-opening-requires t c κs = (c .before .before .before .before .pre .1 .near, c .before .before .before .before .pre .1 .short, c .before .before .before .before .pre .1 .sized)
 
 -- src/lib.rt:67:25
 read-term-enum-known-head : (t : ℕ) → read-term-lts.Need-enum-known-head (
@@ -1407,7 +1463,7 @@ read-term-enum-known-head : (t : ℕ) → read-term-lts.Need-enum-known-head (
   read-body-below t,
   read-body.Post,
 ) (read-term-at t) read-term.Post
-read-term-enum-known-head t c = ?
+read-term-enum-known-head t c = search needs
 
 -- src/lib.rt:68:14
 read-term-read-body-requires : (t : ℕ) → read-term-lts.Need-read-body-requires (
@@ -1416,7 +1472,9 @@ read-term-read-body-requires : (t : ℕ) → read-term-lts.Need-read-body-requir
   read-body-below t,
   read-body.Post,
 ) (read-term-at t) read-term.Post
-read-term-read-body-requires t c κs = ?
+read-term-read-body-requires t c κs = 
+    let o = (opened _ _ _ (c .before .before .before .before .before .before .before .args .row) _ _ (c .before .before .read-opening .ensures) (λ k p e. miss (1 ∷ 2 ∷ 3 ∷ 4 ∷ []) 0 tt (rw e at (c .before .match .keys2))) (c .before .before .before .before .before .before .before .pre .1 .near)) in
+    (omega (arith, c .before .before .before .before .before .before .before .pre .0), (room-at _ _ _ _ _ _ _ _ (c .before .before .before .before .before .before .before .pre .1) (omega (arith, o .sound .before, o .sound .end)), opens _ _ _ _ _ o))
 
 -- src/lib.rt:47:1
 read-term-returns : (t : ℕ) → read-term-lts.Need-returns (
@@ -1425,7 +1483,7 @@ read-term-returns : (t : ℕ) → read-term-lts.Need-returns (
   read-body-below t,
   read-body.Post,
 ) (read-term-at t) read-term.Post
-read-term-returns t c = ?
+read-term-returns t c = term-refused _ _ _ _ _ _ _ _ _ _ _ _ _ (c .before .before .before .read-opening .ensures) (c .before .head .given .1)
 
 -- src/lib.rt:47:1
 read-term-same-length : (t : ℕ) → read-term-lts.Need-same-length (
@@ -1434,7 +1492,7 @@ read-term-same-length : (t : ℕ) → read-term-lts.Need-same-length (
   read-body-below t,
   read-body.Post,
 ) (read-term-at t) read-term.Post
-read-term-same-length t c = ?
+read-term-same-length t c = c .before .before .read-body .kept .1 .1 .1 .1 .0
 
 -- src/lib.rt:47:1
 read-term-returns-2 : (t : ℕ) → read-term-lts.Need-returns-2 (
@@ -1443,7 +1501,7 @@ read-term-returns-2 : (t : ℕ) → read-term-lts.Need-returns-2 (
   read-body-below t,
   read-body.Post,
 ) (read-term-at t) read-term.Post
-read-term-returns-2 t c = ?
+read-term-returns-2 t c = term-opened _ _ _ _ _ _ _ _ _ _ (opened _ _ _ (c .before .before .before .before .before .before .before .before .before .before .args .row) _ _ (c .before .before .before .before .before .read-opening .ensures) (λ k p e. miss (1 ∷ 2 ∷ 3 ∷ 4 ∷ []) 0 tt (rw e at (c .before .before .before .before .match .keys2))) (c .before .before .before .before .before .before .before .before .before .before .pre .1 .near)) _ (c .before .before .read-body .ensures)
 
 -- src/lib.rt:215:9
 read-wanted-at-most-requires : (t : ℕ) → read-wanted-lts.Need-at-most-requires (
@@ -1452,7 +1510,7 @@ read-wanted-at-most-requires : (t : ℕ) → read-wanted-lts.Need-at-most-requir
   read-run-below t,
   read-run.Post,
 ) (read-wanted-at t) read-wanted.Post
-read-wanted-at-most-requires t c κs = ?
+read-wanted-at-most-requires t c κs = search needs
 
 -- src/lib.rt:216:11
 read-wanted-read-run-requires : (t : ℕ) → read-wanted-lts.Need-read-run-requires (
@@ -1461,7 +1519,7 @@ read-wanted-read-run-requires : (t : ℕ) → read-wanted-lts.Need-read-run-requ
   read-run-below t,
   read-run.Post,
 ) (read-wanted-at t) read-wanted.Post
-read-wanted-read-run-requires t c κs = ?
+read-wanted-read-run-requires t c κs = (omega (arith, c .before .before .before .before .before .before .pre .0), c .before .before .before .before .before .before .pre .1)
 
 -- src/lib.rt:230:25
 read-wanted-enum-known-number : (t : ℕ) → read-wanted-lts.Need-enum-known-number (
@@ -1470,7 +1528,7 @@ read-wanted-enum-known-number : (t : ℕ) → read-wanted-lts.Need-enum-known-nu
   read-run-below t,
   read-run.Post,
 ) (read-wanted-at t) read-wanted.Post
-read-wanted-enum-known-number t c = ?
+read-wanted-enum-known-number t c = search needs
 
 -- src/lib.rt:231:21
 read-wanted-enum-known-next : (t : ℕ) → read-wanted-lts.Need-enum-known-next (
@@ -1479,7 +1537,7 @@ read-wanted-enum-known-next : (t : ℕ) → read-wanted-lts.Need-enum-known-next
   read-run-below t,
   read-run.Post,
 ) (read-wanted-at t) read-wanted.Post
-read-wanted-enum-known-next t c = ?
+read-wanted-enum-known-next t c = search needs
 
 -- src/lib.rt:243:13
 read-wanted-sub-read-run : (t : ℕ) → read-wanted-lts.Need-sub-read-run (
@@ -1488,7 +1546,7 @@ read-wanted-sub-read-run : (t : ℕ) → read-wanted-lts.Need-sub-read-run (
   read-run-below t,
   read-run.Post,
 ) (read-wanted-at t) read-wanted.Post
-read-wanted-sub-read-run t c = ?
+read-wanted-sub-read-run t c = omega (arith, c .before .before .before .before .before .before .before .before .at-most .ensures)
 
 -- src/lib.rt:231:37
 read-wanted-read-run-requires-2 : (t : ℕ) → read-wanted-lts.Need-read-run-requires-2 (
@@ -1497,7 +1555,7 @@ read-wanted-read-run-requires-2 : (t : ℕ) → read-wanted-lts.Need-read-run-re
   read-run-below t,
   read-run.Post,
 ) (read-wanted-at t) read-wanted.Post
-read-wanted-read-run-requires-2 t c κs = ?
+read-wanted-read-run-requires-2 t c κs = (omega (arith, c .before .before .before .before .before .before .before .before .before .before .before .before .before .pre .0), room-after _ _ _ _ _ _ _ _ _ _ _ _ _ _ _ (c .before .before .before .before .before .before .before .before .before .before .before .before .before .pre .1) (c .before .before .before .before .before .before .read-run .ensures) (c .before .before .next .given .1) (c .before .before .before .before .before .before .read-run .kept .1 .1 .1 .1 .0))
 
 -- src/lib.rt:199:1
 read-wanted-same-length : (t : ℕ) → read-wanted-lts.Need-same-length (
@@ -1506,7 +1564,7 @@ read-wanted-same-length : (t : ℕ) → read-wanted-lts.Need-same-length (
   read-run-below t,
   read-run.Post,
 ) (read-wanted-at t) read-wanted.Post
-read-wanted-same-length t c = ?
+read-wanted-same-length t c = c .before .before .before .before .before .read-run .kept .1 .1 .1 .1 .0
 
 -- src/lib.rt:199:1
 read-wanted-returns : (t : ℕ) → read-wanted-lts.Need-returns (
@@ -1515,7 +1573,7 @@ read-wanted-returns : (t : ℕ) → read-wanted-lts.Need-returns (
   read-run-below t,
   read-run.Post,
 ) (read-wanted-at t) read-wanted.Post
-read-wanted-returns t c = ?
+read-wanted-returns t c = wanted-refused _ _ _ _ _ _ _ _ _ (c .before .before .before .before .before .before .before .at-most .ensures) _ _ (c .before .before .before .before .before .read-run .ensures) _ _ _ (c .before .number .given .1)
 
 -- src/lib.rt:199:1
 read-wanted-same-length-2 : (t : ℕ) → read-wanted-lts.Need-same-length-2 (
@@ -1524,7 +1582,7 @@ read-wanted-same-length-2 : (t : ℕ) → read-wanted-lts.Need-same-length-2 (
   read-run-below t,
   read-run.Post,
 ) (read-wanted-at t) read-wanted.Post
-read-wanted-same-length-2 t c = ?
+read-wanted-same-length-2 t c = c .before .before .read-run2 .kept .1 .1 .1 .1 .0 ∙ c .before .before .before .before .before .before .before .before .before .read-run .kept .1 .1 .1 .1 .0
 
 -- src/lib.rt:199:1
 read-wanted-returns-2 : (t : ℕ) → read-wanted-lts.Need-returns-2 (
@@ -1533,7 +1591,7 @@ read-wanted-returns-2 : (t : ℕ) → read-wanted-lts.Need-returns-2 (
   read-run-below t,
   read-run.Post,
 ) (read-wanted-at t) read-wanted.Post
-read-wanted-returns-2 t c = ?
+read-wanted-returns-2 t c = wanted-more _ _ _ _ _ _ _ _ _ (c .before .before .before .before .before .before .before .before .before .before .before .at-most .ensures) _ _ (c .before .before .before .before .before .before .before .before .before .read-run .ensures) _ _ _ _ (c .before .before .before .before .before .next .given .1) (c .before .before .read-run2 .ensures)
 
 pub +read-body+read-inner+read-last+read-list+read-pairs+read-parts+read-run+read-tail+read-term+read-wanted-spec :
     {M : Type 1} → statement M
