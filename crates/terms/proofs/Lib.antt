@@ -5,3 +5,4 @@ pub mod Runs
 pub mod Bodies
 pub mod Inner
 pub mod Entries
+pub mod Message

@@ -1,9 +1,10 @@
 -- What the reader's contracts say of the code's own values.
 use mathlib.Core.Path.{_≡_}
-use mathlib.Core.Bool.{true}
+use mathlib.Core.Bool.{Bool, true, false}
 use mathlib.Core.List.{List, [], _∷_, _++_}
 use mathlib.Core.Option.{Option, none, some}
 use Prim.Native.Nat.{ℕ, zero, suc, _+_, _-_, _≤_, _<_, min}
+use lib.Dec.{leb}
 use lib.ListN.{length, drop, replicate}
 use lib.Seq.{sets}
 use Rattle.format.specs.Tree.{Forest, _▹_, _▹▹_, count, size, sizes}
@@ -143,3 +144,17 @@ PartsDone m before cap row whole =
 abbrev pub MessageDone : List ℕ → ℕ → List ℕ → Answer (Terms × Position) → ReadAnswer → List ℕ → Type 0
 MessageDone m cap =
     Done (λ ts next end. reads.Terms (count ts) end) (λ n p. reads.Refused (record { number = n; place = p })) sizes (λ ts. words-of (rows none 0 ts)) (λ ts. Unit {0}) m cap 0
+
+-- the refusal before any byte is read: 13, then 12; 0 for none
+unfoldable pub first-number : Bool → Bool → ℕ
+first-number false short = 13
+first-number true false = 12
+first-number true true = 0
+
+abbrev pub first-refusal : AtomList → List ℕ → ℕ
+first-refusal atoms m = first-number (of-size atoms) (leb (length m) 65536)
+
+-- the rows that an answer says
+unfoldable pub rows-in : ReadAnswer → ℕ
+rows-in (reads.Terms n r) = r
+rows-in (reads.Refused x) = 0

@@ -17,8 +17,9 @@ ghost use Rattle.format.specs.Message.{standalone, payload, read, standalone-te
 ghost use Rattle.format.specs.Reading.{each, tail, body, term};
 ghost use Rattle.format.specs.Rows.{table-after};
 ghost use Rattle.format.proofs.Bridge.{at-offset};
+ghost use Rattle.octets.specs.Cleared.{cleared};
 ghost use Rattle.heads.specs.Code.{lent, wanted-of, later-of, kind-later, head-at};
-ghost use Rattle.terms.specs.Code.{asked, character-words, Room, Sound, Opens, inner, last, TermDone, RunDone, PartsDone, MessageDone};
+ghost use Rattle.terms.specs.Code.{first-refusal, rows-in, asked, character-words, Room, Sound, Opens, inner, last, TermDone, RunDone, PartsDone, MessageDone};
 
 // What reading a term, or some terms in turn, comes to: the offset and the row past it, or a refusal.
 pub enum Step {
@@ -533,4 +534,148 @@ fn read_pairs(
         parts: count * 2,
         kind: 9,
     }
+}
+
+// A standalone term: 131, one term, end.
+fn standalone_terms(
+    msg: &[u8],
+    n: u8,
+    places: &[u8],
+    lengths: &[u16],
+    table: &mut [u64],
+    cap: usize,
+) -> ReadAnswer
+    requires { ⌜ Room (now msg) (lent n (now places) (now lengths)) (now table) cap 0 0 0 ⌝ }
+    ensures { λ r. ⌜ MessageDone (now (msg .entry)) cap (now (table .entry)) (standalone-term (atoms-of (lent n (now (places .entry)) (now (lengths .entry)))) cap (at-offset (now (msg .entry)) 0 0)) r (now (table .exit)) ⌝ }
+{
+    if msg.len() == 0 {
+        return ReadAnswer::Refused(Refusal {
+            number: 1,
+            place: 0,
+        });
+    }
+    if msg[0] != 131 {
+        return ReadAnswer::Refused(Refusal {
+            number: 1,
+            place: 0,
+        });
+    }
+    match read_term(msg, n, places, lengths, table, 1, 0, 0, 64, cap, Wanted::Any) {
+        Step::Refused { number, place } => ReadAnswer::Refused(Refusal { number, place }),
+        Step::Got { next, rows } => {
+            if next < msg.len() {
+                return ReadAnswer::Refused(Refusal {
+                    number: 10,
+                    place: next,
+                });
+            }
+            ReadAnswer::Terms { terms: 1, rows }
+        }
+    }
+}
+
+// A payload: one or two terms, end.
+fn payload_terms(
+    msg: &[u8],
+    n: u8,
+    places: &[u8],
+    lengths: &[u16],
+    table: &mut [u64],
+    cap: usize,
+) -> ReadAnswer
+    requires { ⌜ Room (now msg) (lent n (now places) (now lengths)) (now table) cap 0 0 0 ⌝ }
+    ensures { λ r. ⌜ MessageDone (now (msg .entry)) cap (now (table .entry)) (payload-terms (atoms-of (lent n (now (places .entry)) (now (lengths .entry)))) cap (at-offset (now (msg .entry)) 0 0)) r (now (table .exit)) ⌝ }
+{
+    match read_term(msg, n, places, lengths, table, 0, 0, 0, 64, cap, Wanted::Any) {
+        Step::Refused { number, place } => ReadAnswer::Refused(Refusal { number, place }),
+        Step::Got { next, rows } => {
+            if msg.len() <= next {
+                return ReadAnswer::Terms { terms: 1, rows };
+            }
+            match read_term(msg, n, places, lengths, table, next, rows, 0, 64, cap, Wanted::Any) {
+                Step::Refused { number, place } => ReadAnswer::Refused(Refusal { number, place }),
+                Step::Got { next, rows } => {
+                    if next < msg.len() {
+                        return ReadAnswer::Refused(Refusal {
+                            number: 10,
+                            place: next,
+                        });
+                    }
+                    ReadAnswer::Terms { terms: 2, rows }
+                }
+            }
+        }
+    }
+}
+
+// The refusal that comes before any byte is read: 13 for an atom list not of its size, 12 for a message too long, or 0.
+fn first_refusal(msg: &[u8], places: &[u8], lengths: &[u16]) -> u8
+    ensures { λ r. ⌜ ((n : ℕ) → r ≡ first-refusal (lent n (now (places .entry)) (now (lengths .entry))) (now (msg .entry))) ⌝ }
+{
+    if places.len() != 8160 {
+        return 13;
+    }
+    if lengths.len() != 255 {
+        return 13;
+    }
+    if 65536 < msg.len() {
+        return 12;
+    }
+    0
+}
+
+// Past the rows of what was read, or everywhere after a refusal, the table is zero.
+fn settle(table: &mut [u64], answer: ReadAnswer) -> ReadAnswer
+    ensures { λ r. ⌜ (r ≡ answer) × (now (table .exit) ≡ cleared (rows-in answer) (now (table .entry))) ⌝ }
+{
+    match answer {
+        ReadAnswer::Terms { terms, rows } => {
+            octets::clear_words(table, rows);
+            ReadAnswer::Terms { terms, rows }
+        }
+        ReadAnswer::Refused(refusal) => {
+            octets::clear_words(table, 0);
+            ReadAnswer::Refused(refusal)
+        }
+    }
+}
+
+// Reads a standalone term into the table, with this atom list.
+pub fn read_standalone(
+    msg: &[u8],
+    n: u8,
+    places: &[u8],
+    lengths: &[u16],
+    table: &mut [u64],
+) -> ReadAnswer
+    ensures { λ r. ⌜ r ≡ read-answer (read standalone (lent n (now (places .entry)) (now (lengths .entry))) (length (now (table .entry))) (now (msg .entry))) ⌝ }
+    ensures { λ _. ⌜ now (table .exit) ≡ table-after (length (now (table .entry))) (read standalone (lent n (now (places .entry)) (now (lengths .entry))) (length (now (table .entry))) (now (msg .entry))) ⌝ }
+{
+    let number = first_refusal(msg, places, lengths);
+    if number != 0 {
+        return settle(table, ReadAnswer::Refused(Refusal { number, place: 0 }));
+    }
+    let cap = at_most(table.len(), 8192);
+    let answer = standalone_terms(msg, n, places, lengths, table, cap);
+    settle(table, answer)
+}
+
+// Reads the terms of a payload into the table, with this atom list.
+pub fn read_payload(
+    msg: &[u8],
+    n: u8,
+    places: &[u8],
+    lengths: &[u16],
+    table: &mut [u64],
+) -> ReadAnswer
+    ensures { λ r. ⌜ r ≡ read-answer (read payload (lent n (now (places .entry)) (now (lengths .entry))) (length (now (table .entry))) (now (msg .entry))) ⌝ }
+    ensures { λ _. ⌜ now (table .exit) ≡ table-after (length (now (table .entry))) (read payload (lent n (now (places .entry)) (now (lengths .entry))) (length (now (table .entry))) (now (msg .entry))) ⌝ }
+{
+    let number = first_refusal(msg, places, lengths);
+    if number != 0 {
+        return settle(table, ReadAnswer::Refused(Refusal { number, place: 0 }));
+    }
+    let cap = at_most(table.len(), 8192);
+    let answer = payload_terms(msg, n, places, lengths, table, cap);
+    settle(table, answer)
 }
