@@ -1,6 +1,6 @@
 -- What a comparison of rows finds in a table that holds the rows of terms: whether the terms mean the same.
 use mathlib.Core.Path.{_≡_, refl, sym, _∙_, ap, ap₂, subst}
-use mathlib.Core.Bool.{Bool, true, false, cond, _||_, or-false}
+use mathlib.Core.Bool.{Bool, true, false, _||_, or-false}
 use mathlib.Core.List.{List, [], _∷_, _++_}
 use mathlib.Core.Option.{Option, some}
 use Prim.Native.Nat.{ℕ, zero, suc, _+_, _-_, _≤_, _<_}
@@ -17,31 +17,15 @@ use Rattle.format.specs.Rows.{Row, tree-rows, rows, word, words-of, size-in}
 use Rattle.format.proofs.Preorder.{nodes, all-nodes, nodes-prefix}
 use Rattle.format.proofs.Rows.{size-meaning, size-positive, count-relabels, length-tree-rows}
 use Rattle.format.proofs.Words.{Here, here-word, here-rest, Each-row, Small-row, Tree-here, Rows-here, node-packed, node-below, first-here, others-here, row-of}
+use Rattle.contents.specs.Found.{choose}
 use Rattle.keys.specs.Compare.{same-rows, same-from, pair-size, among-steps, among-from}
+use Rattle.contents.proofs.Tells.{Tells, not-so, tells-same, tells-as, then-tells}
 
--- ---- tests that tell a fact
-
--- the test is true exactly where the fact holds
-abbrev pub Tells : Bool → Type 0 → Type 0
-Tells b P = (b ≡ true → P) × (P → b ≡ true)
-
-not-false : false ≡ true → ⊥
-not-false e = let z : _≡_ {A = ℕ} 0 1 = cc in omega arith
-
--- two tests that tell the same are equal
-pub tells-same : {P : Type 0} (b c : Bool) → Tells b P → Tells c P → b ≡ c
-tells-same true true p q = refl
-tells-same true false p q = sym (q .1 (p .0 refl))
-tells-same false true p q = p .1 (q .0 refl)
-tells-same false false p q = refl
-
-pub tells-not : {P : Type 0} (b : Bool) → (P → ⊥) → Tells b P → b ≡ false
-tells-not true n t = absurd (n (t .0 refl))
-tells-not false n t = refl
+-- ---- equal terms
 
 decided-tells : {P : Type 0} (d : Dec P) → Tells (decided d) P
 decided-tells (yes p) = (λ _. p, λ _. refl)
-decided-tells (no n) = (λ e. absurd (not-false e), λ p. absurd (n p))
+decided-tells (no n) = (λ e. not-so e, λ p. absurd (n p))
 
 pub same-tells : (t u : Term) → Tells (same t u) (t ≡ u)
 unfolding same
@@ -82,9 +66,9 @@ each-row-split P [] qs h = (tt, h)
 each-row-split P (r ∷ rs) qs h = let g : Each-row P rs × Each-row P qs = each-row-split P rs qs (h .1) in ((h .0, g .0), g .1)
 
 -- where nodes are told apart one by one, lists of them are
-tells-cons : {A : Type 0} (x y : A) (xs ys : List A) (b c : Bool) → Tells b (x ≡ y) → Tells c (xs ≡ ys) → Tells (cond b c false) (_≡_ {A = List A} (x ∷ xs) (y ∷ ys))
-tells-cons x y xs ys true c p q = (λ e. let h : x ≡ y = p .0 refl in let g : xs ≡ ys = q .0 e in cc, λ e. let g : xs ≡ ys = cc in q .1 g)
-tells-cons x y xs ys false c p q = (λ e. absurd (not-false e), λ e. let h : x ≡ y = cc in p .1 h)
+tells-cons : {A : Type 0} (x y : A) (xs ys : List A) (b c : Bool) → Tells b (x ≡ y) → Tells c (xs ≡ ys) → Tells (choose b c false) (_≡_ {A = List A} (x ∷ xs) (y ∷ ys))
+tells-cons x y xs ys b c p q =
+    tells-as _ (λ e. let h : x ≡ y = e .0 in let g : xs ≡ ys = e .1 in cc) (λ e. let h : x ≡ y = cc in let g : xs ≡ ys = cc in (h, g)) (then-tells b c p (λ _. q))
 
 -- ---- the rows of terms that stand in a table, each of which is known
 
@@ -137,14 +121,15 @@ no-keys = no-pair
 pub one-more-key : {ts : Terms} {ks : List Term} (k v : Located) → Keys-of ts ks → Keys-of (ts ▹▹ (k ▹ v ▹ none)) (meaning k ∷ ks)
 one-more-key k v p = pairs-join p (a-pair no-pair)
 
-or-later : (x s y : Bool) → (x || cond s true y) ≡ ((s || x) || y)
+or-later : (x s y : Bool) → (x || choose s true y) ≡ ((s || x) || y)
+unfolding choose
 or-later true true y = refl
 or-later true false y = refl
 or-later false true y = refl
 or-later false false y = refl
 
 pub among-ended : (alike : ℕ → ℕ → Bool) (T : List ℕ) (n at key : ℕ) → key ≤ at → among-steps alike T n at key ≡ false
-unfolding among-steps
+unfolding among-steps choose
 among-ended alike T zero at key h = refl
 among-ended alike T (suc n) at key h = rw (le-leb key at h)
 
@@ -184,14 +169,14 @@ module _
 
     -- they compare as their meanings do
     pub same-from-same : same-from alike T a b ≡ same (meaning t) (meaning u)
-    unfolding same-from
+    unfolding same-from choose
     same-from-same =
         rw (lt-leb (length T) a (tree-below t k), lt-leb (length T) b (tree-below u m), tree-size small t k, tree-size small u m)
         (tells-same _ _ (go (eqb (size t) (size u)) refl) (same-tells (meaning t) (meaning u)))
       where
-        go : (z : Bool) → eqb (size t) (size u) ≡ z → Tells (cond z (same-rows alike T (size t) a b) false) (meaning t ≡ meaning u)
+        go : (z : Bool) → eqb (size t) (size u) ≡ z → Tells (choose z (same-rows alike T (size t) a b) false) (meaning t ≡ meaning u)
         go true e = sizes-tell (eqb-true (size t) (size u) e)
-        go false e = (λ f. absurd (not-false f), λ f. absurd (eqb-false (size t) (size u) e (sym (size-meaning t) ∙ ap size f ∙ size-meaning u)))
+        go false e = (λ f. not-so f, λ f. absurd (eqb-false (size t) (size u) e (sym (size-meaning t) ∙ ap size f ∙ size-meaning u)))
 
   -- a term whose rows stand at `key`, past the rows of pairs
   module _ (whole whole′ : Option ℕ) (key : ℕ) (u : Located) (m : Known-tree Known T whole′ key u) where
@@ -203,7 +188,7 @@ module _
 
     pairs-tell : (n at : ℕ) {ts : Terms} {ks ls : List Term} → Pairs ts ks ls → key ≡ at + sizes ts → sizes ts ≤ n → Known-rows Known T whole at ts
         → (among (meaning u) ks || among-steps alike T n at key) ≡ among (meaning u) ls
-    unfolding among-steps among
+    unfolding among-steps among choose
     pairs-tell n at {ks = ks} no-pair e h g =
         ap (λ (b : Bool). among (meaning u) ks || b) (among-ended alike T n at key (omega arith)) ∙ or-false (among (meaning u) ks)
     pairs-tell zero at (a-pair {k = k} p) e h g = absurd (omega (arith, size-positive k))
@@ -222,5 +207,5 @@ module _
     -- it is compared with each key
     pub among-from-among : (first : ℕ) {ts : Terms} {ks : List Term} → Keys-of ts ks → key ≡ first + sizes ts → Known-rows Known T whole first ts
         → among-from alike T first key ≡ among (meaning u) ks
-    unfolding among-from among
+    unfolding among-from among choose
     among-from-among first p e g = rw (lt-leb (length T) key (tree-below u m)) (pairs-tell (key - first) first p e (omega arith) g)
