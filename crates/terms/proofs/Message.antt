@@ -192,24 +192,24 @@ module _ (atoms : Atoms) (cap : ℕ) (m : List ℕ) (T : List ℕ) (r : Step) (T
 
 module _ (list : AtomList) (m : List ℕ) where
   pub first-places : (length (list .places) ≡ 8160 → ⊥) → 13 ≡ first-refusal list m
-  unfolding first-number of-size
+  unfolding first-refusal first-number of-size
   first-places h = rw (ne-eqb (length (list .places)) 8160 h)
 
   pub first-lengths : length (list .places) ≡ 8160 → (length (list .lengths) ≡ 255 → ⊥) → 13 ≡ first-refusal list m
-  unfolding first-number of-size
+  unfolding first-refusal first-number of-size
   first-lengths e h = rw (eq-eqb (length (list .places)) 8160 e, ne-eqb (length (list .lengths)) 255 h)
 
   pub first-long : length (list .places) ≡ 8160 → length (list .lengths) ≡ 255 → 65536 < length m → 12 ≡ first-refusal list m
-  unfolding first-number of-size
+  unfolding first-refusal first-number of-size
   first-long e f h = rw (eq-eqb (length (list .places)) 8160 e, eq-eqb (length (list .lengths)) 255 f, lt-leb (length m) 65536 h)
 
   pub first-none : length (list .places) ≡ 8160 → length (list .lengths) ≡ 255 → length m ≤ 65536 → 0 ≡ first-refusal list m
-  unfolding first-number of-size
+  unfolding first-refusal first-number of-size
   first-none e f h = rw (eq-eqb (length (list .places)) 8160 e, eq-eqb (length (list .lengths)) 255 f, le-leb (length m) 65536 h)
 
   -- what reading answers after it
   pub read-refused : (framing : Framing) (lent k : ℕ) → k ≡ first-refusal list m → (k ≡ 0 → ⊥) → read framing list lent m ≡ refused k 0
-  unfolding first-number read
+  unfolding first-refusal first-number read
   read-refused framing lent k e h = go (of-size list) (leb (length m) 65536) e
     where
       go : (a b : Bool) → k ≡ first-number a b
@@ -219,7 +219,7 @@ module _ (list : AtomList) (m : List ℕ) where
       go true true e = absurd (h e)
 
   pub read-first : 0 ≡ first-refusal list m → (of-size list ≡ true) × (length m ≤ 65536)
-  unfolding first-number
+  unfolding first-refusal first-number
   read-first e = go (of-size list) (leb (length m) 65536) refl refl e
     where
       go : (a b : Bool) → of-size list ≡ a → leb (length m) 65536 ≡ b → 0 ≡ first-number a b
@@ -256,8 +256,7 @@ settled m cap T (good y) a T′ U wide long d e =
     let ws : List ℕ = words-of (rows option.none 0 ts) in
     let n : length ws ≡ sizes ts = length-words-of (rows option.none 0 ts) ∙ length-rows option.none 0 ts in
     let f : rows-in a ≡ sizes ts = ap rows-in (d .0) ∙ omega arith in
-    let z : 0 + sizes ts ≡ sizes ts = omega arith in
-    (
+    let z : 0 + sizes ts ≡ sizes ts = omega arith in (
       d .0 ∙ ap (reads.Terms (count ts)) z,
       e ∙ ap₂ cleared f (d .1 .table-is) ∙ cleared-sets T ws (sizes ts) n (omega (arith, d .1 .room)) ∙ ap (λ (k : ℕ). ws ++ replicate (length T - k) 0) (sym n),
     )

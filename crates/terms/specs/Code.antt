@@ -147,7 +147,7 @@ first-number false short = 13
 first-number true false = 12
 first-number true true = 0
 
-abbrev pub first-refusal : AtomList → List ℕ → ℕ
+unfoldable pub first-refusal : AtomList → List ℕ → ℕ
 first-refusal atoms m = first-number (of-size atoms) (leb (length m) 65536)
 
 -- the rows that an answer says
