@@ -18,7 +18,7 @@ use Rattle.octets.proofs.Stores.{sets-at}
 use Rattle.layout.specs.declared.Body.{Body}
 use Rattle.layout.specs.declared.Body.the-variants.{Empty, Part, Latin1, Digits, Bits}
 use Rattle.layout.specs.declared.Layout.{Layout}
-use Rattle.layout.specs.Layout.{source, stretch, body-bytes, layout-bytes, number-bytes, Inside, Body-inside, Layout-inside, Put}
+use Rattle.layout.specs.Layout.{source, stretch, body-bytes, layout-bytes, number-bytes, Inside, Body-inside, Layout-inside, Put, Lays, laid-of}
 use Rattle.layout.proofs.Puts.{put-then}
 
 pub rest-le : (n u : ℕ) → n % u ≤ n
@@ -113,7 +113,7 @@ clear-last bits (x ∷ []) b = refl
 clear-last bits (x ∷ y ∷ bs) b = ap (λ (l : List ℕ). x ∷ l) (clear-last bits (y ∷ bs) b)
 
 -- the last byte of a stretch
-stretch-last : (s : List ℕ) (start n : ℕ) → start + n < length s → stretch s start (n + 1) ≡ stretch s start n ++ (getD s (start + n) 0 ∷ [])
+pub stretch-last : (s : List ℕ) (start n : ℕ) → start + n < length s → stretch s start (n + 1) ≡ stretch s start n ++ (getD s (start + n) 0 ∷ [])
 stretch-last s start n h =
     let k : n < length (drop start s) = simp length-drop (omega arith) in
     ap (λ (j : ℕ). take j (drop start s)) (add-one n)
@@ -166,3 +166,11 @@ module _ (m places : List ℕ) (l : Layout) where
       → Put O at (layout-bytes m places l) end S
   unfolding layout-bytes
   put-layout p q r s = put-then p (put-then q (put-then r s))
+
+-- the bytes of a layout that is put together
+pub lays : (v a w b x c : ℕ) (body : Body) {m places bs : List ℕ} {l : Layout}
+    → l ≡ laid-of v a w b x c body → v ≤ 8 → w ≤ 8 → x ≤ 8 → Body-inside m places body
+    → in-bytes v a ++ (in-bytes w b ++ (in-bytes x c ++ body-bytes m places body)) ≡ bs
+    → Lays m places bs l
+unfolding laid-of layout-bytes
+lays v a w b x c body e f g h i s = rw e (record { says = s; can-be = record { narrow-first = f; narrow-second = g; narrow-third = h; inside = i } })

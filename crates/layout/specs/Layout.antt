@@ -58,3 +58,13 @@ pub record Layout-inside (m places : List ℕ) (l : Layout) : Type 0 where
 pub record Put (before : List ℕ) (at : ℕ) (bs : List ℕ) (next : ℕ) (after : List ℕ) : Type 0 where
   pub past : next ≡ at + length bs
   pub stored : after ≡ sets before at bs
+
+-- a layout that says these bytes, and can be written
+pub record Lays (m places bs : List ℕ) (l : Layout) : Type 0 where
+  pub says : layout-bytes m places l ≡ bs
+  pub can-be : Layout-inside m places l
+
+-- a layout by its numbers and body
+unfoldable pub laid-of : ℕ → ℕ → ℕ → ℕ → ℕ → ℕ → Body → Layout
+laid-of v a w b x c body =
+    record { first = record { width = v; value = a }; second = record { width = w; value = b }; third = record { width = x; value = c }; body = body }

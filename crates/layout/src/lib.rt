@@ -6,7 +6,7 @@ ghost use lib.Seq.{sets};
 ghost use Rattle.format.specs.Numbers.{in-bytes, digits};
 ghost use Rattle.format.specs.Text.{encodes};
 ghost use Rattle.format.specs.Head.{clear-low};
-ghost use Rattle.layout.specs.Layout.{source, stretch, body-bytes, layout-bytes, Inside, Body-inside, Layout-inside, Put};
+ghost use Rattle.layout.specs.Layout.{source, stretch, body-bytes, layout-bytes, Inside, Body-inside, Layout-inside, Put, laid-of};
 
 // What follows the numbers: nothing, bytes as they stand, Latin-1 characters in UTF-8, the digits of a number, or bytes of whose last one some bits count.
 pub enum Body {
@@ -43,6 +43,18 @@ pub struct Layout {
     pub second: Number,
     pub third: Number,
     pub body: Body,
+}
+
+// The layout of these numbers, each after its width, and this body.
+pub fn laid(v: usize, a: u64, w: usize, b: u64, x: usize, c: u64, body: Body) -> Layout
+    ensures { λ r. ⌜ r ≡ laid-of v a w b x c body ⌝ }
+{
+    Layout {
+        first: Number { width: v, value: a },
+        second: Number { width: w, value: b },
+        third: Number { width: x, value: c },
+        body: body,
+    }
 }
 
 // Writes n in the w bytes from `at` on; the offset past them.
@@ -136,7 +148,7 @@ fn put_bits(msg: &[u8], bits: usize, start: usize, n: usize, out: &mut [u8], at:
 }
 
 // How many bytes a body has.
-fn body_length(msg: &[u8], places: &[u8], body: Body) -> usize
+pub fn body_length(msg: &[u8], places: &[u8], body: Body) -> usize
     requires { ⌜ Body-inside (now msg) (now places) body ⌝ }
     ensures { λ r. ⌜ (r ≡ length (body-bytes (now (msg .entry)) (now (places .entry)) body)) × (r ≤ 131072) ⌝ }
 {

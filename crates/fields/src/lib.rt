@@ -1,0 +1,352 @@
+// A term's own fields in canonical form: the bytes before its parts, and those after them.
+use contents::Content;
+use layout::Body;
+use layout::Layout;
+ghost use mathlib.Core.Path.{_≡_};
+ghost use mathlib.Core.Bool.{Bool, true, false};
+ghost use mathlib.Core.List.{List, []};
+ghost use Prim.Native.Nat.{ℕ, _+_, _*_, _-_, _≤_, _<_};
+ghost use lib.ListN.{length};
+ghost use Rattle.format.specs.Numbers.{digits, little-endian, with-sign};
+ghost use lib.IntN.{pos, negsuc};
+ghost use Rattle.format.specs.Text.{encodes};
+ghost use Rattle.format.specs.Head.{clear-low};
+ghost use Rattle.format.specs.Term.{tuple, list, binary, bitstring, pid, port, reference};
+ghost use Rattle.format.specs.Canonical.{big-bytes, integer-bytes, atom-bytes};
+ghost use Rattle.contents.specs.Meaning.{sign, coded, words-at, bare, label-of};
+ghost use Rattle.layout.specs.Layout.{source, stretch, body-bytes, Inside, Body-inside, Lays, Put};
+ghost use Rattle.fields.specs.Shape.{tagged-bytes, before, after};
+ghost use Rattle.fields.specs.Sound.{High, Bytes-only, Sound-text, Sound, listed-in, content-in, label-in};
+
+// The layout of a tag, a number of so many bytes, and a body.
+fn tagged(tag: u64, width: usize, n: u64, body: Body) -> Layout
+    requires { ⌜ (tag < 256) × (width ≤ 8) ⌝ }
+    ensures { λ r. ⌜ ((m places : List ℕ) → Body-inside m places body → Lays m places (tagged-bytes tag width n (body-bytes m places body)) r) ⌝ }
+{
+    layout::laid(1, tag, width, n, 0, 0, body)
+}
+
+// An integer by its sign and the digits of its magnitude, of which there are at most 8.
+fn digits_lead(sign: u64, n: u64) -> Layout
+    ensures { λ r. ⌜ ((m places : List ℕ) → Lays m places (big-bytes sign (digits n)) r) ⌝ }
+{
+    let count = layout::count_digits(n) as u64;
+    layout::laid(1, 110, 1, count, 1, sign, Body::Digits { number: n })
+}
+
+// An integer that is not negative.
+fn positive_lead(n: u64) -> Layout
+    ensures { λ r. ⌜ ((m places : List ℕ) → Lays m places (integer-bytes (pos n)) r) ⌝ }
+{
+    if n < 256 {
+        return tagged(97, 1, n, Body::Empty);
+    }
+    if n < 2147483648 {
+        return tagged(98, 4, n, Body::Empty);
+    }
+    digits_lead(0, n)
+}
+
+// A negative integer.
+fn negative_lead(n: u64) -> Layout
+    requires { ⌜ 0 < n ⌝ }
+    ensures { λ r. ⌜ ((m places : List ℕ) → Lays m places (integer-bytes (negsuc (n - 1))) r) ⌝ }
+{
+    if n <= 2147483648 {
+        return tagged(98, 4, 4294967296 - n, Body::Empty);
+    }
+    digits_lead(1, n)
+}
+
+// An integer of more than 8 digits, which stand in the message.
+fn big_lead(negative: bool, start: usize, n: usize) -> Layout
+    ensures { λ r. ⌜ ((m places : List ℕ) → High m start n → Bytes-only m → Lays m places (integer-bytes (with-sign (sign negative) (little-endian (stretch m start n)))) r) ⌝ }
+{
+    let body = Body::Part {
+        listed: false,
+        start: start,
+        length: n,
+    };
+    let sign = sign_of(negative);
+    if n <= 255 {
+        return layout::laid(1, 110, 1, n as u64, 1, sign, body);
+    }
+    layout::laid(1, 111, 4, n as u64, 1, sign, body)
+}
+
+fn sign_of(negative: bool) -> u64
+    ensures { λ r. ⌜ r ≡ sign negative ⌝ }
+{
+    if negative {
+        return 1;
+    }
+    0
+}
+
+// An atom whose text is this body, of n bytes.
+fn text_lead(n: usize, body: Body) -> Layout
+    ensures { λ r. ⌜ ((m places : List ℕ) → Body-inside m places body → n ≡ length (body-bytes m places body) → Lays m places (atom-bytes (body-bytes m places body)) r) ⌝ }
+{
+    if n <= 255 {
+        return tagged(119, 1, n as u64, body);
+    }
+    tagged(118, 2, n as u64, body)
+}
+
+// An atom whose text stands in the message or in the list, in Latin-1 or UTF-8.
+fn text(msg: &[u8], places: &[u8], latin1: bool, listed: bool, start: usize, n: usize) -> Layout
+    requires { ⌜ Sound-text (now msg) (now places) latin1 listed start n ⌝ }
+    ensures { λ r. ⌜ Lays (now (msg .entry)) (now (places .entry)) (atom-bytes (encodes (coded latin1 (stretch (source listed (now (msg .entry)) (now (places .entry))) start n)))) r ⌝ }
+{
+    if latin1 {
+        let body = Body::Latin1 {
+            listed: listed,
+            start: start,
+            length: n,
+        };
+        let spelt = layout::body_length(msg, places, body);
+        return text_lead(spelt, body);
+    }
+    text_lead(
+        n,
+        Body::Part {
+            listed: listed,
+            start: start,
+            length: n,
+        },
+    )
+}
+
+// A binary.
+fn bytes_lead(start: usize, n: usize) -> Layout
+    ensures { λ r. ⌜ ((m places : List ℕ) → Inside m start n → Lays m places (before (binary (stretch m start n)) 0) r) ⌝ }
+{
+    tagged(
+        109,
+        4,
+        n as u64,
+        Body::Part {
+            listed: false,
+            start: start,
+            length: n,
+        },
+    )
+}
+
+// A bitstring.
+fn bits_lead(bits: usize, start: usize, n: usize) -> Layout
+    ensures { λ r. ⌜ ((m places : List ℕ) → Inside m start n → 1 ≤ n → Lays m places (before (bitstring bits (clear-low bits (stretch m start n))) 0) r) ⌝ }
+{
+    layout::laid(
+        1,
+        77,
+        4,
+        n as u64,
+        1,
+        bits as u64,
+        Body::Bits {
+            bits: bits,
+            start: start,
+            length: n,
+        },
+    )
+}
+
+// A tuple of n elements.
+fn tuple_lead(n: usize) -> Layout
+    ensures { λ r. ⌜ ((m places : List ℕ) → Lays m places (before tuple n) r) ⌝ }
+{
+    if n <= 255 {
+        return tagged(104, 1, n as u64, Body::Empty);
+    }
+    tagged(105, 4, n as u64, Body::Empty)
+}
+
+// A list of n elements that is written with them.
+fn list_lead(n: usize) -> Layout
+    ensures { λ r. ⌜ ((m places : List ℕ) → Lays m places (before list n) r) ⌝ }
+{
+    if n == 0 {
+        return tagged(106, 0, 0, Body::Empty);
+    }
+    tagged(108, 4, n as u64, Body::Empty)
+}
+
+// A term that has no fields of its own but its number of parts.
+fn bare_lead(kind: usize, n: usize) -> Layout
+    requires { ⌜ (kind ≡ 6 → 0 < n) ⌝ }
+    ensures { λ r. ⌜ ((m places : List ℕ) → Lays m places (before (bare kind) n) r) ⌝ }
+{
+    match kind {
+        4 => tuple_lead(n),
+        5 => list_lead(n),
+        6 => tagged(108, 4, (n - 1) as u64, Body::Empty),
+        9 => tagged(116, 4, (n / 2) as u64, Body::Empty),
+        _ => tagged(113, 0, 0, Body::Empty),
+    }
+}
+
+// A port with this ID.
+fn port_lead(id: u64, creation: u64, n: usize) -> Layout
+    ensures { λ r. ⌜ ((m places : List ℕ) → Lays m places (before (port id creation) n) r) ⌝ }
+{
+    if id < 268435456 {
+        return tagged(89, 0, 0, Body::Empty);
+    }
+    tagged(120, 0, 0, Body::Empty)
+}
+
+// The bytes before the parts of a term of this kind, with this content and n parts.
+fn lead(msg: &[u8], places: &[u8], kind: usize, content: Content, n: usize) -> Layout
+    requires { ⌜ Sound (now msg) (now places) content × (kind ≡ 6 → 0 < n) ⌝ }
+    ensures { λ r. ⌜ Lays (now (msg .entry)) (now (places .entry)) (before (label-of (now (msg .entry)) (listed-in (now (places .entry))) kind content) n) r ⌝ }
+{
+    match content {
+        Content::Nothing => bare_lead(kind, n),
+        Content::Whole {
+            negative,
+            magnitude,
+        } => {
+            if negative {
+                return negative_lead(magnitude);
+            }
+            positive_lead(magnitude)
+        }
+        Content::Big {
+            negative,
+            start,
+            digits,
+        } => big_lead(negative, start, digits),
+        Content::Float { bits } => tagged(70, 8, bits, Body::Empty),
+        Content::Text {
+            latin1,
+            listed,
+            start,
+            length,
+        } => text(msg, places, latin1, listed, start, length),
+        Content::Bytes { start, length } => bytes_lead(start, length),
+        Content::Bits {
+            bits,
+            start,
+            length,
+        } => bits_lead(bits, start, length),
+        Content::Pid {
+            id,
+            serial,
+            creation,
+        } => tagged(88, 0, 0, Body::Empty),
+        Content::Port { id, creation } => port_lead(id, creation, n),
+        Content::Reference {
+            creation,
+            start,
+            words,
+        } => tagged(90, 2, words as u64, Body::Empty),
+    }
+}
+
+// Nothing after the parts.
+fn no_trail() -> Layout
+    ensures { λ r. ⌜ ((m places : List ℕ) → Lays m places [] r) ⌝ }
+{
+    layout::laid(0, 0, 0, 0, 0, 0, Body::Empty)
+}
+
+// The end of a list of n elements that is written with them.
+fn list_trail(n: usize) -> Layout
+    ensures { λ r. ⌜ ((m places : List ℕ) → Lays m places (after list n) r) ⌝ }
+{
+    if n == 0 {
+        return no_trail();
+    }
+    tagged(106, 0, 0, Body::Empty)
+}
+
+// The end of a term that has no fields of its own but its number of parts.
+fn bare_trail(kind: usize, n: usize) -> Layout
+    ensures { λ r. ⌜ ((m places : List ℕ) → Lays m places (after (bare kind) n) r) ⌝ }
+{
+    if kind == 5 {
+        return list_trail(n);
+    }
+    no_trail()
+}
+
+// The fields of a pid after its node.
+fn pid_trail(id: u64, serial: u64, creation: u64, n: usize) -> Layout
+    ensures { λ r. ⌜ ((m places : List ℕ) → Lays m places (after (pid id serial creation) n) r) ⌝ }
+{
+    layout::laid(4, id, 4, serial, 4, creation, Body::Empty)
+}
+
+// The fields of a port after its node.
+fn port_trail(id: u64, creation: u64, n: usize) -> Layout
+    ensures { λ r. ⌜ ((m places : List ℕ) → Lays m places (after (port id creation) n) r) ⌝ }
+{
+    if id < 268435456 {
+        return layout::laid(4, id, 4, creation, 0, 0, Body::Empty);
+    }
+    layout::laid(8, id, 4, creation, 0, 0, Body::Empty)
+}
+
+// The fields of a reference after its node, with so many words from `start` on.
+fn words_trail(creation: u64, start: usize, words: usize, n: usize) -> Layout
+    requires { ⌜ words ≤ 65536 ⌝ }
+    ensures { λ r. ⌜ ((m places : List ℕ) → Inside m start (4 * words) → Bytes-only m → Lays m places (after (reference creation (words-at m start words)) n) r) ⌝ }
+{
+    layout::laid(
+        4,
+        creation,
+        0,
+        0,
+        0,
+        0,
+        Body::Part {
+            listed: false,
+            start: start,
+            length: 4 * words,
+        },
+    )
+}
+
+// The bytes after the parts of a term of this kind, with this content and n parts.
+fn trail(msg: &[u8], places: &[u8], kind: usize, content: Content, n: usize) -> Layout
+    requires { ⌜ Sound (now msg) (now places) content ⌝ }
+    ensures { λ r. ⌜ Lays (now (msg .entry)) (now (places .entry)) (after (label-of (now (msg .entry)) (listed-in (now (places .entry))) kind content) n) r ⌝ }
+{
+    match content {
+        Content::Nothing => bare_trail(kind, n),
+        Content::Whole {
+            negative,
+            magnitude,
+        } => no_trail(),
+        Content::Big {
+            negative,
+            start,
+            digits,
+        } => no_trail(),
+        Content::Float { bits } => no_trail(),
+        Content::Text {
+            latin1,
+            listed,
+            start,
+            length,
+        } => no_trail(),
+        Content::Bytes { start, length } => no_trail(),
+        Content::Bits {
+            bits,
+            start,
+            length,
+        } => no_trail(),
+        Content::Pid {
+            id,
+            serial,
+            creation,
+        } => pid_trail(id, serial, creation, n),
+        Content::Port { id, creation } => port_trail(id, creation, n),
+        Content::Reference {
+            creation,
+            start,
+            words,
+        } => words_trail(creation, start, words, n),
+    }
+}
