@@ -8,6 +8,7 @@ use lib.ListN.{length, getD, set, take, drop, length-append, length-drop}
 use lib.Seq.{take-suc, take-add, getD-drop, sets}
 use Rattle.format.specs.Text.{encode, encodes}
 use Rattle.format.proofs.Text.{encode-1, encode-2}
+use Rattle.octets.proofs.Stores.{sets-sets}
 
 encodes-append : (xs ys : List ℕ) → encodes (xs ++ ys) ≡ encodes xs ++ encodes ys
 unfolding encodes
@@ -17,12 +18,6 @@ encodes-append (x ∷ xs) ys = ap (λ (zs : List ℕ). encode x ++ zs) (encodes-
 encodes-one : (c : ℕ) → encodes (c ∷ []) ≡ encode c
 unfolding encodes
 encodes-one c = append-nil (encode c)
-
-pub sets-append : (l : List ℕ) (i : ℕ) (xs ys : List ℕ) → sets l i (xs ++ ys) ≡ sets (sets l i xs) (i + length xs) ys
-sets-append l i [] ys = let e : i ≡ i + 0 = omega arith in ap (λ (k : ℕ). sets l k ys) e
-sets-append l i (x ∷ xs) ys =
-    let e : suc i + length xs ≡ i + suc (length xs) = omega arith in
-    sets-append (set l i x) (suc i) xs ys ∙ ap (λ (k : ℕ). sets (sets (set l i x) (suc i) xs) k ys) e
 
 -- one character
 module _ (b : ℕ) where
@@ -70,4 +65,4 @@ module _ (s : List ℕ) (a : ℕ) where
   pub put-more : (D d d′ : List ℕ) (b i end : ℕ) → a + i < length s → end ≡ b + length (encodes (take i (drop a s)))
       → d ≡ sets D b (encodes (take i (drop a s))) → d′ ≡ sets d end (encode (getD s (a + i) 0)) → d′ ≡ sets D b (encodes (take (i + 1) (drop a s)))
   put-more D d d′ b i end h e f g =
-      rw (encodes-more i h) (g ∙ rw (f, e) (sym (sets-append D b (encodes (take i (drop a s))) (encode (getD s (a + i) 0)))))
+      rw (encodes-more i h) (g ∙ rw (f, e) (sets-sets D b (encodes (take i (drop a s))) (encode (getD s (a + i) 0))))

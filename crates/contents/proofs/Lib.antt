@@ -1,0 +1,5 @@
+pub mod Tests
+pub mod Widths
+pub mod Digits
+pub mod Lists
+pub mod ByKind

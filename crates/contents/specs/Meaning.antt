@@ -1,0 +1,50 @@
+-- What a content says: the label that its fields make.
+use mathlib.Core.Bool.{Bool, true, false}
+use mathlib.Core.List.{List, [], _∷_}
+use Prim.Native.Nat.{ℕ, zero, suc, _+_}
+use lib.Dec.{eqb}
+use lib.ListN.{take, drop}
+use Rattle.format.specs.Numbers.{little-endian, with-sign}
+use Rattle.format.specs.Text.{Checked, valid, invalid-at, utf-8, check}
+use Rattle.format.specs.Term.{Label, integer, float, atom, tuple, list, improper-list, binary, bitstring, map, pid, port, reference, export}
+use Rattle.format.specs.Head.{clear-low}
+use Rattle.format.specs.AtomList.{AtomList}
+use Rattle.contents.specs.Found.{choose, value}
+use Rattle.contents.specs.declared.Content.{Content}
+use Rattle.contents.specs.declared.Content.the-variants.{Nothing, Whole, Big, Float, Text, Bytes, Bits, Pid, Port, Reference}
+
+-- the n bytes from `start` on
+abbrev pub stretch : List ℕ → ℕ → ℕ → List ℕ
+stretch m start n = take n (drop start m)
+
+abbrev pub sign : Bool → ℕ
+sign negative = choose negative 1 0
+
+-- the words of four bytes from `start` on
+unfoldable pub words-at : List ℕ → ℕ → ℕ → List ℕ
+words-at m start zero = []
+words-at m start (suc n) = value m 4 start ∷ words-at m (start + 4) n
+
+-- a text's characters: none where it is invalid
+unfoldable pub characters-of : Checked → List ℕ
+characters-of (valid cs) = cs
+characters-of (invalid-at k) = []
+
+unfoldable pub coded : Bool → List ℕ → List ℕ
+coded latin1 bs = choose latin1 bs (characters-of (check utf-8 bs))
+
+-- the label of a term that has no fields of its own, by its kind
+unfoldable pub bare : ℕ → Label
+bare kind = choose (eqb kind 4) tuple (choose (eqb kind 5) list (choose (eqb kind 6) improper-list (choose (eqb kind 9) map export)))
+
+unfoldable pub label-of : List ℕ → AtomList → ℕ → Content → Label
+label-of m atoms kind Nothing = bare kind
+label-of m atoms kind (Whole negative n) = integer (with-sign (sign negative) n)
+label-of m atoms kind (Big negative start n) = integer (with-sign (sign negative) (little-endian (stretch m start n)))
+label-of m atoms kind (Float bits) = float bits
+label-of m atoms kind (Text latin1 listed start n) = atom (coded latin1 (stretch (choose listed (atoms .places) m) start n))
+label-of m atoms kind (Bytes start n) = binary (stretch m start n)
+label-of m atoms kind (Bits bits start n) = bitstring bits (clear-low bits (stretch m start n))
+label-of m atoms kind (Pid id serial creation) = pid id serial creation
+label-of m atoms kind (Port id creation) = port id creation
+label-of m atoms kind (Reference creation start n) = reference creation (words-at m start n)
