@@ -2,17 +2,19 @@
 use mathlib.Core.Path.{_≡_}
 use mathlib.Core.Bool.{Bool, true, false}
 use mathlib.Core.List.{List, []}
+use mathlib.Core.Option.{Option, none, some}
 use Prim.Native.Nat.{ℕ, _+_, _*_, _-_, _≤_, _<_}
 use lib.ListN.{length, getD}
 use Rattle.format.specs.Text.{utf-8, check, encodes}
 use Rattle.format.specs.Term.{Label}
 use Rattle.format.specs.AtomList.{AtomList}
-use Rattle.format.specs.Rows.{kind-in, offset-in}
+use Rattle.format.specs.Rows.{kind-in, offset-in, parts-in}
 use Rattle.contents.specs.Found.{content-of}
 use Rattle.contents.specs.Meaning.{characters-of, label-of}
 use Rattle.contents.specs.declared.Content.{Content}
 use Rattle.contents.specs.declared.Content.the-variants.{Nothing, Whole, Big, Float, Text, Bytes, Bits, Pid, Port, Reference}
 use Rattle.layout.specs.Layout.{source, stretch, Inside}
+use Rattle.fields.specs.Shape.{before, after}
 
 -- a text in UTF-8 is the spelling of its characters
 pub record Spelt (bs : List ℕ) : Type 0 where
@@ -53,3 +55,19 @@ content-in m places lengths w = content-of m places lengths (kind-in w) (offset-
 
 abbrev pub label-in : List ℕ → List ℕ → List ℕ → ℕ → Label
 label-in m places lengths w = label-of m (listed-in places) (kind-in w) (content-in m places lengths w)
+
+abbrev pub before-in : List ℕ → List ℕ → List ℕ → ℕ → List ℕ
+before-in m places lengths w = before (label-in m places lengths w) (parts-in w)
+
+abbrev pub after-in : List ℕ → List ℕ → List ℕ → ℕ → List ℕ
+after-in m places lengths w = after (label-in m places lengths w) (parts-in w)
+
+-- a row's word that points at what can be written; an improper list has parts
+pub record Sound-word (m places lengths : List ℕ) (w : ℕ) : Type 0 where
+  pub sound : Sound m places (content-in m places lengths w)
+  pub some-parts : kind-in w ≡ 6 → 0 < parts-in w
+
+-- an integer 0 .. 255 as it is, 256 for any other term
+unfoldable pub character-code : Option ℕ → ℕ
+character-code none = 256
+character-code (some n) = n

@@ -11,12 +11,12 @@ ghost use Rattle.format.specs.Numbers.{digits, little-endian, with-sign};
 ghost use lib.IntN.{pos, negsuc};
 ghost use Rattle.format.specs.Text.{encodes};
 ghost use Rattle.format.specs.Head.{clear-low};
-ghost use Rattle.format.specs.Term.{tuple, list, binary, bitstring, pid, port, reference};
-ghost use Rattle.format.specs.Canonical.{big-bytes, integer-bytes, atom-bytes};
+ghost use Rattle.format.specs.Term.{integer, tuple, list, binary, bitstring, pid, port, reference};
+ghost use Rattle.format.specs.Canonical.{big-bytes, integer-bytes, atom-bytes, small};
 ghost use Rattle.contents.specs.Meaning.{sign, coded, words-at, bare, label-of};
 ghost use Rattle.layout.specs.Layout.{source, stretch, body-bytes, Inside, Body-inside, Lays, Put};
 ghost use Rattle.fields.specs.Shape.{tagged-bytes, before, after};
-ghost use Rattle.fields.specs.Sound.{High, Bytes-only, Sound-text, Sound, listed-in, content-in, label-in};
+ghost use Rattle.fields.specs.Sound.{High, Bytes-only, Sound-text, Sound, listed-in, content-in, label-in, before-in, after-in, Sound-word, character-code};
 
 // The layout of a tag, a number of so many bytes, and a body.
 fn tagged(tag: u64, width: usize, n: u64, body: Body) -> Layout
@@ -348,5 +348,122 @@ fn trail(msg: &[u8], places: &[u8], kind: usize, content: Content, n: usize) -> 
             start,
             words,
         } => words_trail(creation, start, words, n),
+    }
+}
+
+// The own fields of the term whose row this is.
+fn content(msg: &[u8], places: &[u8], lengths: &[u16], word: u64) -> Content
+    ensures { λ r. ⌜ r ≡ content-in (now (msg .entry)) (now (places .entry)) (now (lengths .entry)) word ⌝ }
+{
+    contents::content_at(
+        msg,
+        places,
+        lengths,
+        row::kind_in(word),
+        row::offset_in(word),
+    )
+}
+
+// How many bytes stand before and after the parts of the term whose row this is.
+pub fn own_length(msg: &[u8], places: &[u8], lengths: &[u16], word: u64) -> usize
+    requires { ⌜ Sound-word (now msg) (now places) (now lengths) word ⌝ }
+    ensures { λ r. ⌜ (r ≡ length (before-in (now (msg .entry)) (now (places .entry)) (now (lengths .entry)) word) + length (after-in (now (msg .entry)) (now (places .entry)) (now (lengths .entry)) word)) × (r ≤ 262192) ⌝ }
+{
+    let own = content(msg, places, lengths, word);
+    let kind = row::kind_in(word);
+    let n = row::parts_in(word);
+    let first = layout::layout_length(msg, places, lead(msg, places, kind, own, n));
+    let last = layout::layout_length(msg, places, trail(msg, places, kind, own, n));
+    first + last
+}
+
+// Writes the bytes before its parts from `at` on; the offset past them.
+pub fn put_before(
+    msg: &[u8],
+    places: &[u8],
+    lengths: &[u16],
+    word: u64,
+    out: &mut [u8],
+    at: usize,
+) -> usize
+    requires { ⌜ Sound-word (now msg) (now places) (now lengths) word × (at + length (before-in (now msg) (now places) (now lengths) word) ≤ length (now out)) ⌝ }
+    ensures { λ r. ⌜ Put (now (out .entry)) at (before-in (now (msg .entry)) (now (places .entry)) (now (lengths .entry)) word) r (now (out .exit)) ⌝ }
+{
+    let own = content(msg, places, lengths, word);
+    let first = lead(msg, places, row::kind_in(word), own, row::parts_in(word));
+    layout::put_layout(msg, places, first, out, at)
+}
+
+// Writes the bytes after its parts from `at` on; the offset past them.
+pub fn put_after(
+    msg: &[u8],
+    places: &[u8],
+    lengths: &[u16],
+    word: u64,
+    out: &mut [u8],
+    at: usize,
+) -> usize
+    requires { ⌜ Sound-word (now msg) (now places) (now lengths) word × (at + length (after-in (now msg) (now places) (now lengths) word) ≤ length (now out)) ⌝ }
+    ensures { λ r. ⌜ Put (now (out .entry)) at (after-in (now (msg .entry)) (now (places .entry)) (now (lengths .entry)) word) r (now (out .exit)) ⌝ }
+{
+    let own = content(msg, places, lengths, word);
+    let last = trail(msg, places, row::kind_in(word), own, row::parts_in(word));
+    layout::put_layout(msg, places, last, out, at)
+}
+
+// A magnitude as a character; 256 where it is none.
+fn character(negative: bool, magnitude: u64) -> usize
+    requires { ⌜ (negative ≡ true → 0 < magnitude) ⌝ }
+    ensures { λ r. ⌜ (r ≡ character-code (small (integer (with-sign (sign negative) magnitude)))) × (r ≤ 256) ⌝ }
+{
+    if negative {
+        return 256;
+    }
+    if 255 < magnitude {
+        return 256;
+    }
+    magnitude as usize
+}
+
+// The integer 0 to 255 that the term is whose row this is; 256 where it is none.
+pub fn character_at(msg: &[u8], places: &[u8], lengths: &[u16], word: u64) -> usize
+    requires { ⌜ Sound-word (now msg) (now places) (now lengths) word ⌝ }
+    ensures { λ r. ⌜ (r ≡ character-code (small (label-in (now (msg .entry)) (now (places .entry)) (now (lengths .entry)) word))) × (r ≤ 256) ⌝ }
+{
+    match content(msg, places, lengths, word) {
+        Content::Nothing => 256,
+        Content::Whole {
+            negative,
+            magnitude,
+        } => character(negative, magnitude),
+        Content::Big {
+            negative,
+            start,
+            digits,
+        } => 256,
+        Content::Float { bits } => 256,
+        Content::Text {
+            latin1,
+            listed,
+            start,
+            length,
+        } => 256,
+        Content::Bytes { start, length } => 256,
+        Content::Bits {
+            bits,
+            start,
+            length,
+        } => 256,
+        Content::Pid {
+            id,
+            serial,
+            creation,
+        } => 256,
+        Content::Port { id, creation } => 256,
+        Content::Reference {
+            creation,
+            start,
+            words,
+        } => 256,
     }
 }
