@@ -10,7 +10,7 @@ use lib.Dec.{eqb, ltb}
 use lib.IntN.{pos, negsuc}
 use lib.ListN.{length, getD}
 use lib.Seq.{sets}
-use borrow.Author.Tests.{ltb-true, eq-eqb, ne-eqb}
+use borrow.Author.Tests.{ltb-true, eqb-true, eq-eqb, ne-eqb}
 use Rattle.format.specs.Tree.{Tree, Forest, node, _▹_, count, size, sizes, relabels}
 use Rattle.format.specs.Numbers.{in-bytes}
 use Rattle.format.specs.Term.{Label, integer, float, atom, tuple, list, improper-list, binary, bitstring, map, pid, port, reference, export}
@@ -268,7 +268,7 @@ as-other : (l : Label) (ts : Forest Label) → (kind-of l ≡ 5 → ⊥) → as-
 unfolding as-string
 as-other l ts h = ap (λ (z : Bool). elim z as (λ _. Option (List ℕ)) [ true ↦ some-small (count ts) (all-small ts) | false ↦ none ]) (ne-eqb (kind-of l) 5 h)
 
-as-list : (l : Label) (ts : Forest Label) → kind-of l ≡ 5 → as-string l ts ≡ some-small (count ts) (all-small ts)
+pub as-list : (l : Label) (ts : Forest Label) → kind-of l ≡ 5 → as-string l ts ≡ some-small (count ts) (all-small ts)
 unfolding as-string
 as-list l ts h = ap (λ (z : Bool). elim z as (λ _. Option (List ℕ)) [ true ↦ some-small (count ts) (all-small ts) | false ↦ none ]) (eq-eqb (kind-of l) 5 h)
 
@@ -289,8 +289,33 @@ as-empty l ts e = go (eqb (kind-of l) 5)
     go true = small-none (count ts) (all-small ts) e
     go false = refl
 
-count-meanings : (ts : Terms) → count (meanings ts) ≡ count ts
+pub count-meanings : (ts : Terms) → count (meanings ts) ≡ count ts
 count-meanings ts = count-relabels (λ (x : Label × Place). x .0) ts
+
+-- what is written as a string is a list, and its characters are its elements
+pub as-inverse : (l : Label) (ts : Forest Label) (cs : List ℕ) → as-string l ts ≡ some cs → (l ≡ list) × (some-small (count ts) (all-small ts) ≡ some cs)
+unfolding as-string
+as-inverse l ts cs e = go (eqb (kind-of l) 5) refl e
+  where
+    go : (z : Bool) → eqb (kind-of l) 5 ≡ z → _≡_ {A = Option (List ℕ)} (elim z as (λ _. Option (List ℕ)) [ true ↦ some-small (count ts) (all-small ts) | false ↦ none ]) (some cs)
+        → (l ≡ list) × (some-small (count ts) (all-small ts) ≡ some cs)
+    go true f e = (kind-list l (eqb-true (kind-of l) 5 f), e)
+    go false f e = let no-way : _≡_ {A = ℕ} 0 1 = cc in absurd (omega arith)
+
+pub small-is : (n : ℕ) (o : Option (List ℕ)) (cs : List ℕ) → some-small n o ≡ some cs → o ≡ some cs
+unfolding some-small
+small-is zero o cs e = let no-way : _≡_ {A = ℕ} 0 1 = cc in absurd (omega arith)
+small-is (suc n) o cs e = e
+
+pub some-told : (o : Option (List ℕ)) → is-some o ≡ true → (cs : List ℕ) × (o ≡ some cs)
+unfolding is-some
+some-told none e = let no-way : _≡_ {A = ℕ} 0 1 = cc in absurd (omega arith)
+some-told (some cs) e = (cs, refl)
+
+pub none-told : (o : Option (List ℕ)) → is-some o ≡ false → o ≡ none
+unfolding is-some
+none-told none e = refl
+none-told (some cs) e = let no-way : _≡_ {A = ℕ} 0 1 = cc in absurd (omega arith)
 
 module _ {m places lengths T : List ℕ} {row : ℕ} where
   pub other-kind : (k : ℕ) → k ≡ kind-in (getD T row 0) → (k ≡ 5 → ⊥) → (t : Located) → Held m places lengths T row t → false ≡ string-term t

@@ -1,11 +1,12 @@
 -- What the functions of the writer ask and promise of a table: some terms stand there, and whichever do, this is found or written.
 use mathlib.Core.Path.{_≡_}
 use mathlib.Core.Bool.{Bool}
-use mathlib.Core.List.{List}
+use mathlib.Core.List.{List, _∷_, _++_}
 use mathlib.Core.Option.{Option, some}
 use Prim.Native.Nat.{ℕ, _+_, _*_, _≤_}
 use lib.ListN.{length}
 use Rattle.format.specs.Tree.{Forest, node, _▹_, count, size, sizes}
+use Rattle.format.specs.Numbers.{in-bytes}
 use Rattle.format.specs.Term.{Label, Term}
 use Rattle.format.specs.Reading.{Located, meaning}
 use Rattle.format.specs.Message.{Terms, meanings}
@@ -44,6 +45,10 @@ module _ (m places lengths T : List ℕ) (row : ℕ) where
   abbrev pub Characters-put : ℕ → List ℕ → ℕ → ℕ → List ℕ → Type 0
   Characters-put n O at r P =
       (ts : Terms) (cs : List ℕ) → Held-run m places lengths T row ts → count ts ≡ n → all-small (meanings ts) ≡ some cs → Put O at cs r P
+
+  abbrev pub String-put : ℕ → List ℕ → ℕ → ℕ → List ℕ → Type 0
+  String-put n O at r P =
+      (ts : Terms) (cs : List ℕ) → Held-run m places lengths T row ts → count ts ≡ n → all-small (meanings ts) ≡ some cs → Put O at (107 ∷ (in-bytes 2 n ++ cs)) r P
 
   -- the bytes of terms, each by `one`, all by `all`
   module _ (one : Term → List ℕ) where
