@@ -1,10 +1,9 @@
 -- What is found of a row by its kind, one law for each. Assumes nothing.
-use mathlib.Core.Path.{_≡_, refl, sym, ap}
+use mathlib.Core.Path.{_≡_, sym, ap}
 use mathlib.Core.List.{List}
 use Prim.Native.Nat.{ℕ}
 use lib.ListN.{getD}
 use borrow.Author.Tests.{ne-eqb}
-use Rattle.contents.specs.declared.Content.{Content}
 use Rattle.contents.specs.declared.Content.the-variants.{Nothing}
 use Rattle.contents.specs.Found.{choose, integer-found, float-found, atom-found, binary-found, pids-found, ports-found, references-found, byte-found, kind-found}
 

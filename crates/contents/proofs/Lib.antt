@@ -3,3 +3,10 @@ pub mod Widths
 pub mod Digits
 pub mod Lists
 pub mod ByKind
+pub mod Values
+pub mod Read
+pub mod There
+pub mod Says
+pub mod Layouts
+pub mod Alike
+pub mod Again

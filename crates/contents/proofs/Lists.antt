@@ -1,8 +1,8 @@
 -- The comparison of lists, of parts of them, and of characters with bytes. Assumes nothing.
 use mathlib.Core.Path.{_≡_, refl, sym, _∙_, ap, ap₂}
-use mathlib.Core.Bool.{Bool, true, false, cond}
+use mathlib.Core.Bool.{Bool, true, false}
 use mathlib.Core.List.{List, [], _∷_, _++_}
-use Prim.Native.Nat.{ℕ, zero, suc, _+_, _*_, _-_, _/_, _%_, _≤_, _<_}
+use Prim.Native.Nat.{ℕ, zero, suc, _+_, _-_, _/_, _%_, _≤_, _<_}
 use native.Mathlib.Omega.{arith}
 use lib.Dec.{eqb, ltb}
 use lib.ListN.{length, getD, take, drop}
@@ -11,7 +11,7 @@ use borrow.Author.Tests.{ltb-true, ltb-false, eqb-true, eqb-false, eq-eqb, ne-eq
 use Rattle.format.specs.Text.{encode, encodes}
 use Rattle.octets.proofs.Parts.{length-part}
 use Rattle.contents.specs.Found.{choose}
-use Rattle.contents.specs.Same.{same-bool, same-list, Spelling}
+use Rattle.contents.specs.Same.{same-list, Spelling}
 use Rattle.contents.proofs.Digits.{part-cons}
 
 -- ---- equality as a test

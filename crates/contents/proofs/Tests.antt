@@ -35,6 +35,10 @@ module _ {A : Type 0} {x y k n : ℕ} where
   pub unequal : {z b : A} (a : A) → x ≡ y → k ≡ n → (x ≡ k → ⊥) → z ≡ b → z ≡ choose (eqb y n) a b
   unequal a p q h f = no-way a (ap₂ eqb p q) (ne-eqb x k h) f
 
+-- k are left after `at`
+pub enough : {A : Type 0} {z b : A} (a : A) (l at k n : ℕ) → k ≡ n → at + k ≤ l → z ≡ b → z ≡ choose (ltb (l - at) n) a b
+enough a l at k n q h f = let g : k ≤ l - at = omega arith in not-below a refl q g f
+
 -- n past at, at most a limit
 pub leb-moved : (at n l : ℕ) → at ≤ l → leb n (l - at) ≡ leb (at + n) l
 leb-moved at n l h = go (leb n (l - at)) refl

@@ -1,0 +1,211 @@
+-- What a comparison of rows finds in a table that holds the rows of terms: whether the terms mean the same.
+use mathlib.Core.Path.{_≡_, refl, sym, _∙_, ap, ap₂, subst}
+use mathlib.Core.Bool.{Bool, true, false, _||_, or-false}
+use mathlib.Core.List.{List, [], _∷_, _++_}
+use mathlib.Core.Option.{Option, some}
+use Prim.Native.Nat.{ℕ, zero, suc, _+_, _-_, _≤_, _<_}
+use native.Mathlib.Omega.{arith}
+use lib.Dec.{eqb}
+use lib.ListN.{length, getD}
+use borrow.Author.Tests.{le-leb, lt-leb, ne-eqb, eqb-true, eqb-false}
+use Rattle.format.specs.Tree.{node, none, _▹_, _▹▹_, size, sizes}
+use Rattle.format.specs.Term.{Label, Term}
+use Rattle.format.specs.Equal.{term-discrete, decided, same, among}
+use Rattle.format.specs.Reading.{Located, meaning}
+use Rattle.format.specs.Message.{Terms, meanings}
+use Rattle.format.specs.Rows.{Row, tree-rows, rows, word, words-of, size-in}
+use Rattle.format.proofs.Preorder.{nodes, all-nodes, nodes-prefix}
+use Rattle.format.proofs.Rows.{size-meaning, size-positive, count-relabels, length-tree-rows}
+use Rattle.format.proofs.Words.{Here, here-word, here-rest, Each-row, Small-row, Tree-here, Rows-here, node-packed, node-below, first-here, others-here, row-of}
+use Rattle.contents.specs.Found.{choose}
+use Rattle.keys.specs.Compare.{same-rows, same-from, pair-size, among-steps, among-from}
+use Rattle.contents.proofs.Tells.{Tells, not-so, tells-same, tells-as, then-tells}
+
+-- ---- equal terms
+
+decided-tells : {P : Type 0} (d : Dec P) → Tells (decided d) P
+decided-tells (yes p) = (λ _. p, λ _. refl)
+decided-tells (no n) = (λ e. not-so e, λ p. absurd (n p))
+
+pub same-tells : (t u : Term) → Tells (same t u) (t ≡ u)
+unfolding same
+same-tells t u = decided-tells (term-discrete t u)
+
+-- ---- lists of rows
+
+-- what a row says of its term: the label and the number of parts
+abbrev pub own : Row → Label × ℕ
+own r = (r .label, r .parts)
+
+unfoldable pub owns : List Row → List (Label × ℕ)
+owns [] = []
+owns (r ∷ rs) = own r ∷ owns rs
+
+owns-join : (rs qs : List Row) → owns (rs ++ qs) ≡ owns rs ++ owns qs
+unfolding owns
+owns-join [] qs = refl
+owns-join (r ∷ rs) qs = ap (λ (xs : List (Label × ℕ)). own r ∷ xs) (owns-join rs qs)
+
+mutual
+  unfolding owns tree-rows
+
+  -- the rows of a term say the nodes of its meaning
+  owns-tree : (whole : Option ℕ) (n : ℕ) (t : Located) → owns (tree-rows whole n t) ≡ nodes (meaning t)
+  owns-tree whole n (node l ts) =
+      ap₂ (λ (c : ℕ) (xs : List (Label × ℕ)). (l .0, c) ∷ xs) (sym (count-relabels (λ l. l .0) ts)) (owns-rows (some n) (n + 1) ts)
+
+  owns-rows : (whole : Option ℕ) (n : ℕ) (ts : Terms) → owns (rows whole n ts) ≡ all-nodes (meanings ts)
+  owns-rows whole n none = refl
+  owns-rows whole n (t ▹ ts) =
+      owns-join (tree-rows whole n t) (rows whole (n + size t) ts)
+      ∙ ap₂ (λ (xs ys : List (Label × ℕ)). xs ++ ys) (owns-tree whole n t) (owns-rows whole (n + size t) ts)
+
+pub each-row-split : (P : Row → Type 0) (rs qs : List Row) → Each-row P (rs ++ qs) → Each-row P rs × Each-row P qs
+unfolding Each-row
+each-row-split P [] qs h = (tt, h)
+each-row-split P (r ∷ rs) qs h = let g : Each-row P rs × Each-row P qs = each-row-split P rs qs (h .1) in ((h .0, g .0), g .1)
+
+-- where nodes are told apart one by one, lists of them are
+tells-cons : {A : Type 0} (x y : A) (xs ys : List A) (b c : Bool) → Tells b (x ≡ y) → Tells c (xs ≡ ys) → Tells (choose b c false) (_≡_ {A = List A} (x ∷ xs) (y ∷ ys))
+tells-cons x y xs ys b c p q =
+    tells-as _ (λ e. let h : x ≡ y = e .0 in let g : xs ≡ ys = e .1 in cc) (λ e. let h : x ≡ y = cc in let g : xs ≡ ys = cc in (h, g)) (then-tells b c p (λ _. q))
+
+-- ---- the rows of terms that stand in a table, each of which is known
+
+module _ (Known : Row → Type 0) (T : List ℕ) where
+  pub record Known-tree (whole : Option ℕ) (n : ℕ) (t : Located) : Type 0 where
+    pub stands : Tree-here T whole n t
+    pub known : Each-row Known (tree-rows whole n t)
+
+  pub record Known-rows (whole : Option ℕ) (n : ℕ) (ts : Terms) : Type 0 where
+    pub stand : Rows-here T whole n ts
+    pub all-known : Each-row Known (rows whole n ts)
+
+module _ {Known : Row → Type 0} {T : List ℕ} {whole : Option ℕ} {n : ℕ} where
+  pub first-known : {t : Located} {ts : Terms} → Known-rows Known T whole n (t ▹ ts) → Known-tree Known T whole n t
+  unfolding rows
+  first-known {t} {ts} k =
+      record { stands = first-here (k .stand); known = each-row-split Known (tree-rows whole n t) (rows whole (n + size t) ts) (k .all-known) .0 }
+
+  pub others-known : {t : Located} {ts : Terms} → Known-rows Known T whole n (t ▹ ts) → Known-rows Known T whole (n + size t) ts
+  unfolding rows
+  others-known {t} {ts} k =
+      record { stand = others-here (k .stand); all-known = each-row-split Known (tree-rows whole n t) (rows whole (n + size t) ts) (k .all-known) .1 }
+
+  tree-below : (t : Located) → Known-tree Known T whole n t → n < length T
+  tree-below (node l ts) k = node-below (k .stands)
+
+  tree-size : (small : (r : Row) → Known r → Small-row r) (t : Located) → Known-tree Known T whole n t → size-in (getD T n 0) ≡ size t
+  unfolding tree-rows Each-row
+  tree-size small (node l ts) k = node-packed (k .stands) (small (row-of whole l ts) (k .known .0)) .size-is
+
+-- ---- keys and values in turn
+
+-- the keys of these pairs, latest first, before those that came earlier
+pub data Pairs : Terms → List Term → List Term → Type 0 where
+  no-pair : {ks : List Term} → Pairs none ks ks
+  a-pair : {k v : Located} {ts : Terms} {ks ls : List Term} → Pairs ts (meaning k ∷ ks) ls → Pairs (k ▹ v ▹ ts) ks ls
+
+-- the keys of pairs, latest first
+abbrev pub Keys-of : Terms → List Term → Type 0
+Keys-of ts ks = Pairs ts [] ks
+
+pub pairs-join : {ts us : Terms} {ks ls ms : List Term} → Pairs ts ks ls → Pairs us ls ms → Pairs (ts ▹▹ us) ks ms
+pairs-join no-pair q = q
+pairs-join (a-pair p) q = a-pair (pairs-join p q)
+
+pub no-keys : Keys-of none []
+no-keys = no-pair
+
+-- one more key and its value at the end
+pub one-more-key : {ts : Terms} {ks : List Term} (k v : Located) → Keys-of ts ks → Keys-of (ts ▹▹ (k ▹ v ▹ none)) (meaning k ∷ ks)
+one-more-key k v p = pairs-join p (a-pair no-pair)
+
+or-later : (x s y : Bool) → (x || choose s true y) ≡ ((s || x) || y)
+unfolding choose
+or-later true true y = refl
+or-later true false y = refl
+or-later false true y = refl
+or-later false false y = refl
+
+pub among-ended : (alike : ℕ → ℕ → Bool) (T : List ℕ) (n at key : ℕ) → key ≤ at → among-steps alike T n at key ≡ false
+unfolding among-steps choose
+among-ended alike T zero at key h = refl
+among-ended alike T (suc n) at key h = rw (le-leb key at h)
+
+-- ---- over a comparison of words that tells whether two known rows say the same
+
+module _
+    (alike : ℕ → ℕ → Bool)
+    (Known : Row → Type 0)
+    (small : (r : Row) → Known r → Small-row r)
+    (row-tells : (r q : Row) → Known r → Known q → Tells (alike (word r) (word q)) (own r ≡ own q))
+    (T : List ℕ) where
+  rows-tell : (n a b : ℕ) (rs qs : List Row) → length rs ≡ n → length qs ≡ n → Each-row Known rs → Each-row Known qs → Here T a (words-of rs) → Here T b (words-of qs)
+      → Tells (same-rows alike T n a b) (owns rs ≡ owns qs)
+  unfolding same-rows owns Each-row words-of
+  rows-tell zero a b [] [] e f k m h g = (λ _. refl, λ _. refl)
+  rows-tell zero a b [] (q ∷ qs) e f k m h g = absurd (omega arith)
+  rows-tell zero a b (r ∷ rs) qs e f k m h g = absurd (omega arith)
+  rows-tell (suc n) a b [] qs e f k m h g = absurd (omega arith)
+  rows-tell (suc n) a b (r ∷ rs) [] e f k m h g = absurd (omega arith)
+  rows-tell (suc n) a b (r ∷ rs) (q ∷ qs) e f k m h g =
+      rw (here-word h, here-word g)
+      (tells-cons (own r) (own q) (owns rs) (owns qs) (alike (word r) (word q)) (same-rows alike T n (a + 1) (b + 1))
+      (row-tells r q (k .0) (m .0))
+      (rows-tell n (a + 1) (b + 1) rs qs (omega arith) (omega arith) (k .1) (m .1) (here-rest h) (here-rest g)))
+
+  -- two terms whose rows stand in the table
+  module _ (whole whole′ : Option ℕ) (a b : ℕ) (t u : Located) (k : Known-tree Known T whole a t) (m : Known-tree Known T whole′ b u) where
+    sizes-tell : size t ≡ size u → Tells (same-rows alike T (size t) a b) (meaning t ≡ meaning u)
+    sizes-tell e =
+        let h : Tells (same-rows alike T (size t) a b) (owns (tree-rows whole a t) ≡ owns (tree-rows whole′ b u))
+        = rows-tell (size t) a b (tree-rows whole a t) (tree-rows whole′ b u) (length-tree-rows whole a t) (length-tree-rows whole′ b u ∙ sym e) (k .known) (m .known) (k .stands .tree-words) (m .stands .tree-words) in
+        let x : owns (tree-rows whole a t) ≡ nodes (meaning t) = owns-tree whole a t in
+        let y : owns (tree-rows whole′ b u) ≡ nodes (meaning u) = owns-tree whole′ b u in (
+          λ r. nodes-prefix (meaning t) (meaning u) [] [] (ap (λ (xs : List (Label × ℕ)). xs ++ []) (sym x ∙ h .0 r ∙ y)) .0,
+          λ r. h .1 (x ∙ ap nodes r ∙ sym y),
+        )
+
+    -- they compare as their meanings do
+    pub same-from-same : same-from alike T a b ≡ same (meaning t) (meaning u)
+    unfolding same-from choose
+    same-from-same =
+        rw (lt-leb (length T) a (tree-below t k), lt-leb (length T) b (tree-below u m), tree-size small t k, tree-size small u m)
+        (tells-same _ _ (go (eqb (size t) (size u)) refl) (same-tells (meaning t) (meaning u)))
+      where
+        go : (z : Bool) → eqb (size t) (size u) ≡ z → Tells (choose z (same-rows alike T (size t) a b) false) (meaning t ≡ meaning u)
+        go true e = sizes-tell (eqb-true (size t) (size u) e)
+        go false e = (λ f. not-so f, λ f. absurd (eqb-false (size t) (size u) e (sym (size-meaning t) ∙ ap size f ∙ size-meaning u)))
+
+  -- a term whose rows stand at `key`, past the rows of pairs
+  module _ (whole whole′ : Option ℕ) (key : ℕ) (u : Located) (m : Known-tree Known T whole′ key u) where
+    pair-sizes : {n : ℕ} {k v : Located} {ts : Terms} → Known-rows Known T whole n (k ▹ v ▹ ts) → pair-size T n ≡ size k + size v
+    unfolding pair-size
+    pair-sizes {n} {k} {v} h =
+        let e : size-in (getD T n 0) ≡ size k = tree-size small k (first-known h) in
+        rw e (ap (λ (i : ℕ). size k + i) (tree-size small v (first-known (others-known h))))
+
+    pairs-tell : (n at : ℕ) {ts : Terms} {ks ls : List Term} → Pairs ts ks ls → key ≡ at + sizes ts → sizes ts ≤ n → Known-rows Known T whole at ts
+        → (among (meaning u) ks || among-steps alike T n at key) ≡ among (meaning u) ls
+    unfolding among-steps among choose
+    pairs-tell n at {ks = ks} no-pair e h g =
+        ap (λ (b : Bool). among (meaning u) ks || b) (among-ended alike T n at key (omega arith)) ∙ or-false (among (meaning u) ks)
+    pairs-tell zero at (a-pair {k = k} p) e h g = absurd (omega (arith, size-positive k))
+    pairs-tell (suc n) at {ks = ks} (a-pair {k = k} {v = v} {ts = ts} p) e h g =
+        let some : 1 ≤ size k = size-positive k in
+        let past : at + size k + size v ≡ at + (size k + size v) = omega arith in
+        rw (
+          lt-leb key at (omega arith),
+          same-from-same whole′ whole key at u k m (first-known g),
+          pair-sizes g,
+          ne-eqb (size k + size v) 0 (λ z. omega arith),
+        )
+        (or-later (among (meaning u) ks) (same (meaning u) (meaning k)) (among-steps alike T n (at + (size k + size v)) key)
+        ∙ pairs-tell n (at + (size k + size v)) p (omega arith) (omega arith) (subst (λ (i : ℕ). Known-rows Known T whole i ts) past (others-known (others-known g))))
+
+    -- it is compared with each key
+    pub among-from-among : (first : ℕ) {ts : Terms} {ks : List Term} → Keys-of ts ks → key ≡ first + sizes ts → Known-rows Known T whole first ts
+        → among-from alike T first key ≡ among (meaning u) ks
+    unfolding among-from among choose
+    among-from-among first p e g = rw (lt-leb (length T) key (tree-below u m)) (pairs-tell (key - first) first p e (omega arith) g)
