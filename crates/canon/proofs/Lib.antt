@@ -1,3 +1,4 @@
 pub mod Held
 pub mod Strings
 pub mod Terms
+pub mod Read
