@@ -293,8 +293,7 @@ module _ (atoms : Atoms) (cap deep : ℕ) (m : List ℕ) (at row : ℕ) where
         let w : _≡_ {A = ℕ} 0 1 = cc in absurd (omega arith)
     tail-joins (b ∷ bound) n next h e =
         let q : next ≡ o .next = ap next-of (sym e ∙ o .head-is) ∙ next-is (o .h) (o .next) in
-        let i : o .h ≡ elements n = elements-are (o .h) (o .next) n next (sym (o .head-is) ∙ e) in
-        (
+        let i : o .h ≡ elements n = elements-are (o .h) (o .next) n next (sym (o .head-is) ∙ e) in (
           bound,
           omega (arith, o .further),
           omega (arith, o .sound .end),

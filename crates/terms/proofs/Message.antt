@@ -245,8 +245,7 @@ settled m cap T (good y) a T′ U wide long d e =
     let ws : List ℕ = words-of (rows option.none 0 ts) in
     let n : length ws ≡ sizes ts = length-words-of (rows option.none 0 ts) ∙ length-rows option.none 0 ts in
     let f : rows-in a ≡ sizes ts = ap rows-in (d .0) ∙ omega arith in
-    let z : 0 + sizes ts ≡ sizes ts = omega arith in
-    (
+    let z : 0 + sizes ts ≡ sizes ts = omega arith in (
       d .0 ∙ ap (reads.Terms (count ts)) z,
       e ∙ ap₂ cleared f (d .1 .table-is) ∙ cleared-sets T ws (sizes ts) n (omega (arith, d .1 .room)) ∙ ap (λ (k : ℕ). ws ++ replicate (length T - k) 0) (sym n),
     )

@@ -35,7 +35,10 @@ pub enum Parts {
         parts: usize,
         kind: usize,
     },
-    Refused { number: u8, place: usize },
+    Refused {
+        number: u8,
+        place: usize,
+    },
 }
 
 fn at_most(n: usize, most: usize) -> usize
@@ -66,7 +69,19 @@ fn read_term(
     let head = opening.head;
     match head {
         Head::Refused { number, place } => Step::Refused { number, place },
-        _ => read_body(msg, n, places, lengths, table, place, head, row, whole, left, cap),
+        _ => read_body(
+            msg,
+            n,
+            places,
+            lengths,
+            table,
+            place,
+            head,
+            row,
+            whole,
+            left,
+            cap,
+        ),
     }
 }
 
@@ -93,7 +108,18 @@ fn read_body(
     if cap <= row {
         return Step::Refused { number: 9, place };
     }
-    match read_inner(msg, n, places, lengths, table, place, head, row + 1, left - 1, cap) {
+    match read_inner(
+        msg,
+        n,
+        places,
+        lengths,
+        table,
+        place,
+        head,
+        row + 1,
+        left - 1,
+        cap,
+    ) {
         Parts::Refused { number, place } => Step::Refused { number, place },
         Parts::Got {
             next,
@@ -132,7 +158,20 @@ fn read_inner(
             later,
             next,
         } => read_parts(
-            msg, n, places, lengths, table, place, next, row, deep, cap, kind, wanted, count, later,
+            msg,
+            n,
+            places,
+            lengths,
+            table,
+            place,
+            next,
+            row,
+            deep,
+            cap,
+            kind,
+            wanted,
+            count,
+            later,
         ),
         Head::Characters { count, next } => {
             read_characters(table, place, count, next, row, row, deep, cap, 0)
@@ -166,7 +205,19 @@ fn read_parts(
     requires { ⌜ Room (now msg) (lent n (now places) (now lengths)) (now table) cap at row row ⌝ }
     ensures { λ r. ⌜ ((l : format.Later) → kind ≡ kind-later l → later-of l ≡ later → PartsDone (now (msg .entry)) 0 cap row row (now (table .entry)) (inner (atoms-of (lent n (now (places .entry)) (now (lengths .entry)))) cap deep place (parts (asked wanted) count l) (at-offset (now (msg .entry)) at row)) r (now (table .exit))) ⌝ }
 {
-    match read_wanted(msg, n, places, lengths, table, at, row, row, deep, cap, wanted) {
+    match read_wanted(
+        msg,
+        n,
+        places,
+        lengths,
+        table,
+        at,
+        row,
+        row,
+        deep,
+        cap,
+        wanted,
+    ) {
         Step::Refused { number, place } => Parts::Refused { number, place },
         Step::Got { next, rows } => match read_run(
             msg,
@@ -269,7 +320,17 @@ fn read_run(
     let mut more = count;
     while more > 0 {
         match read_term(
-            msg, n, places, lengths, table, at_now, row_now, whole, deep, cap, wanted,
+            msg,
+            n,
+            places,
+            lengths,
+            table,
+            at_now,
+            row_now,
+            whole,
+            deep,
+            cap,
+            wanted,
         ) {
             Step::Refused { number, place } => return Step::Refused { number, place },
             Step::Got { next, rows } => {
@@ -367,7 +428,17 @@ fn read_list(
     ) {
         Step::Refused { number, place } => Parts::Refused { number, place },
         Step::Got { next, rows } => read_tail(
-            msg, n, places, lengths, table, next, rows, row, deep, cap, count,
+            msg,
+            n,
+            places,
+            lengths,
+            table,
+            next,
+            rows,
+            row,
+            deep,
+            cap,
+            count,
         ),
     }
 }
@@ -421,7 +492,18 @@ fn read_tail(
             Head::Refused { number, place } => return Parts::Refused { number, place },
             _ => {
                 return read_last(
-                    msg, n, places, lengths, table, place, head, row_now, whole, deep, cap, sum,
+                    msg,
+                    n,
+                    places,
+                    lengths,
+                    table,
+                    place,
+                    head,
+                    row_now,
+                    whole,
+                    deep,
+                    cap,
+                    sum,
                 )
             }
         }
@@ -451,7 +533,17 @@ fn read_last(
             read_characters(table, place, count, next, row, whole, deep, cap, before)
         }
         _ => match read_body(
-            msg, n, places, lengths, table, place, head, row, whole, deep, cap,
+            msg,
+            n,
+            places,
+            lengths,
+            table,
+            place,
+            head,
+            row,
+            whole,
+            deep,
+            cap,
         ) {
             Step::Refused { number, place } => Parts::Refused { number, place },
             Step::Got { next, rows } => Parts::Got {
@@ -560,7 +652,19 @@ fn standalone_terms(
             place: 0,
         });
     }
-    match read_term(msg, n, places, lengths, table, 1, 0, 0, 64, cap, Wanted::Any) {
+    match read_term(
+        msg,
+        n,
+        places,
+        lengths,
+        table,
+        1,
+        0,
+        0,
+        64,
+        cap,
+        Wanted::Any,
+    ) {
         Step::Refused { number, place } => ReadAnswer::Refused(Refusal { number, place }),
         Step::Got { next, rows } => {
             if next < msg.len() {
@@ -586,13 +690,37 @@ fn payload_terms(
     requires { ⌜ Room (now msg) (lent n (now places) (now lengths)) (now table) cap 0 0 0 ⌝ }
     ensures { λ r. ⌜ MessageDone (now (msg .entry)) cap (now (table .entry)) (payload-terms (atoms-of (lent n (now (places .entry)) (now (lengths .entry)))) cap (at-offset (now (msg .entry)) 0 0)) r (now (table .exit)) ⌝ }
 {
-    match read_term(msg, n, places, lengths, table, 0, 0, 0, 64, cap, Wanted::Any) {
+    match read_term(
+        msg,
+        n,
+        places,
+        lengths,
+        table,
+        0,
+        0,
+        0,
+        64,
+        cap,
+        Wanted::Any,
+    ) {
         Step::Refused { number, place } => ReadAnswer::Refused(Refusal { number, place }),
         Step::Got { next, rows } => {
             if msg.len() <= next {
                 return ReadAnswer::Terms { terms: 1, rows };
             }
-            match read_term(msg, n, places, lengths, table, next, rows, 0, 64, cap, Wanted::Any) {
+            match read_term(
+                msg,
+                n,
+                places,
+                lengths,
+                table,
+                next,
+                rows,
+                0,
+                64,
+                cap,
+                Wanted::Any,
+            ) {
                 Step::Refused { number, place } => ReadAnswer::Refused(Refusal { number, place }),
                 Step::Got { next, rows } => {
                     if next < msg.len() {

@@ -767,7 +767,7 @@ read-pairs-returns : (t : ℕ) → read-pairs-lts.Need-returns (
   key-among-reads.Asked,
   key-among-reads.Learnt,
 ) (read-pairs-at t) read-pairs.Post read-pairs-Inv-loop read-pairs-μ-loop
-read-pairs-returns t c = 
+read-pairs-returns t c =
     let i = c .before .before .before .before .before .before .before .before .loop in
     let e : i .more ≡ 0 → ⊥ = omega arith in
     λ place. key-refused _ _ _ _ _ _ _ _ _ _ _ _ (i .inv .2) e _ _ (c .before .before .before .before .before .read-term .ensures) _ _ place _ (c .before .number .given .1)
@@ -806,7 +806,7 @@ read-pairs-returns-2 : (t : ℕ) → read-pairs-lts.Need-returns-2 (
   key-among-reads.Asked,
   key-among-reads.Learnt,
 ) (read-pairs-at t) read-pairs.Post read-pairs-Inv-loop read-pairs-μ-loop
-read-pairs-returns-2 t c = 
+read-pairs-returns-2 t c =
     let i = c .before .before .before .before .before .before .before .before .before .before .before .loop in
     let e : i .more ≡ 0 → ⊥ = omega arith in
     λ place. key-twice _ _ _ _ _ _ _ _ _ _ _ _ (i .inv .2) e _ _ (c .before .before .before .before .before .before .before .before .read-term .ensures) _ _ _ (i .inv .0) _ _ (c .before .before .before .before .next .given .1) (keys-told _ _ _ _ _ _ (i .inv .0 .never)) _ (c .before .key-among .ensures) place _ (c .if1 .taken)
@@ -845,7 +845,7 @@ read-pairs-returns-3 : (t : ℕ) → read-pairs-lts.Need-returns-3 (
   key-among-reads.Asked,
   key-among-reads.Learnt,
 ) (read-pairs-at t) read-pairs.Post read-pairs-Inv-loop read-pairs-μ-loop
-read-pairs-returns-3 t c = 
+read-pairs-returns-3 t c =
     let i = c .before .before .before .before .before .before .before .before .before .before .before .before .before .before .before .before .before .before .loop in
     let e : i .more ≡ 0 → ⊥ = omega arith in
     λ place. value-refused _ _ _ _ _ _ _ _ _ _ _ _ (i .inv .2) e _ _ (c .before .before .before .before .before .before .before .before .before .before .before .before .before .before .before .read-term .ensures) _ _ _ (i .inv .0) _ _ (c .before .before .before .before .before .before .before .before .before .before .before .next .given .1) (keys-told _ _ _ _ _ _ (i .inv .0 .never)) _ (c .before .before .before .before .before .before .before .before .key-among .ensures) (c .before .before .before .before .before .before .before .if1 .left) _ _ (c .before .before .before .before .before .read-term2 .ensures) _ _ place _ (c .before .number2 .given .1)
@@ -884,7 +884,7 @@ read-pairs-loop-again : (t : ℕ) → read-pairs-lts.Need-loop-again (
   key-among-reads.Asked,
   key-among-reads.Learnt,
 ) (read-pairs-at t) read-pairs.Post read-pairs-Inv-loop read-pairs-μ-loop
-read-pairs-loop-again t c = 
+read-pairs-loop-again t c =
     let i = c .before .before .before .before .before .before .before .before .before .before .before .before .before .before .before .before .before .before .loop in
     let e : i .more ≡ 0 → ⊥ = omega arith in
     (room-after _ _ _ _ _ _ _ _ _ _ _ _ _ _ _ (room-after _ _ _ _ _ _ _ _ _ _ _ _ _ _ _ (i .inv .0) (c .before .before .before .before .before .before .before .before .before .before .before .before .before .before .before .read-term .ensures) (c .before .before .before .before .before .before .before .before .before .before .before .next .given .1) (c .before .before .before .before .before .before .before .before .before .before .before .before .before .before .before .read-term .kept .1 .1 .1 .1 .0)) (c .before .before .before .before .before .read-term2 .ensures) (c .before .next2 .given .1) (c .before .before .before .before .before .read-term2 .kept .1 .1 .1 .1 .0), c .before .before .before .before .before .read-term2 .kept .1 .1 .1 .1 .0 ∙ c .before .before .before .before .before .before .before .before .before .before .before .before .before .before .before .read-term .kept .1 .1 .1 .1 .0 ∙ i .inv .1, entered-more _ _ _ _ _ _ _ _ _ _ _ _ (i .inv .2) e _ _ (c .before .before .before .before .before .before .before .before .before .before .before .before .before .before .before .read-term .ensures) _ _ _ (i .inv .0) _ _ (c .before .before .before .before .before .before .before .before .before .before .before .next .given .1) (keys-told _ _ _ _ _ _ (i .inv .0 .never)) _ (c .before .before .before .before .before .before .before .before .key-among .ensures) (c .before .before .before .before .before .before .before .if1 .left) _ _ (c .before .before .before .before .before .read-term2 .ensures) _ _ (c .before .next2 .given .1))
@@ -896,7 +896,7 @@ read-pairs-mul-t34 : (t : ℕ) → read-pairs-lts.Need-mul-t34 (
   key-among-reads.Asked,
   key-among-reads.Learnt,
 ) (read-pairs-at t) read-pairs.Post read-pairs-Inv-loop read-pairs-μ-loop
-read-pairs-mul-t34 t c = 
+read-pairs-mul-t34 t c =
     let i = c .before .loop in
     let e : i .more ≡ 0 = omega arith in
     let a = entries-many _ _ _ _ _ _ _ _ _ _ _ _ (i .inv .2) (i .inv .0 .low) e in omega (arith, i .inv .0 .few)
@@ -917,7 +917,7 @@ read-pairs-returns-4 : (t : ℕ) → read-pairs-lts.Need-returns-4 (
   key-among-reads.Asked,
   key-among-reads.Learnt,
 ) (read-pairs-at t) read-pairs.Post read-pairs-Inv-loop read-pairs-μ-loop
-read-pairs-returns-4 t c = 
+read-pairs-returns-4 t c =
     let i = c .before .loop in
     let e : i .more ≡ 0 = omega arith in
     λ place. entries-end _ _ _ _ _ _ _ _ _ _ _ _ (i .inv .2) place e (i .inv .0 .low) (i .inv .0 .near)
@@ -1177,7 +1177,7 @@ read-run-returns :
     read-run.Post
     read-run-Inv-loop
     read-run-μ-loop
-read-run-returns t c = 
+read-run-returns t c =
     let i = c .before .before .before .before .before .before .before .before .loop in
     let e : i .more ≡ 0 → ⊥ = omega arith in
     i .inv .2 _ _ (run-refused _ _ _ _ _ _ _ _ _ e _ _ _ _ _ (c .before .number .given .1) (c .before .before .before .before .before .read-term .ensures))
@@ -1220,7 +1220,7 @@ read-run-loop-again :
     read-run.Post
     read-run-Inv-loop
     read-run-μ-loop
-read-run-loop-again t c = 
+read-run-loop-again t c =
     let i = c .before .before .before .before .before .before .before .before .loop in
     let e : i .more ≡ 0 → ⊥ = omega arith in
     (room-after _ _ _ _ _ _ _ _ _ _ _ _ _ _ _ (i .inv .0) (c .before .before .before .before .before .read-term .ensures) (c .before .next .given .1) (c .before .before .before .before .before .read-term .kept .1 .1 .1 .1 .0), c .before .before .before .before .before .read-term .kept .1 .1 .1 .1 .0 ∙ i .inv .1, λ s U d. i .inv .2 s U (run-more _ _ _ _ _ _ _ _ _ e _ _ _ _ s U (c .before .next .given .1) (c .before .before .before .before .before .read-term .ensures) d))
@@ -1241,7 +1241,7 @@ read-run-returns-2 :
     read-run.Post
     read-run-Inv-loop
     read-run-μ-loop
-read-run-returns-2 t c = 
+read-run-returns-2 t c =
     let i = c .before .loop in
     let e : i .more ≡ 0 = omega arith in
     i .inv .2 _ _ (run-none _ _ _ _ _ _ _ _ _ e (i .inv .0 .low) (i .inv .0 .near))
@@ -1421,7 +1421,7 @@ read-tail-read-last-requires : (t : ℕ) → read-tail-lts.Need-read-last-requir
   read-last-below t,
   read-last.Post,
 ) (read-tail-at t) read-tail.Post read-tail-Inv-loop read-tail-μ-loop
-read-tail-read-last-requires t c κs = 
+read-tail-read-last-requires t c κs =
     let o = (opened _ _ _ (c .before .before .before .loop .row-now) _ _ (c .before .before .read-opening .ensures) (λ k p e. miss (1 ∷ 2 ∷ 4 ∷ []) 0 tt (rw e at (c .before .match .keys3))) (c .before .before .before .loop .inv .0 .near)) in
     (omega (arith, c .before .before .before .before .before .before .before .before .pre .0), (room-at _ _ _ _ _ _ _ _ (c .before .before .before .loop .inv .0) (omega (arith, o .sound .before, o .sound .end)), opens _ _ _ _ _ o, c .before .before .before .loop .inv .2))
 
@@ -1472,7 +1472,7 @@ read-term-read-body-requires : (t : ℕ) → read-term-lts.Need-read-body-requir
   read-body-below t,
   read-body.Post,
 ) (read-term-at t) read-term.Post
-read-term-read-body-requires t c κs = 
+read-term-read-body-requires t c κs =
     let o = (opened _ _ _ (c .before .before .before .before .before .before .before .args .row) _ _ (c .before .before .read-opening .ensures) (λ k p e. miss (1 ∷ 2 ∷ 3 ∷ 4 ∷ []) 0 tt (rw e at (c .before .match .keys2))) (c .before .before .before .before .before .before .before .pre .1 .near)) in
     (omega (arith, c .before .before .before .before .before .before .before .pre .0), (room-at _ _ _ _ _ _ _ _ (c .before .before .before .before .before .before .before .pre .1) (omega (arith, o .sound .before, o .sound .end)), opens _ _ _ _ _ o))
 
