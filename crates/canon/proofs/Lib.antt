@@ -2,3 +2,4 @@ pub mod Held
 pub mod Strings
 pub mod Terms
 pub mod Read
+pub mod Messages

@@ -11,6 +11,10 @@ use Rattle.format.specs.Term.{Label, Term}
 use Rattle.format.specs.Reading.{Located, meaning}
 use Rattle.format.specs.Message.{Terms, meanings}
 use Rattle.format.specs.Canonical.{all-small, canonical, canonicals}
+use Rattle.format.specs.Answer.{good}
+use Rattle.format.specs.Writing.{written, output-after}
+use Rattle.format.specs.Answers.{write-answer}
+use Rattle.format.specs.declared.WriteAnswer.{WriteAnswer}
 use Rattle.layout.specs.Layout.{Put}
 use Rattle.canon.specs.Held.{Held, Held-run, as-string, is-some}
 
@@ -75,3 +79,10 @@ module _ (m places lengths T : List ℕ) (row : ℕ) where
       pub fit-run : Held-run m places lengths T row fit-terms
       pub fit-count : count fit-terms ≡ n
       pub fit-space : at + length (all (meanings fit-terms)) ≤ room
+
+-- the terms of a table, written in an output: what writing them answers, and the output after it
+module _ (m places lengths T : List ℕ) where
+  abbrev pub Rows-written : ℕ → List ℕ → WriteAnswer → List ℕ → Type 0
+  Rows-written n O r P =
+      (ts : Terms) → Held-run m places lengths T 0 ts → count ts ≡ n
+      → (r ≡ write-answer (good ts) (written (length O) (good ts))) × (P ≡ output-after O (written (length O) (good ts)))

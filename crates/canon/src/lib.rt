@@ -1,9 +1,12 @@
 // The canonical writer: terms are written from the rows that reading made of them.
+use format::Refusal;
+use format::WriteAnswer;
 ghost use mathlib.Core.Path.{_≡_};
 ghost use Prim.Native.Nat.{_+_, _≤_, _<_};
 ghost use lib.ListN.{length};
-ghost use Rattle.format.specs.Canonical.{canonical, canonicals};
-ghost use Rattle.canon.specs.Code.{Some-term, Some-run, Some-small, String-told, Small-told, Characters-put, String-put, Term-length, Term-put, Term-fits, Run-length, Run-put, Run-fits};
+ghost use Rattle.format.specs.Canonical.{canonical, canonicals, canonical-standalone, standalones};
+ghost use Rattle.format.specs.Writing.{scratch-after};
+ghost use Rattle.canon.specs.Code.{Some-term, Some-run, Some-small, String-told, Small-told, Characters-put, String-put, Term-length, Term-put, Term-fits, Run-length, Run-put, Run-fits, Rows-written};
 
 // Whether the n terms whose rows begin at `row` are all integers 0 to 255.
 fn all_small(
@@ -170,4 +173,88 @@ fn write_run(
         left -= 1;
     }
     end
+}
+
+// Writes the term at `row` as a standalone term from `at` on; the offset past it.
+fn put_standalone(
+    msg: &[u8],
+    places: &[u8],
+    lengths: &[u16],
+    table: &[u64],
+    row: usize,
+    out: &mut [u8],
+    at: usize,
+) -> usize
+    requires { ⌜ Term-fits (now msg) (now places) (now lengths) (now table) row canonical-standalone (length (now out)) at ⌝ }
+    ensures { λ r. ⌜ Term-put (now (msg .entry)) (now (places .entry)) (now (lengths .entry)) (now (table .entry)) row canonical-standalone (now (out .entry)) at r (now (out .exit)) ⌝ }
+{
+    octets::put1(out, at, 131);
+    write_term(msg, places, lengths, table, row, out, at + 1)
+}
+
+// Writes the n terms of the table as standalone terms, one after the other; the offset past them.
+fn put_standalones(
+    msg: &[u8],
+    places: &[u8],
+    lengths: &[u16],
+    table: &[u64],
+    n: usize,
+    out: &mut [u8],
+) -> usize
+    requires { ⌜ Run-fits (now msg) (now places) (now lengths) (now table) 0 standalones n (length (now out)) 0 ⌝ }
+    ensures { λ r. ⌜ Run-put (now (msg .entry)) (now (places .entry)) (now (lengths .entry)) (now (table .entry)) 0 standalones n (now (out .entry)) 0 r (now (out .exit)) ⌝ }
+{
+    let mut next = 0;
+    let mut left = n;
+    let mut end = 0;
+    while 0 < left {
+        end = put_standalone(msg, places, lengths, table, next, out, end);
+        next += row::size_in(table[next]);
+        left -= 1;
+    }
+    end
+}
+
+// Writes the n terms of the table where the output has room for them.
+fn write_rows(
+    msg: &[u8],
+    places: &[u8],
+    lengths: &[u16],
+    table: &[u64],
+    n: usize,
+    out: &mut [u8],
+) -> WriteAnswer
+    requires { ⌜ Some-run (now msg) (now places) (now lengths) (now table) 0 n ⌝ }
+    ensures { λ r. ⌜ Rows-written (now (msg .entry)) (now (places .entry)) (now (lengths .entry)) (now (table .entry)) n (now (out .entry)) r (now (out .exit)) ⌝ }
+{
+    let length = n + length_run(msg, places, lengths, table, 0, n);
+    if out.len() < length {
+        return WriteAnswer::Refused(Refusal {
+            number: 11,
+            place: 0,
+        });
+    }
+    put_standalones(msg, places, lengths, table, n, out);
+    WriteAnswer::Written {
+        terms: n,
+        length: length,
+    }
+}
+
+// Writes them, and clears the table.
+fn write_and_clear(
+    msg: &[u8],
+    places: &[u8],
+    lengths: &[u16],
+    n: usize,
+    table: &mut [u64],
+    out: &mut [u8],
+) -> WriteAnswer
+    requires { ⌜ Some-run (now msg) (now places) (now lengths) (now table) 0 n ⌝ }
+    ensures { λ r. ⌜ Rows-written (now (msg .entry)) (now (places .entry)) (now (lengths .entry)) (now (table .entry)) n (now (out .entry)) r (now (out .exit)) ⌝ }
+    ensures { λ _. ⌜ now (table .exit) ≡ scratch-after (length (now (table .entry))) ⌝ }
+{
+    let answer = write_rows(msg, places, lengths, table, n, out);
+    octets::clear_words(table, 0);
+    answer
 }
