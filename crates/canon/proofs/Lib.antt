@@ -3,3 +3,4 @@ pub mod Strings
 pub mod Terms
 pub mod Read
 pub mod Messages
+pub mod Demand

@@ -1,11 +1,15 @@
 // The canonical writer: terms are written from the rows that reading made of them.
+use format::ReadAnswer;
 use format::Refusal;
 use format::WriteAnswer;
 ghost use mathlib.Core.Path.{_≡_};
 ghost use Prim.Native.Nat.{_+_, _≤_, _<_};
 ghost use lib.ListN.{length};
 ghost use Rattle.format.specs.Canonical.{canonical, canonicals, canonical-standalone, standalones};
-ghost use Rattle.format.specs.Writing.{scratch-after};
+ghost use Rattle.format.specs.Message.{standalone, payload, read};
+ghost use Rattle.format.specs.Writing.{write, output-after, scratch-after};
+ghost use Rattle.format.specs.Answers.{write-answer};
+ghost use Rattle.heads.specs.Code.{lent};
 ghost use Rattle.canon.specs.Code.{Some-term, Some-run, Some-small, String-told, Small-told, Characters-put, String-put, Term-length, Term-put, Term-fits, Run-length, Run-put, Run-fits, Rows-written};
 
 // Whether the n terms whose rows begin at `row` are all integers 0 to 255.
@@ -257,4 +261,56 @@ fn write_and_clear(
     let answer = write_rows(msg, places, lengths, table, n, out);
     octets::clear_words(table, 0);
     answer
+}
+
+// Writes the term of a standalone message, with this atom list, as a canonical standalone term; the scratch table ends all zero.
+pub fn write_standalone(
+    msg: &[u8],
+    n: u8,
+    places: &[u8],
+    lengths: &[u16],
+    scratch: &mut [u64],
+    output: &mut [u8],
+) -> WriteAnswer
+    ensures { λ r. ⌜ r ≡ write-answer (read standalone (lent n (now (places .entry)) (now (lengths .entry))) (length (now (scratch .entry))) (now (msg .entry))) (write standalone (lent n (now (places .entry)) (now (lengths .entry))) (length (now (scratch .entry))) (length (now (output .entry))) (now (msg .entry))) ⌝ }
+    ensures { λ _. ⌜ now (scratch .exit) ≡ scratch-after (length (now (scratch .entry))) ⌝ }
+    ensures { λ _. ⌜ now (output .exit) ≡ output-after (now (output .entry)) (write standalone (lent n (now (places .entry)) (now (lengths .entry))) (length (now (scratch .entry))) (length (now (output .entry))) (now (msg .entry))) ⌝ }
+{
+    match terms::read_standalone(msg, n, places, lengths, scratch) {
+        ReadAnswer::Terms { terms, rows } => write_and_clear(
+            msg,
+            places,
+            lengths,
+            terms,
+            scratch,
+            output,
+        ),
+        ReadAnswer::Refused(refusal) => WriteAnswer::Refused(refusal),
+    }
+}
+
+// Writes the terms of a payload, with this atom list, as canonical standalone terms one after the other; the scratch table ends all zero.
+pub fn write_payload(
+    msg: &[u8],
+    n: u8,
+    places: &[u8],
+    lengths: &[u16],
+    scratch: &mut [u64],
+    output: &mut [u8],
+) -> WriteAnswer
+    ensures { λ r. ⌜ r ≡ write-answer (read payload (lent n (now (places .entry)) (now (lengths .entry))) (length (now (scratch .entry))) (now (msg .entry))) (write payload (lent n (now (places .entry)) (now (lengths .entry))) (length (now (scratch .entry))) (length (now (output .entry))) (now (msg .entry))) ⌝ }
+    ensures { λ _. ⌜ now (scratch .exit) ≡ scratch-after (length (now (scratch .entry))) ⌝ }
+    ensures { λ _. ⌜ now (output .exit) ≡ output-after (now (output .entry)) (write payload (lent n (now (places .entry)) (now (lengths .entry))) (length (now (scratch .entry))) (length (now (output .entry))) (now (msg .entry))) ⌝ }
+{
+    match terms::read_payload(msg, n, places, lengths, scratch) {
+        ReadAnswer::Terms { terms, rows } => write_and_clear(
+            msg,
+            places,
+            lengths,
+            terms,
+            scratch,
+            output,
+        ),
+        ReadAnswer::Refused(refusal) => WriteAnswer::Refused(refusal),
+    }
 }
