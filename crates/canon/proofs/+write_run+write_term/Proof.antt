@@ -1,0 +1,446 @@
+use Rattle.canon.proofs.Terms.{Put-left, put-start, put-step, put-end, put-fits, canonicals-none, canonicals-more, left-below, left-size, string-needs, string-written, parts-put, before-room, run-room, after-room, term-sound}
+use Rattle.canon.proofs.Strings.{term-below}
+use Rattle.canon.specs.Held.{Held-run}
+use Rattle.format.specs.Canonical.{canonical, canonicals}
+use Rattle.format.specs.Message.{Terms}
+use Rattle.format.specs.Tree.{count, size}
+use lib.ListN.{length}
+use borrow.Author.Needs.{needs}
+use native.Mathlib.Omega.{arith}
+use mathlib.Core.Path.{_≡_, refl, sym, ap, _∙_}
+use Prim.Native.Nat.{ℕ, _+_, _*_, _-_, _≤_, _<_}
+use borrow.Fn.Kinds.{In}
+use borrow.Fn.PlainCycle.{Measures, is, falls, and}
+use Rattle.canon.proofs.write_run.Reads as write-run
+use Rattle.canon.proofs.write_run.Kinds as write-run-kinds
+use Rattle.canon.proofs.+write_run+write_term.Lts-write_run as write-run-lts
+use Rattle.canon.proofs.write_term.Reads as write-term
+use Rattle.canon.proofs.write_term.Kinds as write-term-kinds
+use Rattle.canon.proofs.+write_run+write_term.Lts-write_term as write-term-lts
+use Rattle.canon.proofs.is_string.Reads as is-string-reads
+use Rattle.canon.proofs.put_string.Reads as put-string-reads
+use Rattle.fields.proofs.put_after.Reads as put-after-reads
+use Rattle.fields.proofs.put_before.Reads as put-before-reads
+use Rattle.row.proofs.parts_in.Reads as parts-in-reads
+use Rattle.row.proofs.size_in.Reads as size-in-reads
+use Rattle.canon.proofs.+write_run+write_term.{statement}
+use Rattle.canon.proofs.+write_run+write_term.Tie.{close}
+
+abbrev μ-write-run : Measures 5 write-run-kinds.ps ℕ
+μ-write-run κs a = 2 * (length (a .1 .1 .1 .0 .now) - a .1 .1 .1 .1 .0) + 1
+
+abbrev μ-write-term : Measures 5 write-term-kinds.ps ℕ
+μ-write-term κs a = 2 * (length (a .1 .1 .1 .0 .now) - a .1 .1 .1 .1 .0)
+
+abbrev write-run-at : ℕ → In 5 write-run-kinds.ps
+write-run-at t = and 5 write-run-kinds.ps (is 5 write-run-kinds.ps μ-write-run t) write-run.Pre
+
+abbrev write-run-below : ℕ → In 5 write-run-kinds.ps
+write-run-below t =
+    and 5 write-run-kinds.ps (falls 5 write-run-kinds.ps _<_ μ-write-run t) write-run.Pre
+
+abbrev write-term-at : ℕ → In 5 write-term-kinds.ps
+write-term-at t =
+    and 5 write-term-kinds.ps (is 5 write-term-kinds.ps μ-write-term t) write-term.Pre
+
+abbrev write-term-below : ℕ → In 5 write-term-kinds.ps
+write-term-below t =
+    and 5 write-term-kinds.ps (falls 5 write-term-kinds.ps _<_ μ-write-term t) write-term.Pre
+
+abbrev write-run-Inv-loop : write-run-lts.InvT-loop
+write-run-Inv-loop msg places lengths table row n out₀ at next₀ left₀ end₀ out next left end =
+    (row ≤ next) × (length out ≡ length out₀)
+    × ((ts : Terms) → Held-run msg places lengths table row ts → count ts ≡ n → Put-left msg places lengths table canonicals out₀ at ts next left out end)
+
+abbrev write-run-μ-loop : write-run-lts.MeasureT-loop
+write-run-μ-loop msg places lengths table row n out₀ at next₀ left₀ end₀ out next left end = left
+
+-- src/lib.rt:160:5
+write-run-loop-holds : (t : ℕ) → write-run-lts.Need-loop-holds (
+  write-term-below t,
+  write-term.Post,
+  size-in-reads.Asked,
+  size-in-reads.Learnt,
+) (write-run-at t) write-run.Post write-run-Inv-loop write-run-μ-loop
+write-run-loop-holds t c = (omega arith, refl, λ ts h e. put-start canonical canonicals canonicals-none canonicals-more _ _ _ _ ts h e)
+
+-- src/lib.rt:161:9
+write-run-write-term-requires : (t : ℕ) → write-run-lts.Need-write-term-requires (
+  write-term-below t,
+  write-term.Post,
+  size-in-reads.Asked,
+  size-in-reads.Learnt,
+) (write-run-at t) write-run.Post write-run-Inv-loop write-run-μ-loop
+write-run-write-term-requires t c κs = let g = c .before .before .loop .inv .2 (c .before .before .before .before .before .before .before .before .pre .1 .fit-terms) (c .before .before .before .before .before .before .before .before .pre .1 .fit-run) (c .before .before .before .before .before .before .before .before .pre .1 .fit-count) in (omega arith, put-fits canonical canonicals canonicals-none canonicals-more g (c .before .loop-test .taken) (c .before .before .before .before .before .before .before .before .pre .1 .fit-space) (c .before .before .loop .inv .1))
+
+-- src/lib.rt:162:30
+write-run-mul-size-in : (t : ℕ) → write-run-lts.Need-mul-size-in (
+  write-term-below t,
+  write-term.Post,
+  size-in-reads.Asked,
+  size-in-reads.Learnt,
+) (write-run-at t) write-run.Post write-run-Inv-loop write-run-μ-loop
+write-run-mul-size-in t c = let g = c .before .before .before .before .before .loop .inv .2 (c .before .before .before .before .before .before .before .before .before .before .before .pre .1 .fit-terms) (c .before .before .before .before .before .before .before .before .before .before .before .pre .1 .fit-run) (c .before .before .before .before .before .before .before .before .before .before .before .pre .1 .fit-count) in let b = left-size _ (g .rest) (g .rest-held) (g .rest-count) (c .before .before .before .before .loop-test .taken) refl in omega arith
+
+-- src/lib.rt:162:30
+write-run-shared-slice-read-size-in : (t : ℕ) → write-run-lts.Need-shared-slice-read-size-in (
+  write-term-below t,
+  write-term.Post,
+  size-in-reads.Asked,
+  size-in-reads.Learnt,
+) (write-run-at t) write-run.Post write-run-Inv-loop write-run-μ-loop
+write-run-shared-slice-read-size-in t c = let g = c .before .before .before .before .before .before .loop .inv .2 (c .before .before .before .before .before .before .before .before .before .before .before .before .pre .1 .fit-terms) (c .before .before .before .before .before .before .before .before .before .before .before .before .pre .1 .fit-run) (c .before .before .before .before .before .before .before .before .before .before .before .before .pre .1 .fit-count) in left-below (g .rest) (g .rest-held) (g .rest-count) (c .before .before .before .before .before .loop-test .taken)
+
+-- src/lib.rt:162:17
+write-run-size-in-requires : (t : ℕ) → write-run-lts.Need-size-in-requires (
+  write-term-below t,
+  write-term.Post,
+  size-in-reads.Asked,
+  size-in-reads.Learnt,
+) (write-run-at t) write-run.Post write-run-Inv-loop write-run-μ-loop
+write-run-size-in-requires t c κs = search needs
+
+-- src/lib.rt:162:9
+write-run-add-next : (t : ℕ) → write-run-lts.Need-add-next (
+  write-term-below t,
+  write-term.Post,
+  size-in-reads.Asked,
+  size-in-reads.Learnt,
+) (write-run-at t) write-run.Post write-run-Inv-loop write-run-μ-loop
+write-run-add-next t c = let g = c .before .before .before .before .before .before .before .loop .inv .2 (c .before .before .before .before .before .before .before .before .before .before .before .before .before .pre .1 .fit-terms) (c .before .before .before .before .before .before .before .before .before .before .before .before .before .pre .1 .fit-run) (c .before .before .before .before .before .before .before .before .before .before .before .before .before .pre .1 .fit-count) in let b = left-size _ (g .rest) (g .rest-held) (g .rest-count) (c .before .before .before .before .before .before .loop-test .taken) (c .size-in .ensures .0) in omega arith
+
+-- src/lib.rt:163:9
+write-run-sub-left : (t : ℕ) → write-run-lts.Need-sub-left (
+  write-term-below t,
+  write-term.Post,
+  size-in-reads.Asked,
+  size-in-reads.Learnt,
+) (write-run-at t) write-run.Post write-run-Inv-loop write-run-μ-loop
+write-run-sub-left t c = omega arith
+
+-- src/lib.rt:160:5
+write-run-loop-less : (t : ℕ) → write-run-lts.Need-loop-less (
+  write-term-below t,
+  write-term.Post,
+  size-in-reads.Asked,
+  size-in-reads.Learnt,
+) (write-run-at t) write-run.Post write-run-Inv-loop write-run-μ-loop
+write-run-loop-less t c = omega arith
+
+-- src/lib.rt:160:5
+write-run-loop-again : (t : ℕ) → write-run-lts.Need-loop-again (
+  write-term-below t,
+  write-term.Post,
+  size-in-reads.Asked,
+  size-in-reads.Learnt,
+) (write-run-at t) write-run.Post write-run-Inv-loop write-run-μ-loop
+write-run-loop-again t c = (omega arith, c .before .before .before .before .write-term .kept .1 .1 .1 .1 .1 .0 ∙ c .before .before .before .before .before .before .before .loop .inv .1, λ ts h e. put-step canonical canonicals canonicals-none canonicals-more _ _ (c .before .before .before .before .before .before .before .loop .inv .2 ts h e) (c .before .before .before .before .before .before .loop-test .taken) (c .size-in .ensures .0) (c .before .before .before .before .write-term .ensures))
+
+-- src/lib.rt:144:1
+write-run-same-length : (t : ℕ) → write-run-lts.Need-same-length (
+  write-term-below t,
+  write-term.Post,
+  size-in-reads.Asked,
+  size-in-reads.Learnt,
+) (write-run-at t) write-run.Post write-run-Inv-loop write-run-μ-loop
+write-run-same-length t c = c .before .loop .inv .1
+
+-- src/lib.rt:144:1
+write-run-returns : (t : ℕ) → write-run-lts.Need-returns (
+  write-term-below t,
+  write-term.Post,
+  size-in-reads.Asked,
+  size-in-reads.Learnt,
+) (write-run-at t) write-run.Post write-run-Inv-loop write-run-μ-loop
+write-run-returns t c = λ ts h e. put-end canonical canonicals canonicals-none canonicals-more (c .before .loop .inv .2 ts h e) (c .loop-test .left)
+
+-- src/lib.rt:133:16
+write-term-mul-word : (t : ℕ) → write-term-lts.Need-mul-word (
+  parts-in-reads.Asked,
+  parts-in-reads.Learnt,
+  is-string-reads.Asked,
+  is-string-reads.Learnt,
+  put-string-reads.Asked,
+  put-string-reads.Learnt,
+  put-before-reads.Asked,
+  put-before-reads.Learnt,
+  write-run-below t,
+  write-run.Post,
+  put-after-reads.Asked,
+  put-after-reads.Learnt,
+) (write-term-at t) write-term.Post
+write-term-mul-word t c = let g : c .before .before .before .before .before .args .row + size (c .before .before .before .before .before .pre .1 .fit-term) ≤ 8192 = c .before .before .before .before .before .pre .1 .fit-held .few in omega arith
+
+-- src/lib.rt:133:16
+write-term-shared-slice-read-word : (t : ℕ) → write-term-lts.Need-shared-slice-read-word (
+  parts-in-reads.Asked,
+  parts-in-reads.Learnt,
+  is-string-reads.Asked,
+  is-string-reads.Learnt,
+  put-string-reads.Asked,
+  put-string-reads.Learnt,
+  put-before-reads.Asked,
+  put-before-reads.Learnt,
+  write-run-below t,
+  write-run.Post,
+  put-after-reads.Asked,
+  put-after-reads.Learnt,
+) (write-term-at t) write-term.Post
+write-term-shared-slice-read-word t c = term-below (c .before .before .before .before .before .before .pre .1 .fit-term) (c .before .before .before .before .before .before .pre .1 .fit-held)
+
+-- src/lib.rt:134:9
+write-term-parts-in-requires : (t : ℕ) → write-term-lts.Need-parts-in-requires (
+  parts-in-reads.Asked,
+  parts-in-reads.Learnt,
+  is-string-reads.Asked,
+  is-string-reads.Learnt,
+  put-string-reads.Asked,
+  put-string-reads.Learnt,
+  put-before-reads.Asked,
+  put-before-reads.Learnt,
+  write-run-below t,
+  write-run.Post,
+  put-after-reads.Asked,
+  put-after-reads.Learnt,
+) (write-term-at t) write-term.Post
+write-term-parts-in-requires t c κs = search needs
+
+-- src/lib.rt:135:8
+write-term-is-string-requires : (t : ℕ) → write-term-lts.Need-is-string-requires (
+  parts-in-reads.Asked,
+  parts-in-reads.Learnt,
+  is-string-reads.Asked,
+  is-string-reads.Learnt,
+  put-string-reads.Asked,
+  put-string-reads.Learnt,
+  put-before-reads.Asked,
+  put-before-reads.Learnt,
+  write-run-below t,
+  write-run.Post,
+  put-after-reads.Asked,
+  put-after-reads.Learnt,
+) (write-term-at t) write-term.Post
+write-term-is-string-requires t c κs = record { term = c .before .before .before .before .before .before .before .pre .1 .fit-term; held = c .before .before .before .before .before .before .before .pre .1 .fit-held }
+
+-- src/lib.rt:136:56
+write-term-add-put-string : (t : ℕ) → write-term-lts.Need-add-put-string (
+  parts-in-reads.Asked,
+  parts-in-reads.Learnt,
+  is-string-reads.Asked,
+  is-string-reads.Learnt,
+  put-string-reads.Asked,
+  put-string-reads.Learnt,
+  put-before-reads.Asked,
+  put-before-reads.Learnt,
+  write-run-below t,
+  write-run.Post,
+  put-after-reads.Asked,
+  put-after-reads.Learnt,
+) (write-term-at t) write-term.Post
+write-term-add-put-string t c = let g : c .before .before .before .before .before .before .before .before .before .args .row + size (c .before .before .before .before .before .before .before .before .before .pre .1 .fit-term) ≤ 8192 = c .before .before .before .before .before .before .before .before .before .pre .1 .fit-held .few in omega arith
+
+-- src/lib.rt:136:9
+write-term-put-string-requires : (t : ℕ) → write-term-lts.Need-put-string-requires (
+  parts-in-reads.Asked,
+  parts-in-reads.Learnt,
+  is-string-reads.Asked,
+  is-string-reads.Learnt,
+  put-string-reads.Asked,
+  put-string-reads.Learnt,
+  put-before-reads.Asked,
+  put-before-reads.Learnt,
+  write-run-below t,
+  write-run.Post,
+  put-after-reads.Asked,
+  put-after-reads.Learnt,
+) (write-term-at t) write-term.Post
+write-term-put-string-requires t c κs = string-needs _ _ _ (c .before .before .before .parts-in .ensures .0) (c .before .before .before .before .before .before .before .before .before .before .pre .1 .fit-term) (c .before .before .before .before .before .before .before .before .before .before .pre .1 .fit-held) (sym (c .before .before .is-string .ensures (c .before .before .before .before .before .before .before .before .before .before .pre .1 .fit-term) (c .before .before .before .before .before .before .before .before .before .before .pre .1 .fit-held)) ∙ c .before .if1 .taken) (c .before .before .before .before .before .before .before .before .before .before .pre .1 .fit-room)
+
+-- src/lib.rt:136:9
+write-term-same-length : (t : ℕ) → write-term-lts.Need-same-length (
+  parts-in-reads.Asked,
+  parts-in-reads.Learnt,
+  is-string-reads.Asked,
+  is-string-reads.Learnt,
+  put-string-reads.Asked,
+  put-string-reads.Learnt,
+  put-before-reads.Asked,
+  put-before-reads.Learnt,
+  write-run-below t,
+  write-run.Post,
+  put-after-reads.Asked,
+  put-after-reads.Learnt,
+) (write-term-at t) write-term.Post
+write-term-same-length t c = c .before .before .put-string .kept .1 .1 .1 .1 .1 .1 .0
+
+-- src/lib.rt:136:9
+write-term-returns : (t : ℕ) → write-term-lts.Need-returns (
+  parts-in-reads.Asked,
+  parts-in-reads.Learnt,
+  is-string-reads.Asked,
+  is-string-reads.Learnt,
+  put-string-reads.Asked,
+  put-string-reads.Learnt,
+  put-before-reads.Asked,
+  put-before-reads.Learnt,
+  write-run-below t,
+  write-run.Post,
+  put-after-reads.Asked,
+  put-after-reads.Learnt,
+) (write-term-at t) write-term.Post
+write-term-returns t c = λ t h. string-written (c .before .before .before .before .before .before .parts-in .ensures .0) (c .before .before .put-string .ensures) t h (sym (c .before .before .before .before .before .is-string .ensures t h) ∙ c .before .before .before .before .if1 .taken)
+
+-- src/lib.rt:138:9
+write-term-put-before-requires : (t : ℕ) → write-term-lts.Need-put-before-requires (
+  parts-in-reads.Asked,
+  parts-in-reads.Learnt,
+  is-string-reads.Asked,
+  is-string-reads.Learnt,
+  put-string-reads.Asked,
+  put-string-reads.Learnt,
+  put-before-reads.Asked,
+  put-before-reads.Learnt,
+  write-run-below t,
+  write-run.Post,
+  put-after-reads.Asked,
+  put-after-reads.Learnt,
+) (write-term-at t) write-term.Post
+write-term-put-before-requires t c κs = (term-sound (c .before .before .before .before .before .before .before .before .before .before .pre .1 .fit-term) (c .before .before .before .before .before .before .before .before .before .before .pre .1 .fit-held), before-room _ _ (c .before .before .before .before .before .before .before .before .before .before .pre .1 .fit-term) (c .before .before .before .before .before .before .before .before .before .before .pre .1 .fit-held) (sym (c .before .before .is-string .ensures (c .before .before .before .before .before .before .before .before .before .before .pre .1 .fit-term) (c .before .before .before .before .before .before .before .before .before .before .pre .1 .fit-held)) ∙ c .before .if1 .left) (c .before .before .before .before .before .before .before .before .before .before .pre .1 .fit-room))
+
+-- src/lib.rt:139:54
+write-term-add-write-run : (t : ℕ) → write-term-lts.Need-add-write-run (
+  parts-in-reads.Asked,
+  parts-in-reads.Learnt,
+  is-string-reads.Asked,
+  is-string-reads.Learnt,
+  put-string-reads.Asked,
+  put-string-reads.Learnt,
+  put-before-reads.Asked,
+  put-before-reads.Learnt,
+  write-run-below t,
+  write-run.Post,
+  put-after-reads.Asked,
+  put-after-reads.Learnt,
+) (write-term-at t) write-term.Post
+write-term-add-write-run t c = let g : c .before .before .before .before .before .before .before .before .before .before .before .before .before .args .row + size (c .before .before .before .before .before .before .before .before .before .before .before .before .before .pre .1 .fit-term) ≤ 8192 = c .before .before .before .before .before .before .before .before .before .before .before .before .before .pre .1 .fit-held .few in omega arith
+
+-- src/lib.rt:139:9
+write-term-write-run-requires : (t : ℕ) → write-term-lts.Need-write-run-requires (
+  parts-in-reads.Asked,
+  parts-in-reads.Learnt,
+  is-string-reads.Asked,
+  is-string-reads.Learnt,
+  put-string-reads.Asked,
+  put-string-reads.Learnt,
+  put-before-reads.Asked,
+  put-before-reads.Learnt,
+  write-run-below t,
+  write-run.Post,
+  put-after-reads.Asked,
+  put-after-reads.Learnt,
+) (write-term-at t) write-term.Post
+write-term-write-run-requires t c κs = let b = term-below (c .before .before .before .before .before .before .before .before .before .before .before .before .before .before .pre .1 .fit-term) (c .before .before .before .before .before .before .before .before .before .before .before .before .before .before .pre .1 .fit-held) in (omega arith, run-room _ _ _ (c .before .before .before .before .before .before .before .parts-in .ensures .0) (c .before .before .before .before .before .before .before .before .before .before .before .before .before .before .pre .1 .fit-term) (c .before .before .before .before .before .before .before .before .before .before .before .before .before .before .pre .1 .fit-held) (sym (c .before .before .before .before .before .before .is-string .ensures (c .before .before .before .before .before .before .before .before .before .before .before .before .before .before .pre .1 .fit-term) (c .before .before .before .before .before .before .before .before .before .before .before .before .before .before .pre .1 .fit-held)) ∙ c .before .before .before .before .before .if1 .left) (c .before .before .before .before .before .before .before .before .before .before .before .before .before .before .pre .1 .fit-room) (c .before .before .before .put-before .ensures))
+
+-- src/lib.rt:140:5
+write-term-put-after-requires : (t : ℕ) → write-term-lts.Need-put-after-requires (
+  parts-in-reads.Asked,
+  parts-in-reads.Learnt,
+  is-string-reads.Asked,
+  is-string-reads.Learnt,
+  put-string-reads.Asked,
+  put-string-reads.Learnt,
+  put-before-reads.Asked,
+  put-before-reads.Learnt,
+  write-run-below t,
+  write-run.Post,
+  put-after-reads.Asked,
+  put-after-reads.Learnt,
+) (write-term-at t) write-term.Post
+write-term-put-after-requires t c κs = (term-sound (c .before .before .before .before .before .before .before .before .before .before .before .before .before .before .before .before .before .before .pre .1 .fit-term) (c .before .before .before .before .before .before .before .before .before .before .before .before .before .before .before .before .before .before .pre .1 .fit-held), after-room _ _ _ _ (c .before .before .before .before .before .before .before .before .before .before .before .parts-in .ensures .0) (c .before .before .before .before .before .before .before .before .before .before .before .before .before .before .before .before .before .before .pre .1 .fit-term) (c .before .before .before .before .before .before .before .before .before .before .before .before .before .before .before .before .before .before .pre .1 .fit-held) (sym (c .before .before .before .before .before .before .before .before .before .before .is-string .ensures (c .before .before .before .before .before .before .before .before .before .before .before .before .before .before .before .before .before .before .pre .1 .fit-term) (c .before .before .before .before .before .before .before .before .before .before .before .before .before .before .before .before .before .before .pre .1 .fit-held)) ∙ c .before .before .before .before .before .before .before .before .before .if1 .left) (c .before .before .before .before .before .before .before .before .before .before .before .before .before .before .before .before .before .before .pre .1 .fit-room) (c .before .before .before .before .before .before .before .put-before .ensures) (c .before .before .before .write-run .ensures))
+
+-- src/lib.rt:121:1
+write-term-same-length-2 : (t : ℕ) → write-term-lts.Need-same-length-2 (
+  parts-in-reads.Asked,
+  parts-in-reads.Learnt,
+  is-string-reads.Asked,
+  is-string-reads.Learnt,
+  put-string-reads.Asked,
+  put-string-reads.Learnt,
+  put-before-reads.Asked,
+  put-before-reads.Learnt,
+  write-run-below t,
+  write-run.Post,
+  put-after-reads.Asked,
+  put-after-reads.Learnt,
+) (write-term-at t) write-term.Post
+write-term-same-length-2 t c = c .before .before .put-after .kept .1 .1 .1 .1 .0 ∙ c .before .before .before .before .before .before .write-run .kept .1 .1 .1 .1 .1 .1 .0 ∙ c .before .before .before .before .before .before .before .before .before .before .put-before .kept .1 .1 .1 .1 .0
+
+-- src/lib.rt:121:1
+write-term-returns-2 : (t : ℕ) → write-term-lts.Need-returns-2 (
+  parts-in-reads.Asked,
+  parts-in-reads.Learnt,
+  is-string-reads.Asked,
+  is-string-reads.Learnt,
+  put-string-reads.Asked,
+  put-string-reads.Learnt,
+  put-before-reads.Asked,
+  put-before-reads.Learnt,
+  write-run-below t,
+  write-run.Post,
+  put-after-reads.Asked,
+  put-after-reads.Learnt,
+) (write-term-at t) write-term.Post
+write-term-returns-2 t c = λ t h. parts-put (c .before .before .before .before .before .before .before .before .before .before .before .before .before .before .parts-in .ensures .0) (c .before .before .before .before .before .before .before .before .before .before .put-before .ensures) (c .before .before .before .before .before .before .write-run .ensures) (c .before .before .put-after .ensures) t h (sym (c .before .before .before .before .before .before .before .before .before .before .before .before .before .is-string .ensures t h) ∙ c .before .before .before .before .before .before .before .before .before .before .before .before .if1 .left)
+
+pub +write-run+write-term-spec : {M : Type 1} → statement M
++write-run+write-term-spec = close μ-write-run μ-write-term (λ t. write-run-lts.spec (
+  write-term-below t,
+  write-term.Post,
+  size-in-reads.Asked,
+  size-in-reads.Learnt,
+)
+    (write-run-at t)
+    write-run.Post
+    write-run-Inv-loop
+    write-run-μ-loop
+    (write-run-loop-holds t)
+    (write-run-write-term-requires t)
+    (write-run-mul-size-in t)
+    (write-run-shared-slice-read-size-in t)
+    (write-run-size-in-requires t)
+    (write-run-add-next t)
+    (write-run-sub-left t)
+    (write-run-loop-less t)
+    (write-run-loop-again t)
+    (write-run-same-length t)
+    (write-run-returns t))
+    λ t. write-term-lts.spec (
+      parts-in-reads.Asked,
+      parts-in-reads.Learnt,
+      is-string-reads.Asked,
+      is-string-reads.Learnt,
+      put-string-reads.Asked,
+      put-string-reads.Learnt,
+      put-before-reads.Asked,
+      put-before-reads.Learnt,
+      write-run-below t,
+      write-run.Post,
+      put-after-reads.Asked,
+      put-after-reads.Learnt,
+    )
+    (write-term-at t)
+    write-term.Post
+    (write-term-mul-word t)
+    (write-term-shared-slice-read-word t)
+    (write-term-parts-in-requires t)
+    (write-term-is-string-requires t)
+    (write-term-add-put-string t)
+    (write-term-put-string-requires t)
+    (write-term-same-length t)
+    (write-term-returns t)
+    (write-term-put-before-requires t)
+    (write-term-add-write-run t)
+    (write-term-write-run-requires t)
+    (write-term-put-after-requires t)
+    (write-term-same-length-2 t)
+    (write-term-returns-2 t)

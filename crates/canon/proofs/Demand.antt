@@ -1,0 +1,131 @@
+-- Demand 3 over the promises of the calls `read_standalone`, `read_payload`, `write_standalone` and `write_payload`, as one statement: `demand-3`, at the end.
+use mathlib.Core.Path.{_≡_, refl, sym, _∙_, ap, ap₂}
+use mathlib.Core.Logic.{_↔_}
+use mathlib.Core.Bool.{true}
+use mathlib.Core.List.{List, [], _∷_, _++_, append-nil}
+use Prim.Native.Nat.{ℕ, _+_, _≤_}
+use native.Mathlib.Omega.{arith}
+use lib.ListN.{length, drop, replicate}
+use contract.Lifetimes.{Lfts}
+use borrow.Fn.Kinds.{endedOf, resT}
+use Rattle.format.specs.Tree.{Forest, node, _▹_, count, size, sizes}
+use Rattle.format.specs.Term.{Label, Term}
+use Rattle.format.specs.Answer.{Answer, good, refused}
+use Rattle.format.specs.AtomList.{AtomList, of-size}
+use Rattle.format.specs.Reading.{Located, meaning}
+use Rattle.format.specs.Message.{Framing, standalone, payload, Terms, meanings, read}
+use Rattle.format.specs.Rows.{table-after}
+use Rattle.format.specs.Canonical.{canonical-standalone, standalones}
+use Rattle.format.specs.Writing.{write, output-after, scratch-after}
+use Rattle.format.specs.Answers.{read-answer, write-answer}
+use Rattle.format.specs.declared.ReadAnswer.{ReadAnswer}
+use Rattle.format.specs.declared.ReadAnswer.the-variants as reads
+use Rattle.format.specs.declared.WriteAnswer.{WriteAnswer}
+use Rattle.format.specs.declared.WriteAnswer.the-variants as writes
+use Rattle.format.proofs.Capacity.{enough}
+use Rattle.format.proofs.Rows.{size-meaning}
+use Rattle.format.proofs.Demand as definitions
+use Rattle.format.proofs.Demand.{Accepted-term, Read-again}
+use Rattle.heads.specs.Code.{lent}
+use Rattle.terms.proofs.read_standalone.Reads as read-standalone
+use Rattle.terms.proofs.read_payload.Reads as read-payload
+use Rattle.canon.proofs.write_standalone.Reads as write-standalone
+use Rattle.canon.proofs.write_payload.Reads as write-payload
+
+-- A call of the reader: the message, the atom list and the lent table, and what the call answered and left in the table
+pub record Read-call (framing : Framing) (list : AtomList) (message table : List ℕ) (answer : ReadAnswer) (left : List ℕ) : Type 0 where
+  pub read-answered : answer ≡ read-answer (read framing list (length table) message)
+  pub table-left : left ≡ table-after (length table) (read framing list (length table) message)
+
+-- A call of the writer: also the lent scratch table and output
+pub record Write-call (framing : Framing) (list : AtomList) (message scratch output : List ℕ) (answer : WriteAnswer) (scratch-is output-is : List ℕ) : Type 0 where
+  pub write-answered : answer ≡ write-answer (read framing list (length scratch) message) (write framing list (length scratch) (length output) message)
+  pub scratch-left : scratch-is ≡ scratch-after (length scratch)
+  pub output-left : output-is ≡ output-after output (write framing list (length scratch) (length output) message)
+
+-- These are the promises of the calls: what holds after any call, with any arguments a, result r and lent slices s after it
+pub promised-write-standalone : (κs : Lfts 5) (a : _) (r : _) (s : _) → write-standalone.Post κs a r s
+    → Write-call standalone (lent (a .1 .0) (a .1 .1 .0 .now) (a .1 .1 .1 .0 .now)) (a .0 .now) (a .1 .1 .1 .1 .0 .now) (a .1 .1 .1 .1 .1 .0 .now) r
+    (s .1 .1 .1 .1 .0 .now) (s .1 .1 .1 .1 .1 .0 .now)
+promised-write-standalone κs a r s p = record { write-answered = p .0; scratch-left = p .1 .0; output-left = p .1 .1 }
+
+pub promised-write-payload : (κs : Lfts 5) (a : _) (r : _) (s : _) → write-payload.Post κs a r s
+    → Write-call payload (lent (a .1 .0) (a .1 .1 .0 .now) (a .1 .1 .1 .0 .now)) (a .0 .now) (a .1 .1 .1 .1 .0 .now) (a .1 .1 .1 .1 .1 .0 .now) r
+    (s .1 .1 .1 .1 .0 .now) (s .1 .1 .1 .1 .1 .0 .now)
+promised-write-payload κs a r s p = record { write-answered = p .0; scratch-left = p .1 .0; output-left = p .1 .1 }
+
+pub promised-read-standalone : (κs : Lfts 4) (a : _) (r : _) (s : _) → read-standalone.Post κs a r s
+    → Read-call standalone (lent (a .1 .0) (a .1 .1 .0 .now) (a .1 .1 .1 .0 .now)) (a .0 .now) (a .1 .1 .1 .1 .0 .now) r (s .1 .1 .1 .1 .0 .now)
+promised-read-standalone κs a r s p = record { read-answered = p .0; table-left = p .1 }
+
+-- What is written: so many terms, these bytes at the front of the output, the others as they were, the scratch table all zero
+pub record Written (terms : ℕ) (bs scratch output : List ℕ) (answer : WriteAnswer) (scratch-is output-is : List ℕ) : Type 0 where
+  pub answer-is : answer ≡ writes.Written terms (length bs)
+  pub output-holds : output-is ≡ bs ++ drop (length bs) output
+  pub scratch-zero : scratch-is ≡ replicate (length scratch) 0
+
+-- What is read: one term that means t, its rows in the table and all past them zero
+pub record Means (t : Term) (table : List ℕ) (answer : ReadAnswer) (left : List ℕ) : Type 0 where
+  pub tree : Located
+  pub meaning-is : meaning tree ≡ t
+  pub answer-is : answer ≡ reads.Terms 1 (size t)
+  pub rows-are : left ≡ table-after (length table) (good (tree ▹ Forest.none))
+
+-- What the calls come to where the definitions' answers are known
+written-by : {framing : Framing} {list : AtomList} {message scratch output : List ℕ} {answer : WriteAnswer} {scratch-is output-is : List ℕ} (ts : Terms)
+    → read framing list (length scratch) message ≡ good ts → (bs : List ℕ) → write framing list (length scratch) (length output) message ≡ good bs
+    → Write-call framing list message scratch output answer scratch-is output-is
+    → Written (count ts) bs scratch output answer scratch-is output-is
+unfolding write-answer output-after scratch-after
+written-by {output = output} ts e bs f w =
+    record {
+      answer-is = w .write-answered ∙ ap₂ write-answer e f;
+      output-holds = w .output-left ∙ ap (output-after output) f;
+      scratch-zero = w .scratch-left;
+    }
+
+means-by : (t : Term) (list : AtomList) (table : List ℕ) (answer : ReadAnswer) (left : List ℕ) → Read-again t list (length table)
+    → Read-call standalone list (canonical-standalone t) table answer left → Means t table answer left
+unfolding read-answer
+means-by t list table answer left g w =
+    let k : size (g .tree) + 0 ≡ size t = omega (arith, size-meaning (g .tree), ap size (g .means)) in
+    record {
+      tree = g .tree;
+      meaning-is = g .means;
+      answer-is = w .read-answered ∙ ap read-answer (g .accepted) ∙ ap (λ (n : ℕ). reads.Terms 1 n) k;
+      rows-are = w .table-left ∙ ap (table-after (length table)) (g .accepted);
+    }
+
+-- For any two accepted terms, of one message or of two, with room and scratch rows enough where they are lent
+pub record Demand-3 (t u : Term) (a : Accepted-term t) : Type 0 where
+  -- whatever scratch table and output held before, the writer's call on the message of the first leaves in the output the canonical standalone terms of its
+  -- terms, one after the other, the bytes past them as they were, and the scratch table all zero
+  pub canonical-written : (scratch output : List ℕ) → sizes (a .terms) ≤ length scratch → length (standalones (meanings (a .terms))) ≤ length output
+      → (answer : WriteAnswer) (scratch-is output-is : List ℕ) → Write-call (a .framing) (a .list) (a .message) scratch output answer scratch-is output-is
+      → Written (count (a .terms)) (standalones (meanings (a .terms))) scratch output answer scratch-is output-is
+  -- the two have the same bytes there exactly when they mean the same
+  pub same-output : (canonical-standalone t ≡ canonical-standalone u) ↔ (t ≡ u)
+  -- its bytes, where they are at most 65,536, are accepted by the reader's call, with any atom list of the stated size, so with an empty one, and any table of
+  -- at least as many rows as the term has; and they mean the same term
+  pub read-again : (list : AtomList) → of-size list ≡ true → length (canonical-standalone t) ≤ 65536 → (table : List ℕ) → size t ≤ length table
+      → (answer : ReadAnswer) (left : List ℕ) → Read-call standalone list (canonical-standalone t) table answer left → Means t table answer left
+  -- and the writer's call on them leaves the same bytes
+  pub written-again : (list : AtomList) → of-size list ≡ true → length (canonical-standalone t) ≤ 65536
+      → (scratch output : List ℕ) → size t ≤ length scratch → length (canonical-standalone t) ≤ length output
+      → (answer : WriteAnswer) (scratch-is output-is : List ℕ) → Write-call standalone list (canonical-standalone t) scratch output answer scratch-is output-is
+      → Written 1 (canonical-standalone t) scratch output answer scratch-is output-is
+
+pub demand-3 : (t u : Term) (a : Accepted-term t) → Accepted-term u → Demand-3 t u a
+demand-3 t u a b =
+    let d = definitions.demand-3 t u a b in
+    record {
+      canonical-written = λ scratch output rows fits answer s o w.
+          written-by (a .terms) (enough (a .framing) (a .list) (a .message) 8192 (length scratch) (a .terms) (a .accepted) rows)
+          (standalones (meanings (a .terms)))
+          (d .canonical-written (length scratch) (length output) rows fits) w;
+      same-output = d .same-output;
+      read-again = λ list sized short table rows answer left w. means-by t list table answer left (d .read-and-written-again list sized (length table) rows short) w;
+      written-again = λ list sized short scratch output rows fits answer s o w.
+          let again = d .read-and-written-again list sized (length scratch) rows short in
+          written-by (again .tree ▹ Forest.none) (again .accepted) (canonical-standalone t) (again .again (length output) fits) w;
+    }

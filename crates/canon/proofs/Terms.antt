@@ -1,0 +1,340 @@
+-- A term's canonical form from its own bytes and those of its parts; runs of terms one after the other.
+use mathlib.Core.Path.{_≡_, refl, sym, _∙_, ap, ap₂}
+use mathlib.Core.Bool.{Bool, true, false}
+use mathlib.Core.List.{List, [], _∷_, _++_, append-assoc}
+use mathlib.Core.Option.{Option, none, some}
+use Prim.Native.Nat.{ℕ, zero, suc, _+_, _*_, _-_, _≤_, _<_}
+use native.Mathlib.Omega.{arith}
+use lib.Dec.{eqb}
+use lib.ListN.{length, getD, length-append}
+use lib.Seq.{sets, length-sets}
+use borrow.Author.Tests.{eqb-true}
+use Rattle.format.specs.Tree.{Tree, Forest, node, _▹_, count, size, sizes, relabels}
+use Rattle.format.specs.Numbers.{in-bytes}
+use Rattle.format.specs.Term.{Label, Term, list}
+use Rattle.format.specs.Reading.{Place, Located, meaning}
+use Rattle.format.specs.Message.{Terms, meanings}
+use Rattle.format.specs.Rows.{kind-of, kind-in, parts-in, size-in}
+use Rattle.format.specs.Canonical.{all-small, canonical, canonicals}
+use Rattle.format.proofs.Numbers.{length-in-bytes}
+use Rattle.format.proofs.Rows.{count-le-sizes, count-relabels}
+use Rattle.octets.proofs.Numbers.{bytes-one}
+use Rattle.octets.proofs.Stores.{sets-at}
+use Rattle.layout.specs.Layout.{Put}
+use Rattle.layout.proofs.Puts.{put-then, put-same, put-length}
+use Rattle.fields.specs.Shape.{before, after, some-small}
+use Rattle.fields.specs.Sound.{label-in, before-in, after-in, Sound-word}
+use Rattle.fields.proofs.Shape.{canonical-parts, canonical-string}
+use Rattle.canon.specs.Held.{Held, Held-run, as-string, is-some}
+use Rattle.canon.specs.Code.{string-term, Some-term, Some-run, Some-small, String-put, Run-length, Run-put, Term-length, Term-put, Run-fits, Term-fits}
+use Rattle.canon.proofs.Held.{run-first, run-others, held-parts, held-writable, held-below, held-count, held-size, held-label, held-sound, kind-list}
+use Rattle.canon.proofs.Strings.{Front, front, run-below, all-small-length, as-list, as-inverse, small-is, some-told, none-told, count-meanings}
+
+-- ---- a string
+
+-- its head, then its characters
+pub string-put : (n at : ℕ) (cs : List ℕ) {O P Q R : List ℕ} {r : ℕ} → P ≡ sets O at (in-bytes 1 107) → Q ≡ sets P (at + 1) (in-bytes 2 n) → Put Q (at + 3) cs r R
+    → Put O at (107 ∷ (in-bytes 2 n ++ cs)) r R
+string-put n at cs {O} {P} {Q} {R} {r} p q w =
+    let f : length (in-bytes 2 n) ≡ 2 = length-in-bytes 2 n in
+    let first : Put O at (107 ∷ []) (at + 1) P = record { past = refl; stored = p ∙ ap (λ (x : List ℕ). sets O at x) (bytes-one 107 (omega arith)) } in
+    let second : Put P (at + 1) (in-bytes 2 n) (at + 3) Q = record { past = omega arith; stored = q } in
+    put-then first (put-then second w)
+
+-- of a term that is written as a string
+pub record Strung (l : Label × Place) (ts : Terms) : Type 0 where
+  pub characters : List ℕ
+  pub are : all-small (meanings ts) ≡ some characters
+  pub bytes : canonical (node (l .0) (meanings ts)) ≡ 107 ∷ (in-bytes 2 (count ts) ++ characters)
+
+module _ {m places lengths T : List ℕ} {row : ℕ} where
+  few-parts : {l : Label × Place} {ts : Terms} → Held m places lengths T row (node l ts) → count ts + 1 ≤ 8192
+  few-parts {l} {ts} h =
+      let c : count ts ≤ sizes ts = count-le-sizes ts in
+      let f : row + suc (sizes ts) ≤ 8192 = h .few in
+      omega arith
+
+  pub strung : {l : Label × Place} {ts : Terms} → Held m places lengths T row (node l ts) → string-term (node l ts) ≡ true → Strung l ts
+  unfolding string-term
+  strung {l} {ts} h e =
+      let o = some-told (as-string (l .0) (meanings ts)) e in
+      let i = as-inverse (l .0) (meanings ts) (o .0) (o .1) in
+      let k : count (meanings ts) ≡ count ts = count-meanings ts in
+      let f = few-parts h in
+      record {
+        characters = o .0;
+        are = small-is (count (meanings ts)) (all-small (meanings ts)) (o .0) (i .1);
+        bytes = ap (λ (x : Label). canonical (node x (meanings ts))) (i .0)
+            ∙ canonical-string (meanings ts) (o .0) (i .1) (omega arith)
+            ∙ ap (λ (n : ℕ). 107 ∷ (in-bytes 2 n ++ o .0)) k;
+      }
+
+  -- of one that is written part by part
+  pub unstrung : {l : Label × Place} {ts : Terms} → Held m places lengths T row (node l ts) → string-term (node l ts) ≡ false
+      → canonical (node (l .0) (meanings ts))
+      ≡ before-in m places lengths (getD T row 0) ++ (canonicals (meanings ts) ++ after-in m places lengths (getD T row 0))
+  unfolding string-term kind-of
+  unstrung {l} {ts} h e =
+      let w : ℕ = getD T row 0 in
+      let no : as-string (l .0) (meanings ts) ≡ none = none-told (as-string (l .0) (meanings ts)) e in
+      let n : count (meanings ts) ≡ parts-in w = count-meanings ts ∙ sym (held-count h) in
+      let x : l .0 ≡ label-in m places lengths w = sym (held-label h) in
+      canonical-parts (l .0) (meanings ts) (held-writable h .fits) (λ f. sym (as-list (l .0) (meanings ts) (ap kind-of f)) ∙ no)
+      ∙ ap₂ (λ (y : Label) (k : ℕ). before y k ++ (canonicals (meanings ts) ++ after y k)) x n
+
+  -- ---- lengths
+
+  pub string-length : (n : ℕ) → n ≡ parts-in (getD T row 0) → (t : Located) → Held m places lengths T row t → string-term t ≡ true
+      → (n + 3 ≡ length (canonical (meaning t))) × (n + 3 ≤ 524288 * size t)
+  string-length n e (node l ts) h s =
+      let g = strung h s in
+      let c : count ts ≡ n = sym (held-count h) ∙ sym e in
+      let k : length (g .characters) ≡ count (meanings ts) = all-small-length (meanings ts) (g .characters) (g .are) in
+      let j : count (meanings ts) ≡ count ts = count-meanings ts in
+      let b : length (in-bytes 2 (count ts)) ≡ 2 = length-in-bytes 2 (count ts) in
+      let a = length-append (in-bytes 2 (count ts)) (g .characters) in
+      let d : length (canonical (node (l .0) (meanings ts))) ≡ suc (length (in-bytes 2 (count ts) ++ g .characters)) = ap length (g .bytes) in
+      let f = few-parts h in
+      let q : count ts ≤ sizes ts = count-le-sizes ts in
+      (omega arith, omega arith)
+
+  pub parts-length : (n own inner : ℕ) → n ≡ parts-in (getD T row 0)
+      → own ≡ length (before-in m places lengths (getD T row 0)) + length (after-in m places lengths (getD T row 0)) → own ≤ 262192
+      → Run-length m places lengths T (row + 1) canonicals n inner
+      → (t : Located) → Held m places lengths T row t → string-term t ≡ false
+      → (own + inner ≡ length (canonical (meaning t))) × (own + inner ≤ 524288 * size t)
+  parts-length n own inner e o b r (node l ts) h s =
+      let c : count ts ≡ n = sym (held-count h) ∙ sym e in
+      let i = r ts (held-parts h) c in
+      let w : ℕ = getD T row 0 in
+      let x : List ℕ = before-in m places lengths w in
+      let y : List ℕ = canonicals (meanings ts) in
+      let z : List ℕ = after-in m places lengths w in
+      let d : length (canonical (node (l .0) (meanings ts))) ≡ length (x ++ (y ++ z)) = ap length (unstrung h s) in
+      let f = length-append x (y ++ z) in
+      let g = length-append y z in
+      (omega arith, omega arith)
+
+  pub few-rows : (t : Located) → Held m places lengths T row t → size t ≤ 8192
+  few-rows t h = let f : row + size t ≤ 8192 = h .few in omega arith
+
+  -- ---- writing
+
+  pub parts-put : {O P Q R : List ℕ} {at first end r n : ℕ} → n ≡ parts-in (getD T row 0)
+      → Put O at (before-in m places lengths (getD T row 0)) first P
+      → Run-put m places lengths T (row + 1) canonicals n P first end Q
+      → Put Q end (after-in m places lengths (getD T row 0)) r R
+      → (t : Located) → Held m places lengths T row t → string-term t ≡ false → Put O at (canonical (meaning t)) r R
+  parts-put e p q a (node l ts) h s =
+      let c = sym (held-count h) ∙ sym e in
+      put-same (sym (unstrung h s)) (put-then p (put-then (q ts (held-parts h) c) a))
+
+  pub string-written : {O P : List ℕ} {at r n : ℕ} → n ≡ parts-in (getD T row 0) → String-put m places lengths T (row + 1) n O at r P
+      → (t : Located) → Held m places lengths T row t → string-term t ≡ true → Put O at (canonical (meaning t)) r P
+  string-written {n = n} e p (node l ts) h s =
+      let g = strung h s in
+      let c : count ts ≡ n = sym (held-count h) ∙ sym e in
+      put-same (sym (g .bytes ∙ ap (λ (k : ℕ). 107 ∷ (in-bytes 2 k ++ g .characters)) c)) (p ts (g .characters) (held-parts h) c (g .are))
+
+  pub string-needs : (n room at : ℕ) → n ≡ parts-in (getD T row 0) → (t : Located) → Held m places lengths T row t → string-term t ≡ true
+      → at + length (canonical (meaning t)) ≤ room → Some-small m places lengths T (row + 1) n × (at + (n + 3) ≤ room) × (n < 65536)
+  string-needs n room at e (node l ts) h s fit =
+      let g = strung h s in
+      let c : count ts ≡ n = sym (held-count h) ∙ sym e in
+      let k = string-length n e (node l ts) h s .0 in
+      let f = few-parts h in
+      (record { small-terms = ts; small-held = held-parts h; small-counted = c; characters = g .characters; are-small = g .are }, omega arith, omega arith)
+
+  pub before-room : (room at : ℕ) → (t : Located) → Held m places lengths T row t → string-term t ≡ false → at + length (canonical (meaning t)) ≤ room
+      → at + length (before-in m places lengths (getD T row 0)) ≤ room
+  before-room room at (node l ts) h s fit =
+      let w : ℕ = getD T row 0 in
+      let x : List ℕ = before-in m places lengths w in
+      let y : List ℕ = canonicals (meanings ts) in
+      let z : List ℕ = after-in m places lengths w in
+      let d : length (canonical (node (l .0) (meanings ts))) ≡ length (x ++ (y ++ z)) = ap length (unstrung h s) in
+      let f = length-append x (y ++ z) in
+      omega arith
+
+  pub run-room : {O P : List ℕ} (n at first : ℕ) → n ≡ parts-in (getD T row 0) → (t : Located) → Held m places lengths T row t → string-term t ≡ false
+      → at + length (canonical (meaning t)) ≤ length O → Put O at (before-in m places lengths (getD T row 0)) first P
+      → Run-fits m places lengths T (row + 1) canonicals n (length P) first
+  run-room {O} {P} n at first e (node l ts) h s fit p =
+      let w : ℕ = getD T row 0 in
+      let x : List ℕ = before-in m places lengths w in
+      let y : List ℕ = canonicals (meanings ts) in
+      let z : List ℕ = after-in m places lengths w in
+      let d : length (canonical (node (l .0) (meanings ts))) ≡ length (x ++ (y ++ z)) = ap length (unstrung h s) in
+      let f = length-append x (y ++ z) in
+      let g = length-append y z in
+      let k : length P ≡ length O = put-length p in
+      let b : first ≡ at + length x = p .past in
+      record { fit-terms = ts; fit-run = held-parts h; fit-count = sym (held-count h) ∙ sym e; fit-space = omega arith }
+
+  pub after-room : {O P Q : List ℕ} (n at first end : ℕ) → n ≡ parts-in (getD T row 0) → (t : Located) → Held m places lengths T row t → string-term t ≡ false
+      → at + length (canonical (meaning t)) ≤ length O → Put O at (before-in m places lengths (getD T row 0)) first P
+      → Run-put m places lengths T (row + 1) canonicals n P first end Q
+      → end + length (after-in m places lengths (getD T row 0)) ≤ length Q
+  after-room {O} {P} {Q} n at first end e (node l ts) h s fit p q =
+      let w : ℕ = getD T row 0 in
+      let x : List ℕ = before-in m places lengths w in
+      let y : List ℕ = canonicals (meanings ts) in
+      let z : List ℕ = after-in m places lengths w in
+      let d : length (canonical (node (l .0) (meanings ts))) ≡ length (x ++ (y ++ z)) = ap length (unstrung h s) in
+      let f = length-append x (y ++ z) in
+      let g = length-append y z in
+      let i = q ts (held-parts h) (sym (held-count h) ∙ sym e) in
+      let k : length P ≡ length O = put-length p in
+      let j : length Q ≡ length P = put-length i in
+      let b : first ≡ at + length x = p .past in
+      let c : end ≡ first + length y = i .past in
+      omega arith
+
+  pub term-sound : (t : Located) → Held m places lengths T row t → Sound-word m places lengths (getD T row 0)
+  term-sound (node l ts) h = held-sound h
+
+-- ---- runs
+
+no-terms : (ts : Terms) (n : ℕ) → count ts ≡ n → n ≤ 0 → ts ≡ Forest.none
+no-terms Forest.none n c z = refl
+no-terms (t ▹ ts) n c z = absurd (omega arith)
+
+nothing-there : length (canonicals (meanings Forest.none)) ≡ 0
+unfolding canonicals
+nothing-there = refl
+
+module _ (m places lengths T : List ℕ) where
+  pub record Length-left (ts : Terms) (next left sum : ℕ) : Type 0 where
+    pub rest : Terms
+    pub rest-held : Held-run m places lengths T next rest
+    pub rest-count : count rest ≡ left
+    pub total : length (canonicals (meanings ts)) ≡ sum + length (canonicals (meanings rest))
+    pub bound : sum + 524288 * sizes rest ≤ 524288 * sizes ts
+
+  -- `all` are the bytes of terms by `one`, one after the other
+  module _ (all : Forest Label → List ℕ) where
+    pub record Put-left (O : List ℕ) (at : ℕ) (ts : Terms) (next left : ℕ) (out : List ℕ) (end : ℕ) : Type 0 where
+      pub rest : Terms
+      pub rest-held : Held-run m places lengths T next rest
+      pub rest-count : count rest ≡ left
+      pub past : end + length (all (meanings rest)) ≡ at + length (all (meanings ts))
+      pub stored : sets out end (all (meanings rest)) ≡ sets O at (all (meanings ts))
+
+module _ {m places lengths T : List ℕ} where
+  pub length-start : (n row : ℕ) (ts : Terms) → Held-run m places lengths T row ts → count ts ≡ n → Length-left m places lengths T ts row n 0
+  length-start n row ts h c = record { rest = ts; rest-held = h; rest-count = c; total = omega arith; bound = omega arith }
+
+  pub length-step : {ts : Terms} {next left sum : ℕ} (s r : ℕ) → Length-left m places lengths T ts next left sum → 0 < left → s ≡ size-in (getD T next 0)
+      → Term-length m places lengths T next canonical r → Length-left m places lengths T ts (next + s) (left - 1) (sum + r)
+  unfolding canonicals
+  length-step {ts} {next} {left} {sum} s r g p e w =
+      let c : count (g .rest) ≡ left = g .rest-count in
+      let f = front next (g .rest) (g .rest-held) (omega arith) in
+      let u : Located = node (f .label) (f .parts) in
+      let i = w u (f .held) in
+      let d : s ≡ suc (sizes (f .parts)) = e ∙ held-size (f .held) in
+      let k : count (g .rest) ≡ suc (count (f .others)) = ap count (f .is) in
+      let z : sizes (g .rest) ≡ suc (sizes (f .parts)) + sizes (f .others) = ap sizes (f .is) in
+      let a : length (canonicals (meanings (g .rest))) ≡ length (canonical (meaning u) ++ canonicals (meanings (f .others)))
+      = ap (λ (x : Terms). length (canonicals (meanings x))) (f .is) in
+      let b = length-append (canonical (meaning u)) (canonicals (meanings (f .others))) in
+      let t = g .total in
+      let o = g .bound in
+      record { rest = f .others; rest-held = rw d (f .held-others); rest-count = omega arith; total = omega arith; bound = omega arith }
+
+  pub length-end : {ts : Terms} {next left sum : ℕ} → Length-left m places lengths T ts next left sum → left ≤ 0
+      → (sum ≡ length (canonicals (meanings ts))) × (sum ≤ 524288 * sizes ts)
+  length-end {ts} {next} {left} {sum} g z =
+      let n : g .rest ≡ Forest.none = no-terms (g .rest) left (g .rest-count) z in
+      let e : length (canonicals (meanings (g .rest))) ≡ 0 = rw n (nothing-there) in
+      let t = g .total in
+      let b = g .bound in
+      (omega arith, omega arith)
+
+  pub left-term : {next left : ℕ} (rest : Terms) → Held-run m places lengths T next rest → count rest ≡ left → 0 < left → Some-term m places lengths T next
+  left-term {next} {left} rest h c p =
+      let f = front next rest h (omega arith) in
+      record { term = node (f .label) (f .parts); held = f .held }
+
+  pub length-room : {ts : Terms} {next left sum row : ℕ} (r : ℕ) → Length-left m places lengths T ts next left sum → 0 < left → Held-run m places lengths T row ts
+      → Term-length m places lengths T next canonical r → sum + r ≤ 4294967296
+  length-room {ts} {next} {left} {sum} {row} r g p h w =
+      let c : count (g .rest) ≡ left = g .rest-count in
+      let f = front next (g .rest) (g .rest-held) (omega arith) in
+      let i = w (node (f .label) (f .parts)) (f .held) in
+      let z : sizes (g .rest) ≡ suc (sizes (f .parts)) + sizes (f .others) = ap sizes (f .is) in
+      let o = g .bound in
+      let q : row + sizes ts ≤ 8192 = h .run-few in
+      omega arith
+
+  pub left-below : {next left : ℕ} (rest : Terms) → Held-run m places lengths T next rest → count rest ≡ left → 0 < left → next < length T
+  left-below {next} {left} rest h c p = run-below next rest h (omega arith)
+
+  pub left-size : {next left : ℕ} (s : ℕ) (rest : Terms) → Held-run m places lengths T next rest → count rest ≡ left → 0 < left → s ≡ size-in (getD T next 0)
+      → (1 ≤ s) × (next + s ≤ 8192)
+  left-size {next} {left} s rest h c p e =
+      let f = front next rest h (omega arith) in
+      let d : s ≡ suc (sizes (f .parts)) = e ∙ held-size (f .held) in
+      let q : next + suc (sizes (f .parts)) ≤ 8192 = f .held .few in
+      (omega arith, omega arith)
+
+module _ {m places lengths T : List ℕ} (one : Term → List ℕ) (all : Forest Label → List ℕ)
+    (nil : all Forest.none ≡ []) (cons : (t : Term) (ts : Forest Label) → all (t ▹ ts) ≡ one t ++ all ts) where
+  pub put-start : (O : List ℕ) (at n row : ℕ) (ts : Terms) → Held-run m places lengths T row ts → count ts ≡ n → Put-left m places lengths T all O at ts row n O at
+  put-start O at n row ts h c = record { rest = ts; rest-held = h; rest-count = c; past = refl; stored = refl }
+
+  pub put-step : {O out next-out : List ℕ} {at next left end : ℕ} {ts : Terms} (s r : ℕ) → Put-left m places lengths T all O at ts next left out end → 0 < left
+      → s ≡ size-in (getD T next 0) → Term-put m places lengths T next one out end r next-out
+      → Put-left m places lengths T all O at ts (next + s) (left - 1) next-out r
+  put-step {O} {out} {next-out} {at} {next} {left} {end} {ts} s r g p e w =
+      let c : count (g .rest) ≡ left = g .rest-count in
+      let f = front next (g .rest) (g .rest-held) (omega arith) in
+      let u : Term = meaning (node (f .label) (f .parts)) in
+      let i = w (node (f .label) (f .parts)) (f .held) in
+      let d : s ≡ suc (sizes (f .parts)) = e ∙ held-size (f .held) in
+      let k : count (g .rest) ≡ suc (count (f .others)) = ap count (f .is) in
+      let a : all (meanings (g .rest)) ≡ one u ++ all (meanings (f .others)) = ap (λ (x : Terms). all (meanings x)) (f .is) ∙ cons u (meanings (f .others)) in
+      let b = length-append (one u) (all (meanings (f .others))) in
+      let q : length (all (meanings (g .rest))) ≡ length (one u ++ all (meanings (f .others))) = ap length a in
+      let t = g .past in
+      let y : r ≡ end + length (one u) = i .past in
+      record {
+        rest = f .others;
+        rest-held = rw d (f .held-others);
+        rest-count = omega arith;
+        past = omega arith;
+        stored = ap (λ (x : List ℕ). sets x r (all (meanings (f .others)))) (i .stored)
+            ∙ sets-at out end (one u) (all (meanings (f .others))) r (sym y)
+            ∙ ap (λ (x : List ℕ). sets out end x) (sym a)
+            ∙ g .stored;
+      }
+
+  pub put-end : {O out : List ℕ} {at next left end : ℕ} {ts : Terms} → Put-left m places lengths T all O at ts next left out end → left ≤ 0
+      → Put O at (all (meanings ts)) end out
+  put-end {O} {out} {at} {next} {left} {end} {ts} g z =
+      let n : g .rest ≡ Forest.none = no-terms (g .rest) left (g .rest-count) z in
+      let e : all (meanings (g .rest)) ≡ [] = ap (λ (x : Terms). all (meanings x)) n ∙ nil in
+      let k : length (all (meanings (g .rest))) ≡ 0 = ap length e in
+      let t = g .past in
+      record { past = omega arith; stored = sym (ap (λ (x : List ℕ). sets out end x) e) ∙ g .stored }
+
+  pub put-fits : {O out : List ℕ} {at next left end : ℕ} {ts : Terms} → Put-left m places lengths T all O at ts next left out end → 0 < left
+      → at + length (all (meanings ts)) ≤ length O → length out ≡ length O → Term-fits m places lengths T next one (length out) end
+  put-fits {O} {out} {at} {next} {left} {end} {ts} g p fit e =
+      let c : count (g .rest) ≡ left = g .rest-count in
+      let f = front next (g .rest) (g .rest-held) (omega arith) in
+      let u : Term = meaning (node (f .label) (f .parts)) in
+      let a : all (meanings (g .rest)) ≡ one u ++ all (meanings (f .others)) = ap (λ (x : Terms). all (meanings x)) (f .is) ∙ cons u (meanings (f .others)) in
+      let b = length-append (one u) (all (meanings (f .others))) in
+      let q : length (all (meanings (g .rest))) ≡ length (one u ++ all (meanings (f .others))) = ap length a in
+      let t = g .past in
+      record { fit-term = node (f .label) (f .parts); fit-held = f .held; fit-room = omega arith }
+
+-- the two ways in which terms follow one another
+pub canonicals-none : canonicals Forest.none ≡ []
+unfolding canonicals
+canonicals-none = refl
+
+pub canonicals-more : (t : Term) (ts : Forest Label) → canonicals (t ▹ ts) ≡ canonical t ++ canonicals ts
+unfolding canonicals
+canonicals-more t ts = refl

@@ -1,0 +1,73 @@
+-- What a content found for a term that was read keeps to, so that it can be written.
+use mathlib.Core.Path.{_≡_}
+use mathlib.Core.Bool.{Bool, true, false}
+use mathlib.Core.List.{List, []}
+use mathlib.Core.Option.{Option, none, some}
+use Prim.Native.Nat.{ℕ, _+_, _*_, _-_, _≤_, _<_}
+use lib.ListN.{length, getD}
+use Rattle.format.specs.Text.{utf-8, check, encodes}
+use Rattle.format.specs.Term.{Label}
+use Rattle.format.specs.AtomList.{AtomList}
+use Rattle.format.specs.Rows.{kind-in, offset-in, parts-in}
+use Rattle.contents.specs.Found.{content-of}
+use Rattle.contents.specs.Meaning.{characters-of, label-of}
+use Rattle.contents.specs.declared.Content.{Content}
+use Rattle.contents.specs.declared.Content.the-variants.{Nothing, Whole, Big, Float, Text, Bytes, Bits, Pid, Port, Reference}
+use Rattle.layout.specs.Layout.{source, stretch, Inside}
+use Rattle.fields.specs.Shape.{before, after}
+
+-- a text in UTF-8 is the spelling of its characters
+pub record Spelt (bs : List ℕ) : Type 0 where
+  pub spelt : encodes (characters-of (check utf-8 bs)) ≡ bs
+
+-- more than 8 digits, the highest not zero
+pub record High (m : List ℕ) (start n : ℕ) : Type 0 where
+  pub there : Inside m start n
+  pub many : 8 < n
+  pub high : 0 < getD m (start + (n - 1)) 0
+
+abbrev pub Sound-text : List ℕ → List ℕ → Bool → Bool → ℕ → ℕ → Type 0
+Sound-text m places latin1 listed start n = Inside (source listed m places) start n × (latin1 ≡ false → Spelt (stretch (source listed m places) start n))
+
+-- every element is a byte
+abbrev pub Bytes-only : List ℕ → Type 0
+Bytes-only m = (i : ℕ) → getD m i 0 < 256
+
+unfoldable pub Sound : List ℕ → List ℕ → Content → Type 0
+Sound m places Nothing = Unit {0}
+Sound m places (Whole negative n) = negative ≡ true → 0 < n
+Sound m places (Big negative start n) = High m start n
+Sound m places (Float bits) = Unit {0}
+Sound m places (Text latin1 listed start n) = Sound-text m places latin1 listed start n
+Sound m places (Bytes start n) = Inside m start n
+Sound m places (Bits bits start n) = Inside m start n × (1 ≤ n)
+Sound m places (Pid id serial creation) = Unit {0}
+Sound m places (Port id creation) = Unit {0}
+Sound m places (Reference creation start n) = Inside m start (4 * n)
+
+-- a list of which only the places count
+abbrev pub listed-in : List ℕ → AtomList
+listed-in places = record { n = 0; places = places; lengths = [] }
+
+-- the content that a row's word points at, and what it says
+abbrev pub content-in : List ℕ → List ℕ → List ℕ → ℕ → Content
+content-in m places lengths w = content-of m places lengths (kind-in w) (offset-in w)
+
+abbrev pub label-in : List ℕ → List ℕ → List ℕ → ℕ → Label
+label-in m places lengths w = label-of m (listed-in places) (kind-in w) (content-in m places lengths w)
+
+abbrev pub before-in : List ℕ → List ℕ → List ℕ → ℕ → List ℕ
+before-in m places lengths w = before (label-in m places lengths w) (parts-in w)
+
+abbrev pub after-in : List ℕ → List ℕ → List ℕ → ℕ → List ℕ
+after-in m places lengths w = after (label-in m places lengths w) (parts-in w)
+
+-- a row's word that points at what can be written; an improper list has parts
+pub record Sound-word (m places lengths : List ℕ) (w : ℕ) : Type 0 where
+  pub sound : Sound m places (content-in m places lengths w)
+  pub some-parts : kind-in w ≡ 6 → 0 < parts-in w
+
+-- an integer 0 .. 255 as it is, 256 for any other term
+unfoldable pub character-code : Option ℕ → ℕ
+character-code none = 256
+character-code (some n) = n
