@@ -15,10 +15,11 @@ use Rattle.format.specs.Message.{payload, ending, version, standalone-term, pay
 use Rattle.format.specs.Canonical.{big-bytes, integer-bytes, atom-bytes, tuple-bytes, port-bytes, words-bytes, small, all-small, long-list, list-bytes, term-bytes, canonical, canonical-standalone, standalones}
 use Rattle.format.specs.Writing.{written, write}
 use Rattle.format.proofs.Cases.{empty-list}
-use Rattle.packets.specs.Memory.{Pending, Memory, cache-of-size, memory-of-size, record-true, none-pending, empty-cache, text-if, held-as, held, text}
+use Rattle.packets.specs.declared.Pending.{Pending}
+use Rattle.packets.specs.Memory.{Memory, cache-of-size, memory-of-size, record-true, none-pending, empty-cache, text-if, held-as, held, text}
 use Rattle.packets.specs.Header.{flag-bytes, half, is-new, place-at, length-width, named, filled, held-or, new-reference, cached-reference, reference, references, header}
 use Rattle.packets.specs.Packet.{ids, kind-of, opening, payload-after, rest, packet, judged}
-use Rattle.packets.specs.Calls.{zeros-to, enter, entered, texts-in-places, lengths-of, list-of, record-after, told-after, told, left-by, Taken, payload-at, pending-still, complete, take-packet, after-packet}
+use Rattle.packets.specs.Calls.{zeros-to, enter, entered, texts-in-places, lengths-of, list-of, record-after, told-after, told, left-by, Outcome, payload-at, pending-still, complete, take-packet, after-packet}
 
 -- an empty cache, lists and a gather buffer of zeros, no sequence pending
 abbrev pub fresh : Memory
@@ -32,7 +33,7 @@ fresh =
     }
 
 -- what a packet answers with a memory, in UTF-8, and what it leaves
-unfoldable pub answer : Memory → List ℕ → Answer Taken
+unfoldable pub answer : Memory → List ℕ → Answer Outcome
 unfolding big-endian holds lines first emit decode check encode encodes bytes number text-or version of-size cache-of-size memory-of-size record-true empty-cache text-if held-as held flag-bytes half is-new place-at length-width named filled held-or new-reference cached-reference reference references header ids kind-of opening payload-after rest packet judged zeros-to enter entered texts-in-places lengths-of list-of record-after told-after told left-by take-packet after-packet
 answer m bs = take-packet utf-8 m bs
 
@@ -66,13 +67,13 @@ filling =
 -- what is seen of the example: the three answers; at its end the bytes gathered, the texts of the pending list, the record,
 -- and what the writer answers for the payload with that list
 pub record Seen : Type 0 where
-  pub answers : List (Answer Taken)
+  pub answers : List (Answer Outcome)
   pub gathered : List ℕ
   pub texts : List (List ℕ)
   pub record-then : Pending
   pub terms : Answer (List ℕ)
 
-abbrev seen-of : Answer Taken → Answer Taken → Answer Taken → Memory → Seen
+abbrev seen-of : Answer Outcome → Answer Outcome → Answer Outcome → Memory → Seen
 seen-of a b c m =
     record {
       answers = a ∷ b ∷ c ∷ [];

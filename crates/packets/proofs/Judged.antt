@@ -12,7 +12,8 @@ use Rattle.format.specs.Answer.{Answer, good, refused, Position, Reading}
 use Rattle.format.specs.Message.{version, found}
 use Rattle.format.proofs.Text.{Under, Characters, utf8-encodes, check-characters}
 use Rattle.format.proofs.Holds.{Holds, Fine, bind, done-holds, refused-holds, rule-holds, text-holds, byte-holds, bytes-holds, number-holds, next, weaken}
-use Rattle.packets.specs.Memory.{Cache, Pending, Memory, Held, nothing, no-text, text, text-if, held-as, held, memory-of-size, record-true}
+use Rattle.packets.specs.declared.Pending.{Pending}
+use Rattle.packets.specs.Memory.{Cache, Memory, Held, nothing, no-text, text, text-if, held-as, held, memory-of-size, record-true}
 use Rattle.packets.specs.Header.{Reference, half, is-new, place-at, named, filled, held-or, new-reference, cached-reference, reference, references, header}
 use Rattle.packets.specs.Packet.{Kind, normal, starting, continuing, ids, kind-of, opening, Packet, plain, start, continuation, payload-after, rest, packet, judged}
 

@@ -5,7 +5,8 @@ use mathlib.Core.List.{List, [], _∷_}
 use Prim.Native.Nat.{ℕ, zero, suc}
 use lib.ListN.{getD, replicate}
 use Rattle.format.specs.Answer.{Answer, good, refused}
-use Rattle.packets.specs.Memory.{Cache, Pending, Memory, cache-of-size, empty-cache, none-pending, nothing, held-as, held}
+use Rattle.packets.specs.declared.Pending.{Pending}
+use Rattle.packets.specs.Memory.{Cache, Memory, cache-of-size, empty-cache, none-pending, nothing, held-as, held}
 use Rattle.packets.specs.Packet.{Packet, plain, start, continuation, judged}
 use Rattle.packets.specs.Calls.{left-by, left-after, after-packet, reset, kept}
 use Rattle.packets.specs.Runs.{Call, taking, dropping, resetting, after-call, after-calls, brought, filled-in-turn, holding-of, emptied, holding-after, holding-after-all}

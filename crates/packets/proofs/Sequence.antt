@@ -13,7 +13,8 @@ use Rattle.format.specs.Text.{Coding}
 use Rattle.format.specs.Answer.{Answer, good, refused}
 use Rattle.format.specs.AtomList.{AtomList}
 use Rattle.format.proofs.Text.{Under}
-use Rattle.packets.specs.Memory.{Memory, Pending, none-pending}
+use Rattle.packets.specs.declared.Pending.{Pending}
+use Rattle.packets.specs.Memory.{Memory, none-pending}
 use Rattle.packets.specs.Header.{Reference}
 use Rattle.packets.specs.Packet.{Packet, plain, start, continuation, judged}
 use Rattle.packets.specs.Calls.{list-of, record-after, left-by, left-after, after-packet, told, told-after, complete, pending-still, take-packet, taken}

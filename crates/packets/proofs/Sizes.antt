@@ -12,7 +12,8 @@ use Rattle.format.specs.Text.{Coding}
 use Rattle.format.specs.Answer.{Answer, good, refused}
 use Rattle.format.specs.AtomList.{of-size}
 use Rattle.format.proofs.Text.{Under}
-use Rattle.packets.specs.Memory.{Cache, Pending, Memory, cache-of-size, memory-of-size, empty-cache, none-pending}
+use Rattle.packets.specs.declared.Pending.{Pending}
+use Rattle.packets.specs.Memory.{Cache, Memory, cache-of-size, memory-of-size, empty-cache, none-pending}
 use Rattle.packets.specs.Header.{Reference}
 use Rattle.packets.specs.Packet.{Packet, plain, start, continuation, judged}
 use Rattle.packets.specs.Calls.{zeros-to, texts-in-places, lengths-of, list-of, left-by, left-after, after-packet, reset, kept}

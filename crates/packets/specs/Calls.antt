@@ -8,15 +8,16 @@ use lib.Seq.{sets}
 use Rattle.format.specs.Text.{Coding}
 use Rattle.format.specs.Answer.{Answer, good, refused}
 use Rattle.format.specs.AtomList.{AtomList}
-use Rattle.packets.specs.Memory.{Cache, Pending, Memory, cache-of-size, record-true, none-pending, empty-cache}
+use Rattle.packets.specs.declared.Pending.{Pending}
+use Rattle.packets.specs.Memory.{Cache, Memory, cache-of-size, record-true, none-pending, empty-cache}
 use Rattle.packets.specs.Header.{Reference}
 use Rattle.packets.specs.Packet.{Packet, plain, start, continuation, judged}
 
--- filled up with zeros to this size
+-- bytes after a text are zero: filled up with zeros to this size
 unfoldable pub zeros-to : ℕ → List ℕ → List ℕ
 zeros-to size bs = bs ++ replicate (size - length bs) 0
 
--- a new reference's place holds its text; in a place written, bytes after a text are zero
+-- A new reference's place holds its text. In a place written, bytes after a text are zero
 unfoldable pub enter : Cache → Reference → Cache
 enter c r =
     elim (r .new) [
@@ -32,11 +33,12 @@ unfoldable pub entered : Cache → List Reference → Cache
 entered c [] = c
 entered c (r ∷ rs) = entered (enter c r) rs
 
--- texts one after the other, each in 32 bytes; their lengths
+-- a list's places: texts one after the other, each in 32 bytes
 unfoldable pub texts-in-places : List Reference → List ℕ
 texts-in-places [] = []
 texts-in-places (r ∷ rs) = zeros-to 32 (r .text) ++ texts-in-places rs
 
+-- a list's lengths
 unfoldable pub lengths-of : List Reference → List ℕ
 lengths-of [] = []
 lengths-of (r ∷ rs) = length (r .text) ∷ lengths-of rs
@@ -52,20 +54,21 @@ list-of rs =
 
 -- What a call on an accepted packet answers. Plain: the payload's offset and length in the packet. Pending: the id now due,
 -- the bytes gathered. Complete: the bytes gathered
-pub data Taken : Type 0 where
-  payload-at pending-still : ℕ → ℕ → Taken
-  complete : ℕ → Taken
+pub data Outcome : Type 0 where
+  payload-at pending-still : ℕ → ℕ → Outcome
+  complete : ℕ → Outcome
 
 -- Ids run from the total down to 1: after the fragment with id 1 the sequence is complete, and finishing zeroes the record
 unfoldable pub record-after : ℕ → ℕ → ℕ → Pending
 record-after sequence fragment gathered =
     cond (eqb fragment 1) none-pending (record { sequence = sequence; due = fragment - 1; gathered = gathered })
 
-unfoldable pub told-after : ℕ → ℕ → Taken
+-- What a fragment with this id answers, with so many bytes gathered
+unfoldable pub told-after : ℕ → ℕ → Outcome
 told-after fragment gathered = cond (eqb fragment 1) (complete gathered) (pending-still (fragment - 1) gathered)
 
 -- what an accepted packet answers
-unfoldable pub told : Memory → Packet → Taken
+unfoldable pub told : Memory → Packet → Outcome
 told m (plain rs at bs) = payload-at at (length bs)
 told m (start sequence fragment rs bs) = told-after fragment (length bs)
 told m (continuation sequence fragment bs) = told-after fragment (m .pending .gathered + length bs)
@@ -97,19 +100,21 @@ left-by m (continuation sequence fragment bs) =
       gather = sets (m .gather) (m .pending .gathered) bs;
     }
 
--- every refusal leaves all lent memory unchanged
-abbrev pub taken : Memory → Answer Packet → Answer Taken
+-- what a packet judged so answers
+abbrev pub taken : Memory → Answer Packet → Answer Outcome
 taken m (good p) = good (told m p)
 taken m (refused number place) = refused number place
 
+-- every refusal leaves all lent memory unchanged
 abbrev pub left-after : Memory → Answer Packet → Memory
 left-after m (good p) = left-by m p
 left-after m (refused number place) = m
 
--- taking a packet: the answer, and the memory after
-unfoldable pub take-packet : Coding → Memory → List ℕ → Answer Taken
+-- what taking a packet answers
+unfoldable pub take-packet : Coding → Memory → List ℕ → Answer Outcome
 take-packet agreed m bs = taken m (judged agreed m bs)
 
+-- all lent memory after taking a packet
 unfoldable pub after-packet : Coding → Memory → List ℕ → Memory
 after-packet agreed m bs = left-after m (judged agreed m bs)
 
@@ -118,7 +123,7 @@ abbrev pub kept : {A : Type 0} → A → Answer A → A
 kept old (good new) = new
 kept old (refused number place) = old
 
--- Dropping the pending sequence: 14, 25. It touches the record alone, which is then zero
+-- A drop gives 14, 25. It touches the record alone, which is then zero
 unfoldable pub drop-sequence : Pending → Answer Pending
 drop-sequence r = cond (record-true r) (cond (eqb (r .due) 0) (refused 25 0) (good none-pending)) (refused 14 0)
 

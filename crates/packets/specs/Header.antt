@@ -35,16 +35,17 @@ place-at h internal = 256 * (h % 8) + internal
 unfoldable pub length-width : ℕ → ℕ
 length-width spare = 1 + spare % 2
 
--- does one of these references name the place? does one fill it new?
+-- Refusal 22: does one of these references name the place?
 unfoldable pub named : ℕ → List Reference → Bool
 named p [] = false
 named p (r ∷ rs) = eqb (r .place) p || named p rs
 
+-- Refusal 22: does one of them fill it new?
 unfoldable pub filled : ℕ → List Reference → Bool
 filled p [] = false
 filled p (r ∷ rs) = (r .new && eqb (r .place) p) || filled p rs
 
--- 21: cached place empty; 14: lent state false
+-- Refusal 21: cached place empty. Refusal 14: lent state false
 unfoldable pub held-or : ℕ → Held → Reading (List ℕ)
 held-or i nothing = refuse 21 i
 held-or i no-text = refuse 14 i
@@ -70,7 +71,7 @@ module _ (agreed : Coding) (holding : ℕ → Held) where
     bs ← held-or i (holding place)
     done (record { place = place; new = false; text = bs })
 
-  -- reference i, with the half h, after the earlier ones
+  -- Reference i, with the half h, after the earlier ones: its internal index, then what its top bit says
   unfoldable pub reference : ℕ → List Reference → ℕ → ℕ → Reading Reference
   reference width earlier i h = do
     internal ← byte i
@@ -79,7 +80,7 @@ module _ (agreed : Coding) (holding : ℕ → Held) where
       | false ↦ cached-reference earlier i (place-at h internal)
     ]
 
-  -- the references from number i on, that many
+  -- Order: each reference in turn. The references from number i on, so many more, after the earlier ones
   unfoldable pub references : List ℕ → ℕ → List Reference → ℕ → ℕ → Reading (List Reference)
   references flags width earlier i zero = done []
   references flags width earlier i (suc more) = do
