@@ -1,0 +1,155 @@
+-- The ways through a character, and over the characters of a text.
+use mathlib.Core.Path.{_≡_, refl, sym, _∙_, ap}
+use mathlib.Core.Bool.{true, false}
+use mathlib.Core.List.{List, [], _∷_}
+use mathlib.Core.Option.{none, some}
+use Prim.Native.Nat.{ℕ, zero, suc, _+_, _-_, _≤_, _<_}
+use native.Mathlib.Numerals.{add-one}
+use native.Mathlib.Omega.{arith}
+use lib.ListN.{length, getD, drop, drop-of-length-le}
+use lib.Seq.{drop-cons}
+use Rattle.format.specs.Text as text
+use Rattle.format.specs.Text.{Range, _to_, holds, Line, line, lines, begun, first, valid, invalid-at, emit, decode, utf-8, check}
+use Rattle.format.proofs.Text.{decode-first, between, pending}
+use Rattle.text.specs.Shown.{shown}
+use Rattle.text.specs.Characters.{more, text-from, onward, Within, due, Completes, CharacterAt}
+use Rattle.text.specs.declared.Checked.{Checked}
+use Rattle.text.specs.declared.Checked.the-variants.{Characters, Bad}
+use Rattle.text.specs.declared.Character.{Character}
+use Rattle.text.specs.declared.Character.the-variants.{Ends, Fails}
+
+-- a character that is put down is one more
+put-down : (v : ℕ) (o : text.Checked) → shown (emit (begun v []) o) ≡ more 1 (shown o)
+unfolding shown emit more
+put-down v (valid cs) = ap Characters (omega arith)
+put-down v (invalid-at k) = refl
+
+more-none : (c : Checked) → c ≡ more 0 c
+unfolding more
+more-none (Characters n) = ap Characters (omega arith)
+more-none (Bad k) = refl
+
+more-one : (n : ℕ) (c : Checked) → more n (more 1 c) ≡ more (n + 1) c
+unfolding more
+more-one n (Characters m) = ap Characters (omega arith)
+more-one n (Bad k) = refl
+
+module _ (s : List ℕ) where
+  byte-at : (at : ℕ) → at < length s → drop at s ≡ getD s at 0 ∷ drop (at + 1) s
+  byte-at at h = drop-cons s at 0 h ∙ ap (λ (k : ℕ). getD s at 0 ∷ drop k s) (sym (add-one at))
+
+  -- the bytes due: all had, cut off, in their range or not
+  pub completes-none : (lead at : ℕ) → at ≤ length s → Completes s lead at [] (Ends at)
+  unfolding onward text-from Within
+  completes-none lead at h = record {
+    text-is = λ room v. put-down v _ ∙ ap (λ (o : text.Checked). more 1 (shown o)) (between room lead 0 at v 0 (drop at s));
+    inside = (omega arith, h);
+  }
+
+  module _ (lead at : ℕ) (r : Range) (rs : List Range) where
+    pub completes-cut : length s ≤ at → Completes s lead at (r ∷ rs) (Fails lead)
+    unfolding onward Within decode emit shown
+    completes-cut h = record { text-is = λ room v. rw (drop-of-length-le s h, decode, emit, shown); inside = tt }
+
+    pub completes-bad : at < length s → holds r (getD s at 0) ≡ false → Completes s lead at (r ∷ rs) (Fails at)
+    unfolding onward Within decode emit shown
+    completes-bad h e = record { text-is = λ room v. rw (byte-at at h, e, decode, emit, shown); inside = tt }
+
+    pub completes-more : (c : Character) → at < length s → holds r (getD s at 0) ≡ true → Completes s lead (at + 1) rs c → Completes s lead at (r ∷ rs) c
+    unfolding decode Within
+    completes-more c h e m = record {
+      text-is = λ room v. ap shown (pending v r rs _) ∙ rw (byte-at at h, e, decode) (m .text-is room _);
+      inside = further c (m .inside);
+    }
+      where
+        further : (c : Character) → Within s (at + 1) c → Within s at c
+        further (Ends k) w = (omega arith, w .1)
+        further (Fails k) w = tt
+
+  -- the same of n bytes, by count
+  module _ (lead at n : ℕ) (r : Range) where
+    pub due-none : n ≡ 0 → at ≤ length s → Completes s lead at (due n r) (Ends at)
+    unfolding due
+    due-none e h = rw (e, due) (completes-none lead at h)
+
+    module _ (some-due : 0 < n) where
+      next-due : due n r ≡ r ∷ due (n - 1) (0x80 to 0xBF)
+      unfolding due
+      next-due = go n some-due
+        where
+          go : (n : ℕ) → 0 < n → due n r ≡ r ∷ due (n - 1) (0x80 to 0xBF)
+          go zero h = absurd (omega arith)
+          go (suc n) h = let less : n ≡ suc n - 1 = omega arith in ap (λ (k : ℕ). r ∷ due k (0x80 to 0xBF)) less
+
+      pub due-cut : length s ≤ at → Completes s lead at (due n r) (Fails lead)
+      due-cut h = rw next-due (completes-cut lead at r _ h)
+
+      pub due-bad : at < length s → holds r (getD s at 0) ≡ false → Completes s lead at (due n r) (Fails at)
+      due-bad h e = rw next-due (completes-bad lead at r _ h e)
+
+      pub due-more : (c : Character) → at < length s → holds r (getD s at 0) ≡ true → Completes s lead (at + 1) (due (n - 1) (0x80 to 0xBF)) c
+          → Completes s lead at (due n r) c
+      due-more c h e m = rw next-due (completes-more lead at r _ c h e m)
+
+  -- a first byte that is in a line, or in none
+  module _ (at : ℕ) (h : at < length s) where
+    pub character-of : (v : ℕ) (rs : List Range) (c : Character) → first (getD s at 0) lines ≡ some (begun v rs) → Completes s at (at + 1) rs c → CharacterAt s at c
+    unfolding text-from
+    character-of v rs c e m = record {
+      text-is = λ room. rw (byte-at at h) (ap shown (decode-first room 0 at 0 (begun v rs) _ _ e) ∙ m .text-is room v);
+      inside = m .inside;
+    }
+
+    pub character-none : first (getD s at 0) lines ≡ none → CharacterAt s at (Fails at)
+    unfolding text-from onward Within decode shown
+    character-none e = record { text-is = λ room. rw (byte-at at h, e, decode, shown); inside = tt }
+
+-- a byte in a line of the table, and past it
+module _ (b off : ℕ) (r : Range) (rs : List Range) (ls : List Line) where
+  pub here : holds r b ≡ true → first b (line r off rs ∷ ls) ≡ some (begun (b - off) rs)
+  unfolding first
+  here e = rw (e, first)
+
+  pub past : holds r b ≡ false → first b (line r off rs ∷ ls) ≡ first b ls
+  unfolding first
+  past e = rw (e, first)
+
+pub no-line : (b : ℕ) → first b [] ≡ none
+unfolding first
+no-line b = refl
+
+-- Over the characters: `count` of them stand before offset `at`.
+abbrev pub Counted : List ℕ → ℕ → ℕ → Type 0
+Counted s count at = shown (check utf-8 s) ≡ more count (text-from s (255 - count) at)
+
+module _ (s : List ℕ) where
+  pub counted-none : Counted s 0 0
+  unfolding check text-from
+  counted-none = more-none (shown (decode 255 0 0 (begun 0 []) s))
+
+  module _ (count at : ℕ) (so-far : Counted s count at) where
+    pub counted-all : length s ≤ at → Characters count ≡ shown (check utf-8 s)
+    unfolding text-from decode shown more
+    counted-all h = sym (so-far ∙ rw (drop-of-length-le s h, decode, shown, more) (ap Characters (omega arith)))
+
+    pub counted-full : at < length s → count ≡ 255 → Bad at ≡ shown (check utf-8 s)
+    unfolding text-from decode shown more
+    counted-full h e = sym (so-far ∙ rw (e, byte-at s at h, decode, shown, more))
+
+    module _ (few : count ≤ 255) (not-full : count ≡ 255 → ⊥) where
+      room : 255 - count ≡ suc (254 - count)
+      room = omega arith
+
+      pub counted-bad : (place : ℕ) → CharacterAt s at (Fails place) → Bad place ≡ shown (check utf-8 s)
+      unfolding onward more
+      counted-bad place c = sym (so-far ∙ rw (room, c .text-is (254 - count)))
+
+      pub counted-more : (next : ℕ) → CharacterAt s at (Ends next) → Counted s (count + 1) next
+      unfolding onward
+      counted-more next c =
+          let less : 255 - (count + 1) ≡ 254 - count = omega arith in
+          so-far ∙ rw (room, c .text-is (254 - count), less) (more-one count (text-from s (254 - count) next))
+
+  pub ends-inside : (at next : ℕ) → CharacterAt s at (Ends next) → (at < next) × (next ≤ length s)
+  unfolding Within
+  ends-inside at next c = (omega (arith, c .inside), c .inside .1)

@@ -1,0 +1,45 @@
+-- One character of a text, as the code goes over it.
+use mathlib.Core.Path.{_≡_}
+use mathlib.Core.List.{List, [], _∷_}
+use Prim.Native.Nat.{ℕ, zero, suc, _+_, _≤_}
+use lib.ListN.{length, drop}
+use Rattle.format.specs.Text.{Range, _to_, begun, emit, decode}
+use Rattle.text.specs.Shown.{shown}
+use Rattle.text.specs.declared.Checked.{Checked}
+use Rattle.text.specs.declared.Checked.the-variants.{Characters, Bad}
+use Rattle.text.specs.declared.Character.{Character}
+use Rattle.text.specs.declared.Character.the-variants.{Ends, Fails}
+
+-- n characters more
+unfoldable pub more : ℕ → Checked → Checked
+more n (Characters m) = Characters (n + m)
+more n (Bad k) = Bad k
+
+-- the text from offset `at` on, where `room` more characters may begin
+unfoldable pub text-from : List ℕ → ℕ → ℕ → Checked
+text-from s room at = shown (decode room 0 at (begun 0 []) (drop at s))
+
+-- what a text comes to after a character
+unfoldable pub onward : List ℕ → ℕ → Character → Checked
+onward s room (Ends k) = more 1 (text-from s room k)
+onward s room (Fails k) = Bad k
+
+-- where it ends
+unfoldable pub Within : List ℕ → ℕ → Character → Type 0
+Within s at (Ends k) = (at ≤ k) × (k ≤ length s)
+Within s at (Fails k) = Unit {0}
+
+-- the ranges of n bytes, r that of the first
+unfoldable pub due : ℕ → Range → List Range
+due zero r = []
+due (suc n) r = r ∷ due n (0x80 to 0xBF)
+
+-- c is what becomes of the character that begins at `lead`, and whose bytes from `at` on are due in these ranges
+pub record Completes (s : List ℕ) (lead at : ℕ) (rs : List Range) (c : Character) : Type 0 where
+  pub text-is : (room v : ℕ) → shown (emit (begun v rs) (decode room lead at (begun v rs) (drop at s))) ≡ onward s room c
+  pub inside : Within s at c
+
+-- c is what becomes of the character that begins at `at`
+pub record CharacterAt (s : List ℕ) (at : ℕ) (c : Character) : Type 0 where
+  pub text-is : (room : ℕ) → text-from s (suc room) at ≡ onward s room c
+  pub inside : Within s (at + 1) c

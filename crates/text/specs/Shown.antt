@@ -1,0 +1,10 @@
+-- What the code answers for a text: the number of its characters, or the offset at which it fails.
+use lib.ListN.{length}
+use Rattle.format.specs.Text as text
+use Rattle.format.specs.Text.{valid, invalid-at}
+use Rattle.text.specs.declared.Checked.{Checked}
+use Rattle.text.specs.declared.Checked.the-variants.{Characters, Bad}
+
+unfoldable pub shown : text.Checked → Checked
+shown (valid cs) = Characters (length cs)
+shown (invalid-at k) = Bad k

@@ -1,0 +1,175 @@
+// Texts: whether bytes are a text in UTF-8 or Latin-1, and Latin-1 as UTF-8.
+ghost use mathlib.Core.Path.{_≡_};
+ghost use Prim.Native.Nat.{_+_, _*_, _≤_, _<_};
+ghost use lib.ListN.{length, take, drop};
+ghost use lib.Seq.{sets};
+ghost use Rattle.format.specs.Text.{_to_, holds, utf-8, latin-1, check, encode, encodes};
+ghost use Rattle.text.specs.Shown.{shown};
+ghost use Rattle.text.specs.Characters.{due, Completes, CharacterAt};
+
+// The number of a text's characters, or the offset at which it fails.
+pub enum Checked {
+    Characters(usize),
+    Bad(usize),
+}
+
+// The offset past a character, or the offset at which the text fails.
+enum Character {
+    Ends(usize),
+    Fails(usize),
+}
+
+// Whether `b` is one of `from` ..= `last`.
+fn within(b: u8, from: u8, last: u8) -> bool
+    ensures { λ r. ⌜ r ≡ holds (from to last) b ⌝ }
+{
+    if b < from {
+        return false;
+    }
+    b <= last
+}
+
+// The n bytes after a character's first byte, which stands at `lead`: the first of them in `from` ..= `last`, the others in 0x80 ..= 0xBF.
+fn tail(s: &[u8], lead: usize, n: usize, from: u8, last: u8) -> Character
+    requires { ⌜ (lead < length (now s)) × (n ≤ 3) ⌝ }
+    ensures { λ r. ⌜ Completes (now (s .entry)) lead (lead + 1) (due n (from to last)) r ⌝ }
+{
+    let mut at = lead + 1;
+    let mut left = n;
+    let mut low = from;
+    let mut high = last;
+    while 0 < left {
+        if s.len() <= at {
+            return Character::Fails(lead);
+        }
+        if !within(s[at], low, high) {
+            return Character::Fails(at);
+        }
+        at += 1;
+        left -= 1;
+        low = 0x80;
+        high = 0xBF;
+    }
+    Character::Ends(at)
+}
+
+// The character at `at`: RFC 3629, section 4, line by line.
+fn character_at(s: &[u8], at: usize) -> Character
+    requires { ⌜ at < length (now s) ⌝ }
+    ensures { λ r. ⌜ CharacterAt (now (s .entry)) at r ⌝ }
+{
+    let b = s[at];
+    if within(b, 0x00, 0x7F) {
+        return Character::Ends(at + 1);
+    }
+    if within(b, 0xC2, 0xDF) {
+        return tail(s, at, 1, 0x80, 0xBF);
+    }
+    if within(b, 0xE0, 0xE0) {
+        return tail(s, at, 2, 0xA0, 0xBF);
+    }
+    if within(b, 0xE1, 0xEC) {
+        return tail(s, at, 2, 0x80, 0xBF);
+    }
+    if within(b, 0xED, 0xED) {
+        return tail(s, at, 2, 0x80, 0x9F);
+    }
+    if within(b, 0xEE, 0xEF) {
+        return tail(s, at, 2, 0x80, 0xBF);
+    }
+    if within(b, 0xF0, 0xF0) {
+        return tail(s, at, 3, 0x90, 0xBF);
+    }
+    if within(b, 0xF1, 0xF3) {
+        return tail(s, at, 3, 0x80, 0xBF);
+    }
+    if within(b, 0xF4, 0xF4) {
+        return tail(s, at, 3, 0x80, 0x8F);
+    }
+    Character::Fails(at)
+}
+
+// Whether `s` is a text in UTF-8 of at most 255 characters.
+pub fn check_utf8(s: &[u8]) -> Checked
+    ensures { λ r. ⌜ r ≡ shown (check utf-8 (now (s .entry))) ⌝ }
+{
+    let mut at = 0;
+    let mut count = 0;
+    while at < s.len() {
+        if count == 255 {
+            return Checked::Bad(at);
+        }
+        match character_at(s, at) {
+            Character::Ends(next) => {
+                at = next;
+            }
+            Character::Fails(place) => {
+                return Checked::Bad(place);
+            }
+        }
+        count += 1;
+    }
+    Checked::Characters(count)
+}
+
+// Whether `s` is a text in Latin-1 of at most 255 characters.
+pub fn check_latin1(s: &[u8]) -> Checked
+    ensures { λ r. ⌜ r ≡ shown (check latin-1 (now (s .entry))) ⌝ }
+{
+    if 255 < s.len() {
+        return Checked::Bad(255);
+    }
+    Checked::Characters(s.len())
+}
+
+// The number of bytes that a Latin-1 character has in UTF-8.
+fn width(b: u8) -> usize
+    ensures { λ r. ⌜ (r ≡ length (encode b)) × (r ≤ 2) ⌝ }
+{
+    if b < 0x80 {
+        return 1;
+    }
+    2
+}
+
+// The number of bytes that the n Latin-1 characters from `at` on have in UTF-8.
+pub fn utf8_length(s: &[u8], at: usize, n: usize) -> usize
+    requires { ⌜ (at + n ≤ length (now s)) × (n ≤ 65536) ⌝ }
+    ensures { λ r. ⌜ (r ≡ length (encodes (take n (drop at (now (s .entry)))))) × (r ≤ 2 * n) ⌝ }
+{
+    let mut count = 0;
+    let mut i = 0;
+    while i < n {
+        count += width(s[at + i]);
+        i += 1;
+    }
+    count
+}
+
+// Writes a Latin-1 character in UTF-8 from `at` on; the offset past it.
+fn put_character(b: u8, dst: &mut [u8], at: usize) -> usize
+    requires { ⌜ at + length (encode b) ≤ length (now dst) ⌝ }
+    ensures { λ r. ⌜ (r ≡ at + length (encode b)) × (now (dst .exit) ≡ sets (now (dst .entry)) at (encode b)) ⌝ }
+{
+    if b < 0x80 {
+        dst[at] = b;
+        return at + 1;
+    }
+    dst[at] = 0xC0 + b / 64;
+    dst[at + 1] = 0x80 + b % 64;
+    at + 2
+}
+
+// Writes the n Latin-1 characters of `src` from `a` on in UTF-8 into `dst` from `b` on; the number of bytes.
+pub fn put_latin1(src: &[u8], a: usize, n: usize, dst: &mut [u8], b: usize) -> usize
+    requires { ⌜ (a + n ≤ length (now src)) × (n ≤ 65536) × (b + length (encodes (take n (drop a (now src)))) ≤ length (now dst)) ⌝ }
+    ensures { λ r. ⌜ (r ≡ length (encodes (take n (drop a (now (src .entry)))))) × (now (dst .exit) ≡ sets (now (dst .entry)) b (encodes (take n (drop a (now (src .entry)))))) ⌝ }
+{
+    let mut end = b;
+    let mut i = 0;
+    while i < n {
+        end = put_character(src[a + i], dst, end);
+        i += 1;
+    }
+    end - b
+}
