@@ -17,7 +17,7 @@ use Rattle.format.specs.Writing.{written, write}
 use Rattle.format.proofs.Cases.{empty-list}
 use Rattle.packets.specs.declared.Pending.{Pending}
 use Rattle.packets.specs.Memory.{Memory, cache-of-size, memory-of-size, record-true, none-pending, empty-cache, text-if, held-as, held, text}
-use Rattle.packets.specs.Header.{flag-bytes, half, is-new, place-at, length-width, named, filled, held-or, new-reference, cached-reference, reference, references, header}
+use Rattle.packets.specs.Header.{flag-bytes, half, is-new, place-at, length-width, named, filled, held-or, text-field, new-reference, cached-reference, reference, references, header}
 use Rattle.packets.specs.Packet.{ids, kind-of, opening, payload-after, rest, packet, judged}
 use Rattle.packets.specs.Calls.{zeros-to, enter, entered, texts-in-places, lengths-of, list-of, record-after, told-after, told, left-by, Outcome, payload-at, pending-still, complete, take-packet, after-packet}
 
@@ -34,7 +34,7 @@ fresh =
 
 -- what a packet answers with a memory, in UTF-8, and what it leaves
 unfoldable pub answer : Memory → List ℕ → Answer Outcome
-unfolding big-endian holds lines first emit decode check encode encodes bytes number text-or version of-size cache-of-size memory-of-size record-true empty-cache text-if held-as held flag-bytes half is-new place-at length-width named filled held-or new-reference cached-reference reference references header ids kind-of opening payload-after rest packet judged zeros-to enter entered texts-in-places lengths-of list-of record-after told-after told left-by take-packet after-packet
+unfolding big-endian holds lines first emit decode check encode encodes bytes number text-or version of-size cache-of-size memory-of-size record-true empty-cache text-if held-as held flag-bytes half is-new place-at length-width named filled held-or text-field new-reference cached-reference reference references header ids kind-of opening payload-after rest packet judged zeros-to enter entered texts-in-places lengths-of list-of record-after told-after told left-by take-packet after-packet
 answer m bs = take-packet utf-8 m bs
 
 unfoldable pub then : Memory → List ℕ → Memory
