@@ -1,1 +1,4 @@
 pub mod Standing
+pub mod Marks
+pub mod Texts
+pub mod Judging

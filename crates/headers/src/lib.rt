@@ -10,7 +10,7 @@ ghost use Rattle.format.specs.Text.{check, valid, encodes};
 ghost use Rattle.packets.specs.Memory.{cache-of, held};
 ghost use Rattle.packets.specs.Header.{half};
 ghost use Rattle.packets.specs.Answers.{coding-of};
-ghost use Rattle.headers.specs.Code.{flags-of, Opens, Spells};
+ghost use Rattle.headers.specs.Code.{flags-of, holding-when, Opens, Spells, found-valid, is-valid, TextFits, held-case, JudgesNew, JudgesCached, Steps, Ends, HeaderIs};
 use format::Refusal;
 use packets::Place;
 use packets::ReferenceIndex;
@@ -158,5 +158,147 @@ pub fn read_reference(packet: &[u8], half: usize, width: usize, at: usize) -> Sp
         place: place,
         from: from,
         size: size,
+    }
+}
+
+// A length of a place as a number of a machine word.
+pub fn wide_length(x: u16) -> usize
+    ensures { λ r. ⌜ (r ≡ x) × (r < 65536) ⌝ }
+{
+    x as usize
+}
+
+// Whether a text was found.
+fn is_valid(c: Checked) -> bool
+    ensures { λ r. ⌜ r ≡ found-valid c ⌝ }
+{
+    match c {
+        Checked::Characters(_) => true,
+        Checked::Bad(_) => false,
+    }
+}
+
+// Whether the bytes from `from` on are a text in the coding agreed.
+fn is_text(utf8: bool, packet: &[u8], from: usize, size: usize) -> bool
+    requires { ⌜ from + size ≤ length (now packet) ⌝ }
+    ensures { λ r. ⌜ r ≡ is-valid (check (coding-of utf8) (take size (drop from (now (packet .entry))))) ⌝ }
+{
+    let end = from + size;
+    if utf8 {
+        return is_valid(text::check_utf8(&packet[from..end]));
+    }
+    is_valid(text::check_latin1(&packet[from..end]))
+}
+
+// The length of that text as UTF-8.
+fn stored_length(utf8: bool, packet: &[u8], from: usize, size: usize) -> usize
+    requires { ⌜ (from + size ≤ length (now packet)) × (size < 65536) ⌝ }
+    ensures { λ r. ⌜ ((cs : List ℕ) → check (coding-of utf8) (take size (drop from (now (packet .entry)))) ≡ valid cs → r ≡ length (encodes cs)) ⌝ }
+{
+    if utf8 {
+        return size;
+    }
+    text::utf8_length(packet, from, size)
+}
+
+// Writes that text as UTF-8 into `dst` from `at` on; the number of bytes.
+pub fn put_text(
+    utf8: bool,
+    packet: &[u8],
+    from: usize,
+    size: usize,
+    dst: &mut [u8],
+    at: usize,
+) -> usize
+    requires { ⌜ (from + size ≤ length (now packet)) × (size < 65536) × TextFits (coding-of utf8) (take size (drop from (now packet))) at (length (now dst)) ⌝ }
+    ensures { λ r. ⌜ ((cs : List ℕ) → check (coding-of utf8) (take size (drop from (now (packet .entry)))) ≡ valid cs → (r ≡ length (encodes cs)) × (now (dst .exit) ≡ sets (now (dst .entry)) at (encodes cs))) ⌝ }
+{
+    if utf8 {
+        octets::copy(packet, from, dst, at, size);
+        return size;
+    }
+    text::put_latin1(packet, from, size, dst, at)
+}
+
+// What a place of the cache holds.
+pub fn held_at(places: &[u8], lengths: &[u16], place: Place) -> Held
+    requires { ⌜ (place .0 < 2048) × (length (now places) ≡ 65536) × (length (now lengths) ≡ 2048) ⌝ }
+    ensures { λ r. ⌜ r ≡ held-case (held (cache-of (now (places .entry)) (now (lengths .entry))) (place .0)) ⌝ }
+{
+    let k = place.0;
+    let size = wide_length(lengths[k]);
+    if size == 65535 {
+        return Held::Nothing;
+    }
+    if 32 < size {
+        return Held::NoText;
+    }
+    let from = 32 * k;
+    let end = from + size;
+    if is_valid(text::check_utf8(&places[from..end])) {
+        return Held::Text(size);
+    }
+    Held::NoText
+}
+
+// What a place holds where the cache is looked at; else a text.
+fn looked_at(look: bool, places: &[u8], lengths: &[u16], place: Place) -> Held
+    requires { ⌜ (place .0 < 2048) × (look ≡ true → (length (now places) ≡ 65536) × (length (now lengths) ≡ 2048)) ⌝ }
+    ensures { λ r. ⌜ r ≡ held-case (holding-when look (cache-of (now (places .entry)) (now (lengths .entry))) (place .0)) ⌝ }
+{
+    if look {
+        return held_at(places, lengths, place);
+    }
+    Held::Text(0)
+}
+
+// Judges a new reference: 22, 5, 23. `marks` has 2 for a place that an earlier reference fills new, 1 for one named otherwise.
+fn judge_new(
+    utf8: bool,
+    packet: &[u8],
+    place: Place,
+    from: usize,
+    size: usize,
+    marks: &mut [u8],
+) -> Judged
+    requires { ⌜ (place .0 < 2048) × (from + size ≤ length (now packet)) × (size < 65536) × (length (now marks) ≡ 2048) ⌝ }
+    ensures { λ r. ⌜ JudgesNew (coding-of utf8) (place .0) (take size (drop from (now (packet .entry)))) (now (marks .entry)) (now (marks .exit)) r ⌝ }
+{
+    let k = place.0;
+    if marks[k] != 0 {
+        return Judged::Refused(22);
+    }
+    if !is_text(utf8, packet, from, size) {
+        return Judged::Refused(5);
+    }
+    if 32 < stored_length(utf8, packet, from, size) {
+        return Judged::Refused(23);
+    }
+    marks[k] = 2;
+    Judged::Good
+}
+
+// Judges a cached reference: 22, 21, 14.
+fn judge_cached(
+    look: bool,
+    places: &[u8],
+    lengths: &[u16],
+    place: Place,
+    marks: &mut [u8],
+) -> Judged
+    requires { ⌜ (place .0 < 2048) × (look ≡ true → (length (now places) ≡ 65536) × (length (now lengths) ≡ 2048)) × (length (now marks) ≡ 2048) ⌝ }
+    ensures { λ r. ⌜ JudgesCached (holding-when look (cache-of (now (places .entry)) (now (lengths .entry)))) (place .0) (now (marks .entry)) (now (marks .exit)) r ⌝ }
+{
+    let k = place.0;
+    if marks[k] == 2 {
+        return Judged::Refused(22);
+    }
+    match looked_at(look, places, lengths, place) {
+        Held::Nothing => Judged::Refused(21),
+        Held::NoText => Judged::Refused(14),
+        Held::Text(_) => {
+            marks[k] = 1;
+            Judged::Good
+        }
     }
 }
