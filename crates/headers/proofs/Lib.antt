@@ -2,3 +2,4 @@ pub mod Standing
 pub mod Marks
 pub mod Texts
 pub mod Judging
+pub mod Walk

@@ -1,14 +1,15 @@
 // Headers of packets: where their references stand, whether they may be taken, and the place that a reference names.
 ghost use mathlib.Core.Path.{_≡_};
 ghost use mathlib.Core.Bool.{true};
-ghost use mathlib.Core.List.{List};
+ghost use mathlib.Core.List.{List, []};
 ghost use Prim.Native.Nat.{ℕ, _+_, _*_, _/_, _≤_, _<_};
 ghost use lib.ListN.{length, take, drop};
 ghost use lib.Seq.{sets};
 ghost use Rattle.format.specs.Numbers.{big-endian};
 ghost use Rattle.format.specs.Text.{check, valid, encodes};
 ghost use Rattle.packets.specs.Memory.{cache-of, held};
-ghost use Rattle.packets.specs.Header.{half};
+ghost use Rattle.packets.specs.Header.{flag-bytes, half, references};
+ghost use Rattle.format.proofs.Bridge.{at-offset};
 ghost use Rattle.packets.specs.Answers.{coding-of};
 ghost use Rattle.headers.specs.Code.{flags-of, holding-when, Opens, Spells, found-valid, is-valid, TextFits, held-case, JudgesNew, JudgesCached, Steps, Ends, HeaderIs};
 use format::Refusal;
@@ -299,6 +300,115 @@ fn judge_cached(
         Held::Text(_) => {
             marks[k] = 1;
             Judged::Good
+        }
+    }
+}
+
+// Reads and judges the reference at `at`, with its half and the width of lengths.
+fn judge_reference(
+    utf8: bool,
+    look: bool,
+    packet: &[u8],
+    half: usize,
+    width: usize,
+    at: usize,
+    places: &[u8],
+    lengths: &[u16],
+    marks: &mut [u8],
+) -> Step
+    requires { ⌜ (half < 16) × (0 < width) × (width ≤ 2) × (at ≤ length (now packet)) × (look ≡ true → (length (now places) ≡ 65536) × (length (now lengths) ≡ 2048)) × (length (now marks) ≡ 2048) ⌝ }
+    ensures { λ r. ⌜ Steps (coding-of utf8) (holding-when look (cache-of (now (places .entry)) (now (lengths .entry)))) (now (packet .entry)) half width at (now (marks .entry)) (now (marks .exit)) r ⌝ }
+{
+    match read_reference(packet, half, width, at) {
+        Spelled::Cut => Step::Refused(2),
+        Spelled::New { place, from, size } => {
+            match judge_new(utf8, packet, place, from, size, marks) {
+                Judged::Refused(number) => Step::Refused(number),
+                Judged::Good => Step::Next(from + size),
+            }
+        }
+        Spelled::Cached { place } => {
+            match judge_cached(look, places, lengths, place, marks) {
+                Judged::Refused(number) => Step::Refused(number),
+                Judged::Good => Step::Next(at + 1),
+            }
+        }
+    }
+}
+
+// Reads and judges the n references of the header at `at`, the first at `first`, each in turn.
+fn check_references(
+    utf8: bool,
+    look: bool,
+    packet: &[u8],
+    at: usize,
+    n: usize,
+    width: usize,
+    first: usize,
+    places: &[u8],
+    lengths: &[u16],
+) -> References
+    requires { ⌜ (0 < width) × (width ≤ 2) × (n < 256) × (first ≡ at + 1 + flag-bytes n) × (first ≤ length (now packet)) × (look ≡ true → (length (now places) ≡ 65536) × (length (now lengths) ≡ 2048)) ⌝ }
+    ensures { λ r. ⌜ Ends (references (coding-of utf8) (holding-when look (cache-of (now (places .entry)) (now (lengths .entry)))) (flags-of (now (packet .entry)) at n) width [] 0 n (at-offset (now (packet .entry)) first 0)) (now (packet .entry)) r ⌝ }
+{
+    let mut marks = [0u8; 2048];
+    let mut next = first;
+    let mut i = 0;
+    while i < n {
+        let half = half_of(packet, at, n, ReferenceIndex(i));
+        match judge_reference(
+            utf8,
+            look,
+            packet,
+            half,
+            width,
+            next,
+            places,
+            lengths,
+            &mut marks,
+        ) {
+            Step::Refused(number) => {
+                return References::Refused(Refusal {
+                    number: number,
+                    place: i,
+                });
+            }
+            Step::Next(offset) => {
+                next = offset;
+            }
+        }
+        i += 1;
+    }
+    References::End(next)
+}
+
+// Judges the header at `at`: 2 on the count and flags, then each reference in turn. Where `look` is false, the cache is not looked at.
+pub fn check_header(
+    utf8: bool,
+    look: bool,
+    packet: &[u8],
+    at: usize,
+    places: &[u8],
+    lengths: &[u16],
+) -> HeaderAnswer
+    requires { ⌜ (at ≤ length (now packet)) × (look ≡ true → (length (now places) ≡ 65536) × (length (now lengths) ≡ 2048)) ⌝ }
+    ensures { λ r. ⌜ HeaderIs (coding-of utf8) (holding-when look (cache-of (now (places .entry)) (now (lengths .entry)))) (now (packet .entry)) at r ⌝ }
+{
+    match open_header(packet, at) {
+        Opened::Cut => HeaderAnswer::Refused(Refusal {
+            number: 2,
+            place: 0,
+        }),
+        Opened::Header { n, width, first } => {
+            match check_references(utf8, look, packet, at, n, width, first, places, lengths) {
+                References::Refused(refusal) => HeaderAnswer::Refused(refusal),
+                References::End(payload) => HeaderAnswer::Header {
+                    n: n,
+                    width: width,
+                    first: first,
+                    payload: payload,
+                },
+            }
         }
     }
 }
