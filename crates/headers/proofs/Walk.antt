@@ -10,7 +10,7 @@ use Rattle.format.specs.Answer.{Answer, good, refused, Position, after}
 use Rattle.format.proofs.Bridge.{at-offset}
 use Rattle.packets.specs.declared.Place.{Place}
 use Rattle.packets.specs.Memory.{Held}
-use Rattle.packets.specs.Header.{Reference, half, reference, references, header}
+use Rattle.packets.specs.Header.{Reference, flag-bytes, half, reference, references, header}
 use Rattle.headers.specs.declared.Opened.the-variants as opened
 use Rattle.headers.specs.declared.Spelled.the-variants as spelled
 use Rattle.headers.specs.declared.Judged.the-variants as judged
@@ -174,9 +174,9 @@ unfolding Opens HeaderIs
 header-cut agreed holding s at e = e agreed holding
 
 module _ (agreed : Coding) (holding : ℕ → Held) (s : List ℕ) (at n width first : ℕ) (o : Opens s at (opened.Header n width first)) where
-  pub opened-inside : (0 < width) × (width ≤ 2) × (n < 256) × (first ≤ length s)
+  pub opened-inside : (0 < width) × (width ≤ 2) × (n < 256) × (first ≡ at + 1 + flag-bytes n) × (first ≤ length s)
   unfolding Opens
-  opened-inside = (o .1, o .2, o .5, o .4)
+  opened-inside = (o .1, o .2, o .5, o .3, o .4)
 
   pub header-refused : (number place : ℕ) → Ends (references agreed holding (flags-of s at n) width [] 0 n (at-offset s first 0)) s (ends.Refused (record { number = number; place = place }))
       → HeaderIs agreed holding s at (headers.Refused (record { number = number; place = place }))
