@@ -1,0 +1,142 @@
+-- Drop, reset and the text of a place: one law for each way out.
+use mathlib.Core.Path.{_≡_, refl, sym, _∙_, ap, ap₂}
+use mathlib.Core.Bool.{Bool, true, false, _&&_, cond}
+use mathlib.Core.List.{List, [], _∷_, _++_, append-nil}
+use Prim.Native.Nat.{ℕ, zero, suc, _+_, _*_, _-_, _≤_, _<_}
+use native.Mathlib.Numerals.{add-one}
+use native.Mathlib.Omega.{arith}
+use lib.Dec.{eqb, leb}
+use lib.ListN.{length, take, drop, replicate, set, drop-of-length-le}
+use borrow.Author.Tests.{eq-eqb, ne-eqb, le-leb, lt-leb}
+use Rattle.format.specs.Answer.{Answer, good, refused}
+use Rattle.octets.specs.Cleared.{cleared}
+use Rattle.packets.specs.declared.Pending.{Pending}
+use Rattle.packets.specs.declared.Settled.{Settled}
+use Rattle.packets.specs.declared.StateAnswer.the-variants as states
+use Rattle.packets.specs.declared.TextAnswer.the-variants as texts
+use Rattle.packets.specs.Memory.{Cache, cache-of, cache-of-size, record-true, none-pending, empty-cache, Held, nothing, no-text, text, held}
+use Rattle.packets.specs.Calls.{drop-sequence, reset}
+use Rattle.packets.specs.Look.{text-held, text-of-place}
+use Rattle.packets.specs.Answers.{state-answer, drop-answer, reset-answer, text-answer}
+use Rattle.headers.specs.declared.Held.the-variants as holds
+use Rattle.headers.specs.Code.{held-case}
+use Rattle.link.specs.Code.{cache-after-reset}
+
+-- ---- drop
+
+module _ (r : Pending) where
+  pub drop-false : 65536 < r .gathered → record { answer = states.Refused (record { number = 14; place = 0 }); pending = r } ≡ drop-answer r
+  unfolding drop-answer state-answer drop-sequence record-true
+  drop-false h = rw (lt-leb (r .gathered) 65536 h)
+
+  pub drop-none : r .gathered ≤ 65536 → r .due ≡ 0 → record { answer = states.Refused (record { number = 25; place = 0 }); pending = r } ≡ drop-answer r
+  unfolding drop-answer state-answer drop-sequence record-true
+  drop-none h e = rw (le-leb (r .gathered) 65536 h, eq-eqb (r .due) 0 e)
+
+  pub drop-done : r .gathered ≤ 65536 → (r .due ≡ 0 → ⊥) → record { answer = states.Done; pending = none-pending } ≡ drop-answer r
+  unfolding drop-answer state-answer drop-sequence record-true
+  drop-done h e = rw (le-leb (r .gathered) 65536 h, ne-eqb (r .due) 0 e)
+
+-- ---- sizes of the cache
+
+pub places-wrong : (places lengths : List ℕ) → (length places ≡ 65536 → ⊥) → cache-of-size (cache-of places lengths) ≡ false
+unfolding cache-of-size
+places-wrong places lengths e = rw (ne-eqb (length places) 65536 e)
+
+pub lengths-wrong : (places lengths : List ℕ) → length places ≡ 65536 → (length lengths ≡ 2048 → ⊥) → cache-of-size (cache-of places lengths) ≡ false
+unfolding cache-of-size
+lengths-wrong places lengths h e = rw (eq-eqb (length places) 65536 h, ne-eqb (length lengths) 2048 e)
+
+pub sizes-right : (places lengths : List ℕ) → length places ≡ 65536 → length lengths ≡ 2048 → cache-of-size (cache-of places lengths) ≡ true
+unfolding cache-of-size
+sizes-right places lengths h e = rw (eq-eqb (length places) 65536 h, eq-eqb (length lengths) 2048 e)
+
+-- ---- reset
+
+pub reset-refused : (c : Cache) (r : Pending) → cache-of-size c ≡ false
+    → (record { answer = states.Refused (record { number = 13; place = 0 }); pending = r } ≡ reset-answer c r) × (c ≡ cache-after-reset c)
+unfolding reset-answer state-answer reset cache-after-reset
+reset-refused c r e = (rw e, rw (cache-after-reset, e))
+
+cleared-all : (l : List ℕ) (n : ℕ) → length l ≡ n → cleared 0 l ≡ replicate n 0
+unfolding cleared
+cleared-all l n e = let k : length l - 0 ≡ n = omega arith in ap (λ (m : ℕ). replicate m 0) k
+
+pub reset-done : (places lengths places′ lengths′ : List ℕ) (r : Pending) → length places ≡ 65536 → length lengths ≡ 2048
+    → places′ ≡ cleared 0 places → lengths′ ≡ replicate (length lengths) 65535
+    → (record { answer = states.Done; pending = none-pending } ≡ reset-answer (cache-of places lengths) r)
+    × (cache-of places′ lengths′ ≡ cache-after-reset (cache-of places lengths))
+unfolding reset-answer state-answer reset cache-after-reset empty-cache
+reset-done places lengths places′ lengths′ r h k p l =
+    let s : cache-of-size (cache-of places lengths) ≡ true = sizes-right places lengths h k in
+    let a : places′ ≡ replicate 65536 0 = p ∙ cleared-all places 65536 h in
+    let b : lengths′ ≡ replicate 2048 65535 = l ∙ ap (λ (m : ℕ). replicate m 65535) k in
+    (rw s, rw (cache-after-reset, s) (ap₂ cache-of a b))
+
+-- ---- filling
+
+-- the first i elements are `value`, the others are as they were
+pub filled-none : (l : List ℕ) (value : ℕ) → l ≡ replicate 0 value ++ drop 0 l
+filled-none l value = refl
+
+pub filled-more : (l d : List ℕ) (value i : ℕ) → i < length l → d ≡ replicate i value ++ drop i l → set d i value ≡ replicate (i + 1) value ++ drop (i + 1) l
+filled-more l d value i h e = ap (λ (x : List ℕ). set x i value) e ∙ go l i h ∙ ap (λ (k : ℕ). replicate k value ++ drop k l) (sym (add-one i))
+  where
+    go : (l : List ℕ) (i : ℕ) → i < length l → set (replicate i value ++ drop i l) i value ≡ replicate (suc i) value ++ drop (suc i) l
+    go [] i h = absurd (omega arith)
+    go (x ∷ l) zero h = refl
+    go (x ∷ l) (suc i) h = ap (λ (y : List ℕ). value ∷ y) (go l i (omega arith))
+
+pub filled-all : (l d : List ℕ) (value i : ℕ) → length l ≤ i → d ≡ replicate i value ++ drop i l → i ≤ length l → d ≡ replicate (length l) value
+filled-all l d value i h e k =
+    let n : i ≡ length l = omega arith in
+    e ∙ ap (λ (x : List ℕ). replicate i value ++ x) (drop-of-length-le l h) ∙ append-nil (replicate i value) ∙ ap (λ (m : ℕ). replicate m value) n
+
+-- ---- the text of a place
+
+module _ (places lengths : List ℕ) (p : ℕ) where
+  pub text-refused : (cache-of-size (cache-of places lengths) && leb p 2047) ≡ false
+      → texts.Refused (record { number = 13; place = 0 }) ≡ text-answer p (text-of-place (cache-of places lengths) p)
+  unfolding text-answer text-of-place
+  text-refused e = rw e
+
+  pub text-size : cache-of-size (cache-of places lengths) ≡ false → texts.Refused (record { number = 13; place = 0 }) ≡ text-answer p (text-of-place (cache-of places lengths) p)
+  text-size e = text-refused (rw e)
+
+  module _ (h : length places ≡ 65536) (k : length lengths ≡ 2048) where
+    pub text-past : 2047 < p → texts.Refused (record { number = 13; place = 0 }) ≡ text-answer p (text-of-place (cache-of places lengths) p)
+    text-past l = text-refused (rw (sizes-right places lengths h k, lt-leb p 2047 l))
+
+    module _ (l : p ≤ 2047) where
+      text-is : text-of-place (cache-of places lengths) p ≡ text-held (held (cache-of places lengths) p)
+      unfolding text-of-place
+      text-is = rw (sizes-right places lengths h k, le-leb p 2047 l)
+
+      pub text-none : holds.Nothing ≡ held-case (held (cache-of places lengths) p)
+          → texts.Refused (record { number = 21; place = 0 }) ≡ text-answer p (text-of-place (cache-of places lengths) p)
+      unfolding text-answer text-held held-case
+      text-none e = rw text-is (go (held (cache-of places lengths) p) e)
+        where
+          go : (x : Held) → holds.Nothing ≡ held-case x → texts.Refused (record { number = 21; place = 0 }) ≡ text-answer p (text-held x)
+          go nothing f = refl
+          go no-text f = let no-way : _≡_ {A = ℕ} 0 1 = cc in absurd (omega arith)
+          go (text bs) f = let no-way : _≡_ {A = ℕ} 0 1 = cc in absurd (omega arith)
+
+      pub text-false : holds.NoText ≡ held-case (held (cache-of places lengths) p)
+          → texts.Refused (record { number = 14; place = 0 }) ≡ text-answer p (text-of-place (cache-of places lengths) p)
+      unfolding text-answer text-held held-case
+      text-false e = rw text-is (go (held (cache-of places lengths) p) e)
+        where
+          go : (x : Held) → holds.NoText ≡ held-case x → texts.Refused (record { number = 14; place = 0 }) ≡ text-answer p (text-held x)
+          go nothing f = let no-way : _≡_ {A = ℕ} 0 1 = cc in absurd (omega arith)
+          go no-text f = refl
+          go (text bs) f = let no-way : _≡_ {A = ℕ} 0 1 = cc in absurd (omega arith)
+
+      pub text-there : (n : ℕ) → holds.Text n ≡ held-case (held (cache-of places lengths) p) → texts.Text (32 * p) n ≡ text-answer p (text-of-place (cache-of places lengths) p)
+      unfolding text-answer text-held held-case
+      text-there n e = rw text-is (go (held (cache-of places lengths) p) e)
+        where
+          go : (x : Held) → holds.Text n ≡ held-case x → texts.Text (32 * p) n ≡ text-answer p (text-held x)
+          go nothing f = let no-way : _≡_ {A = ℕ} 0 1 = cc in absurd (omega arith)
+          go no-text f = let no-way : _≡_ {A = ℕ} 0 1 = cc in absurd (omega arith)
+          go (text bs) f = let m : n ≡ length bs = cc in ap (texts.Text (32 * p)) m
