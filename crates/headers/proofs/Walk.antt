@@ -102,9 +102,9 @@ module _ (agreed : Coding) (holding : ℕ → Held) (s : List ℕ) (flags : List
   turn n i next m earlier e = ap (λ (k : ℕ). references agreed holding flags width earlier i k (at-offset s next 0)) e
 
   module _ (whole : Answer (List Reference × Position)) (n i next : ℕ) (earlier done : List Reference) (along : Along whole n i next earlier done) where
-    pub along-refused : (k : ℕ) → i < n → reference agreed holding width earlier i (half flags i) (at-offset s next 0) ≡ refused k i → whole ≡ refused k i
+    pub along-refused : (k p : ℕ) → i < n → reference agreed holding width earlier i (half flags i) (at-offset s next 0) ≡ refused k p → whole ≡ refused k p
     unfolding prepended
-    along-refused k less e =
+    along-refused k p less e =
         along .is
         ∙ ap (prepended done) (turn n i next (n - (i + 1)) earlier (omega arith)
         ∙ ap (λ (o : Answer (Reference × Position)). after o (λ r t. after (references agreed holding flags width (r ∷ earlier) (i + 1) (n - (i + 1)) t) (λ rs u. good (r ∷ rs, u)))) e)
@@ -119,6 +119,36 @@ module _ (agreed : Coding) (holding : ℕ → Held) (s : List ℕ) (flags : List
               ∙ ap (λ (o : Answer (Reference × Position)). after o (λ r t. after (references agreed holding flags width (r ∷ earlier) (i + 1) (n - (i + 1)) t) (λ rs u. good (r ∷ rs, u)))) e)
               ∙ prepended-one done r _;
         }
+
+    -- where all references are good, so is the next one
+    pub record Turned : Type 0 where
+      pub found : Reference
+      pub end : Position
+      pub is : reference agreed holding width earlier i (half flags i) (at-offset s next 0) ≡ good (found, end)
+
+    pub turned : (rs : List Reference) (t : Position) → i < n → whole ≡ good (rs, t) → Turned
+    turned rs t less e = go (reference agreed holding width earlier i (half flags i) (at-offset s next 0)) refl
+      where
+        go : (o : Answer (Reference × Position)) → reference agreed holding width earlier i (half flags i) (at-offset s next 0) ≡ o → Turned
+        go (good x) f = record { found = x .0; end = x .1; is = f }
+        go (refused k p) f =
+            let g : whole ≡ refused k p = along-refused k p less f in
+            let no-way : _≡_ {A = ℕ} 0 1 = cc in absurd (omega arith)
+
+    -- the references done are the first of all
+    pub record Begins (rs : List Reference) : Type 0 where
+      pub rest : List Reference
+      pub is : rs ≡ done ++ rest
+
+    pub begins : (rs : List Reference) (t : Position) → whole ≡ good (rs, t) → Begins rs
+    unfolding prepended
+    begins rs t e = go (references agreed holding flags width earlier i (n - i) (at-offset s next 0)) (sym (along .is) ∙ e)
+      where
+        go : (o : Answer (List Reference × Position)) → prepended done o ≡ good (rs, t) → Begins rs
+        go (good x) f =
+            let g : _≡_ {A = List Reference × Position} (done ++ x .0, x .1) (rs, t) = cc in
+            record { rest = x .0; is = sym (ap (λ (y : List Reference × Position). y .0) g) }
+        go (refused k p) f = let no-way : _≡_ {A = ℕ} 0 1 = cc in absurd (omega arith)
 
     pub along-all : i ≡ n → whole ≡ good (done, at-offset s next 0)
     unfolding prepended references
@@ -144,7 +174,7 @@ module _ (agreed : Coding) (holding : ℕ → Held) (s : List ℕ) (flags : List
     pub checking-refused : (k : ℕ) (marks′ : List ℕ) → i < n → Steps agreed holding s (half flags i) width next marks marks′ (step.Refused k)
         → Ends whole s (ends.Refused (record { number = k; place = i }))
     unfolding Steps Ends
-    checking-refused k marks′ less e = along-refused whole n i next (c .earlier) (c .done) (c .along) k less (e (c .earlier) i (c .marked))
+    checking-refused k marks′ less e = along-refused whole n i next (c .earlier) (c .done) (c .along) k i less (e (c .earlier) i (c .marked))
 
     pub checking-more : (a : ℕ) (marks′ : List ℕ) → i < n → Steps agreed holding s (half flags i) width next marks marks′ (step.Next a) → Checking whole n (i + 1) a marks′
     unfolding Steps

@@ -1,1 +1,3 @@
 pub mod States
+pub mod Openings
+pub mod Passing

@@ -1,11 +1,62 @@
 -- What the code of the packet calls answers, in terms of the definitions of packets.
 use mathlib.Core.Path.{_≡_}
-use mathlib.Core.List.{List}
-use Prim.Native.Nat.{ℕ}
+use mathlib.Core.List.{List, []}
+use Prim.Native.Nat.{ℕ, _+_, _≤_, _<_}
+use lib.ListN.{length}
+use Rattle.format.specs.Text.{Coding}
+use Rattle.format.specs.Answer.{Answer, good, refused, Position}
+use Rattle.format.proofs.Bridge.{at-offset}
 use Rattle.packets.specs.declared.Pending.{Pending}
-use Rattle.packets.specs.Memory.{Cache, none-pending}
+use Rattle.packets.specs.Memory.{Cache, Held, none-pending}
+use Rattle.packets.specs.Header.{Reference, flag-bytes, reference, references}
+use Rattle.packets.specs.Packet.{normal, starting, continuing, ids, opening}
+use Rattle.packets.specs.Packet as packet
+use Rattle.packets.specs.Look.{place-in}
+use Rattle.headers.specs.Code.{flags-of}
+use Rattle.link.specs.declared.Ids.{Ids}
+use Rattle.link.specs.declared.Ids.the-variants as found
+use Rattle.link.specs.declared.Kind.{Kind}
+use Rattle.link.specs.declared.Kind.the-variants as kinds
+use Rattle.link.specs.declared.Passed.{Passed}
 use Rattle.packets.specs.Calls.{reset, kept}
 
 -- the cache after a reset
 unfoldable pub cache-after-reset : Cache → Cache
 cache-after-reset c = kept {A = Cache × Pending} (c, none-pending) (reset c) .0
+
+-- the ids after the first two bytes
+unfoldable pub IdsAre : List ℕ → Ids → Type 0
+IdsAre s (found.Refused k) = (kind : ℕ → ℕ → packet.Kind) → ids kind (at-offset s 2 0) ≡ refused k 0
+IdsAre s (found.Found sequence fragment) =
+    ((kind : ℕ → ℕ → packet.Kind) → ids kind (at-offset s 2 0) ≡ good (kind sequence fragment, at-offset s 18 0)) × (18 ≤ length s) × (0 < fragment)
+
+-- what stands before the count
+unfoldable pub OpensPacket : List ℕ → Kind → Type 0
+OpensPacket s (kinds.Refused k) = opening (at-offset s 0 0) ≡ refused k 0
+OpensPacket s kinds.Plain = (opening (at-offset s 0 0) ≡ good (normal, at-offset s 2 0)) × (2 ≤ length s)
+OpensPacket s (kinds.Start sequence fragment) = (opening (at-offset s 0 0) ≡ good (starting sequence fragment, at-offset s 18 0)) × (18 ≤ length s) × (0 < fragment)
+OpensPacket s (kinds.Continuation sequence fragment) =
+    (opening (at-offset s 0 0) ≡ good (continuing sequence fragment, at-offset s 18 0)) × (18 ≤ length s) × (0 < fragment)
+
+-- a good reference at `at` names this place, and reading goes on at that offset
+pub record Passes (s : List ℕ) (h width at : ℕ) (r : Passed) : Type 0 where
+  pub passes : (agreed : Coding) (holding : ℕ → Held) (earlier : List Reference) (i : ℕ) (x : Reference) (t : Position)
+      → reference agreed holding width earlier i h (at-offset s at 0) ≡ good (x, t) → (t ≡ at-offset s (r .next) 0) × (x .place ≡ r .place .0) × (r .next ≤ length s)
+
+-- the references of the header at `at` are good, whatever was agreed and whatever the cache holds
+pub record HeaderRead (s : List ℕ) (at n width first : ℕ) : Type 0 where
+  pub agreed : Coding
+  pub holding : ℕ → Held
+  pub found : List Reference
+  pub end : Position
+  pub is : references agreed holding (flags-of s at n) width [] 0 n (at-offset s first 0) ≡ good (found, end)
+  pub width-least : 0 < width
+  pub width-most : width ≤ 2
+  pub few : n < 256
+  pub first-is : first ≡ at + 1 + flag-bytes n
+  pub first-inside : first ≤ length s
+
+-- reference i of a good header names this place
+pub record NamedAt (s : List ℕ) (at n width first i place : ℕ) : Type 0 where
+  pub named : (agreed : Coding) (holding : ℕ → Held) (rs : List Reference) (t : Position)
+      → references agreed holding (flags-of s at n) width [] 0 n (at-offset s first 0) ≡ good (rs, t) → (u : Position) → place-in rs i u ≡ good (place, u)

@@ -8,11 +8,18 @@ ghost use lib.Seq.{sets};
 ghost use Rattle.packets.specs.Memory.{cache-of};
 ghost use Rattle.packets.specs.Answers.{drop-answer, reset-answer, text-answer};
 ghost use Rattle.packets.specs.Look.{text-of-place};
-ghost use Rattle.link.specs.Code.{cache-after-reset};
+ghost use Rattle.link.specs.Code.{cache-after-reset, IdsAre, OpensPacket, Passes, HeaderRead, NamedAt};
+ghost use Rattle.packets.specs.Answers.{coding-of, place-answer};
+ghost use Rattle.packets.specs.Header.{flag-bytes};
+ghost use Rattle.packets.specs.Look.{place-of-reference};
 use format::Refusal;
+use headers::HeaderAnswer;
 use headers::Held;
+use headers::Spelled;
 use packets::Pending;
 use packets::Place;
+use packets::PlaceAnswer;
+use packets::ReferenceIndex;
 use packets::Settled;
 use packets::StateAnswer;
 use packets::TextAnswer;
@@ -131,4 +138,127 @@ pub fn text_of_place(places: &[u8], lengths: &[u16], place: Place) -> TextAnswer
             length: size,
         },
     }
+}
+
+// The ids of a fragment: the number of the refusal, or SequenceId and FragmentId.
+enum Ids {
+    Refused(u8),
+    Found { sequence: u64, fragment: u64 },
+}
+
+// What stands before the count: the number of the refusal, or the packet's kind.
+enum Kind {
+    Refused(u8),
+    Plain,
+    Start { sequence: u64, fragment: u64 },
+    Continuation { sequence: u64, fragment: u64 },
+}
+
+// The ids that stand after the first two bytes: 2, then 24 for zero.
+fn read_ids(packet: &[u8]) -> Ids
+    requires { ⌜ 2 ≤ length (now packet) ⌝ }
+    ensures { λ r. ⌜ IdsAre (now (packet .entry)) r ⌝ }
+{
+    if packet.len() < 18 {
+        return Ids::Refused(2);
+    }
+    let sequence = octets::big8(packet, 2);
+    let fragment = octets::big8(packet, 10);
+    if fragment == 0 {
+        return Ids::Refused(24);
+    }
+    Ids::Found {
+        sequence: sequence,
+        fragment: fragment,
+    }
+}
+
+// The packet's kind: 1, 2, 20, ids with 24 for zero.
+fn open_packet(packet: &[u8]) -> Kind
+    ensures { λ r. ⌜ OpensPacket (now (packet .entry)) r ⌝ }
+{
+    if packet.len() == 0 {
+        return Kind::Refused(1);
+    }
+    if packet[0] != 131 {
+        return Kind::Refused(1);
+    }
+    if packet.len() == 1 {
+        return Kind::Refused(2);
+    }
+    let tag = packet[1];
+    if tag == 68 {
+        return Kind::Plain;
+    }
+    if tag == 69 {
+        return match read_ids(packet) {
+            Ids::Refused(number) => Kind::Refused(number),
+            Ids::Found { sequence, fragment } => Kind::Start {
+                sequence: sequence,
+                fragment: fragment,
+            },
+        };
+    }
+    if tag == 70 {
+        return match read_ids(packet) {
+            Ids::Refused(number) => Kind::Refused(number),
+            Ids::Found { sequence, fragment } => Kind::Continuation {
+                sequence: sequence,
+                fragment: fragment,
+            },
+        };
+    }
+    Kind::Refused(20)
+}
+
+// A reference of a header that is accepted: its place, and the offset past it.
+struct Passed {
+    place: Place,
+    next: usize,
+}
+
+// Passes the reference at `at`, with its half and the width of lengths.
+fn pass_reference(packet: &[u8], half: usize, width: usize, at: usize) -> Passed
+    requires { ⌜ (half < 16) × (0 < width) × (width ≤ 2) × (at ≤ length (now packet)) ⌝ }
+    ensures { λ r. ⌜ Passes (now (packet .entry)) half width at r ⌝ }
+{
+    match headers::read_reference(packet, half, width, at) {
+        Spelled::Cut => Passed {
+            place: Place(0),
+            next: at,
+        },
+        Spelled::New { place, from, size } => Passed {
+            place: place,
+            next: from + size,
+        },
+        Spelled::Cached { place } => Passed {
+            place: place,
+            next: at + 1,
+        },
+    }
+}
+
+// The place that reference `index` of the header at `at` names.
+fn place_in(
+    packet: &[u8],
+    at: usize,
+    n: usize,
+    width: usize,
+    first: usize,
+    index: ReferenceIndex,
+) -> Place
+    requires { ⌜ (index .0 < n) × HeaderRead (now packet) at n width first ⌝ }
+    ensures { λ r. ⌜ NamedAt (now (packet .entry)) at n width first (index .0) (r .0) ⌝ }
+{
+    let mut next = first;
+    let mut i = 0;
+    while i < index.0 {
+        let half = headers::half_of(packet, at, n, ReferenceIndex(i));
+        let passed = pass_reference(packet, half, width, next);
+        next = passed.next;
+        i += 1;
+    }
+    let half = headers::half_of(packet, at, n, index);
+    let passed = pass_reference(packet, half, width, next);
+    passed.place
 }
