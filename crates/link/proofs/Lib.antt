@@ -1,3 +1,4 @@
 pub mod States
 pub mod Openings
 pub mod Passing
+pub mod Naming

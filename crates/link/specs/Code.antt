@@ -4,14 +4,15 @@ use mathlib.Core.List.{List, []}
 use Prim.Native.Nat.{ℕ, _+_, _≤_, _<_}
 use lib.ListN.{length}
 use Rattle.format.specs.Text.{Coding}
-use Rattle.format.specs.Answer.{Answer, good, refused, Position}
+use Rattle.format.specs.Answer.{Answer, good, refused, Position, after}
 use Rattle.format.proofs.Bridge.{at-offset}
 use Rattle.packets.specs.declared.Pending.{Pending}
-use Rattle.packets.specs.Memory.{Cache, Held, none-pending}
-use Rattle.packets.specs.Header.{Reference, flag-bytes, reference, references}
+use Rattle.packets.specs.Memory.{Cache, Held, text, none-pending}
+use Rattle.packets.specs.Header.{Reference, flag-bytes, reference, references, header}
 use Rattle.packets.specs.Packet.{normal, starting, continuing, ids, opening}
 use Rattle.packets.specs.Packet as packet
-use Rattle.packets.specs.Look.{place-in}
+use Rattle.packets.specs.Look.{at-zero, place-in}
+use Rattle.format.specs.Message.{found as result-of}
 use Rattle.headers.specs.Code.{flags-of}
 use Rattle.link.specs.declared.Ids.{Ids}
 use Rattle.link.specs.declared.Ids.the-variants as found
@@ -60,3 +61,7 @@ pub record HeaderRead (s : List ℕ) (at n width first : ℕ) : Type 0 where
 pub record NamedAt (s : List ℕ) (at n width first i place : ℕ) : Type 0 where
   pub named : (agreed : Coding) (holding : ℕ → Held) (rs : List Reference) (t : Position)
       → references agreed holding (flags-of s at n) width [] 0 n (at-offset s first 0) ≡ good (rs, t) → (u : Position) → place-in rs i u ≡ good (place, u)
+
+-- the place that reference i of the header at a position names
+unfoldable pub named-in : Coding → ℕ → Position → Answer ℕ
+named-in agreed i s = at-zero (result-of (after (header agreed (λ p. text []) s) (λ rs. place-in rs i)))

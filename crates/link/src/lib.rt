@@ -8,7 +8,8 @@ ghost use lib.Seq.{sets};
 ghost use Rattle.packets.specs.Memory.{cache-of};
 ghost use Rattle.packets.specs.Answers.{drop-answer, reset-answer, text-answer};
 ghost use Rattle.packets.specs.Look.{text-of-place};
-ghost use Rattle.link.specs.Code.{cache-after-reset, IdsAre, OpensPacket, Passes, HeaderRead, NamedAt};
+ghost use Rattle.link.specs.Code.{cache-after-reset, IdsAre, OpensPacket, Passes, HeaderRead, NamedAt, named-in};
+ghost use Rattle.format.proofs.Bridge.{at-offset};
 ghost use Rattle.packets.specs.Answers.{coding-of, place-answer};
 ghost use Rattle.packets.specs.Header.{flag-bytes};
 ghost use Rattle.packets.specs.Look.{place-of-reference};
@@ -261,4 +262,50 @@ fn place_in(
     let half = headers::half_of(packet, at, n, index);
     let passed = pass_reference(packet, half, width, next);
     passed.place
+}
+
+// The place that reference `index` of the header at `at` names: the header is judged whole, then 6.
+fn named_place(utf8: bool, packet: &[u8], at: usize, index: ReferenceIndex) -> PlaceAnswer
+    requires { ⌜ at ≤ length (now packet) ⌝ }
+    ensures { λ r. ⌜ r ≡ place-answer (named-in (coding-of utf8) (index .0) (at-offset (now (packet .entry)) at 0)) ⌝ }
+{
+    let none = [0u16; 1];
+    match headers::check_header(utf8, false, packet, at, packet, &none) {
+        HeaderAnswer::Refused(refusal) => PlaceAnswer::Refused(Refusal {
+            number: refusal.number,
+            place: 0,
+        }),
+        HeaderAnswer::Header {
+            n,
+            width,
+            first,
+            payload,
+        } => {
+            if n <= index.0 {
+                return PlaceAnswer::Refused(Refusal {
+                    number: 6,
+                    place: 0,
+                });
+            }
+            PlaceAnswer::Place(place_in(packet, at, n, width, first, index))
+        }
+    }
+}
+
+// The place that reference `index` of a packet's header names: 1, 2, 20, 24 for zero, 22, 5, 23 in the packet's order, then 6.
+pub fn place_of_reference(utf8: bool, packet: &[u8], index: ReferenceIndex) -> PlaceAnswer
+    ensures { λ r. ⌜ r ≡ place-answer (place-of-reference (coding-of utf8) (now (packet .entry)) (index .0)) ⌝ }
+{
+    match open_packet(packet) {
+        Kind::Refused(number) => PlaceAnswer::Refused(Refusal {
+            number: number,
+            place: 0,
+        }),
+        Kind::Plain => named_place(utf8, packet, 2, index),
+        Kind::Start { sequence, fragment } => named_place(utf8, packet, 18, index),
+        Kind::Continuation { sequence, fragment } => PlaceAnswer::Refused(Refusal {
+            number: 6,
+            place: 0,
+        }),
+    }
 }
