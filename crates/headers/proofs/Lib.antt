@@ -3,3 +3,4 @@ pub mod Marks
 pub mod Texts
 pub mod Judging
 pub mod Walk
+pub mod Good

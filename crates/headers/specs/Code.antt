@@ -133,3 +133,14 @@ unfoldable pub HeaderIs : Coding → (ℕ → memory.Held) → List ℕ → ℕ 
 HeaderIs agreed holding s at (headers.Refused f) = header agreed holding (at-offset s at 0) ≡ refused (f .number) (f .place)
 HeaderIs agreed holding s at (headers.Header n width first payload) =
     Opens s at (opened.Header n width first) × Reads (header agreed holding (at-offset s at 0)) s payload × (payload ≤ length s)
+
+-- the references of the header at `at` are good, with where they stand
+pub record GoodHeader (agreed : Coding) (holding : ℕ → memory.Held) (s : List ℕ) (at n width first : ℕ) : Type 0 where
+  pub found : List Reference
+  pub end : Position
+  pub is : references agreed holding (flags-of s at n) width [] 0 n (at-offset s first 0) ≡ good (found, end)
+  pub width-least : 0 < width
+  pub width-most : width ≤ 2
+  pub few : n < 256
+  pub first-is : first ≡ at + 1 + flag-bytes n
+  pub first-inside : first ≤ length s

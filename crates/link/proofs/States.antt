@@ -73,25 +73,6 @@ reset-done places lengths places′ lengths′ r h k p l =
     let b : lengths′ ≡ replicate 2048 65535 = l ∙ ap (λ (m : ℕ). replicate m 65535) k in
     (rw s, rw (cache-after-reset, s) (ap₂ cache-of a b))
 
--- ---- filling
-
--- the first i elements are `value`, the others are as they were
-pub filled-none : (l : List ℕ) (value : ℕ) → l ≡ replicate 0 value ++ drop 0 l
-filled-none l value = refl
-
-pub filled-more : (l d : List ℕ) (value i : ℕ) → i < length l → d ≡ replicate i value ++ drop i l → set d i value ≡ replicate (i + 1) value ++ drop (i + 1) l
-filled-more l d value i h e = ap (λ (x : List ℕ). set x i value) e ∙ go l i h ∙ ap (λ (k : ℕ). replicate k value ++ drop k l) (sym (add-one i))
-  where
-    go : (l : List ℕ) (i : ℕ) → i < length l → set (replicate i value ++ drop i l) i value ≡ replicate (suc i) value ++ drop (suc i) l
-    go [] i h = absurd (omega arith)
-    go (x ∷ l) zero h = refl
-    go (x ∷ l) (suc i) h = ap (λ (y : List ℕ). value ∷ y) (go l i (omega arith))
-
-pub filled-all : (l d : List ℕ) (value i : ℕ) → length l ≤ i → d ≡ replicate i value ++ drop i l → i ≤ length l → d ≡ replicate (length l) value
-filled-all l d value i h e k =
-    let n : i ≡ length l = omega arith in
-    e ∙ ap (λ (x : List ℕ). replicate i value ++ x) (drop-of-length-le l h) ∙ append-nil (replicate i value) ∙ ap (λ (m : ℕ). replicate m value) n
-
 -- ---- the text of a place
 
 module _ (places lengths : List ℕ) (p : ℕ) where

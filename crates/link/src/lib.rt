@@ -57,17 +57,6 @@ pub fn drop_sequence(pending: Pending) -> Settled
     }
 }
 
-// Sets every length to `value`.
-fn fill_lengths(d: &mut [u16], value: u16)
-    ensures { λ _. ⌜ now (d .exit) ≡ replicate (length (now (d .entry))) value ⌝ }
-{
-    let mut i = 0;
-    while i < d.len() {
-        d[i] = value;
-        i += 1;
-    }
-}
-
 // Empties the cache and zeroes the record: 13.
 pub fn reset(places: &mut [u8], lengths: &mut [u16], pending: Pending) -> Settled
     ensures { λ r. ⌜ (r ≡ reset-answer (cache-of (now (places .entry)) (now (lengths .entry))) pending) × (cache-of (now (places .exit)) (now (lengths .exit)) ≡ cache-after-reset (cache-of (now (places .entry)) (now (lengths .entry)))) ⌝ }
@@ -91,7 +80,7 @@ pub fn reset(places: &mut [u8], lengths: &mut [u16], pending: Pending) -> Settle
         };
     }
     octets::clear_bytes(places, 0);
-    fill_lengths(lengths, 65535);
+    entries::fill_lengths(lengths, 65535);
     Settled {
         answer: StateAnswer::Done,
         pending: Pending {

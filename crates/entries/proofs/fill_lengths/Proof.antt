@@ -1,4 +1,4 @@
-use Rattle.link.proofs.States.{filled-none, filled-more, filled-all}
+use Rattle.entries.proofs.Filling.{filled-none, filled-more, filled-all}
 use borrow.Author.Needs.{needs}
 use lib.ListN.{length, drop, replicate, length-set}
 use Prim.Native.Nat.{_-_, _≤_}
@@ -6,10 +6,10 @@ use mathlib.Core.List.{_++_}
 use mathlib.Core.Path.{refl}
 use mathlib.Core.Path.{_≡_, sym, ap, _∙_}
 use native.Mathlib.Omega.{arith}
-use Rattle.link.proofs.fill_lengths.Statement.{statement}
-use Rattle.link.proofs.fill_lengths.Tie as tie
-use Rattle.link.proofs.fill_lengths.Reads as reads
-use Rattle.link.proofs.fill_lengths.Lts as lts
+use Rattle.entries.proofs.fill_lengths.Statement.{statement}
+use Rattle.entries.proofs.fill_lengths.Tie as tie
+use Rattle.entries.proofs.fill_lengths.Reads as reads
+use Rattle.entries.proofs.fill_lengths.Lts as lts
 
 abbrev Inv-loop : tie.InvT-loop
 Inv-loop d₀ value i₀ d i = (i ≤ length d₀) × (d ≡ replicate i value ++ drop i d₀) × (length d ≡ length d₀)
