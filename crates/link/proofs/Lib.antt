@@ -2,3 +2,4 @@ pub mod States
 pub mod Openings
 pub mod Passing
 pub mod Naming
+pub mod Taking

@@ -2,14 +2,17 @@
 use mathlib.Core.Path.{_≡_}
 use mathlib.Core.List.{List, []}
 use Prim.Native.Nat.{ℕ, _+_, _≤_, _<_}
-use lib.ListN.{length}
+use lib.ListN.{length, drop}
 use Rattle.format.specs.Text.{Coding}
-use Rattle.format.specs.Answer.{Answer, good, refused, Position, after}
+use Rattle.format.specs.Answer.{Answer, good, refused, Position, Reading, _>>=_, _>>_, done, here, after}
 use Rattle.format.proofs.Bridge.{at-offset}
 use Rattle.packets.specs.declared.Pending.{Pending}
-use Rattle.packets.specs.Memory.{Cache, Held, text, none-pending}
+use Rattle.packets.specs.declared.Taken.{Taken}
+use Rattle.packets.specs.declared.PacketAnswer.{PacketAnswer}
+use Rattle.packets.specs.Memory.{Cache, Memory, memory-of, Held, text, none-pending, held}
 use Rattle.packets.specs.Header.{Reference, flag-bytes, reference, references, header}
-use Rattle.packets.specs.Packet.{normal, starting, continuing, ids, opening}
+use Rattle.format.specs.AtomList.{AtomList}
+use Rattle.packets.specs.Packet.{normal, starting, continuing, ids, opening, Packet, payload-after, rest}
 use Rattle.packets.specs.Packet as packet
 use Rattle.packets.specs.Look.{at-zero, place-in}
 use Rattle.format.specs.Message.{found as result-of}
@@ -19,7 +22,10 @@ use Rattle.link.specs.declared.Ids.the-variants as found
 use Rattle.link.specs.declared.Kind.{Kind}
 use Rattle.link.specs.declared.Kind.the-variants as kinds
 use Rattle.link.specs.declared.Passed.{Passed}
-use Rattle.packets.specs.Calls.{reset, kept}
+use Rattle.link.specs.declared.Headed.{Headed}
+use Rattle.link.specs.declared.Headed.the-variants as headeds
+use Rattle.packets.specs.Calls.{reset, kept, entered, list-of, told-after, record-after, taken, left-after}
+use Rattle.packets.specs.Answers.{outcome-case, packet-answer}
 
 -- the cache after a reset
 unfoldable pub cache-after-reset : Cache → Cache
@@ -65,3 +71,35 @@ pub record NamedAt (s : List ℕ) (at n width first i place : ℕ) : Type 0 wher
 -- the place that reference i of the header at a position names
 unfoldable pub named-in : Coding → ℕ → Position → Answer ℕ
 named-in agreed i s = at-zero (result-of (after (header agreed (λ p. text []) s) (λ rs. place-in rs i)))
+
+-- a header, then the payload's offset, and the payload with 12
+unfoldable pub headed : Coding → (ℕ → Held) → Reading (List Reference × ℕ × List ℕ)
+headed agreed holding = do
+  rs ← header agreed holding
+  at ← here
+  bs ← payload-after 0
+  done (rs, at, bs)
+
+-- a header that is taken: its references, the payload, and what the cache and the list are then
+pub record TakesHeader (o : Answer ((List Reference × ℕ × List ℕ) × Position)) (s : List ℕ) (c c′ : Cache) (list′ : AtomList) (payload size : ℕ) : Type 0 where
+  pub found : List Reference
+  pub is : o ≡ good ((found, payload, drop payload s), at-offset s payload 0)
+  pub size-is : size ≡ length (drop payload s)
+  pub inside : payload + size ≡ length s
+  pub small : size ≤ 65536
+  pub cache-is : c′ ≡ entered c found
+  pub list-is : list′ ≡ list-of found
+
+-- the header at a position, taken or refused
+unfoldable pub Heads : Answer ((List Reference × ℕ × List ℕ) × Position) → List ℕ → Cache → AtomList → Cache → AtomList → Headed → Type 0
+Heads o s c list c′ list′ (headeds.Refused f) = (o ≡ refused (f .number) (f .place)) × (c′ ≡ c) × (list′ ≡ list)
+Heads o s c list c′ list′ (headeds.Payload offset size) = TakesHeader o s c c′ list′ offset size
+
+-- what a fragment answers and leaves in the record
+unfoldable pub settled : ℕ → ℕ → ℕ → Taken
+settled sequence fragment gathered = record { answer = outcome-case (told-after fragment gathered); pending = record-after sequence fragment gathered }
+
+-- a packet judged so: what the call answers, and all memory after it
+pub record Takes (m : Memory) (o : Answer Packet) (answer : PacketAnswer) (m′ : Memory) : Type 0 where
+  pub answers : answer ≡ packet-answer (taken m o)
+  pub leaves : m′ ≡ left-after m o

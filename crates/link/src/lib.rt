@@ -8,7 +8,15 @@ ghost use lib.Seq.{sets};
 ghost use Rattle.packets.specs.Memory.{cache-of};
 ghost use Rattle.packets.specs.Answers.{drop-answer, reset-answer, text-answer};
 ghost use Rattle.packets.specs.Look.{text-of-place};
-ghost use Rattle.link.specs.Code.{cache-after-reset, IdsAre, OpensPacket, Passes, HeaderRead, NamedAt, named-in};
+ghost use Rattle.link.specs.Code.{cache-after-reset, IdsAre, OpensPacket, Passes, HeaderRead, NamedAt, named-in, headed, Heads, settled, Takes};
+ghost use Rattle.format.specs.AtomList.{AtomList, of-size};
+ghost use Rattle.format.specs.Message.{found};
+ghost use Rattle.packets.specs.declared.Pending.{Pending};
+ghost use Rattle.packets.specs.Memory.{Cache, list-lent, memory-of, held, cache-of-size, Held};
+ghost use Rattle.packets.specs.Packet.{normal, starting, continuing, rest};
+ghost use Rattle.packets.specs.Calls.{after-packet};
+ghost use Rattle.packets.specs.Answers.{taken-answer};
+ghost use Rattle.format.specs.Text.{Coding};
 ghost use Rattle.format.proofs.Bridge.{at-offset};
 ghost use Rattle.packets.specs.Answers.{coding-of, place-answer};
 ghost use Rattle.packets.specs.Header.{flag-bytes};
@@ -17,12 +25,14 @@ use format::Refusal;
 use headers::HeaderAnswer;
 use headers::Held;
 use headers::Spelled;
+use packets::PacketAnswer;
 use packets::Pending;
 use packets::Place;
 use packets::PlaceAnswer;
 use packets::ReferenceIndex;
 use packets::Settled;
 use packets::StateAnswer;
+use packets::Taken;
 use packets::TextAnswer;
 
 // Drops the pending sequence: 14, 25.
@@ -296,5 +306,111 @@ pub fn place_of_reference(utf8: bool, packet: &[u8], index: ReferenceIndex) -> P
             number: 6,
             place: 0,
         }),
+    }
+}
+
+// A header taken: the refusal, or the payload's offset and length.
+enum Headed {
+    Refused(Refusal),
+    Payload { offset: usize, size: usize },
+}
+
+// Whether the cache is of its stated size.
+fn cache_fits(places: &[u8], lengths: &[u16]) -> bool
+    ensures { λ r. ⌜ r ≡ cache-of-size (cache-of (now (places .entry)) (now (lengths .entry))) ⌝ }
+{
+    if places.len() != 65536 {
+        return false;
+    }
+    lengths.len() == 2048
+}
+
+// Whether an atom list is of its stated size.
+fn list_fits(places: &[u8], lengths: &[u16]) -> bool
+    ensures { λ r. ⌜ ((n : ℕ) → r ≡ of-size (list-lent n (now (places .entry)) (now (lengths .entry)))) ⌝ }
+{
+    if places.len() != 8160 {
+        return false;
+    }
+    lengths.len() == 255
+}
+
+// Takes the header at `at`: judges it and the payload's length, then writes the list and the cache.
+fn take_header(
+    utf8: bool,
+    packet: &[u8],
+    at: usize,
+    places: &mut [u8],
+    lengths: &mut [u16],
+    n: &mut u8,
+    texts: &mut [u8],
+    sizes: &mut [u16],
+) -> Headed
+    requires { ⌜ (at ≤ length (now packet)) × (length (now places) ≡ 65536) × (length (now lengths) ≡ 2048) × (length (now texts) ≡ 8160) × (length (now sizes) ≡ 255) ⌝ }
+    ensures { λ r. ⌜ Heads (headed (coding-of utf8) (held (cache-of (now (places .entry)) (now (lengths .entry)))) (at-offset (now (packet .entry)) at 0)) (now (packet .entry)) (cache-of (now (places .entry)) (now (lengths .entry))) (list-lent (now (n .entry)) (now (texts .entry)) (now (sizes .entry))) (cache-of (now (places .exit)) (now (lengths .exit))) (list-lent (now (n .exit)) (now (texts .exit)) (now (sizes .exit))) r ⌝ }
+{
+    match headers::check_header(utf8, true, packet, at, places, lengths) {
+        HeaderAnswer::Refused(refusal) => Headed::Refused(refusal),
+        HeaderAnswer::Header {
+            n: count,
+            width,
+            first,
+            payload,
+        } => {
+            let size = packet.len() - payload;
+            if 65536 < size {
+                return Headed::Refused(Refusal {
+                    number: 12,
+                    place: 0,
+                });
+            }
+            entries::write_list(
+                utf8,
+                packet,
+                at,
+                count,
+                width,
+                first,
+                places,
+                lengths,
+                texts,
+                sizes,
+            );
+            entries::write_cache(utf8, packet, at, count, width, first, places, lengths);
+            *n = count as u8;
+            Headed::Payload {
+                offset: payload,
+                size: size,
+            }
+        }
+    }
+}
+
+// What a fragment with this id answers with so many bytes gathered, and the record after it.
+fn settle(sequence: u64, fragment: u64, gathered: u64) -> Taken
+    requires { ⌜ 0 < fragment ⌝ }
+    ensures { λ r. ⌜ r ≡ settled sequence fragment gathered ⌝ }
+{
+    if fragment == 1 {
+        return Taken {
+            answer: PacketAnswer::Complete { gathered: gathered },
+            pending: Pending {
+                sequence: 0,
+                due: 0,
+                gathered: 0,
+            },
+        };
+    }
+    let due = fragment - 1;
+    Taken {
+        answer: PacketAnswer::Pending {
+            due: due,
+            gathered: gathered,
+        },
+        pending: Pending {
+            sequence: sequence,
+            due: due,
+            gathered: gathered,
+        },
     }
 }

@@ -5,7 +5,6 @@ use Rattle.link.proofs.reset.Statement.{statement}
 use Rattle.link.proofs.reset.Tie as tie
 use Rattle.link.proofs.reset.Reads as reads
 use Rattle.link.proofs.reset.Lts as lts
-use Rattle.link.proofs.fill_lengths.Reads as fill-lengths-reads
 use Rattle.octets.proofs.clear_bytes.Reads as clear-bytes-reads
 
 -- src/lib.rt:45:9
