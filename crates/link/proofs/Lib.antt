@@ -3,3 +3,4 @@ pub mod Openings
 pub mod Passing
 pub mod Naming
 pub mod Taking
+pub mod Rests

@@ -414,3 +414,117 @@ fn settle(sequence: u64, fragment: u64, gathered: u64) -> Taken
         },
     }
 }
+
+// Takes a plain packet: the list for it, the cache.
+fn take_plain(
+    utf8: bool,
+    packet: &[u8],
+    places: &mut [u8],
+    lengths: &mut [u16],
+    n: &mut u8,
+    texts: &mut [u8],
+    sizes: &mut [u16],
+) -> PacketAnswer
+    requires { ⌜ (2 ≤ length (now packet)) × (length (now places) ≡ 65536) × (length (now lengths) ≡ 2048) × (length (now texts) ≡ 8160) × (length (now sizes) ≡ 255) ⌝ }
+    ensures { λ r. ⌜ ((kept : AtomList) (record-then : Pending) (gather : List ℕ) → Takes (memory-of (cache-of (now (places .entry)) (now (lengths .entry))) (list-lent (now (n .entry)) (now (texts .entry)) (now (sizes .entry))) kept record-then gather) (found (rest (coding-of utf8) (held (cache-of (now (places .entry)) (now (lengths .entry)))) record-then normal (at-offset (now (packet .entry)) 2 0))) r (memory-of (cache-of (now (places .exit)) (now (lengths .exit))) (list-lent (now (n .exit)) (now (texts .exit)) (now (sizes .exit))) kept record-then gather)) ⌝ }
+{
+    match take_header(utf8, packet, 2, places, lengths, n, texts, sizes) {
+        Headed::Refused(refusal) => PacketAnswer::Refused(refusal),
+        Headed::Payload { offset, size } => PacketAnswer::Plain {
+            offset: offset,
+            length: size,
+        },
+    }
+}
+
+// Takes the first fragment of a sequence: 26, the header, 12; then the list for the sequence, the cache, the gather buffer, the record.
+fn take_start(
+    utf8: bool,
+    packet: &[u8],
+    sequence: u64,
+    fragment: u64,
+    places: &mut [u8],
+    lengths: &mut [u16],
+    n: &mut u8,
+    texts: &mut [u8],
+    sizes: &mut [u16],
+    pending: Pending,
+    gather: &mut [u8],
+) -> Taken
+    requires { ⌜ (18 ≤ length (now packet)) × (length (now places) ≡ 65536) × (length (now lengths) ≡ 2048) × (length (now texts) ≡ 8160) × (length (now sizes) ≡ 255) × (length (now gather) ≡ 65536) × (0 < fragment) ⌝ }
+    ensures { λ r. ⌜ ((plain : AtomList) → Takes (memory-of (cache-of (now (places .entry)) (now (lengths .entry))) plain (list-lent (now (n .entry)) (now (texts .entry)) (now (sizes .entry))) pending (now (gather .entry))) (found (rest (coding-of utf8) (held (cache-of (now (places .entry)) (now (lengths .entry)))) pending (starting sequence fragment) (at-offset (now (packet .entry)) 18 0))) (r .answer) (memory-of (cache-of (now (places .exit)) (now (lengths .exit))) plain (list-lent (now (n .exit)) (now (texts .exit)) (now (sizes .exit))) (r .pending) (now (gather .exit)))) ⌝ }
+{
+    if pending.due != 0 {
+        return Taken {
+            answer: PacketAnswer::Refused(Refusal {
+                number: 26,
+                place: 0,
+            }),
+            pending: pending,
+        };
+    }
+    match take_header(utf8, packet, 18, places, lengths, n, texts, sizes) {
+        Headed::Refused(refusal) => Taken {
+            answer: PacketAnswer::Refused(refusal),
+            pending: pending,
+        },
+        Headed::Payload { offset, size } => {
+            octets::copy(packet, offset, gather, 0, size);
+            settle(sequence, fragment, size as u64)
+        }
+    }
+}
+
+// Takes a later fragment: 25, 24 for the wrong one, 12; then the gather buffer, the record.
+fn take_continuation(
+    packet: &[u8],
+    sequence: u64,
+    fragment: u64,
+    pending: Pending,
+    gather: &mut [u8],
+) -> Taken
+    requires { ⌜ (18 ≤ length (now packet)) × (length (now gather) ≡ 65536) × (0 < fragment) × (pending .gathered ≤ 65536) ⌝ }
+    ensures { λ r. ⌜ ((agreed : Coding) (cache : Cache) (plain kept : AtomList) → Takes (memory-of cache plain kept pending (now (gather .entry))) (found (rest agreed (held cache) pending (continuing sequence fragment) (at-offset (now (packet .entry)) 18 0))) (r .answer) (memory-of cache plain kept (r .pending) (now (gather .exit)))) ⌝ }
+{
+    if pending.due == 0 {
+        return Taken {
+            answer: PacketAnswer::Refused(Refusal {
+                number: 25,
+                place: 0,
+            }),
+            pending: pending,
+        };
+    }
+    if sequence != pending.sequence {
+        return Taken {
+            answer: PacketAnswer::Refused(Refusal {
+                number: 25,
+                place: 0,
+            }),
+            pending: pending,
+        };
+    }
+    if fragment != pending.due {
+        return Taken {
+            answer: PacketAnswer::Refused(Refusal {
+                number: 24,
+                place: 0,
+            }),
+            pending: pending,
+        };
+    }
+    let size = packet.len() - 18;
+    let before = pending.gathered as usize;
+    if 65536 - before < size {
+        return Taken {
+            answer: PacketAnswer::Refused(Refusal {
+                number: 12,
+                place: 0,
+            }),
+            pending: pending,
+        };
+    }
+    octets::copy(packet, 18, gather, before, size);
+    let gathered = before + size;
+    settle(sequence, fragment, gathered as u64)
+}
