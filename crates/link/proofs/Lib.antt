@@ -4,3 +4,4 @@ pub mod Passing
 pub mod Naming
 pub mod Taking
 pub mod Rests
+pub mod Whole

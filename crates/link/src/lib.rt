@@ -528,3 +528,106 @@ fn take_continuation(
     let gathered = before + size;
     settle(sequence, fragment, gathered as u64)
 }
+
+// Takes a packet, over all lent memory: the cache, the list for a plain packet, the list for the pending sequence, the record, the gather buffer.
+pub fn take_packet(
+    utf8: bool,
+    packet: &[u8],
+    places: &mut [u8],
+    lengths: &mut [u16],
+    n: &mut u8,
+    texts: &mut [u8],
+    sizes: &mut [u16],
+    count: &mut u8,
+    kept: &mut [u8],
+    extents: &mut [u16],
+    pending: Pending,
+    gather: &mut [u8],
+) -> Taken
+    ensures { λ r. ⌜ (r ≡ taken-answer (coding-of utf8) (memory-of (cache-of (now (places .entry)) (now (lengths .entry))) (list-lent (now (n .entry)) (now (texts .entry)) (now (sizes .entry))) (list-lent (now (count .entry)) (now (kept .entry)) (now (extents .entry))) pending (now (gather .entry))) (now (packet .entry)))
+        × (memory-of (cache-of (now (places .exit)) (now (lengths .exit))) (list-lent (now (n .exit)) (now (texts .exit)) (now (sizes .exit))) (list-lent (now (count .exit)) (now (kept .exit)) (now (extents .exit))) (r .pending) (now (gather .exit)) ≡ after-packet (coding-of utf8) (memory-of (cache-of (now (places .entry)) (now (lengths .entry))) (list-lent (now (n .entry)) (now (texts .entry)) (now (sizes .entry))) (list-lent (now (count .entry)) (now (kept .entry)) (now (extents .entry))) pending (now (gather .entry))) (now (packet .entry))) ⌝ }
+{
+    if !cache_fits(places, lengths) {
+        return Taken {
+            answer: PacketAnswer::Refused(Refusal {
+                number: 13,
+                place: 0,
+            }),
+            pending: pending,
+        };
+    }
+    if !list_fits(texts, sizes) {
+        return Taken {
+            answer: PacketAnswer::Refused(Refusal {
+                number: 13,
+                place: 0,
+            }),
+            pending: pending,
+        };
+    }
+    if !list_fits(kept, extents) {
+        return Taken {
+            answer: PacketAnswer::Refused(Refusal {
+                number: 13,
+                place: 0,
+            }),
+            pending: pending,
+        };
+    }
+    if gather.len() != 65536 {
+        return Taken {
+            answer: PacketAnswer::Refused(Refusal {
+                number: 13,
+                place: 0,
+            }),
+            pending: pending,
+        };
+    }
+    if 65536 < pending.gathered {
+        return Taken {
+            answer: PacketAnswer::Refused(Refusal {
+                number: 14,
+                place: 0,
+            }),
+            pending: pending,
+        };
+    }
+    match open_packet(packet) {
+        Kind::Refused(number) => Taken {
+            answer: PacketAnswer::Refused(Refusal {
+                number: number,
+                place: 0,
+            }),
+            pending: pending,
+        },
+        Kind::Plain => {
+            let answer = take_plain(utf8, packet, places, lengths, n, texts, sizes);
+            Taken {
+                answer: answer,
+                pending: pending,
+            }
+        }
+        Kind::Start { sequence, fragment } => {
+            take_start(
+                utf8,
+                packet,
+                sequence,
+                fragment,
+                places,
+                lengths,
+                count,
+                kept,
+                extents,
+                pending,
+                gather,
+            )
+        }
+        Kind::Continuation { sequence, fragment } => take_continuation(
+            packet,
+            sequence,
+            fragment,
+            pending,
+            gather,
+        ),
+    }
+}
