@@ -1,22 +1,21 @@
 -- The references of an accepted header, one after the other, into a list and into the cache.
-use mathlib.Core.Path.{_≡_, refl, sym, _∙_, ap, ap₂, subst}
+use mathlib.Core.Path.{_≡_, refl, sym, _∙_, ap, ap₂}
 use mathlib.Core.List.{List, [], _∷_, _++_, append-assoc, append-nil}
-use Prim.Native.Nat.{ℕ, zero, suc, _+_, _*_, _-_, _≤_, _<_}
+use Prim.Native.Nat.{ℕ, suc, _+_, _*_, _-_, _≤_, _<_}
 use native.Mathlib.Omega.{arith}
 use lib.ListN.{length, replicate, set, length-append}
 use lib.Seq.{sets}
 use Rattle.format.specs.Text.{Coding}
-use Rattle.format.specs.Answer.{Answer, good, refused, Position}
+use Rattle.format.specs.Answer.{Answer, good, Position}
 use Rattle.format.proofs.Bridge.{at-offset}
 use Rattle.octets.specs.Cleared.{cleared}
 use Rattle.octets.proofs.Cleared.{cleared-all}
 use Rattle.packets.specs.Memory.{Cache, Held, held}
-use Rattle.packets.specs.Header.{Reference, half, reference, references}
+use Rattle.packets.specs.Header.{Reference, half, references}
 use Rattle.packets.specs.Calls.{zeros-to, enter, entered, texts-in-places, lengths-of, list-of}
 use Rattle.packets.proofs.Stores.{length-zeros-to}
 use Rattle.headers.specs.Code.{flags-of, GoodHeader}
 use Rattle.headers.proofs.Walk.{Along, along-none, along-more, along-all, Turned, turned}
-use Rattle.entries.specs.declared.Stored.{Stored}
 use Rattle.entries.specs.Code.{Stands, StandsSome, Lists, Listed, Enters, Entered}
 use Rattle.entries.proofs.Storing.{stored-next, length-next}
 

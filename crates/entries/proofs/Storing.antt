@@ -1,27 +1,26 @@
 -- Texts stored in a list or in the cache.
-use mathlib.Core.Path.{_≡_, refl, sym, _∙_, ap, ap₂, subst}
+use mathlib.Core.Path.{_≡_, refl, sym, _∙_, ap, ap₂}
 use mathlib.Core.Bool.{Bool, true, false}
-use mathlib.Core.List.{List, [], _∷_, _++_, append-assoc, append-nil}
+use mathlib.Core.List.{List, [], _∷_, _++_, append-assoc}
 use Prim.Native.Nat.{ℕ, zero, suc, _+_, _*_, _-_, _≤_, _<_}
-use native.Mathlib.Numerals.{add-one}
 use native.Mathlib.Omega.{arith}
 use lib.Dec.{eqb, leb}
+use lib.ListN.{length, getD, take, drop, replicate, set, length-append, length-replicate, replicate-append-replicate}
+use lib.Seq.{sets, sets-eq, length-sets, take-at, drop-at, take-append-seam, drop-append-add, length-take-le, take-take}
 use borrow.Author.Tests.{leb-true}
-use lib.ListN.{length, getD, take, drop, replicate, set, length-append, length-replicate, length-take, replicate-append-replicate}
-use lib.Seq.{sets, sets-eq, length-sets, take-at, drop-at, take-append-seam, drop-append-seam, drop-append-add, length-take-le, take-take}
 use Rattle.format.specs.Text.{Coding, valid, invalid-at, check, encodes, utf-8}
-use Rattle.format.specs.Text as texts
 use Rattle.format.specs.Answer.{Answer, good, refused, Position}
 use Rattle.format.proofs.Bridge.{at-offset}
+use Rattle.format.specs.Text as texts
 use Rattle.packets.specs.declared.Place.{Place}
 use Rattle.packets.specs.Memory.{Cache, cache-of, Held, nothing, no-text, text, text-if, held-as, held}
-use Rattle.packets.specs.Header.{Reference, half, new-reference, cached-reference, reference, references}
-use Rattle.packets.specs.Calls.{zeros-to, enter, entered, texts-in-places, lengths-of, list-of}
+use Rattle.packets.specs.Header.{Reference}
+use Rattle.packets.specs.Calls.{zeros-to, enter}
 use Rattle.packets.proofs.Stores.{length-zeros-to}
-use Rattle.headers.specs.declared.Spelled.the-variants as spelled
-use Rattle.headers.specs.Code.{flags-of, TextFits, GoodHeader, Spells}
+use Rattle.headers.specs.Code.{TextFits, Spells}
 use Rattle.headers.proofs.Texts.{getD-any, part-long}
 use Rattle.headers.proofs.Good.{GoodNew, GoodCached, good-new, good-cached}
+use Rattle.headers.specs.declared.Spelled.the-variants as spelled
 use Rattle.entries.specs.declared.Stored.{Stored}
 use Rattle.entries.specs.Code.{Stands, Lists, StoresText, Enters}
 

@@ -2,11 +2,11 @@
 use mathlib.Core.Path.{_≡_}
 use mathlib.Core.Bool.{true}
 use mathlib.Core.List.{List, []}
-use Prim.Native.Nat.{ℕ, _+_, _≤_, _<_}
-use lib.ListN.{length, take, drop}
+use Prim.Native.Nat.{ℕ, _≤_}
+use lib.ListN.{length}
 use lib.Seq.{sets}
 use Rattle.format.specs.Text.{Coding, valid, check, encodes}
-use Rattle.format.specs.Answer.{Answer, good, refused, Position}
+use Rattle.format.specs.Answer.{good, Position}
 use Rattle.format.proofs.Bridge.{at-offset}
 use Rattle.packets.specs.Memory.{Cache, Held, held}
 use Rattle.packets.specs.Header.{Reference, reference, references}

@@ -1,22 +1,21 @@
 -- References judged: one law for each way out.
-use mathlib.Core.Path.{_≡_, refl, sym, _∙_, ap, subst}
-use mathlib.Core.Bool.{Bool, true, false, not}
-use mathlib.Core.List.{List, [], _∷_}
-use Prim.Native.Nat.{ℕ, _+_, _≤_, _<_}
+use mathlib.Core.Path.{_≡_, refl, sym, _∙_}
+use mathlib.Core.Bool.{Bool, true, false}
+use mathlib.Core.List.{List}
+use Prim.Native.Nat.{ℕ, _≤_, _<_}
 use native.Mathlib.Omega.{arith}
-use lib.Dec.{leb}
 use lib.ListN.{length, getD, set}
 use borrow.Author.Tests.{le-leb, lt-leb}
 use Rattle.format.specs.Text.{Coding, valid, invalid-at, check, encodes}
-use Rattle.format.specs.Text as texts
-use Rattle.format.specs.Answer.{Answer, good, refused, Position}
+use Rattle.format.specs.Answer.{refused, Position}
 use Rattle.format.specs.Head.{text-or}
+use Rattle.format.specs.Text as texts
 use Rattle.packets.specs.Memory.{Held, nothing, no-text, text}
-use Rattle.packets.specs.Header.{Reference, named, filled, held-or, new-reference, cached-reference}
-use Rattle.headers.specs.declared.Held.the-variants as holds
-use Rattle.headers.specs.declared.Judged.the-variants as judged
+use Rattle.packets.specs.Header.{Reference, held-or, new-reference, cached-reference}
 use Rattle.headers.specs.Code.{is-valid, held-case, Marked, Went, Judges, JudgesNew, JudgesCached}
 use Rattle.headers.proofs.Marks.{not-named, is-named, is-filled, not-filled, marked-new, marked-cached}
+use Rattle.headers.specs.declared.Held.the-variants as holds
+use Rattle.headers.specs.declared.Judged.the-variants as judged
 
 -- the characters of what is a text
 pub record Found (agreed : Coding) (bs : List ℕ) : Type 0 where

@@ -1,10 +1,8 @@
 -- What stands in a header, as the code finds it at an offset of the packet: one law for each way out.
 use mathlib.Core.Path.{_≡_, refl, sym, _∙_, ap, ap₂, subst}
-use mathlib.Core.Bool.{Bool, true, false, cond}
-use mathlib.Core.List.{List, [], _∷_}
-use Prim.Native.Nat.{ℕ, zero, suc, _+_, _*_, _/_, _%_, _≤_, _<_}
+use mathlib.Core.List.{List, []}
+use Prim.Native.Nat.{ℕ, _+_, _*_, _/_, _%_, _≤_, _<_}
 use native.Mathlib.Omega.{arith}
-use lib.Dec.{eqb, leb}
 use lib.ListN.{length, getD, take, drop}
 use lib.Seq.{getD-take, getD-drop}
 use borrow.Author.Tests.{eq-eqb, ne-eqb, le-leb, lt-leb}
@@ -12,12 +10,11 @@ use Rattle.format.specs.Numbers.{big-endian}
 use Rattle.format.specs.Text.{Coding}
 use Rattle.format.specs.Answer.{Answer, good, refused, Position, after}
 use Rattle.format.proofs.Bridge.{at-offset, byte-at, byte-end, bytes-at, bytes-end, number-at, number-end}
-use Rattle.packets.specs.declared.Place.{Place}
 use Rattle.packets.specs.Memory.{Held}
-use Rattle.packets.specs.Header.{Reference, flag-bytes, half, is-new, place-at, length-width, text-field, new-reference, cached-reference, reference, references, header}
+use Rattle.packets.specs.Header.{Reference, flag-bytes, half, is-new, place-at, length-width, text-field, new-reference, reference, references, header}
+use Rattle.headers.specs.Code.{flags-of, Opens, Spells}
 use Rattle.headers.specs.declared.Opened.the-variants as opened
 use Rattle.headers.specs.declared.Spelled.the-variants as spelled
-use Rattle.headers.specs.Code.{flags-of, Opens, Spells}
 
 pub flag-count : (n : ℕ) → 0 < n → flag-bytes n ≡ n / 2 + 1
 unfolding flag-bytes

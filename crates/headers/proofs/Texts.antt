@@ -1,23 +1,22 @@
 -- Texts of headers and of places, as the code finds them.
-use mathlib.Core.Path.{_≡_, refl, sym, _∙_, ap, ap₂, subst}
+use mathlib.Core.Path.{_≡_, refl, sym, _∙_, ap}
 use mathlib.Core.Bool.{Bool, true, false}
 use mathlib.Core.List.{List, [], _∷_}
 use Prim.Native.Nat.{ℕ, zero, suc, _+_, _*_, _-_, _≤_, _<_}
 use native.Mathlib.Omega.{arith}
-use lib.Dec.{eqb, leb}
 use lib.ListN.{length, getD, take, drop, length-drop}
-use lib.Seq.{sets, length-take-le, take-take}
+use lib.Seq.{length-take-le, take-take}
 use borrow.Author.Tests.{eq-eqb, ne-eqb, le-leb, lt-leb}
 use Rattle.format.specs.Text.{Coding, latin-1, utf-8, valid, invalid-at, check, encodes}
-use Rattle.format.specs.Text as texts
 use Rattle.format.proofs.Text.{utf8-spelt, latin1-is}
+use Rattle.format.specs.Text as texts
 use Rattle.text.specs.declared.Checked.{Checked}
 use Rattle.text.specs.Shown.{shown}
-use Rattle.packets.specs.Memory.{Cache, cache-of, nothing, no-text, text, text-if, held-as, held}
+use Rattle.packets.specs.Memory.{Cache, cache-of, text-if, held-as, held}
 use Rattle.packets.specs.Answers.{coding-of}
 use Rattle.headers.specs.declared.Held.{Held}
-use Rattle.headers.specs.declared.Held.the-variants as holds
 use Rattle.headers.specs.Code.{found-valid, is-valid, held-case, holding-when, TextFits}
+use Rattle.headers.specs.declared.Held.the-variants as holds
 
 -- a part of a slice, by its length
 pub part : (s : List ℕ) (from size : ℕ) → take (from + size - from) (drop from s) ≡ take size (drop from s)

@@ -1,8 +1,7 @@
 -- The references of a header, one after the other.
-use mathlib.Core.Path.{_≡_, refl, sym, _∙_, ap, subst}
-use mathlib.Core.Bool.{Bool, true, false}
+use mathlib.Core.Path.{_≡_, refl, sym, _∙_, ap}
 use mathlib.Core.List.{List, [], _∷_, _++_, append-assoc, append-nil}
-use Prim.Native.Nat.{ℕ, zero, suc, _+_, _-_, _≤_, _<_}
+use Prim.Native.Nat.{ℕ, suc, _+_, _-_, _≤_, _<_}
 use native.Mathlib.Omega.{arith}
 use lib.ListN.{length, take, drop, replicate}
 use Rattle.format.specs.Text.{Coding}
@@ -10,15 +9,15 @@ use Rattle.format.specs.Answer.{Answer, good, refused, Position, after}
 use Rattle.format.proofs.Bridge.{at-offset}
 use Rattle.packets.specs.declared.Place.{Place}
 use Rattle.packets.specs.Memory.{Held}
-use Rattle.packets.specs.Header.{Reference, flag-bytes, half, reference, references, header}
+use Rattle.packets.specs.Header.{Reference, flag-bytes, half, reference, references}
+use Rattle.headers.specs.Code.{flags-of, Opens, Spells, Marked, Went, Judges, JudgesNew, JudgesCached, Steps, Ends, HeaderIs}
+use Rattle.headers.proofs.Marks.{marked-none}
 use Rattle.headers.specs.declared.Opened.the-variants as opened
 use Rattle.headers.specs.declared.Spelled.the-variants as spelled
 use Rattle.headers.specs.declared.Judged.the-variants as judged
 use Rattle.headers.specs.declared.Step.the-variants as step
 use Rattle.headers.specs.declared.References.the-variants as ends
 use Rattle.headers.specs.declared.HeaderAnswer.the-variants as headers
-use Rattle.headers.specs.Code.{flags-of, Opens, Spells, Marked, Went, Judges, JudgesNew, JudgesCached, Steps, Reads, Ends, HeaderIs}
-use Rattle.headers.proofs.Marks.{marked-none}
 
 -- ---- one reference, read and judged
 

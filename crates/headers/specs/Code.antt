@@ -1,32 +1,31 @@
 -- What the code of headers answers, in terms of the definitions of packets.
 use mathlib.Core.Path.{_≡_}
 use mathlib.Core.Bool.{Bool, true, false, cond}
-use mathlib.Core.List.{List, [], _∷_, _++_}
+use mathlib.Core.List.{List, [], _∷_}
 use Prim.Native.Nat.{ℕ, _+_, _≤_, _<_}
 use lib.ListN.{length, getD, take, drop}
-use Rattle.format.specs.Text.{Coding, valid, invalid-at}
-use Rattle.format.specs.Text as texts
-use Rattle.format.specs.Text.{check, encodes}
-use Rattle.text.specs.declared.Checked.{Checked}
-use Rattle.text.specs.declared.Checked.the-variants as checked
+use Rattle.format.specs.Text.{Coding, valid, invalid-at, check, encodes}
 use Rattle.format.specs.Answer.{Answer, good, refused, Position}
 use Rattle.format.proofs.Bridge.{at-offset}
+use Rattle.format.specs.Text as texts
+use Rattle.text.specs.declared.Checked.{Checked}
+use Rattle.text.specs.declared.Checked.the-variants as checked
 use Rattle.packets.specs.Memory.{Cache, held, nothing, no-text, text}
+use Rattle.packets.specs.Header.{Reference, flag-bytes, named, filled, new-reference, cached-reference, reference, references, header}
 use Rattle.packets.specs.Memory as memory
-use Rattle.packets.specs.Header.{Reference, flag-bytes, half, length-width, named, filled, new-reference, cached-reference, reference, references, header}
 use Rattle.headers.specs.declared.Opened.{Opened}
-use Rattle.headers.specs.declared.Opened.the-variants as opened
 use Rattle.headers.specs.declared.Spelled.{Spelled}
-use Rattle.headers.specs.declared.Spelled.the-variants as spelled
 use Rattle.headers.specs.declared.Held.{Held}
-use Rattle.headers.specs.declared.Held.the-variants as holds
 use Rattle.headers.specs.declared.Judged.{Judged}
-use Rattle.headers.specs.declared.Judged.the-variants as judged
 use Rattle.headers.specs.declared.Step.{Step}
-use Rattle.headers.specs.declared.Step.the-variants as step
 use Rattle.headers.specs.declared.References.{References}
-use Rattle.headers.specs.declared.References.the-variants as ends
 use Rattle.headers.specs.declared.HeaderAnswer.{HeaderAnswer}
+use Rattle.headers.specs.declared.Opened.the-variants as opened
+use Rattle.headers.specs.declared.Spelled.the-variants as spelled
+use Rattle.headers.specs.declared.Held.the-variants as holds
+use Rattle.headers.specs.declared.Judged.the-variants as judged
+use Rattle.headers.specs.declared.Step.the-variants as step
+use Rattle.headers.specs.declared.References.the-variants as ends
 use Rattle.headers.specs.declared.HeaderAnswer.the-variants as headers
 
 -- the flag bytes of the header at `at` with n references

@@ -1,6 +1,6 @@
 -- The place that a reference of a packet's header names.
 use mathlib.Core.Path.{_≡_, refl, sym, _∙_, ap}
-use mathlib.Core.Bool.{Bool, true, false}
+use mathlib.Core.Bool.{false}
 use mathlib.Core.List.{List, [], _∷_}
 use Prim.Native.Nat.{ℕ, zero, suc, _+_, _≤_, _<_}
 use native.Mathlib.Omega.{arith}
@@ -10,17 +10,16 @@ use Rattle.format.specs.Answer.{Answer, good, refused, Position, after}
 use Rattle.format.specs.Message.{found}
 use Rattle.format.proofs.Bridge.{at-offset}
 use Rattle.format.proofs.Holds.{Holds, next, done-holds}
-use Rattle.packets.specs.declared.PlaceAnswer.the-variants as places
-use Rattle.packets.specs.Memory.{Cache, Held, text}
+use Rattle.packets.specs.Memory.{Cache, Held}
 use Rattle.packets.specs.Header.{Reference, half, reference, references, header}
 use Rattle.packets.specs.Packet.{Kind, normal, starting, continuing, opening}
 use Rattle.packets.specs.Look.{at-zero, names, place-in, place-named, place-of-reference}
 use Rattle.packets.specs.Answers.{place-answer}
-use Rattle.headers.specs.declared.Opened.the-variants as opened
+use Rattle.packets.specs.declared.PlaceAnswer.the-variants as places
+use Rattle.headers.specs.Code.{flags-of, holding-when, Opens, GoodHeader, HeaderIs}
 use Rattle.headers.specs.declared.HeaderAnswer.the-variants as headers
-use Rattle.headers.specs.Code.{flags-of, holding-when, Opens, Reads, HeaderIs}
-use Rattle.link.specs.declared.Kind.the-variants as kinds
 use Rattle.link.specs.Code.{OpensPacket, HeaderRead, NamedAt, named-in}
+use Rattle.link.specs.declared.Kind.the-variants as kinds
 
 -- as many references are found as there are to be
 module _ (agreed : Coding) (holding : ℕ → Held) (flags : List ℕ) (width : ℕ) where
@@ -54,21 +53,25 @@ module _ (agreed : Coding) (holding : ℕ → Held) (s : List ℕ) (at n width f
   unfolding HeaderIs
   payload-inside = is .2
 
-  pub header-read : HeaderRead s at n width first
-  unfolding HeaderIs Opens
-  header-read =
-      record {
-        agreed = agreed;
-        holding = holding;
-        found = header-found;
-        end = at-offset s payload 0;
-        is = references-are;
-        width-least = is .0 .1;
-        width-most = is .0 .2;
-        few = is .0 .5;
-        first-is = is .0 .3;
-        first-inside = is .0 .4;
-      }
+pub good-of : (agreed : Coding) (holding : ℕ → Held) (s : List ℕ) (at n width first payload : ℕ) → HeaderIs agreed holding s at (headers.Header n width first payload)
+    → GoodHeader agreed holding s at n width first
+unfolding HeaderIs Opens
+good-of agreed holding s at n width first payload is =
+    record {
+      found = header-found agreed holding s at n width first payload is;
+      end = at-offset s payload 0;
+      is = references-are agreed holding s at n width first payload is;
+      width-least = is .0 .1;
+      width-most = is .0 .2;
+      few = is .0 .5;
+      first-is = is .0 .3;
+      first-inside = is .0 .4;
+    }
+
+pub header-read : (agreed : Coding) (holding : ℕ → Held) (s : List ℕ) (at n width first payload : ℕ) → HeaderIs agreed holding s at (headers.Header n width first payload)
+    → HeaderRead s at n width first
+header-read agreed holding s at n width first payload is =
+    record { agreed = agreed; holding = holding; header-good = good-of agreed holding s at n width first payload is }
 
 past-all : (rs : List Reference) (i : ℕ) (t : Position) → length rs ≤ i → place-in rs i t ≡ refused 6 0
 unfolding place-in

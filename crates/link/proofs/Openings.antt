@@ -1,21 +1,19 @@
 -- What stands before the count of a packet: one law for each way out.
-use mathlib.Core.Path.{_≡_, refl, sym, _∙_, ap, ap₂}
-use mathlib.Core.Bool.{Bool, true, false, not}
+use mathlib.Core.Path.{_≡_, refl, sym, _∙_, ap}
 use mathlib.Core.List.{List, [], _∷_}
-use Prim.Native.Nat.{ℕ, zero, suc, _+_, _≤_, _<_}
+use Prim.Native.Nat.{ℕ, _≤_, _<_}
 use native.Mathlib.Omega.{arith}
-use lib.Dec.{eqb}
 use lib.ListN.{length, getD, take, drop}
 use borrow.Author.Tests.{eq-eqb, ne-eqb}
 use Rattle.format.specs.Numbers.{big-endian}
-use Rattle.format.specs.Answer.{Answer, good, refused, Position}
+use Rattle.format.specs.Answer.{good, refused, Position}
 use Rattle.format.specs.Message.{version}
 use Rattle.format.proofs.Opening.{by-less}
 use Rattle.format.proofs.Bridge.{at-offset, byte-at, byte-end, number-at, number-end}
-use Rattle.packets.specs.Packet.{Kind, normal, starting, continuing, ids, kind-of, opening}
+use Rattle.packets.specs.Packet.{starting, continuing, ids, kind-of, opening}
+use Rattle.link.specs.Code.{IdsAre, OpensPacket}
 use Rattle.link.specs.declared.Ids.the-variants as found
 use Rattle.link.specs.declared.Kind.the-variants as kinds
-use Rattle.link.specs.Code.{IdsAre, OpensPacket}
 
 module _ (s : List ℕ) (h : 2 ≤ length s) where
   pub ids-cut : length s < 18 → IdsAre s (found.Refused 2)

@@ -1,23 +1,20 @@
 -- References of a header that is accepted, one after the other.
-use mathlib.Core.Path.{_≡_, refl, sym, _∙_, ap, ap₂, subst}
-use mathlib.Core.Bool.{Bool, true, false, not}
+use mathlib.Core.Path.{_≡_, refl, sym, _∙_, ap}
 use mathlib.Core.List.{List, [], _∷_, _++_, append-assoc}
 use Prim.Native.Nat.{ℕ, zero, suc, _+_, _≤_, _<_}
 use native.Mathlib.Omega.{arith}
-use lib.Dec.{leb}
 use lib.ListN.{length, take, drop, length-append}
-use borrow.Author.Tests.{leb-true}
-use Rattle.format.specs.Text.{Coding, valid, check, encodes}
+use Rattle.format.specs.Text.{Coding}
 use Rattle.format.specs.Answer.{Answer, good, refused, Position}
 use Rattle.format.proofs.Bridge.{at-offset}
 use Rattle.packets.specs.declared.Place.{Place}
-use Rattle.packets.specs.Memory.{Held, text}
-use Rattle.packets.specs.Header.{Reference, named, filled, half, new-reference, cached-reference, reference, references}
+use Rattle.packets.specs.Memory.{Held}
+use Rattle.packets.specs.Header.{Reference, named, half, references}
 use Rattle.packets.specs.Look.{place-in}
-use Rattle.headers.specs.declared.Spelled.the-variants as spelled
 use Rattle.headers.specs.Code.{flags-of, Spells}
 use Rattle.headers.proofs.Good.{GoodNew, GoodCached, good-new, good-cached}
 use Rattle.headers.proofs.Walk.{Along, along-none, along-more, Turned, turned, Begins, begins}
+use Rattle.headers.specs.declared.Spelled.the-variants as spelled
 use Rattle.link.specs.Code.{Passes, HeaderRead, NamedAt}
 
 -- ---- passing one
@@ -104,7 +101,7 @@ module _ (s : List ℕ) (at n width first : ℕ) where
         }
 
     pub walking-inside : HeaderRead s at n width first → a ≤ length s
-    walking-inside h = passing (h .agreed) (h .holding) (h .found) (h .end) (h .is) .inside
+    walking-inside h = passing (h .agreed) (h .holding) (h .header-good .found) (h .header-good .end) (h .header-good .is) .inside
 
     pub walking-named : NamedAt s at n width first i (p .0)
     unfolding place-in

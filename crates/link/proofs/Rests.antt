@@ -1,10 +1,8 @@
 -- What comes after a packet's opening, by its kind.
 use mathlib.Core.Path.{_≡_, refl, sym, _∙_, ap, ap₂}
-use mathlib.Core.Bool.{Bool, true, false, not}
 use mathlib.Core.List.{List, [], _∷_}
-use Prim.Native.Nat.{ℕ, zero, suc, _+_, _*_, _-_, _≤_, _<_}
+use Prim.Native.Nat.{ℕ, zero, suc, _+_, _-_, _≤_, _<_}
 use native.Mathlib.Omega.{arith}
-use lib.Dec.{eqb, leb}
 use lib.ListN.{length, take, drop, length-drop}
 use lib.Seq.{sets}
 use borrow.Author.Tests.{eq-eqb, ne-eqb, le-leb, lt-leb}
@@ -16,14 +14,14 @@ use Rattle.format.proofs.Bridge.{at-offset}
 use Rattle.packets.specs.declared.Pending.{Pending}
 use Rattle.packets.specs.declared.Taken.{Taken}
 use Rattle.packets.specs.declared.PacketAnswer.{PacketAnswer}
-use Rattle.packets.specs.declared.PacketAnswer.the-variants as packets
 use Rattle.packets.specs.Memory.{Cache, Memory, memory-of, Held, held}
 use Rattle.packets.specs.Header.{Reference, header}
 use Rattle.packets.specs.Packet.{normal, starting, continuing, Packet, plain, start, continuation, payload-after, rest}
 use Rattle.packets.specs.Calls.{told, left-by, taken, left-after, entered, list-of, told-after, record-after}
 use Rattle.packets.specs.Answers.{outcome-case, packet-answer}
+use Rattle.packets.specs.declared.PacketAnswer.the-variants as packets
+use Rattle.link.specs.Code.{headed, Heads, settled, Takes}
 use Rattle.link.specs.declared.Headed.the-variants as headeds
-use Rattle.link.specs.Code.{headed, TakesHeader, Heads, settled, Takes}
 
 -- ---- a plain packet and a start, by their header
 

@@ -1,26 +1,22 @@
 -- Drop, reset and the text of a place: one law for each way out.
-use mathlib.Core.Path.{_≡_, refl, sym, _∙_, ap, ap₂}
-use mathlib.Core.Bool.{Bool, true, false, _&&_, cond}
-use mathlib.Core.List.{List, [], _∷_, _++_, append-nil}
-use Prim.Native.Nat.{ℕ, zero, suc, _+_, _*_, _-_, _≤_, _<_}
-use native.Mathlib.Numerals.{add-one}
+use mathlib.Core.Path.{_≡_, refl, _∙_, ap, ap₂}
+use mathlib.Core.Bool.{true, false, _&&_}
+use mathlib.Core.List.{List}
+use Prim.Native.Nat.{ℕ, _*_, _-_, _≤_, _<_}
 use native.Mathlib.Omega.{arith}
-use lib.Dec.{eqb, leb}
-use lib.ListN.{length, take, drop, replicate, set, drop-of-length-le}
+use lib.Dec.{leb}
+use lib.ListN.{length, replicate}
 use borrow.Author.Tests.{eq-eqb, ne-eqb, le-leb, lt-leb}
-use Rattle.format.specs.Answer.{Answer, good, refused}
 use Rattle.octets.specs.Cleared.{cleared}
 use Rattle.packets.specs.declared.Pending.{Pending}
-use Rattle.packets.specs.declared.Settled.{Settled}
-use Rattle.packets.specs.declared.StateAnswer.the-variants as states
-use Rattle.packets.specs.declared.TextAnswer.the-variants as texts
 use Rattle.packets.specs.Memory.{Cache, cache-of, cache-of-size, record-true, none-pending, empty-cache, Held, nothing, no-text, text, held}
-use Rattle.packets.specs.Calls.{drop-sequence, reset}
+use Rattle.packets.specs.Calls.{drop-sequence, reset, cache-after-reset}
 use Rattle.packets.specs.Look.{text-held, text-of-place}
 use Rattle.packets.specs.Answers.{state-answer, drop-answer, reset-answer, text-answer}
-use Rattle.headers.specs.declared.Held.the-variants as holds
+use Rattle.packets.specs.declared.StateAnswer.the-variants as states
+use Rattle.packets.specs.declared.TextAnswer.the-variants as texts
 use Rattle.headers.specs.Code.{held-case}
-use Rattle.link.specs.Code.{cache-after-reset}
+use Rattle.headers.specs.declared.Held.the-variants as holds
 
 -- ---- drop
 

@@ -1,30 +1,29 @@
 -- A packet taken: one law for each way out.
 use mathlib.Core.Path.{_≡_, refl, sym, _∙_, ap, ap₂}
-use mathlib.Core.Bool.{Bool, true, false, _&&_, cond}
-use mathlib.Core.List.{List, [], _∷_}
-use Prim.Native.Nat.{ℕ, zero, suc, _+_, _*_, _-_, _≤_, _<_}
+use mathlib.Core.Bool.{true, false}
+use mathlib.Core.List.{List}
+use Prim.Native.Nat.{ℕ, _+_, _-_, _≤_, _<_}
 use native.Mathlib.Omega.{arith}
-use lib.Dec.{eqb, leb}
+use lib.Dec.{eqb}
 use lib.ListN.{length, drop, length-drop}
 use borrow.Author.Tests.{eq-eqb, ne-eqb, le-leb, lt-leb}
 use Rattle.format.specs.Text.{Coding}
-use Rattle.format.specs.Answer.{Answer, good, refused, Position, after}
+use Rattle.format.specs.Answer.{good, after}
 use Rattle.format.specs.AtomList.{AtomList, of-size}
 use Rattle.format.proofs.Bridge.{at-offset}
 use Rattle.packets.specs.declared.Pending.{Pending}
-use Rattle.packets.specs.declared.Taken.{Taken}
-use Rattle.packets.specs.declared.PacketAnswer.the-variants as packets
-use Rattle.packets.specs.Memory.{Cache, cache-of, list-lent, cache-of-size, none-pending, Held, held}
-use Rattle.packets.specs.Header.{Reference, references, header}
+use Rattle.packets.specs.Memory.{Cache, cache-of, list-lent, cache-of-size, none-pending, held}
+use Rattle.packets.specs.Header.{Reference}
 use Rattle.packets.specs.Packet.{payload-after}
-use Rattle.packets.specs.Calls.{Outcome, complete, pending-still, told-after, record-after, entered, list-of}
+use Rattle.packets.specs.Calls.{told-after, record-after, list-of}
 use Rattle.packets.specs.Answers.{outcome-case}
+use Rattle.packets.specs.declared.PacketAnswer.the-variants as packets
+use Rattle.headers.specs.Code.{holding-when, HeaderIs}
 use Rattle.headers.specs.declared.HeaderAnswer.the-variants as headers
-use Rattle.headers.specs.Code.{holding-when, Opens, GoodHeader, HeaderIs}
 use Rattle.entries.specs.Code.{Listed, Entered}
-use Rattle.link.specs.declared.Headed.the-variants as headeds
-use Rattle.link.specs.Code.{headed, TakesHeader, Heads, settled}
+use Rattle.link.specs.Code.{headed, Heads, settled}
 use Rattle.link.proofs.Naming.{header-found, header-is, references-are, header-count, payload-inside}
+use Rattle.link.specs.declared.Headed.the-variants as headeds
 
 -- ---- sizes
 
@@ -53,21 +52,6 @@ unfolding settled outcome-case told-after record-after
 settled-more sequence fragment gathered e = rw (ne-eqb fragment 1 e)
 
 -- ---- a header
-
-pub good-of : (agreed : Coding) (holding : ℕ → Held) (s : List ℕ) (at n width first payload : ℕ) → HeaderIs agreed holding s at (headers.Header n width first payload)
-    → GoodHeader agreed holding s at n width first
-unfolding HeaderIs Opens
-good-of agreed holding s at n width first payload is =
-    record {
-      found = header-found agreed holding s at n width first payload is;
-      end = at-offset s payload 0;
-      is = references-are agreed holding s at n width first payload is;
-      width-least = is .0 .1;
-      width-most = is .0 .2;
-      few = is .0 .5;
-      first-is = is .0 .3;
-      first-inside = is .0 .4;
-    }
 
 -- the cache is looked at
 pub looking : (agreed : Coding) (c : Cache) (s : List ℕ) (at n width first payload : ℕ) → HeaderIs agreed (holding-when true c) s at (headers.Header n width first payload)

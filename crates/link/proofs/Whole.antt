@@ -1,28 +1,27 @@
 -- A packet with all lent memory: one law for each way out.
 use mathlib.Core.Path.{_≡_, refl, sym, _∙_, ap, ap₂}
-use mathlib.Core.Bool.{Bool, true, false, _&&_}
+use mathlib.Core.Bool.{true, false}
 use mathlib.Core.List.{List}
 use Prim.Native.Nat.{ℕ, _≤_, _<_}
-use native.Mathlib.Omega.{arith}
-use lib.Dec.{eqb, leb}
+use lib.Dec.{eqb}
 use lib.ListN.{length}
 use borrow.Author.Tests.{eqb-true, eq-eqb, ne-eqb, le-leb, lt-leb}
 use Rattle.format.specs.Text.{Coding}
 use Rattle.format.specs.Answer.{Answer, good, refused, Position, after}
-use Rattle.format.specs.AtomList.{AtomList, of-size}
+use Rattle.format.specs.AtomList.{of-size}
 use Rattle.format.specs.Message.{found}
 use Rattle.format.proofs.Bridge.{at-offset}
 use Rattle.packets.specs.declared.Pending.{Pending}
 use Rattle.packets.specs.declared.Taken.{Taken}
 use Rattle.packets.specs.declared.PacketAnswer.{PacketAnswer}
-use Rattle.packets.specs.declared.PacketAnswer.the-variants as packets
-use Rattle.packets.specs.Memory.{Cache, cache-of, list-lent, Memory, cache-of-size, memory-of-size, record-true, held}
+use Rattle.packets.specs.Memory.{cache-of, list-lent, Memory, cache-of-size, memory-of-size, record-true, held}
 use Rattle.packets.specs.Packet.{Kind, normal, starting, continuing, opening, Packet, rest, packet, judged}
 use Rattle.packets.specs.Calls.{taken, left-after, take-packet, after-packet}
 use Rattle.packets.specs.Answers.{packet-answer, taken-answer}
 use Rattle.packets.proofs.Cache.{Sized, sized, both}
-use Rattle.link.specs.declared.Kind.the-variants as kinds
+use Rattle.packets.specs.declared.PacketAnswer.the-variants as packets
 use Rattle.link.specs.Code.{OpensPacket, Takes}
+use Rattle.link.specs.declared.Kind.the-variants as kinds
 
 -- ---- sizes
 

@@ -6,30 +6,25 @@ use lib.ListN.{length, drop}
 use Rattle.format.specs.Text.{Coding}
 use Rattle.format.specs.Answer.{Answer, good, refused, Position, Reading, _>>=_, _>>_, done, here, after}
 use Rattle.format.proofs.Bridge.{at-offset}
-use Rattle.packets.specs.declared.Pending.{Pending}
+use Rattle.format.specs.AtomList.{AtomList}
+use Rattle.format.specs.Message.{found as result-of}
 use Rattle.packets.specs.declared.Taken.{Taken}
 use Rattle.packets.specs.declared.PacketAnswer.{PacketAnswer}
-use Rattle.packets.specs.Memory.{Cache, Memory, memory-of, Held, text, none-pending, held}
-use Rattle.packets.specs.Header.{Reference, flag-bytes, reference, references, header}
-use Rattle.format.specs.AtomList.{AtomList}
-use Rattle.packets.specs.Packet.{normal, starting, continuing, ids, opening, Packet, payload-after, rest}
-use Rattle.packets.specs.Packet as packet
+use Rattle.packets.specs.Memory.{Cache, Memory, Held, text}
+use Rattle.packets.specs.Header.{Reference, reference, references, header}
+use Rattle.packets.specs.Packet.{normal, starting, continuing, ids, opening, Packet, payload-after}
 use Rattle.packets.specs.Look.{at-zero, place-in}
-use Rattle.format.specs.Message.{found as result-of}
-use Rattle.headers.specs.Code.{flags-of}
+use Rattle.packets.specs.Calls.{entered, list-of, told-after, record-after, taken, left-after}
+use Rattle.packets.specs.Answers.{outcome-case, packet-answer}
+use Rattle.packets.specs.Packet as packet
+use Rattle.headers.specs.Code.{flags-of, GoodHeader}
 use Rattle.link.specs.declared.Ids.{Ids}
-use Rattle.link.specs.declared.Ids.the-variants as found
 use Rattle.link.specs.declared.Kind.{Kind}
-use Rattle.link.specs.declared.Kind.the-variants as kinds
 use Rattle.link.specs.declared.Passed.{Passed}
 use Rattle.link.specs.declared.Headed.{Headed}
+use Rattle.link.specs.declared.Ids.the-variants as found
+use Rattle.link.specs.declared.Kind.the-variants as kinds
 use Rattle.link.specs.declared.Headed.the-variants as headeds
-use Rattle.packets.specs.Calls.{reset, kept, entered, list-of, told-after, record-after, taken, left-after}
-use Rattle.packets.specs.Answers.{outcome-case, packet-answer}
-
--- the cache after a reset
-unfoldable pub cache-after-reset : Cache → Cache
-cache-after-reset c = kept {A = Cache × Pending} (c, none-pending) (reset c) .0
 
 -- the ids after the first two bytes
 unfoldable pub IdsAre : List ℕ → Ids → Type 0
@@ -50,18 +45,11 @@ pub record Passes (s : List ℕ) (h width at : ℕ) (r : Passed) : Type 0 where
   pub passes : (agreed : Coding) (holding : ℕ → Held) (earlier : List Reference) (i : ℕ) (x : Reference) (t : Position)
       → reference agreed holding width earlier i h (at-offset s at 0) ≡ good (x, t) → (t ≡ at-offset s (r .next) 0) × (x .place ≡ r .place .0) × (r .next ≤ length s)
 
--- the references of the header at `at` are good, whatever was agreed and whatever the cache holds
+-- the references of the header at `at` are good, for some coding and some cache
 pub record HeaderRead (s : List ℕ) (at n width first : ℕ) : Type 0 where
   pub agreed : Coding
   pub holding : ℕ → Held
-  pub found : List Reference
-  pub end : Position
-  pub is : references agreed holding (flags-of s at n) width [] 0 n (at-offset s first 0) ≡ good (found, end)
-  pub width-least : 0 < width
-  pub width-most : width ≤ 2
-  pub few : n < 256
-  pub first-is : first ≡ at + 1 + flag-bytes n
-  pub first-inside : first ≤ length s
+  pub header-good : GoodHeader agreed holding s at n width first
 
 -- reference i of a good header names this place
 pub record NamedAt (s : List ℕ) (at n width first i place : ℕ) : Type 0 where

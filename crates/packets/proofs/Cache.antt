@@ -5,15 +5,16 @@ use mathlib.Core.List.{List}
 use Prim.Native.Nat.{ℕ, _*_, _≤_, _<_}
 use native.Mathlib.Omega.{arith}
 use lib.Dec.{eqb, leb}
-use lib.ListN.{length, take, drop, set, length-set}
+use lib.ListN.{length, take, set, length-set}
 use lib.Seq.{sets, length-sets, getD-set-same, getD-set-other}
 use borrow.Author.Tests.{eqb-true, eqb-false, eq-eqb, ne-eqb, le-leb}
 use Rattle.format.specs.Text.{valid, utf-8, check}
 use Rattle.format.proofs.Opening.{by-less}
+use Rattle.octets.proofs.Stores.{drop-after, part-sets}
 use Rattle.packets.specs.Memory.{Cache, cache-of-size, place-length, place-bytes, text, text-if, held-as, held}
 use Rattle.packets.specs.Header.{Reference}
 use Rattle.packets.specs.Calls.{zeros-to, enter}
-use Rattle.packets.proofs.Stores.{sets-past, sets-before-at, sets-at, length-zeros-to, take-zeros-to}
+use Rattle.packets.proofs.Stores.{sets-before-at, length-zeros-to, take-zeros-to}
 
 -- a place has the same bytes and the same length
 pub record Same (c d : Cache) (p : ℕ) : Type 0 where
@@ -104,7 +105,7 @@ module _ (c : Cache) (r : Reference) (short-text : length (r .text) ≤ 32) wher
             bytes =
                 by-less p (r .place)
                 (λ less. sets-before-at (zeros-to 32 (r .text)) (c .places) (32 * r .place) (32 * p) 32 (omega arith))
-                (λ over. ap (take 32) (sets-past (zeros-to 32 (r .text)) (c .places) (32 * r .place) (32 * p) (omega arith)));
+                (λ over. ap (take 32) (drop-after (c .places) (zeros-to 32 (r .text)) (32 * r .place) (32 * p) (omega arith)));
             long = getD-set-other (c .lengths) (r .place) p (length (r .text)) 65535 (λ e. apart (sym e));
           }
 
@@ -121,7 +122,6 @@ module _ (c : Cache) (r : Reference) (short-text : length (r .text) ≤ 32) wher
           let many : length (c .lengths) ≡ 2048 = s .lengths-are in
           record {
             bytes =
-                ap (λ (n : ℕ). take n (drop (32 * r .place) (sets (c .places) (32 * r .place) (zeros-to 32 (r .text))))) (sym l)
-                ∙ sets-at (zeros-to 32 (r .text)) (c .places) (32 * r .place) (omega arith);
+                part-sets (c .places) (zeros-to 32 (r .text)) (32 * r .place) 32 l (omega arith);
             long = getD-set-same (c .lengths) (r .place) (length (r .text)) 65535 (omega arith);
           }

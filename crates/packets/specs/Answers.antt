@@ -9,15 +9,15 @@ use Rattle.packets.specs.declared.Pending.{Pending}
 use Rattle.packets.specs.declared.Taken.{Taken}
 use Rattle.packets.specs.declared.Settled.{Settled}
 use Rattle.packets.specs.declared.PacketAnswer.{PacketAnswer}
-use Rattle.packets.specs.declared.PacketAnswer.the-variants as packets
 use Rattle.packets.specs.declared.StateAnswer.{StateAnswer}
-use Rattle.packets.specs.declared.StateAnswer.the-variants as states
 use Rattle.packets.specs.declared.PlaceAnswer.{PlaceAnswer}
-use Rattle.packets.specs.declared.PlaceAnswer.the-variants as places
 use Rattle.packets.specs.declared.TextAnswer.{TextAnswer}
-use Rattle.packets.specs.declared.TextAnswer.the-variants as texts
 use Rattle.packets.specs.Memory.{Cache, Memory}
 use Rattle.packets.specs.Calls.{Outcome, payload-at, pending-still, complete, take-packet, after-packet, drop-sequence, reset, kept}
+use Rattle.packets.specs.declared.PacketAnswer.the-variants as packets
+use Rattle.packets.specs.declared.StateAnswer.the-variants as states
+use Rattle.packets.specs.declared.PlaceAnswer.the-variants as places
+use Rattle.packets.specs.declared.TextAnswer.the-variants as texts
 
 -- In Latin-1 or UTF-8 as the caller states was agreed
 unfoldable pub coding-of : Bool → Coding

@@ -1,74 +1,58 @@
+-- `entries::enter_reference` meets its contract. Assumes nothing.
+use native.Mathlib.Omega.{arith}
+use borrow.Author.Needs.{needs}
 use Rattle.packets.specs.Answers.{coding-of}
 use Rattle.packets.specs.Memory.{cache-of}
 use Rattle.headers.specs.Code.{Spells}
+use Rattle.headers.proofs.Walk.{new-inside}
 use Rattle.headers.specs.declared.Spelled.the-variants as spelled
-use Rattle.headers.proofs.Walk.{new-inside, cached-inside}
 use Rattle.entries.proofs.Storing.{stands-new, enters-cut, enters-new, enters-cached}
-use mathlib.Core.Path.{_≡_, refl, sym, ap, _∙_}
-use native.Mathlib.Omega.{arith}
-use borrow.Author.Needs.{needs}
 use Rattle.entries.proofs.enter_reference.Statement.{statement}
 use Rattle.entries.proofs.enter_reference.Tie as tie
-use Rattle.entries.proofs.enter_reference.Reads as reads
-use Rattle.entries.proofs.enter_reference.Lts as lts
-use Rattle.entries.proofs.enter_text.Reads as enter-text-reads
-use Rattle.headers.proofs.read_reference.Reads as read-reference-reads
 
--- src/lib.rt:86:11
 read-reference-requires : tie.Need-read-reference-requires
 read-reference-requires c κs = search needs
 
--- src/lib.rt:87:25
 enum-told : tie.Need-enum-told
 enum-told c = search needs
 
--- src/lib.rt:88:24
 enum-known-place : tie.Need-enum-known-place
 enum-known-place c = search needs
 
--- src/lib.rt:89:13
 enter-text-requires : tie.Need-enter-text-requires
 enter-text-requires c κs = let a = c .before .before .before .before .before .before .before .before .before .args in
     let v = c .before .before .before .place .given in
     let e : Spells (a .packet .now) (a .half) (a .width) (a .at) (spelled.New (v .0 .0) (v .0 .1 .0) (v .0 .1 .1 .0)) = rw (v .1) at (c .before .before .before .before .before .read-reference .ensures) in
     let i = new-inside (a .packet .now) (a .half) (a .width) (a .at) (v .0 .0) (v .0 .1 .0) (v .0 .1 .1 .0) e in (i .0, i .2, i .3, c .before .before .before .before .before .before .before .before .before .pre .4, c .before .before .before .before .before .before .before .before .before .pre .5, stands-new (coding-of (a .utf8)) (c .before .before .before .before .before .before .before .before .before .pre .6 .holding) (a .packet .now) (a .half) (a .width) (a .at) (v .0 .0) (v .0 .1 .0) (v .0 .1 .1 .0) 0 32 (c .before .before .before .before .before .before .before .before .before .pre .6 .stands) e (omega arith))
 
--- src/lib.rt:90:13
 add-result : tie.Need-add-result
 add-result c = let a = c .before .before .before .before .before .before .before .before .before .before .before .before .before .before .args in
     let v = c .before .before .before .before .before .before .before .before .place .given in
     let e : Spells (a .packet .now) (a .half) (a .width) (a .at) (spelled.New (v .0 .0) (v .0 .1 .0) (v .0 .1 .1 .0)) = rw (v .1) at (c .before .before .before .before .before .before .before .before .before .before .read-reference .ensures) in
     let i = new-inside (a .packet .now) (a .half) (a .width) (a .at) (v .0 .0) (v .0 .1 .0) (v .0 .1 .1 .0) e in omega arith
 
--- src/lib.rt:92:27
 enum-known-place-2 : tie.Need-enum-known-place-2
 enum-known-place-2 c = search needs
 
--- src/lib.rt:92:38
 add-result-2 : tie.Need-add-result-2
 add-result-2 c = search needs
 
--- src/lib.rt:82:1
 returns : tie.Need-returns
 returns c = let a = c .before .before .before .before .before .before .args in
     enters-cut (coding-of (a .utf8)) (a .packet .now) (a .half) (a .width) (a .at) (cache-of (a .places .now) (a .lengths .now)) _ _ (rw (c .enum-told .given .1) at (c .before .before .read-reference .ensures))
 
--- src/lib.rt:82:1
 same-length : tie.Need-same-length
 same-length c = search needs
 
--- src/lib.rt:82:1
 same-length-2 : tie.Need-same-length-2
 same-length-2 c = search needs
 
--- src/lib.rt:82:1
 returns-2 : tie.Need-returns-2
 returns-2 c = let a = c .before .before .before .before .before .before .before .before .before .before .before .before .before .before .args in
     let v = c .before .before .before .before .before .before .before .before .place .given in
     let e : Spells (a .packet .now) (a .half) (a .width) (a .at) (spelled.New (v .0 .0) (v .0 .1 .0) (v .0 .1 .1 .0)) = rw (v .1) at (c .before .before .before .before .before .before .before .before .before .before .read-reference .ensures) in
     enters-new (coding-of (a .utf8)) (a .packet .now) (a .half) (a .width) (a .at) (cache-of (a .places .now) (a .lengths .now)) _ (v .0 .0) (v .0 .1 .0) (v .0 .1 .1 .0) e (c .before .before .before .before .enter-text .ensures)
 
--- src/lib.rt:82:1
 returns-3 : tie.Need-returns-3
 returns-3 c = let a = c .before .before .before .before .before .before .before .args in
     let v = c .before .place2 .given in

@@ -1,15 +1,13 @@
-use Rattle.entries.proofs.Filling.{filled-none, filled-more, filled-all}
-use borrow.Author.Needs.{needs}
-use lib.ListN.{length, drop, replicate, length-set}
-use Prim.Native.Nat.{_-_, _≤_}
+-- `entries::fill_lengths` meets its contract. Assumes nothing.
 use mathlib.Core.List.{_++_}
-use mathlib.Core.Path.{refl}
-use mathlib.Core.Path.{_≡_, sym, ap, _∙_}
+use mathlib.Core.Path.{refl, _≡_}
+use Prim.Native.Nat.{_-_, _≤_}
 use native.Mathlib.Omega.{arith}
+use lib.ListN.{length, drop, replicate, length-set}
+use borrow.Author.Needs.{needs}
+use Rattle.entries.proofs.Filling.{filled-none, filled-more, filled-all}
 use Rattle.entries.proofs.fill_lengths.Statement.{statement}
 use Rattle.entries.proofs.fill_lengths.Tie as tie
-use Rattle.entries.proofs.fill_lengths.Reads as reads
-use Rattle.entries.proofs.fill_lengths.Lts as lts
 
 abbrev Inv-loop : tie.InvT-loop
 Inv-loop d₀ value i₀ d i = (i ≤ length d₀) × (d ≡ replicate i value ++ drop i d₀) × (length d ≡ length d₀)
@@ -17,36 +15,28 @@ Inv-loop d₀ value i₀ d i = (i ≤ length d₀) × (d ≡ replicate i value +
 abbrev μ-loop : tie.MeasureT-loop
 μ-loop d₀ value i₀ d i = length d₀ - i
 
--- src/lib.rt:34:5
 loop-holds : tie.Need-loop-holds Inv-loop μ-loop
 loop-holds c = (omega arith, filled-none (c .args .d .now) (c .args .value), refl)
 
--- src/lib.rt:35:9
 mul-d : tie.Need-mul-d Inv-loop μ-loop
 mul-d c = search needs
 
--- src/lib.rt:35:9
 slice-write-d : tie.Need-slice-write-d Inv-loop μ-loop
 slice-write-d c = search needs
 
--- src/lib.rt:36:9
 add-i : tie.Need-add-i Inv-loop μ-loop
 add-i c = search needs
 
--- src/lib.rt:34:5
 loop-less : tie.Need-loop-less Inv-loop μ-loop
 loop-less c = search needs
 
--- src/lib.rt:34:5
 loop-again : tie.Need-loop-again Inv-loop μ-loop
 loop-again c = let a = c .before .before .args in
     let l = c .before .loop in (omega arith, filled-more (a .d .now) (l .d) (a .value) (l .i) (omega arith) (l .inv .1), simp length-set (l .inv .2))
 
--- src/lib.rt:30:1
 same-length : tie.Need-same-length Inv-loop μ-loop
 same-length c = c .before .loop .inv .2
 
--- src/lib.rt:30:1
 returns : tie.Need-returns Inv-loop μ-loop
 returns c = let a = c .before .before .args in
     let l = c .before .loop in filled-all (a .d .now) (l .d) (a .value) (l .i) (omega arith) (l .inv .1) (l .inv .0)

@@ -1,117 +1,92 @@
-use Rattle.packets.specs.Answers.{coding-of}
-use Rattle.packets.specs.Memory.{cache-of, held}
+-- `entries::list_reference` meets its contract. Assumes nothing.
 use Prim.Native.Nat.{_*_}
-use Rattle.headers.specs.Code.{Spells}
-use Rattle.headers.specs.declared.Spelled.the-variants as spelled
-use Rattle.headers.proofs.Walk.{new-inside, cached-inside}
-use Rattle.entries.proofs.Storing.{stands-new, stands-cached, lists-cut, lists-new, lists-cached}
-use mathlib.Core.Path.{_≡_, refl, sym, ap, _∙_}
 use native.Mathlib.Omega.{arith}
 use borrow.Author.Needs.{needs}
+use Rattle.packets.specs.Answers.{coding-of}
+use Rattle.packets.specs.Memory.{cache-of, held}
+use Rattle.headers.specs.Code.{Spells}
+use Rattle.headers.proofs.Walk.{new-inside, cached-inside}
+use Rattle.headers.specs.declared.Spelled.the-variants as spelled
+use Rattle.entries.proofs.Storing.{stands-new, stands-cached, lists-cut, lists-new, lists-cached}
 use Rattle.entries.proofs.list_reference.Statement.{statement}
 use Rattle.entries.proofs.list_reference.Tie as tie
-use Rattle.entries.proofs.list_reference.Reads as reads
-use Rattle.entries.proofs.list_reference.Lts as lts
-use Rattle.headers.proofs.put_text.Reads as put-text-reads
-use Rattle.headers.proofs.read_reference.Reads as read-reference-reads
-use Rattle.headers.proofs.wide_length.Reads as wide-length-reads
-use Rattle.octets.proofs.copy.Reads as copy-reads
 
--- src/lib.rt:36:11
 read-reference-requires : tie.Need-read-reference-requires
 read-reference-requires c κs = search needs
 
--- src/lib.rt:37:25
 enum-told : tie.Need-enum-told
 enum-told c = search needs
 
--- src/lib.rt:38:24
 enum-known-place : tie.Need-enum-known-place
 enum-known-place c = search needs
 
--- src/lib.rt:39:76
 mul-put-text : tie.Need-mul-put-text
 mul-put-text c = search needs
 
--- src/lib.rt:39:17
 put-text-requires : tie.Need-put-text-requires
 put-text-requires c κs = let a = c .before .before .before .before .before .before .before .before .before .args in
     let v = c .before .before .place .given in
     let e : Spells (a .packet .now) (a .half) (a .width) (a .at) (spelled.New (v .0 .0) (v .0 .1 .0) (v .0 .1 .1 .0)) = rw (v .1) at (c .before .before .before .before .read-reference .ensures) in
     let i = new-inside (a .packet .now) (a .half) (a .width) (a .at) (v .0 .0) (v .0 .1 .0) (v .0 .1 .1 .0) e in (i .2, i .3, stands-new (coding-of (a .utf8)) (held (cache-of (a .places .now) (a .lengths .now))) (a .packet .now) (a .half) (a .width) (a .at) (v .0 .0) (v .0 .1 .0) (v .0 .1 .1 .0) (32 * a .i) _ (c .before .before .before .before .before .before .before .before .before .pre .8) e (omega arith))
 
--- src/lib.rt:40:42
 add-t21 : tie.Need-add-t21
 add-t21 c = let a = c .before .before .before .before .before .before .before .before .before .before .before .before .args in
     let v = c .before .before .before .before .before .place .given in
     let e : Spells (a .packet .now) (a .half) (a .width) (a .at) (spelled.New (v .0 .0) (v .0 .1 .0) (v .0 .1 .1 .0)) = rw (v .1) at (c .before .before .before .before .before .before .before .read-reference .ensures) in
     let i = new-inside (a .packet .now) (a .half) (a .width) (a .at) (v .0 .0) (v .0 .1 .0) (v .0 .1 .1 .0) e in omega arith
 
--- src/lib.rt:42:27
 enum-known-place-2 : tie.Need-enum-known-place-2
 enum-known-place-2 c = search needs
 
--- src/lib.rt:44:45
 mul-wide-length : tie.Need-mul-wide-length
 mul-wide-length c = let a = c .before .before .before .before .before .before .before .before .args in
     let v = c .before .place2 .given in
     let e : Spells (a .packet .now) (a .half) (a .width) (a .at) (spelled.Cached (v .0 .0)) = rw (v .1) at (c .before .before .before .read-reference .ensures) in
     let i = cached-inside (a .packet .now) (a .half) (a .width) (a .at) (v .0 .0) e in omega arith
 
--- src/lib.rt:44:45
 shared-slice-read-wide-length : tie.Need-shared-slice-read-wide-length
 shared-slice-read-wide-length c = let a = c .before .before .before .before .before .before .before .before .before .args in
     let v = c .before .before .place2 .given in
     let e : Spells (a .packet .now) (a .half) (a .width) (a .at) (spelled.Cached (v .0 .0)) = rw (v .1) at (c .before .before .before .before .read-reference .ensures) in
     let i = cached-inside (a .packet .now) (a .half) (a .width) (a .at) (v .0 .0) e in omega arith
 
--- src/lib.rt:44:17
 wide-length-requires : tie.Need-wide-length-requires
 wide-length-requires c κs = search needs
 
--- src/lib.rt:45:34
 mul-copy : tie.Need-mul-copy
 mul-copy c = let a = c .before .before .before .before .before .before .before .before .before .before .args in
     let v = c .before .before .before .place2 .given in
     let e : Spells (a .packet .now) (a .half) (a .width) (a .at) (spelled.Cached (v .0 .0)) = rw (v .1) at (c .before .before .before .before .before .read-reference .ensures) in
     let i = cached-inside (a .packet .now) (a .half) (a .width) (a .at) (v .0 .0) e in omega arith
 
--- src/lib.rt:45:48
 mul-copy-2 : tie.Need-mul-copy-2
 mul-copy-2 c = search needs
 
--- src/lib.rt:45:13
 copy-requires : tie.Need-copy-requires
 copy-requires c κs = let a = c .before .before .before .before .before .before .before .before .before .before .before .args in
     let v = c .before .before .before .before .place2 .given in
     let e : Spells (a .packet .now) (a .half) (a .width) (a .at) (spelled.Cached (v .0 .0)) = rw (v .1) at (c .before .before .before .before .before .before .read-reference .ensures) in
     let i = cached-inside (a .packet .now) (a .half) (a .width) (a .at) (v .0 .0) e in let m = stands-cached (coding-of (a .utf8)) (a .places .now) (a .lengths .now) (a .packet .now) (a .half) (a .width) (a .at) (v .0 .0) (c .before .wide-length .result) (c .before .before .before .before .before .before .before .before .before .before .before .pre .8) e (c .before .before .before .before .before .before .before .before .before .before .before .pre .4) (c .before .before .before .before .before .before .before .before .before .before .before .pre .5) (c .before .wide-length .ensures .0) in (omega arith, omega arith)
 
--- src/lib.rt:46:40
 add-t22 : tie.Need-add-t22
 add-t22 c = search needs
 
--- src/lib.rt:32:1
 returns : tie.Need-returns
 returns c = let a = c .before .before .before .before .before .before .before .args in
     lists-cut (coding-of (a .utf8)) (held (cache-of (a .places .now) (a .lengths .now))) (a .packet .now) (a .half) (a .width) (a .at) (32 * a .i) (a .list .now) _ _ (rw (c .enum-told .given .1) at (c .before .before .read-reference .ensures))
 
--- src/lib.rt:32:1
 same-length : tie.Need-same-length
 same-length c = search needs
 
--- src/lib.rt:32:1
 returns-2 : tie.Need-returns-2
 returns-2 c = let a = c .before .before .before .before .before .before .before .before .before .before .before .before .args in
     let v = c .before .before .before .before .before .place .given in
     let e : Spells (a .packet .now) (a .half) (a .width) (a .at) (spelled.New (v .0 .0) (v .0 .1 .0) (v .0 .1 .1 .0)) = rw (v .1) at (c .before .before .before .before .before .before .before .read-reference .ensures) in
     lists-new (coding-of (a .utf8)) (held (cache-of (a .places .now) (a .lengths .now))) (a .packet .now) (a .half) (a .width) (a .at) (32 * a .i) (a .list .now) _ (v .0 .0) (v .0 .1 .0) (v .0 .1 .1 .0) _ e (c .before .before .put-text .ensures)
 
--- src/lib.rt:32:1
 same-length-2 : tie.Need-same-length-2
 same-length-2 c = search needs
 
--- src/lib.rt:32:1
 returns-3 : tie.Need-returns-3
 returns-3 c = let a = c .before .before .before .before .before .before .before .before .before .before .before .before .before .before .args in
     let v = c .before .before .before .before .before .before .before .place2 .given in

@@ -1,23 +1,18 @@
-use Rattle.entries.specs.Code.{Lists}
-use Rattle.headers.proofs.Standing.{flag-count}
-use Rattle.headers.specs.Code.{flags-of}
+-- `entries::write_list` meets its contract. Assumes nothing.
+use mathlib.Core.Path.{_≡_, sym, _∙_}
+use Prim.Native.Nat.{_*_, _-_, _≤_}
+use native.Mathlib.Omega.{arith}
+use lib.ListN.{length, length-set}
+use borrow.Author.Needs.{needs}
 use Rattle.packets.specs.Answers.{coding-of}
 use Rattle.packets.specs.Header.{half}
 use Rattle.packets.specs.Memory.{cache-of, held}
-use borrow.Author.Needs.{needs}
-use lib.ListN.{length, length-set, length-replicate}
-use Prim.Native.Nat.{_*_, _-_, _≤_}
+use Rattle.headers.proofs.Standing.{flag-count}
+use Rattle.headers.specs.Code.{flags-of}
+use Rattle.entries.specs.Code.{Lists}
 use Rattle.entries.proofs.Loops.{ListWalk, list-none, list-stands, list-inside, list-more, list-all}
-use mathlib.Core.Path.{_≡_, refl, sym, ap, _∙_}
-use native.Mathlib.Omega.{arith}
 use Rattle.entries.proofs.write_list.Statement.{statement}
 use Rattle.entries.proofs.write_list.Tie as tie
-use Rattle.entries.proofs.write_list.Reads as reads
-use Rattle.entries.proofs.write_list.Lts as lts
-use Rattle.entries.proofs.fill_lengths.Reads as fill-lengths-reads
-use Rattle.entries.proofs.list_reference.Reads as list-reference-reads
-use Rattle.headers.proofs.half_of.Reads as half-of-reads
-use Rattle.octets.proofs.clear_bytes.Reads as clear-bytes-reads
 
 abbrev Inv-loop : tie.InvT-loop
 Inv-loop utf8 packet at n width first places lengths list₀ sizes₀ next₀ i₀ list sizes next i = (i ≤ n) × (next ≤ length packet) × (length list ≡ 8160) × (length sizes ≡ 255) × ListWalk (coding-of utf8) (held (cache-of places lengths)) packet at n width first i next list sizes
@@ -25,53 +20,42 @@ Inv-loop utf8 packet at n width first places lengths list₀ sizes₀ next₀ i�
 abbrev μ-loop : tie.MeasureT-loop
 μ-loop utf8 packet at n width first places lengths list₀ sizes₀ next₀ i₀ list sizes next i = n - i
 
--- src/lib.rt:56:5
 clear-bytes-requires : tie.Need-clear-bytes-requires Inv-loop μ-loop
 clear-bytes-requires c κs = search needs
 
--- src/lib.rt:57:5
 fill-lengths-requires : tie.Need-fill-lengths-requires Inv-loop μ-loop
 fill-lengths-requires c κs = search needs
 
--- src/lib.rt:60:5
 loop-holds : tie.Need-loop-holds Inv-loop μ-loop
 loop-holds c = let a = c .before .before .before .before .before .before .before .before .before .before .before .before .before .args in
     (omega arith, c .before .before .before .before .before .before .before .before .before .before .before .before .before .pre .4 .first-inside, search needs, search needs, list-none (coding-of (a .utf8)) (held (cache-of (a .places .now) (a .lengths .now))) (a .packet .now) (a .at) (a .n) (a .width) (a .first) _ _ (a .list .now) (a .sizes .now) (c .before .before .before .before .before .before .before .before .before .before .before .before .before .pre .2) (c .before .before .before .before .before .before .before .before .before .before .before .before .before .pre .3) (c .before .before .before .before .before .before .clear-bytes .ensures) (c .before .before .fill-lengths .ensures))
 
--- src/lib.rt:61:13
 half-of-requires : tie.Need-half-of-requires Inv-loop μ-loop
 half-of-requires c κs = let f = flag-count (c .before .before .before .before .before .before .before .before .before .before .before .before .before .before .before .args .n) (omega arith) in let h = c .before .before .before .before .before .before .before .before .before .before .before .before .before .before .before .pre .4 in (omega arith, omega arith, omega (arith, h .first-is, h .first-inside, f))
 
--- src/lib.rt:62:13
 list-reference-requires : tie.Need-list-reference-requires Inv-loop μ-loop
 list-reference-requires c κs = let a = c .before .before .before .before .before .before .before .before .before .before .before .before .before .before .before .before .before .args in
     let l = c .before .before .before .loop in
     let h = c .before .before .before .before .before .before .before .before .before .before .before .before .before .before .before .before .before .pre .4 in (c .before .half-of .ensures .1, h .width-least, h .width-most, l .inv .1, c .before .before .before .before .before .before .before .before .before .before .before .before .before .before .before .before .before .pre .0, c .before .before .before .before .before .before .before .before .before .before .before .before .before .before .before .before .before .pre .1, omega (arith, h .few), l .inv .2, rw (c .before .half-of .ensures .0) (list-stands (coding-of (a .utf8)) (held (cache-of (a .places .now) (a .lengths .now))) (a .packet .now) (a .at) (a .n) (a .width) (a .first) h (l .i) (l .next) (l .list) (l .sizes) (l .inv .4) (c .before .before .loop-test .taken)))
 
--- src/lib.rt:63:20
 cast-sizes : tie.Need-cast-sizes Inv-loop μ-loop
 cast-sizes c = let a = c .before .before .before .before .before .before .before .before .before .before .before .before .before .before .before .before .before .before .before .before .before .args in
     let l = c .before .before .before .before .before .before .before .loop in
     let e : Lists (coding-of (a .utf8)) (held (cache-of (a .places .now) (a .lengths .now))) (a .packet .now) (half (flags-of (a .packet .now) (a .at) (a .n)) (l .i)) (a .width) (l .next) (32 * l .i) (l .list) _ (c .before .before .before .list-reference .result) = rw (c .before .before .before .before .before .half-of .ensures .0) at (c .before .before .before .list-reference .ensures) in
     let m = list-inside (coding-of (a .utf8)) (held (cache-of (a .places .now) (a .lengths .now))) (a .packet .now) (a .at) (a .n) (a .width) (a .first) (c .before .before .before .before .before .before .before .before .before .before .before .before .before .before .before .before .before .before .before .before .before .pre .4) (l .i) (l .next) (l .list) (l .sizes) (l .inv .4) (c .before .before .before .before .before .before .loop-test .taken) _ _ _ e in omega (arith, m .1)
 
--- src/lib.rt:63:9
 mul-sizes : tie.Need-mul-sizes Inv-loop μ-loop
 mul-sizes c = let h = c .before .before .before .before .before .before .before .before .before .before .before .before .before .before .before .before .before .before .before .before .before .pre .4 in omega (arith, h .few)
 
--- src/lib.rt:63:9
 slice-write-sizes : tie.Need-slice-write-sizes Inv-loop μ-loop
 slice-write-sizes c = let h = c .before .before .before .before .before .before .before .before .before .before .before .before .before .before .before .before .before .before .before .before .before .pre .4 in omega (arith, h .few)
 
--- src/lib.rt:65:9
 add-i : tie.Need-add-i Inv-loop μ-loop
 add-i c = omega arith
 
--- src/lib.rt:60:5
 loop-less : tie.Need-loop-less Inv-loop μ-loop
 loop-less c = omega arith
 
--- src/lib.rt:60:5
 loop-again : tie.Need-loop-again Inv-loop μ-loop
 loop-again c = let a = c .before .before .before .before .before .before .before .before .before .before .before .before .before .before .before .before .before .before .before .before .before .args in
     let l = c .before .before .before .before .before .before .before .loop in
@@ -83,15 +67,12 @@ loop-again c = let a = c .before .before .before .before .before .before .before
       list-more (coding-of (a .utf8)) (held (cache-of (a .places .now) (a .lengths .now))) (a .packet .now) (a .at) (a .n) (a .width) (a .first) (c .before .before .before .before .before .before .before .before .before .before .before .before .before .before .before .before .before .before .before .before .before .pre .4) (l .i) (l .next) (l .list) (l .sizes) (l .inv .4) (c .before .before .before .before .before .before .loop-test .taken) _ _ _ e,
     )
 
--- src/lib.rt:52:1
 same-length : tie.Need-same-length Inv-loop μ-loop
 same-length c = c .before .loop .inv .2 ∙ sym (c .before .before .before .before .before .before .before .before .before .before .before .before .before .before .before .pre .2)
 
--- src/lib.rt:52:1
 same-length-2 : tie.Need-same-length-2 Inv-loop μ-loop
 same-length-2 c = c .before .loop .inv .3 ∙ sym (c .before .before .before .before .before .before .before .before .before .before .before .before .before .before .before .pre .3)
 
--- src/lib.rt:52:1
 returns : tie.Need-returns Inv-loop μ-loop
 returns c = let a = c .before .before .before .before .before .before .before .before .before .before .before .before .before .before .before .args in
     let l = c .before .loop in

@@ -1,55 +1,43 @@
-use Rattle.headers.specs.Code.{holding-when, Opens}
-use Rattle.headers.specs.declared.Opened.the-variants as opened
+-- `headers::check_header` meets its contract. Assumes nothing.
+use borrow.Author.Needs.{needs}
 use Rattle.packets.specs.Answers.{coding-of}
 use Rattle.packets.specs.Memory.{cache-of}
+use Rattle.headers.specs.Code.{holding-when, Opens}
 use Rattle.headers.proofs.Walk.{opened-inside, header-cut, header-refused, header-good}
-use borrow.Author.Needs.{needs}
+use Rattle.headers.specs.declared.Opened.the-variants as opened
 use Rattle.headers.proofs.check_header.Statement.{statement}
 use Rattle.headers.proofs.check_header.Tie as tie
-use Rattle.headers.proofs.check_header.Reads as reads
-use Rattle.headers.proofs.check_header.Lts as lts
-use Rattle.headers.proofs.check_references.Reads as check-references-reads
-use Rattle.headers.proofs.open_header.Reads as open-header-reads
 
--- src/lib.rt:357:11
 open-header-requires : tie.Need-open-header-requires
 open-header-requires c κs = search needs
 
--- src/lib.rt:358:46
 enum-told : tie.Need-enum-told
 enum-told c = search needs
 
--- src/lib.rt:359:26
 enum-known-n : tie.Need-enum-known-n
 enum-known-n c = search needs
 
--- src/lib.rt:360:19
 check-references-requires : tie.Need-check-references-requires
 check-references-requires c κs = let a = c .before .before .before .before .before .before .before .args in
     let v = c .before .n .given in
     let e : Opens (a .packet .now) (a .at) (opened.Header (v .0 .0) (v .0 .1 .0) (v .0 .1 .1 .0)) = rw (v .1) at (c .before .before .before .open-header .ensures) in
     let i = opened-inside (coding-of (a .utf8)) (holding-when (a .look) (cache-of (a .places .now) (a .lengths .now))) (a .packet .now) (a .at) (v .0 .0) (v .0 .1 .0) (v .0 .1 .1 .0) e in (i .0, i .1, i .2, i .3, i .4, c .before .before .before .before .before .before .before .pre .1)
 
--- src/lib.rt:361:37
 enum-known-refusal : tie.Need-enum-known-refusal
 enum-known-refusal c = search needs
 
--- src/lib.rt:362:33
 enum-known-payload : tie.Need-enum-known-payload
 enum-known-payload c = search needs
 
--- src/lib.rt:353:1
 returns : tie.Need-returns
 returns c = let a = c .before .before .before .before .before .before .args in header-cut (coding-of (a .utf8)) (holding-when (a .look) (cache-of (a .places .now) (a .lengths .now))) (a .packet .now) (a .at) (rw (c .enum-told .given .1) at (c .before .before .open-header .ensures))
 
--- src/lib.rt:353:1
 returns-2 : tie.Need-returns-2
 returns-2 c = let a = c .before .before .before .before .before .before .before .before .before .before .before .args in
     let v = c .before .before .before .before .before .n .given in
     let e : Opens (a .packet .now) (a .at) (opened.Header (v .0 .0) (v .0 .1 .0) (v .0 .1 .1 .0)) = rw (v .1) at (c .before .before .before .before .before .before .before .open-header .ensures) in
     header-refused (coding-of (a .utf8)) (holding-when (a .look) (cache-of (a .places .now) (a .lengths .now))) (a .packet .now) (a .at) (v .0 .0) (v .0 .1 .0) (v .0 .1 .1 .0) e _ _ (rw (c .before .refusal .given .1) at (c .before .before .before .check-references .ensures))
 
--- src/lib.rt:353:1
 returns-3 : tie.Need-returns-3
 returns-3 c = let a = c .before .before .before .before .before .before .before .before .before .before .before .args in
     let v = c .before .before .before .before .before .n .given in

@@ -1,38 +1,30 @@
-use Rattle.headers.proofs.Standing.{half-low, half-high}
-use Prim.Native.Nat.{ℕ, _/_, _%_}
+-- `headers::half_of` meets its contract. Assumes nothing.
 use mathlib.Core.Path.{ap, _∙_}
+use Prim.Native.Nat.{ℕ, _/_, _%_}
 use native.Mathlib.Omega.{arith}
 use borrow.Author.Needs.{needs}
+use Rattle.headers.proofs.Standing.{half-low, half-high}
 use Rattle.headers.proofs.half_of.Statement.{statement}
 use Rattle.headers.proofs.half_of.Tie as tie
-use Rattle.headers.proofs.half_of.Reads as reads
-use Rattle.headers.proofs.half_of.Lts as lts
-use Rattle.headers.proofs.wide.Reads as wide-reads
 
--- src/lib.rt:75:29
 add-wide : tie.Need-add-wide
 add-wide c = search needs
 
--- src/lib.rt:75:29
 add-wide-2 : tie.Need-add-wide-2
 add-wide-2 c = search needs
 
--- src/lib.rt:75:22
 shared-slice-read-wide : tie.Need-shared-slice-read-wide
 shared-slice-read-wide c = search needs
 
--- src/lib.rt:75:9
 wide-requires : tie.Need-wide-requires
 wide-requires c κs = search needs
 
--- src/lib.rt:77:9
 returns : tie.Need-returns
 returns c = let a = c .before .before .before .before .args in (
   ap (λ (b : ℕ). b % 16) (c .before .wide .ensures .0) ∙ half-low (a .packet .now) (a .at) (a .n) (a .i .0) (omega arith) (omega arith) (c .if1 .taken),
   omega arith,
 )
 
--- src/lib.rt:70:1
 returns-2 : tie.Need-returns-2
 returns-2 c = let a = c .before .before .before .before .args in (
   ap (λ (b : ℕ). b / 16) (c .before .wide .ensures .0) ∙ half-high (a .packet .now) (a .at) (a .n) (a .i .0) (omega arith) (omega arith) (c .if1 .left),

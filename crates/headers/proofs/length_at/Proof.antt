@@ -1,32 +1,25 @@
-use Rattle.format.specs.Numbers.{big-endian}
-use lib.ListN.{take, drop}
-use Prim.Native.Nat.{ℕ}
+-- `headers::length_at` meets its contract. Assumes nothing.
 use mathlib.Core.Path.{_≡_, sym, ap, _∙_}
+use Prim.Native.Nat.{ℕ}
 use native.Mathlib.Omega.{arith}
+use lib.ListN.{take, drop}
 use borrow.Author.Needs.{needs}
+use Rattle.format.specs.Numbers.{big-endian}
 use Rattle.headers.proofs.length_at.Statement.{statement}
 use Rattle.headers.proofs.length_at.Tie as tie
-use Rattle.headers.proofs.length_at.Reads as reads
-use Rattle.headers.proofs.length_at.Lts as lts
-use Rattle.octets.proofs.big1.Reads as big1-reads
-use Rattle.octets.proofs.big2.Reads as big2-reads
 
--- src/lib.rt:108:9
 big1-requires : tie.Need-big1-requires
 big1-requires c κs = search needs
 
--- src/lib.rt:108:9
 returns : tie.Need-returns
 returns c = let a = c .before .before .before .args in (
   c .big1 .ensures .0 ∙ ap (λ (w : ℕ). big-endian (take w (drop (a .at) (a .packet .now)))) (sym (c .before .if1 .taken)),
   omega arith,
 )
 
--- src/lib.rt:110:5
 big2-requires : tie.Need-big2-requires
 big2-requires c κs = search needs
 
--- src/lib.rt:103:1
 returns-2 : tie.Need-returns-2
 returns-2 c = let a = c .before .before .before .args in
     let w : 2 ≡ a .width = omega arith in (

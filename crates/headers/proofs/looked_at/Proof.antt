@@ -1,21 +1,15 @@
+-- `headers::looked_at` meets its contract. Assumes nothing.
 use Rattle.packets.specs.Memory.{cache-of}
 use Rattle.headers.proofs.Texts.{looked, unlooked}
-use native.Mathlib.Omega.{arith}
 use Rattle.headers.proofs.looked_at.Statement.{statement}
 use Rattle.headers.proofs.looked_at.Tie as tie
-use Rattle.headers.proofs.looked_at.Reads as reads
-use Rattle.headers.proofs.looked_at.Lts as lts
-use Rattle.headers.proofs.held_at.Reads as held-at-reads
 
--- src/lib.rt:243:9
 held-at-requires : tie.Need-held-at-requires
 held-at-requires c κs = let q = c .before .before .before .pre .1 (c .if1 .taken) in (c .before .before .before .pre .0, q .0, q .1)
 
--- src/lib.rt:243:9
 returns : tie.Need-returns
 returns c = let a = c .before .before .before .before .args in looked (a .look) (cache-of (a .places .now) (a .lengths .now)) (a .place .0) _ (c .before .if1 .taken) (c .held-at .ensures)
 
--- src/lib.rt:238:1
 returns-2 : tie.Need-returns-2
 returns-2 c = let a = c .before .before .before .args in unlooked (a .look) (cache-of (a .places .now) (a .lengths .now)) (a .place .0) (c .if1 .left)
 

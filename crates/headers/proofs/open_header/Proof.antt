@@ -1,68 +1,51 @@
-use Rattle.headers.proofs.Standing.{opens-end, opens-none, opens-cut, opens-some}
+-- `headers::open_header` meets its contract. Assumes nothing.
 use mathlib.Core.Path.{sym, _∙_}
 use native.Mathlib.Omega.{arith}
 use borrow.Author.Needs.{needs}
+use Rattle.headers.proofs.Standing.{opens-end, opens-none, opens-cut, opens-some}
 use Rattle.headers.proofs.open_header.Statement.{statement}
 use Rattle.headers.proofs.open_header.Tie as tie
-use Rattle.headers.proofs.open_header.Reads as reads
-use Rattle.headers.proofs.open_header.Lts as lts
-use Rattle.headers.proofs.half_of.Reads as half-of-reads
-use Rattle.headers.proofs.wide.Reads as wide-reads
 
--- src/lib.rt:88:9
 returns : tie.Need-returns
 returns c = opens-end (c .before .before .args .packet .now) (c .before .before .args .at) (c .if1 .taken)
 
--- src/lib.rt:90:18
 shared-slice-read-wide : tie.Need-shared-slice-read-wide
 shared-slice-read-wide c = search needs
 
--- src/lib.rt:90:9
 wide-requires : tie.Need-wide-requires
 wide-requires c κs = search needs
 
--- src/lib.rt:92:56
 add-t10 : tie.Need-add-t10
 add-t10 c = search needs
 
--- src/lib.rt:92:9
 returns-2 : tie.Need-returns-2
 returns-2 c = opens-none (c .before .before .before .before .before .args .packet .now) (c .before .before .before .before .before .args .at) (omega arith) (sym (c .before .wide .ensures .0) ∙ c .if2 .taken)
 
--- src/lib.rt:94:17
 add-flags : tie.Need-add-flags
 add-flags c = search needs
 
--- src/lib.rt:95:8
 sub-if3 : tie.Need-sub-if3
 sub-if3 c = search needs
 
--- src/lib.rt:95:8
 sub-if3-2 : tie.Need-sub-if3-2
 sub-if3-2 c = search needs
 
--- src/lib.rt:96:9
 returns-3 : tie.Need-returns-3
 returns-3 c = let a = c .before .before .before .before .before .before .args in
     opens-cut (a .packet .now) (a .at) (omega arith) (omega (arith, c .before .before .wide .ensures .0)) (omega (arith, c .before .before .wide .ensures .0))
 
--- src/lib.rt:98:9
 half-of-requires : tie.Need-half-of-requires
 half-of-requires c κs = search needs
 
--- src/lib.rt:99:35
 add-t11 : tie.Need-add-t11
 add-t11 c = search needs
 
--- src/lib.rt:99:57
 add-t12 : tie.Need-add-t12
 add-t12 c = search needs
 
--- src/lib.rt:99:57
 add-t14 : tie.Need-add-t14
 add-t14 c = search needs
 
--- src/lib.rt:83:1
 returns-4 : tie.Need-returns-4
 returns-4 c = let a = c .before .before .before .before .before .before .before .args in
     opens-some (a .packet .now) (a .at) (c .before .before .before .wide .result) (c .half-of .result) (omega arith) (sym (c .before .before .before .wide .ensures .0)) (omega arith) (omega arith) (omega arith) (c .half-of .ensures .0)

@@ -1,43 +1,34 @@
-use Rattle.format.specs.Text.{encodes}
+-- `headers::put_text` meets its contract. Assumes nothing.
+use mathlib.Core.List.{List}
+use mathlib.Core.Path.{_≡_, ap, _∙_}
+use Prim.Native.Nat.{ℕ}
+use native.Mathlib.Omega.{arith}
 use lib.Seq.{sets}
 use lib.ListN.{length, take, drop}
-use Prim.Native.Nat.{ℕ}
-use mathlib.Core.List.{List}
-use Rattle.headers.proofs.Texts.{fits-utf8, fits-latin, stored-utf8, same-bytes, same-characters}
-use mathlib.Core.Path.{_≡_, sym, ap, _∙_}
-use native.Mathlib.Omega.{arith}
 use borrow.Author.Needs.{needs}
+use Rattle.format.specs.Text.{encodes}
+use Rattle.headers.proofs.Texts.{fits-utf8, fits-latin, stored-utf8, same-bytes, same-characters}
 use Rattle.headers.proofs.put_text.Statement.{statement}
 use Rattle.headers.proofs.put_text.Tie as tie
-use Rattle.headers.proofs.put_text.Reads as reads
-use Rattle.headers.proofs.put_text.Lts as lts
-use Rattle.octets.proofs.copy.Reads as copy-reads
-use Rattle.text.proofs.put_latin1.Reads as put-latin1-reads
 
--- src/lib.rt:210:9
 copy-requires : tie.Need-copy-requires
 copy-requires c κs = let a = c .before .before .before .before .args in (omega arith, fits-utf8 (a .utf8) (a .packet .now) (a .from) (a .size) (a .at) _ (c .before .if1 .taken) (c .before .before .before .before .pre .0) (c .before .before .before .before .pre .2))
 
--- src/lib.rt:211:9
 same-length : tie.Need-same-length
 same-length c = search needs
 
--- src/lib.rt:211:9
 returns : tie.Need-returns
 returns c = λ cs e. let a = c .before .before .before .before .before .before .before .args in (
   stored-utf8 (a .utf8) (a .packet .now) (a .from) (a .size) (c .before .before .before .before .if1 .taken) (c .before .before .before .before .before .before .before .pre .0) cs e,
   c .before .before .copy .ensures ∙ ap (λ (bs : List ℕ). sets (a .dst .now) (a .at) bs) (same-bytes (a .utf8) (a .packet .now) (a .from) (a .size) cs (c .before .before .before .before .if1 .taken) e),
 )
 
--- src/lib.rt:213:5
 put-latin1-requires : tie.Need-put-latin1-requires
 put-latin1-requires c κs = let a = c .before .before .before .before .args in (omega arith, omega arith, fits-latin (a .utf8) (a .packet .now) (a .from) (a .size) (a .at) _ (c .before .if1 .left) (c .before .before .before .before .pre .2))
 
--- src/lib.rt:205:1
 same-length-2 : tie.Need-same-length-2
 same-length-2 c = search needs
 
--- src/lib.rt:205:1
 returns-2 : tie.Need-returns-2
 returns-2 c = λ cs e. let a = c .before .before .before .before .before .before .before .args in
     let k : take (a .size) (drop (a .from) (a .packet .now)) ≡ cs = same-characters (a .utf8) (a .packet .now) (a .from) (a .size) cs (c .before .before .before .before .if1 .left) e in (

@@ -1,75 +1,56 @@
-use Rattle.headers.proofs.Standing.{spells-end, spells-cached, spells-cut-length, spells-cut-text, spells-new}
+-- `headers::read_reference` meets its contract. Assumes nothing.
 use native.Mathlib.Omega.{arith}
 use borrow.Author.Needs.{needs}
+use Rattle.headers.proofs.Standing.{spells-end, spells-cached, spells-cut-length, spells-cut-text, spells-new}
 use Rattle.headers.proofs.read_reference.Statement.{statement}
 use Rattle.headers.proofs.read_reference.Tie as tie
-use Rattle.headers.proofs.read_reference.Reads as reads
-use Rattle.headers.proofs.read_reference.Lts as lts
-use Rattle.headers.proofs.length_at.Reads as length-at-reads
-use Rattle.headers.proofs.wide.Reads as wide-reads
 
--- src/lib.rt:119:9
 returns : tie.Need-returns
 returns c = let a = c .before .before .args in spells-end (a .packet .now) (a .half) (a .width) (a .at) (c .if1 .taken)
 
--- src/lib.rt:121:23
 mul-if3 : tie.Need-mul-if3
 mul-if3 c = search needs
 
--- src/lib.rt:121:47
 shared-slice-read-wide : tie.Need-shared-slice-read-wide
 shared-slice-read-wide c = search needs
 
--- src/lib.rt:121:42
 wide-requires : tie.Need-wide-requires
 wide-requires c κs = search needs
 
--- src/lib.rt:121:23
 add-if3 : tie.Need-add-if3
 add-if3 c = search needs
 
--- src/lib.rt:123:9
 returns-2 : tie.Need-returns-2
 returns-2 c = let a = c .before .before .before .before .before .args in spells-cached (a .packet .now) (a .half) (a .width) (a .at) (c .before .wide .result) (omega arith) (c .if2 .taken) (c .before .wide .ensures .0) (c .before .wide .ensures .1)
 
--- src/lib.rt:125:8
 sub-if3 : tie.Need-sub-if3
 sub-if3 c = search needs
 
--- src/lib.rt:125:8
 sub-if3-2 : tie.Need-sub-if3-2
 sub-if3-2 c = search needs
 
--- src/lib.rt:126:9
 returns-3 : tie.Need-returns-3
 returns-3 c = let a = c .before .before .before .before .before .before .args in spells-cut-length (a .packet .now) (a .half) (a .width) (a .at) (omega arith) (omega arith) (omega arith)
 
--- src/lib.rt:128:34
 add-length-at : tie.Need-add-length-at
 add-length-at c = search needs
 
--- src/lib.rt:128:9
 length-at-requires : tie.Need-length-at-requires
 length-at-requires c κs = search needs
 
--- src/lib.rt:129:16
 add-from : tie.Need-add-from
 add-from c = search needs
 
--- src/lib.rt:129:16
 add-from-2 : tie.Need-add-from-2
 add-from-2 c = search needs
 
--- src/lib.rt:130:8
 sub-if4 : tie.Need-sub-if4
 sub-if4 c = search needs
 
--- src/lib.rt:131:9
 returns-4 : tie.Need-returns-4
 returns-4 c = let a = c .before .before .before .before .before .before .before .before .args in
     spells-cut-text (a .packet .now) (a .half) (a .width) (a .at) (omega arith) (omega arith) (c .before .length-at .result) (c .before .length-at .ensures .0) (omega arith) (omega arith)
 
--- src/lib.rt:114:1
 returns-5 : tie.Need-returns-5
 returns-5 c = let a = c .before .before .before .before .before .before .before .before .args in
     spells-new (a .packet .now) (a .half) (a .width) (a .at) (omega arith) (omega arith) (c .before .length-at .result) (c .before .length-at .ensures .0) (omega arith)

@@ -1,21 +1,16 @@
-use Rattle.headers.proofs.Texts.{stored-utf8, stored-latin}
+-- `headers::stored_length` meets its contract. Assumes nothing.
 use native.Mathlib.Omega.{arith}
 use borrow.Author.Needs.{needs}
+use Rattle.headers.proofs.Texts.{stored-utf8, stored-latin}
 use Rattle.headers.proofs.stored_length.Statement.{statement}
 use Rattle.headers.proofs.stored_length.Tie as tie
-use Rattle.headers.proofs.stored_length.Reads as reads
-use Rattle.headers.proofs.stored_length.Lts as lts
-use Rattle.text.proofs.utf8_length.Reads as utf8-length-reads
 
--- src/lib.rt:199:9
 returns : tie.Need-returns
 returns c = let a = c .before .before .args in stored-utf8 (a .utf8) (a .packet .now) (a .from) (a .size) (c .if1 .taken) (omega arith)
 
--- src/lib.rt:201:5
 utf8-length-requires : tie.Need-utf8-length-requires
 utf8-length-requires c κs = search needs
 
--- src/lib.rt:194:1
 returns-2 : tie.Need-returns-2
 returns-2 c = let a = c .before .before .before .args in stored-latin (a .utf8) (a .packet .now) (a .from) (a .size) _ (c .before .if1 .left) (c .utf8-length .ensures .0)
 

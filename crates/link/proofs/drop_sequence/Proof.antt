@@ -1,18 +1,14 @@
+-- `link::drop_sequence` meets its contract. Assumes nothing.
 use Rattle.link.proofs.States.{drop-false, drop-none, drop-done}
 use Rattle.link.proofs.drop_sequence.Statement.{statement}
 use Rattle.link.proofs.drop_sequence.Tie as tie
-use Rattle.link.proofs.drop_sequence.Reads as reads
-use Rattle.link.proofs.drop_sequence.Lts as lts
 
--- src/lib.rt:21:9
 returns : tie.Need-returns
 returns c = drop-false (c .before .before .args .pending) (c .if1 .taken)
 
--- src/lib.rt:24:9
 returns-2 : tie.Need-returns-2
 returns-2 c = drop-none (c .before .before .before .before .args .pending) (c .before .before .if1 .left) (c .if2 .taken)
 
--- src/lib.rt:17:1
 returns-3 : tie.Need-returns-3
 returns-3 c = drop-done (c .before .before .before .before .args .pending) (c .before .before .if1 .left) (c .if2 .left)
 

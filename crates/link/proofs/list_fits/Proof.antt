@@ -1,15 +1,12 @@
+-- `link::list_fits` meets its contract. Assumes nothing.
 use Rattle.link.proofs.Taking.{fits-not, fits-if}
 use Rattle.link.proofs.list_fits.Statement.{statement}
 use Rattle.link.proofs.list_fits.Tie as tie
-use Rattle.link.proofs.list_fits.Reads as reads
-use Rattle.link.proofs.list_fits.Lts as lts
 
--- src/lib.rt:333:9
 returns : tie.Need-returns
 returns c = let a = c .before .args in
     fits-not (a .places .now) (a .lengths .now) (c .if1 .taken)
 
--- src/lib.rt:329:1
 returns-2 : tie.Need-returns-2
 returns-2 c = let a = c .before .args in
     fits-if (a .places .now) (a .lengths .now) (c .if1 .left)

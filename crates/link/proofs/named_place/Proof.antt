@@ -1,57 +1,46 @@
-use Rattle.headers.specs.Code.{holding-when, HeaderIs}
-use Rattle.headers.specs.declared.HeaderAnswer.the-variants as headers
-use Rattle.packets.specs.Answers.{coding-of}
-use Rattle.packets.specs.Memory.{cache-of}
-use Prim.Native.Nat.{ℕ}
+-- `link::named_place` meets its contract. Assumes nothing.
+use mathlib.Core.Path.{_≡_}
 use mathlib.Core.List.{[], _∷_}
 use mathlib.Core.Bool.{false}
-use Rattle.link.proofs.Naming.{header-read, named-past, named-refused, named-there}
-use mathlib.Core.Path.{_≡_, refl, sym, ap, _∙_}
+use Prim.Native.Nat.{ℕ}
 use native.Mathlib.Omega.{arith}
 use borrow.Author.Needs.{needs}
+use Rattle.packets.specs.Answers.{coding-of}
+use Rattle.packets.specs.Memory.{cache-of}
+use Rattle.headers.specs.Code.{holding-when, HeaderIs}
+use Rattle.headers.specs.declared.HeaderAnswer.the-variants as headers
+use Rattle.link.proofs.Naming.{header-read, named-past, named-refused, named-there}
 use Rattle.link.proofs.named_place.Statement.{statement}
 use Rattle.link.proofs.named_place.Tie as tie
-use Rattle.link.proofs.named_place.Reads as reads
-use Rattle.link.proofs.named_place.Lts as lts
-use Rattle.headers.proofs.check_header.Reads as check-header-reads
-use Rattle.link.proofs.place_in.Reads as place-in-reads
 
--- src/lib.rt:273:66
 slice-aggregate-check-header : tie.Need-slice-aggregate-check-header
 slice-aggregate-check-header c = search needs
 
--- src/lib.rt:273:11
 check-header-requires : tie.Need-check-header-requires
 check-header-requires c κs = (c .before .before .pre, λ no-way. absurd (let z : _≡_ {A = ℕ} 0 1 = cc in omega arith))
 
--- src/lib.rt:274:31
 enum-known-refusal : tie.Need-enum-known-refusal
 enum-known-refusal c = search needs
 
--- src/lib.rt:275:32
 enum-known-n : tie.Need-enum-known-n
 enum-known-n c = search needs
 
--- src/lib.rt:277:17
 returns : tie.Need-returns
 returns c = let a = c .before .before .before .before .before .before .before .before .args in
     let v = c .before .before .before .n .given in
     let e : HeaderIs (coding-of (a .utf8)) (holding-when false (cache-of (a .packet .now) (0 ∷ []))) (a .packet .now) (a .at) (headers.Header (v .0 .0) (v .0 .1 .0) (v .0 .1 .1 .0) (v .0 .1 .1 .1 .0)) = rw (v .1) at (c .before .before .before .before .before .check-header .ensures) in
     named-past (coding-of (a .utf8)) (cache-of (a .packet .now) (0 ∷ [])) (a .packet .now) (a .at) (a .index .0) (v .0 .0) (v .0 .1 .0) (v .0 .1 .1 .0) (v .0 .1 .1 .1 .0) e (c .if1 .taken)
 
--- src/lib.rt:279:32
 place-in-requires : tie.Need-place-in-requires
 place-in-requires c κs = let a = c .before .before .before .before .before .before .before .before .args in
     let v = c .before .before .before .n .given in
     let e : HeaderIs (coding-of (a .utf8)) (holding-when false (cache-of (a .packet .now) (0 ∷ []))) (a .packet .now) (a .at) (headers.Header (v .0 .0) (v .0 .1 .0) (v .0 .1 .1 .0) (v .0 .1 .1 .1 .0)) = rw (v .1) at (c .before .before .before .before .before .check-header .ensures) in
     (omega arith, header-read (coding-of (a .utf8)) (holding-when false (cache-of (a .packet .now) (0 ∷ []))) (a .packet .now) (a .at) (v .0 .0) (v .0 .1 .0) (v .0 .1 .1 .0) (v .0 .1 .1 .1 .0) e)
 
--- src/lib.rt:268:1
 returns-2 : tie.Need-returns-2
 returns-2 c = let a = c .before .before .before .before .before .before .args in
     named-refused (coding-of (a .utf8)) (cache-of (a .packet .now) (0 ∷ [])) (a .packet .now) (a .at) (a .index .0) _ _ (rw (c .before .refusal .given .1) at (c .before .before .before .check-header .ensures))
 
--- src/lib.rt:268:1
 returns-3 : tie.Need-returns-3
 returns-3 c = let a = c .before .before .before .before .before .before .before .before .before .args in
     let v = c .before .before .before .before .n .given in

@@ -1,18 +1,15 @@
-use Rattle.link.specs.Code.{Passes}
+-- `link::place_in` meets its contract. Assumes nothing.
+use mathlib.Core.Path.{_≡_, sym}
+use Prim.Native.Nat.{_-_, _≤_}
+use native.Mathlib.Omega.{arith}
+use lib.ListN.{length}
+use Rattle.packets.specs.Header.{half}
 use Rattle.headers.proofs.Standing.{flag-count}
 use Rattle.headers.specs.Code.{flags-of}
-use Rattle.packets.specs.Header.{half}
-use lib.ListN.{length}
-use Prim.Native.Nat.{_-_, _≤_}
+use Rattle.link.specs.Code.{Passes}
 use Rattle.link.proofs.Passing.{Walking, walking-none, walking-more, walking-inside, walking-named}
-use mathlib.Core.Path.{_≡_, refl, sym, ap, _∙_}
-use native.Mathlib.Omega.{arith}
 use Rattle.link.proofs.place_in.Statement.{statement}
 use Rattle.link.proofs.place_in.Tie as tie
-use Rattle.link.proofs.place_in.Reads as reads
-use Rattle.link.proofs.place_in.Lts as lts
-use Rattle.headers.proofs.half_of.Reads as half-of-reads
-use Rattle.link.proofs.pass_reference.Reads as pass-reference-reads
 
 abbrev Inv-loop : tie.InvT-loop
 Inv-loop packet at n width first index next₀ i₀ next i = (i ≤ index .0) × (next ≤ length packet) × Walking packet at n width first i next
@@ -20,27 +17,21 @@ Inv-loop packet at n width first index next₀ i₀ next i = (i ≤ index .0) ×
 abbrev μ-loop : tie.MeasureT-loop
 μ-loop packet at n width first index next₀ i₀ next i = index .0 - i
 
--- src/lib.rt:228:5
 loop-holds : tie.Need-loop-holds Inv-loop μ-loop
-loop-holds c = let a = c .before .args in (omega arith, c .before .pre .1 .first-inside, walking-none (a .packet .now) (a .at) (a .n) (a .width) (a .first))
+loop-holds c = let a = c .before .args in (omega arith, c .before .pre .1 .header-good .first-inside, walking-none (a .packet .now) (a .at) (a .n) (a .width) (a .first))
 
--- src/lib.rt:229:13
 half-of-requires : tie.Need-half-of-requires Inv-loop μ-loop
-half-of-requires c κs = let f = flag-count (c .before .before .before .before .args .n) (omega arith) in let h = c .before .before .before .before .pre .1 in (omega arith, omega arith, omega (arith, h .first-is, h .first-inside, f))
+half-of-requires c κs = let f = flag-count (c .before .before .before .before .args .n) (omega arith) in let h = c .before .before .before .before .pre .1 .header-good in (omega arith, omega arith, omega (arith, h .first-is, h .first-inside, f))
 
--- src/lib.rt:230:13
 pass-reference-requires : tie.Need-pass-reference-requires Inv-loop μ-loop
-pass-reference-requires c κs = let h = c .before .before .before .before .before .pre .1 in (c .half-of .ensures .1, h .width-least, h .width-most, c .before .before .before .loop .inv .1)
+pass-reference-requires c κs = let h = c .before .before .before .before .before .pre .1 .header-good in (c .half-of .ensures .1, h .width-least, h .width-most, c .before .before .before .loop .inv .1)
 
--- src/lib.rt:232:9
 add-i : tie.Need-add-i Inv-loop μ-loop
 add-i c = omega arith
 
--- src/lib.rt:228:5
 loop-less : tie.Need-loop-less Inv-loop μ-loop
 loop-less c = omega arith
 
--- src/lib.rt:228:5
 loop-again : tie.Need-loop-again Inv-loop μ-loop
 loop-again c = let a = c .before .before .before .before .before .before .args in
     let l = c .before .before .before .before .loop in
@@ -50,15 +41,12 @@ loop-again c = let a = c .before .before .before .before .before .before .args i
       walking-more (a .packet .now) (a .at) (a .n) (a .width) (a .first) (l .i) (l .next) (l .inv .2) (omega arith) _ _ e,
     )
 
--- src/lib.rt:234:9
 half-of-requires-2 : tie.Need-half-of-requires-2 Inv-loop μ-loop
-half-of-requires-2 c κs = let f = flag-count (c .before .before .before .before .args .n) (omega arith) in let h = c .before .before .before .before .pre .1 in (omega arith, omega arith, omega (arith, h .first-is, h .first-inside, f))
+half-of-requires-2 c κs = let f = flag-count (c .before .before .before .before .args .n) (omega arith) in let h = c .before .before .before .before .pre .1 .header-good in (omega arith, omega arith, omega (arith, h .first-is, h .first-inside, f))
 
--- src/lib.rt:235:9
 pass-reference-requires-2 : tie.Need-pass-reference-requires-2 Inv-loop μ-loop
-pass-reference-requires-2 c κs = let h = c .before .before .before .before .before .pre .1 in (c .half-of2 .ensures .1, h .width-least, h .width-most, c .before .before .before .loop .inv .1)
+pass-reference-requires-2 c κs = let h = c .before .before .before .before .before .pre .1 .header-good in (c .half-of2 .ensures .1, h .width-least, h .width-most, c .before .before .before .loop .inv .1)
 
--- src/lib.rt:222:1
 returns : tie.Need-returns Inv-loop μ-loop
 returns c = let a = c .before .before .before .before .before .before .before .args in
     let l = c .before .before .before .before .before .loop in

@@ -1,60 +1,46 @@
+-- `link::place_of_reference` meets its contract. Assumes nothing.
+use mathlib.Core.Path.{ap, _∙_}
+use borrow.Author.Needs.{needs}
 use Rattle.packets.specs.Answers.{coding-of, place-answer}
 use Rattle.link.proofs.Naming.{plain-there, start-there, place-refused, place-plain, place-start, place-more}
-use mathlib.Core.Path.{_≡_, refl, sym, ap, _∙_}
-use borrow.Author.Needs.{needs}
 use Rattle.link.proofs.place_of_reference.Statement.{statement}
 use Rattle.link.proofs.place_of_reference.Tie as tie
-use Rattle.link.proofs.place_of_reference.Reads as reads
-use Rattle.link.proofs.place_of_reference.Lts as lts
-use Rattle.link.proofs.named_place.Reads as named-place-reads
-use Rattle.link.proofs.open_packet.Reads as open-packet-reads
 
--- src/lib.rt:288:11
 open-packet-requires : tie.Need-open-packet-requires
 open-packet-requires c κs = search needs
 
--- src/lib.rt:289:23
 enum-known-number : tie.Need-enum-known-number
 enum-known-number c = search needs
 
--- src/lib.rt:290:24
 enum-told : tie.Need-enum-told
 enum-told c = search needs
 
--- src/lib.rt:290:24
 named-place-requires : tie.Need-named-place-requires
 named-place-requires c κs = let a = c .before .before .before .before .args in
     plain-there (a .packet .now) (rw (c .enum-told .given .1) at (c .before .before .open-packet .ensures))
 
--- src/lib.rt:291:23
 enum-known-sequence : tie.Need-enum-known-sequence
 enum-known-sequence c = search needs
 
--- src/lib.rt:291:47
 named-place-requires-2 : tie.Need-named-place-requires-2
 named-place-requires-2 c κs = let a = c .before .before .before .before .before .args in
     start-there (a .packet .now) _ _ (rw (c .before .sequence .given .1) at (c .before .before .before .open-packet .ensures)) .0
 
--- src/lib.rt:292:30
 enum-known-sequence-2 : tie.Need-enum-known-sequence-2
 enum-known-sequence-2 c = search needs
 
--- src/lib.rt:285:1
 returns : tie.Need-returns
 returns c = let a = c .before .before .before .before .before .args in
     place-refused (coding-of (a .utf8)) (a .packet .now) (a .index .0) _ (rw (c .before .number .given .1) at (c .before .before .before .open-packet .ensures))
 
--- src/lib.rt:285:1
 returns-2 : tie.Need-returns-2
 returns-2 c = let a = c .before .before .before .before .before .args in
     c .named-place .ensures ∙ ap place-answer (place-plain (coding-of (a .utf8)) (a .packet .now) (a .index .0) (rw (c .before .enum-told .given .1) at (c .before .before .before .open-packet .ensures)))
 
--- src/lib.rt:285:1
 returns-3 : tie.Need-returns-3
 returns-3 c = let a = c .before .before .before .before .before .before .args in
     c .named-place2 .ensures ∙ ap place-answer (place-start (coding-of (a .utf8)) (a .packet .now) (a .index .0) _ _ (rw (c .before .before .sequence .given .1) at (c .before .before .before .before .open-packet .ensures)))
 
--- src/lib.rt:285:1
 returns-4 : tie.Need-returns-4
 returns-4 c = let a = c .before .before .before .before .before .args in
     place-more (coding-of (a .utf8)) (a .packet .now) (a .index .0) _ _ (rw (c .before .sequence2 .given .1) at (c .before .before .before .open-packet .ensures))

@@ -1,20 +1,16 @@
-use Rattle.link.proofs.Taking.{settled-last, settled-more}
+-- `link::settle` meets its contract. Assumes nothing.
 use borrow.Author.Needs.{needs}
+use Rattle.link.proofs.Taking.{settled-last, settled-more}
 use Rattle.link.proofs.settle.Statement.{statement}
 use Rattle.link.proofs.settle.Tie as tie
-use Rattle.link.proofs.settle.Reads as reads
-use Rattle.link.proofs.settle.Lts as lts
 
--- src/lib.rt:364:9
 returns : tie.Need-returns
 returns c = let a = c .before .args in
     settled-last (a .sequence) (a .fragment) (a .gathered) (c .if1 .taken)
 
--- src/lib.rt:366:15
 sub-due : tie.Need-sub-due
 sub-due c = search needs
 
--- src/lib.rt:359:1
 returns-2 : tie.Need-returns-2
 returns-2 c = let a = c .before .args in
     settled-more (a .sequence) (a .fragment) (a .gathered) (c .if1 .left)

@@ -1,61 +1,47 @@
-use Rattle.link.proofs.Rests.{more-none, more-other, more-wrong, more-long, more-good}
+-- `link::take_continuation` meets its contract. Assumes nothing.
 use borrow.Author.Needs.{needs}
+use Rattle.link.proofs.Rests.{more-none, more-other, more-wrong, more-long, more-good}
 use Rattle.link.proofs.take_continuation.Statement.{statement}
 use Rattle.link.proofs.take_continuation.Tie as tie
-use Rattle.link.proofs.take_continuation.Reads as reads
-use Rattle.link.proofs.take_continuation.Lts as lts
-use Rattle.link.proofs.settle.Reads as settle-reads
-use Rattle.octets.proofs.copy.Reads as copy-reads
 
--- src/lib.rt:452:9
 returns : tie.Need-returns
 returns c = λ agreed cache plain kept.
     let a = c .before .before .before .before .args in
     more-none agreed cache plain kept (a .pending) (a .gather .now) (a .packet .now) (a .sequence) (a .fragment) (c .if1 .taken)
 
--- src/lib.rt:455:9
 returns-2 : tie.Need-returns-2
 returns-2 c = λ agreed cache plain kept.
     let a = c .before .before .before .before .before .before .args in
     more-other agreed cache plain kept (a .pending) (a .gather .now) (a .packet .now) (a .sequence) (a .fragment) (c .before .before .if1 .left) (c .if2 .taken)
 
--- src/lib.rt:458:9
 returns-3 : tie.Need-returns-3
 returns-3 c = λ agreed cache plain kept.
     let a = c .before .before .before .before .before .before .before .before .args in
     more-wrong agreed cache plain kept (a .pending) (a .gather .now) (a .packet .now) (a .sequence) (a .fragment) (c .before .before .before .before .if1 .left) (c .before .before .if2 .left) (c .if3 .taken)
 
--- src/lib.rt:460:16
 sub-size : tie.Need-sub-size
 sub-size c = search needs
 
--- src/lib.rt:462:8
 sub-if4 : tie.Need-sub-if4
 sub-if4 c = search needs
 
--- src/lib.rt:463:9
 returns-4 : tie.Need-returns-4
 returns-4 c = λ agreed cache plain kept.
     let a = c .before .before .before .before .before .before .before .before .before .args in
     more-long agreed cache plain kept (a .pending) (a .gather .now) (a .packet .now) (a .sequence) (a .fragment) (c .before .before .before .before .before .if1 .left) (c .before .before .before .if2 .left) (c .before .if3 .left) (c .if4 .taken) (c .before .before .before .before .before .before .before .before .before .pre .3)
 
--- src/lib.rt:465:5
 copy-requires : tie.Need-copy-requires
 copy-requires c κs = search needs
 
--- src/lib.rt:466:20
 add-gathered : tie.Need-add-gathered
 add-gathered c = search needs
 
--- src/lib.rt:467:5
 settle-requires : tie.Need-settle-requires
 settle-requires c κs = search needs
 
--- src/lib.rt:447:1
 same-length : tie.Need-same-length
 same-length c = search needs
 
--- src/lib.rt:447:1
 returns-5 : tie.Need-returns-5
 returns-5 c = λ agreed cache plain kept.
     let a = c .before .before .before .before .before .before .before .before .before .before .before .before .before .before .args in

@@ -1,98 +1,72 @@
-use Rattle.link.proofs.Naming.{plain-there, start-there, more-there}
+-- `link::take_packet` meets its contract. Assumes nothing.
+use mathlib.Core.Bool.{true}
+use mathlib.Core.Path.{_≡_, refl, sym, _∙_}
+use borrow.Author.Tests.{not-true, not-false}
+use borrow.Author.Needs.{needs}
+use Rattle.format.specs.AtomList.{of-size}
 use Rattle.packets.specs.Answers.{coding-of}
 use Rattle.packets.specs.Memory.{Memory, cache-of, list-lent, memory-of, cache-of-size, memory-of-size}
-use Rattle.format.specs.AtomList.{of-size}
-use borrow.Author.Tests.{not-true, not-false}
-use mathlib.Core.Bool.{true}
+use Rattle.link.proofs.Naming.{plain-there, start-there, more-there}
 use Rattle.link.proofs.Whole.{sizes-of, list-sizes, cache-not, plain-not, pending-not, gather-not, all-right, size-done, false-done, opening-done, plain-done, start-done, more-done}
-use mathlib.Core.Path.{_≡_, refl, sym, ap, _∙_}
-use native.Mathlib.Omega.{arith}
-use borrow.Author.Needs.{needs}
 use Rattle.link.proofs.take_packet.Statement.{statement}
 use Rattle.link.proofs.take_packet.Tie as tie
-use Rattle.link.proofs.take_packet.Reads as reads
-use Rattle.link.proofs.take_packet.Lts as lts
-use Rattle.link.proofs.cache_fits.Reads as cache-fits-reads
-use Rattle.link.proofs.list_fits.Reads as list-fits-reads
-use Rattle.link.proofs.open_packet.Reads as open-packet-reads
-use Rattle.link.proofs.take_continuation.Reads as take-continuation-reads
-use Rattle.link.proofs.take_plain.Reads as take-plain-reads
-use Rattle.link.proofs.take_start.Reads as take-start-reads
 
--- src/lib.rt:537:9
 cache-fits-requires : tie.Need-cache-fits-requires
 cache-fits-requires c κs = search needs
 
--- src/lib.rt:538:9
 same-length : tie.Need-same-length
 same-length c = search needs
 
--- src/lib.rt:538:9
 same-length-2 : tie.Need-same-length-2
 same-length-2 c = search needs
 
--- src/lib.rt:538:9
 returns : tie.Need-returns
 returns c = let a = c .before .before .before .before .before .before .before .before .before .before .before .before .args in
     let m : Memory = (memory-of (cache-of (a .places .now) (a .lengths .now)) (list-lent (a .n .now) (a .texts .now) (a .sizes .now)) (list-lent (a .count .now) (a .kept .now) (a .extents .now)) (a .pending) (a .gather .now)) in
     size-done (coding-of (a .utf8)) m (a .packet .now) (cache-not m (sym (c .before .cache-fits .ensures) ∙ not-true _ (c .if1 .taken)))
 
--- src/lib.rt:540:9
 list-fits-requires : tie.Need-list-fits-requires
 list-fits-requires c κs = search needs
 
--- src/lib.rt:541:9
 same-length-3 : tie.Need-same-length-3
 same-length-3 c = search needs
 
--- src/lib.rt:541:9
 same-length-4 : tie.Need-same-length-4
 same-length-4 c = search needs
 
--- src/lib.rt:541:9
 same-length-5 : tie.Need-same-length-5
 same-length-5 c = search needs
 
--- src/lib.rt:541:9
 same-length-6 : tie.Need-same-length-6
 same-length-6 c = search needs
 
--- src/lib.rt:541:9
 returns-2 : tie.Need-returns-2
 returns-2 c = let a = c .before .before .before .before .before .before .before .before .before .before .before .before .before .before .before .before .args in
     let m : Memory = (memory-of (cache-of (a .places .now) (a .lengths .now)) (list-lent (a .n .now) (a .texts .now) (a .sizes .now)) (list-lent (a .count .now) (a .kept .now) (a .extents .now)) (a .pending) (a .gather .now)) in
     let h1 : cache-of-size (cache-of (a .places .now) (a .lengths .now)) ≡ true = sym (c .before .before .before .before .before .cache-fits .ensures) ∙ not-false _ (c .before .before .before .before .if1 .left) in
     size-done (coding-of (a .utf8)) m (a .packet .now) (plain-not m h1 (sym (c .before .list-fits .ensures (a .n .now)) ∙ not-true _ (c .if2 .taken)))
 
--- src/lib.rt:543:9
 list-fits-requires-2 : tie.Need-list-fits-requires-2
 list-fits-requires-2 c κs = search needs
 
--- src/lib.rt:544:9
 same-length-7 : tie.Need-same-length-7
 same-length-7 c = search needs
 
--- src/lib.rt:544:9
 same-length-8 : tie.Need-same-length-8
 same-length-8 c = search needs
 
--- src/lib.rt:544:9
 same-length-9 : tie.Need-same-length-9
 same-length-9 c = search needs
 
--- src/lib.rt:544:9
 same-length-10 : tie.Need-same-length-10
 same-length-10 c = search needs
 
--- src/lib.rt:544:9
 same-length-11 : tie.Need-same-length-11
 same-length-11 c = search needs
 
--- src/lib.rt:544:9
 same-length-12 : tie.Need-same-length-12
 same-length-12 c = search needs
 
--- src/lib.rt:544:9
 returns-3 : tie.Need-returns-3
 returns-3 c = let a = c .before .before .before .before .before .before .before .before .before .before .before .before .before .before .before .before .before .before .before .before .args in
     let m : Memory = (memory-of (cache-of (a .places .now) (a .lengths .now)) (list-lent (a .n .now) (a .texts .now) (a .sizes .now)) (list-lent (a .count .now) (a .kept .now) (a .extents .now)) (a .pending) (a .gather .now)) in
@@ -100,31 +74,24 @@ returns-3 c = let a = c .before .before .before .before .before .before .before 
     let h2 : of-size (list-lent (a .n .now) (a .texts .now) (a .sizes .now)) ≡ true = sym (c .before .before .before .before .before .list-fits .ensures (a .n .now)) ∙ not-false _ (c .before .before .before .before .if2 .left) in
     size-done (coding-of (a .utf8)) m (a .packet .now) (pending-not m h1 h2 (sym (c .before .list-fits2 .ensures (a .count .now)) ∙ not-true _ (c .if3 .taken)))
 
--- src/lib.rt:547:9
 same-length-13 : tie.Need-same-length-13
 same-length-13 c = search needs
 
--- src/lib.rt:547:9
 same-length-14 : tie.Need-same-length-14
 same-length-14 c = search needs
 
--- src/lib.rt:547:9
 same-length-15 : tie.Need-same-length-15
 same-length-15 c = search needs
 
--- src/lib.rt:547:9
 same-length-16 : tie.Need-same-length-16
 same-length-16 c = search needs
 
--- src/lib.rt:547:9
 same-length-17 : tie.Need-same-length-17
 same-length-17 c = search needs
 
--- src/lib.rt:547:9
 same-length-18 : tie.Need-same-length-18
 same-length-18 c = search needs
 
--- src/lib.rt:547:9
 returns-4 : tie.Need-returns-4
 returns-4 c = let a = c .before .before .before .before .before .before .before .before .before .before .before .before .before .before .before .before .before .before .before .before .before .args in
     let m : Memory = (memory-of (cache-of (a .places .now) (a .lengths .now)) (list-lent (a .n .now) (a .texts .now) (a .sizes .now)) (list-lent (a .count .now) (a .kept .now) (a .extents .now)) (a .pending) (a .gather .now)) in
@@ -133,31 +100,24 @@ returns-4 c = let a = c .before .before .before .before .before .before .before 
     let h3 : of-size (list-lent (a .count .now) (a .kept .now) (a .extents .now)) ≡ true = sym (c .before .before .list-fits2 .ensures (a .count .now)) ∙ not-false _ (c .before .if3 .left) in
     size-done (coding-of (a .utf8)) m (a .packet .now) (gather-not m h1 h2 h3 (c .if4 .taken))
 
--- src/lib.rt:550:9
 same-length-19 : tie.Need-same-length-19
 same-length-19 c = search needs
 
--- src/lib.rt:550:9
 same-length-20 : tie.Need-same-length-20
 same-length-20 c = search needs
 
--- src/lib.rt:550:9
 same-length-21 : tie.Need-same-length-21
 same-length-21 c = search needs
 
--- src/lib.rt:550:9
 same-length-22 : tie.Need-same-length-22
 same-length-22 c = search needs
 
--- src/lib.rt:550:9
 same-length-23 : tie.Need-same-length-23
 same-length-23 c = search needs
 
--- src/lib.rt:550:9
 same-length-24 : tie.Need-same-length-24
 same-length-24 c = search needs
 
--- src/lib.rt:550:9
 returns-5 : tie.Need-returns-5
 returns-5 c = let a = c .before .before .before .before .before .before .before .before .before .before .before .before .before .before .before .before .before .before .before .before .before .before .before .args in
     let m : Memory = (memory-of (cache-of (a .places .now) (a .lengths .now)) (list-lent (a .n .now) (a .texts .now) (a .sizes .now)) (list-lent (a .count .now) (a .kept .now) (a .extents .now)) (a .pending) (a .gather .now)) in
@@ -167,19 +127,15 @@ returns-5 c = let a = c .before .before .before .before .before .before .before 
     let right : memory-of-size m ≡ true = all-right m h1 h2 h3 (c .before .before .if4 .left) in
     false-done (coding-of (a .utf8)) m (a .packet .now) right (c .if5 .taken)
 
--- src/lib.rt:552:11
 open-packet-requires : tie.Need-open-packet-requires
 open-packet-requires c κs = search needs
 
--- src/lib.rt:553:23
 enum-known-number : tie.Need-enum-known-number
 enum-known-number c = search needs
 
--- src/lib.rt:555:51
 enum-told : tie.Need-enum-told
 enum-told c = search needs
 
--- src/lib.rt:555:17
 take-plain-requires : tie.Need-take-plain-requires
 take-plain-requires c κs = let a = c .before .before .before .before .before .before .before .before .before .before .before .before .before .before .before .before .before .before .before .before .before .before .before .before .before .before .before .before .before .before .before .args in
     let m : Memory = (memory-of (cache-of (a .places .now) (a .lengths .now)) (list-lent (a .n .now) (a .texts .now) (a .sizes .now)) (list-lent (a .count .now) (a .kept .now) (a .extents .now)) (a .pending) (a .gather .now)) in
@@ -189,11 +145,9 @@ take-plain-requires c κs = let a = c .before .before .before .before .before .b
     let s1 = list-sizes (a .n .now) (a .texts .now) (a .sizes .now) h2 in
     (plain-there (a .packet .now) (rw (c .before .before .before .before .before .enum-told .given .1) at (c .before .before .before .before .before .before .before .open-packet .ensures)), s0 .0, s0 .1, s1 .0, s1 .1)
 
--- src/lib.rt:558:23
 enum-known-sequence : tie.Need-enum-known-sequence
 enum-known-sequence c = search needs
 
--- src/lib.rt:559:13
 take-start-requires : tie.Need-take-start-requires
 take-start-requires c κs = let a = c .before .before .before .before .before .before .before .before .before .before .before .before .before .before .before .before .before .before .before .before .before .before .before .before .before .before .before .before .before .before .before .before .before .args in
     let m : Memory = (memory-of (cache-of (a .places .now) (a .lengths .now)) (list-lent (a .n .now) (a .texts .now) (a .sizes .now)) (list-lent (a .count .now) (a .kept .now) (a .extents .now)) (a .pending) (a .gather .now)) in
@@ -204,42 +158,33 @@ take-start-requires c κs = let a = c .before .before .before .before .before .b
     let t = start-there (a .packet .now) _ _ (rw (c .before .before .before .before .before .before .before .sequence .given .1) at (c .before .before .before .before .before .before .before .before .before .open-packet .ensures)) in
     (t .0, s0 .0, s0 .1, s1 .0, s1 .1, c .before .before .before .before .before .before .before .before .before .before .before .before .if4 .left, t .1)
 
--- src/lib.rt:561:30
 enum-known-sequence-2 : tie.Need-enum-known-sequence-2
 enum-known-sequence-2 c = search needs
 
--- src/lib.rt:561:54
 take-continuation-requires : tie.Need-take-continuation-requires
 take-continuation-requires c κs = let a = c .before .before .before .before .before .before .before .before .before .before .before .before .before .before .before .before .before .before .before .before .before .before .before .before .before .before .before .before .args in
     let m : Memory = (memory-of (cache-of (a .places .now) (a .lengths .now)) (list-lent (a .n .now) (a .texts .now) (a .sizes .now)) (list-lent (a .count .now) (a .kept .now) (a .extents .now)) (a .pending) (a .gather .now)) in
     let t = more-there (a .packet .now) _ _ (rw (c .before .before .sequence2 .given .1) at (c .before .before .before .before .open-packet .ensures)) in
     (t .0, c .before .before .before .before .before .before .before .if4 .left, t .1, c .before .before .before .before .before .if5 .left)
 
--- src/lib.rt:533:1
 same-length-25 : tie.Need-same-length-25
 same-length-25 c = search needs
 
--- src/lib.rt:533:1
 same-length-26 : tie.Need-same-length-26
 same-length-26 c = search needs
 
--- src/lib.rt:533:1
 same-length-27 : tie.Need-same-length-27
 same-length-27 c = search needs
 
--- src/lib.rt:533:1
 same-length-28 : tie.Need-same-length-28
 same-length-28 c = search needs
 
--- src/lib.rt:533:1
 same-length-29 : tie.Need-same-length-29
 same-length-29 c = search needs
 
--- src/lib.rt:533:1
 same-length-30 : tie.Need-same-length-30
 same-length-30 c = search needs
 
--- src/lib.rt:533:1
 returns-6 : tie.Need-returns-6
 returns-6 c = let a = c .before .before .before .before .before .before .before .before .before .before .before .before .before .before .before .before .before .before .before .before .before .before .before .before .before .before .before .args in
     let m : Memory = (memory-of (cache-of (a .places .now) (a .lengths .now)) (list-lent (a .n .now) (a .texts .now) (a .sizes .now)) (list-lent (a .count .now) (a .kept .now) (a .extents .now)) (a .pending) (a .gather .now)) in
@@ -249,31 +194,24 @@ returns-6 c = let a = c .before .before .before .before .before .before .before 
     let right : memory-of-size m ≡ true = all-right m h1 h2 h3 (c .before .before .before .before .before .before .if4 .left) in
     opening-done (coding-of (a .utf8)) m (a .packet .now) right (c .before .before .before .before .if5 .left) _ (rw (c .before .number .given .1) at (c .before .before .before .open-packet .ensures))
 
--- src/lib.rt:533:1
 same-length-31 : tie.Need-same-length-31
 same-length-31 c = search needs
 
--- src/lib.rt:533:1
 same-length-32 : tie.Need-same-length-32
 same-length-32 c = search needs
 
--- src/lib.rt:533:1
 same-length-33 : tie.Need-same-length-33
 same-length-33 c = search needs
 
--- src/lib.rt:533:1
 same-length-34 : tie.Need-same-length-34
 same-length-34 c = search needs
 
--- src/lib.rt:533:1
 same-length-35 : tie.Need-same-length-35
 same-length-35 c = search needs
 
--- src/lib.rt:533:1
 same-length-36 : tie.Need-same-length-36
 same-length-36 c = search needs
 
--- src/lib.rt:533:1
 returns-7 : tie.Need-returns-7
 returns-7 c = let a = c .before .before .before .before .before .before .before .before .before .before .before .before .before .before .before .before .before .before .before .before .before .before .before .before .before .before .before .before .before .before .before .before .before .before .before .before .before .before .before .before .args in
     let m : Memory = (memory-of (cache-of (a .places .now) (a .lengths .now)) (list-lent (a .n .now) (a .texts .now) (a .sizes .now)) (list-lent (a .count .now) (a .kept .now) (a .extents .now)) (a .pending) (a .gather .now)) in
@@ -283,35 +221,27 @@ returns-7 c = let a = c .before .before .before .before .before .before .before 
     let right : memory-of-size m ≡ true = all-right m h1 h2 h3 (c .before .before .before .before .before .before .before .before .before .before .before .before .before .before .before .before .before .before .before .if4 .left) in
     plain-done (coding-of (a .utf8)) m (a .packet .now) right (c .before .before .before .before .before .before .before .before .before .before .before .before .before .before .before .before .before .if5 .left) (rw (c .before .before .before .before .before .before .before .before .before .before .before .before .before .before .enum-told .given .1) at (c .before .before .before .before .before .before .before .before .before .before .before .before .before .before .before .before .open-packet .ensures)) _ _ refl (c .before .before .before .before .before .before .before .before .take-plain .ensures (list-lent (a .count .now) (a .kept .now) (a .extents .now)) (a .pending) (a .gather .now))
 
--- src/lib.rt:533:1
 same-length-37 : tie.Need-same-length-37
 same-length-37 c = search needs
 
--- src/lib.rt:533:1
 same-length-38 : tie.Need-same-length-38
 same-length-38 c = search needs
 
--- src/lib.rt:533:1
 same-length-39 : tie.Need-same-length-39
 same-length-39 c = search needs
 
--- src/lib.rt:533:1
 same-length-40 : tie.Need-same-length-40
 same-length-40 c = search needs
 
--- src/lib.rt:533:1
 same-length-41 : tie.Need-same-length-41
 same-length-41 c = search needs
 
--- src/lib.rt:533:1
 same-length-42 : tie.Need-same-length-42
 same-length-42 c = search needs
 
--- src/lib.rt:533:1
 same-length-43 : tie.Need-same-length-43
 same-length-43 c = search needs
 
--- src/lib.rt:533:1
 returns-8 : tie.Need-returns-8
 returns-8 c = let a = c .before .before .before .before .before .before .before .before .before .before .before .before .before .before .before .before .before .before .before .before .before .before .before .before .before .before .before .before .before .before .before .before .before .before .before .before .before .before .before .before .before .before .before .before .args in
     let m : Memory = (memory-of (cache-of (a .places .now) (a .lengths .now)) (list-lent (a .n .now) (a .texts .now) (a .sizes .now)) (list-lent (a .count .now) (a .kept .now) (a .extents .now)) (a .pending) (a .gather .now)) in
@@ -321,35 +251,27 @@ returns-8 c = let a = c .before .before .before .before .before .before .before 
     let right : memory-of-size m ≡ true = all-right m h1 h2 h3 (c .before .before .before .before .before .before .before .before .before .before .before .before .before .before .before .before .before .before .before .before .before .before .before .if4 .left) in
     start-done (coding-of (a .utf8)) m (a .packet .now) right (c .before .before .before .before .before .before .before .before .before .before .before .before .before .before .before .before .before .before .before .before .before .if5 .left) _ _ (rw (c .before .before .before .before .before .before .before .before .before .before .before .before .before .before .before .before .before .before .sequence .given .1) at (c .before .before .before .before .before .before .before .before .before .before .before .before .before .before .before .before .before .before .before .before .open-packet .ensures)) _ _ refl (c .before .before .before .before .before .before .before .before .before .before .take-start .ensures (list-lent (a .n .now) (a .texts .now) (a .sizes .now)))
 
--- src/lib.rt:533:1
 same-length-44 : tie.Need-same-length-44
 same-length-44 c = search needs
 
--- src/lib.rt:533:1
 same-length-45 : tie.Need-same-length-45
 same-length-45 c = search needs
 
--- src/lib.rt:533:1
 same-length-46 : tie.Need-same-length-46
 same-length-46 c = search needs
 
--- src/lib.rt:533:1
 same-length-47 : tie.Need-same-length-47
 same-length-47 c = search needs
 
--- src/lib.rt:533:1
 same-length-48 : tie.Need-same-length-48
 same-length-48 c = search needs
 
--- src/lib.rt:533:1
 same-length-49 : tie.Need-same-length-49
 same-length-49 c = search needs
 
--- src/lib.rt:533:1
 same-length-50 : tie.Need-same-length-50
 same-length-50 c = search needs
 
--- src/lib.rt:533:1
 returns-9 : tie.Need-returns-9
 returns-9 c = let a = c .before .before .before .before .before .before .before .before .before .before .before .before .before .before .before .before .before .before .before .before .before .before .before .before .before .before .before .before .before .before .before .args in
     let m : Memory = (memory-of (cache-of (a .places .now) (a .lengths .now)) (list-lent (a .n .now) (a .texts .now) (a .sizes .now)) (list-lent (a .count .now) (a .kept .now) (a .extents .now)) (a .pending) (a .gather .now)) in
