@@ -24,7 +24,7 @@ use Rattle.contents.specs.declared.Content.{Content}
 use Rattle.contents.specs.declared.Content.the-variants.{Nothing, Whole, Big, Float, Text, Bytes, Bits, Pid, Port, Reference}
 use Rattle.contents.specs.Found.{choose, value}
 use Rattle.contents.specs.Meaning.{stretch, sign, words-at, characters-of, coded, bare, label-of}
-use Rattle.contents.specs.Same.{same-bool, same-list, high, same-part, same-stretch, same-spelling, same-text, same-last, same-bits, same-words, numbers-of, stretch-of, flat-of, same-numbers, source, same-atoms, same-stretches, same-flat, same-contents}
+use Rattle.contents.specs.Same.{same-bool, same-list, high, same-part, same-stretch, same-spelling, same-text, same-last, same-bits, same-words, numbers-of, stretch-of, text-of, flat-of, same-numbers, source, same-texts, same-atoms, same-stretches, same-flat, same-contents}
 use Rattle.contents.proofs.Lists.{same-true, same-self}
 use Rattle.contents.proofs.Values.{under-part, big-same, little-small, little-same, little-least, top-digit}
 use Rattle.contents.proofs.Says.{Readable, Sound}
@@ -292,7 +292,7 @@ case-of code f =
     (Reference (f .first) (f .start) (f .length))))))))))
 
 case-is : (c : Content) → c ≡ case-of (flat-of c .code) (flat-of c)
-unfolding case-of flat-of numbers-of stretch-of choose
+unfolding case-of flat-of numbers-of stretch-of text-of choose
 case-is Nothing = refl
 case-is (Whole s n) = refl
 case-is (Big s i n) = refl
@@ -339,7 +339,7 @@ bare-class kind = go (eqb kind 4) (eqb kind 5) (eqb kind 6) (eqb kind 9)
     go false false false false = refl
 
 label-class : (m : List ℕ) (atoms : AtomList) (kind : ℕ) (c : Content) → class (label-of m atoms kind c) ≡ merged (flat-of c .code)
-unfolding class merged label-of flat-of numbers-of stretch-of choose
+unfolding class merged label-of flat-of numbers-of stretch-of text-of choose
 label-class m atoms kind Nothing = bare-class kind
 label-class m atoms kind (Whole s n) = refl
 label-class m atoms kind (Big s i n) = refl
@@ -445,7 +445,7 @@ module _ (atoms : AtomList) (m : List ℕ) (under : Under 256 m) (k k′ : ℕ) 
       (flats-agree m (atoms .places) (flat-of (Float x)) (flat-of (Float y)) yes-agrees)
 
   texts : (x y p q : Bool) (i n j o : ℕ) → Sound m (atoms .places) (Text x p i n) → Sound m (atoms .places) (Text y q j o) → Goal (Text x p i n) (Text y q j o)
-  unfolding same-contents flat-of same-stretches same-atoms label-of choose
+  unfolding same-contents flat-of text-of same-stretches same-atoms same-texts label-of choose
   texts x y p q i n j o a b =
       through (λ z. ap atom (z .1))
       (λ e. (record { code = refl; negative = refl; first = refl; second = refl; third = refl }, cc))
@@ -523,7 +523,7 @@ module _ (atoms : AtomList) (m : List ℕ) (under : Under 256 m) (k k′ : ℕ) 
       go (inr x) = at-case a b 2 s h x
 
   pub alike-contents : (a b : Content) → S a → S b → Goal a b
-  unfolding case-of flat-of numbers-of stretch-of merged choose
+  unfolding case-of flat-of numbers-of stretch-of text-of merged choose
   alike-contents Nothing b s t = one-case Nothing b 0 refl refl (λ z. omega arith) t (λ _. nothings)
   alike-contents (Whole x n) b s t =
       let f : Flat = flat-of b in

@@ -151,7 +151,6 @@ room-inside m list T cap at row whole room low =
       wide = room .wide;
       low = omega arith;
       inside = omega arith;
-      never = room .never;
     }
 
 -- the room at another offset of the message
@@ -165,5 +164,4 @@ room-at m list T cap at row whole next room near =
       wide = room .wide;
       low = room .low;
       inside = room .inside;
-      never = room .never;
     }

@@ -4,14 +4,14 @@ use mathlib.Core.Bool.{Bool, true, false, not}
 use mathlib.Core.List.{List, [], _∷_, _++_, append-nil}
 use Prim.Native.Nat.{ℕ, zero, suc, _+_, _-_, _*_, _≤_, _<_}
 use native.Mathlib.Omega.{arith}
-use lib.ListN.{length}
+use lib.ListN.{length, getD}
 use lib.Seq.{sets, length-sets}
 use Rattle.format.specs.Tree.{Forest, none, _▹_, _▹▹_, count, size, sizes}
 use Rattle.format.specs.Term.{Label, Term, map}
 use Rattle.format.specs.Equal.{among}
 use Rattle.format.specs.Answer.{Answer, good, refused, Position, Reading, after, done, rule}
 use Rattle.format.specs.Head.{Atoms, Wanted, any, pairs}
-use Rattle.format.specs.AtomList.{AtomList}
+use Rattle.format.specs.AtomList.{AtomList, of-size, atoms-of}
 use Rattle.format.specs.Reading.{Place, Located, meaning, entries, term}
 use Rattle.format.specs.Message.{Terms}
 use Rattle.format.specs.Rows.{Row, tree-rows, rows, kind-of, whole-code, words-of}
@@ -21,17 +21,18 @@ use Rattle.format.proofs.Bridge.{at-offset}
 use Rattle.format.proofs.Invariant.{In-step}
 use Rattle.format.proofs.RoundTrip.{join-none}
 use Rattle.format.proofs.Rows.{Each-node, Each-nodes, each-nodes-join, sizes-join, count-join, count-le-sizes, length-rows}
+use Rattle.format.proofs.Text.{Under}
 use Rattle.format.proofs.Words.{Placed, small-rows, Here, Rows-here, sets-here, length-words-of}
 use Rattle.heads.specs.declared.Wanted.the-variants.{Any}
-use Rattle.heads.specs.Code.{wanted-of}
+use Rattle.heads.specs.Code.{lent, wanted-of}
 use Rattle.keys.specs.Compare.{among-rows}
 use Rattle.keys.proofs.Compare.{Keys-of, no-keys, one-more-key}
-use Rattle.keys.proofs.Held.{Held-rows}
+use Rattle.keys.proofs.Held.{Held-rows, last-among}
 use Rattle.terms.specs.declared.Step.{Step}
 use Rattle.terms.specs.declared.Step.the-variants as step
 use Rattle.terms.specs.declared.Parts.{Parts}
 use Rattle.terms.specs.declared.Parts.the-variants as found
-use Rattle.terms.specs.Code.{whole-of, Never, Room, inner, Done, TermDone, PartsDone}
+use Rattle.terms.specs.Code.{whole-of, Room, inner, Done, TermDone, PartsDone}
 use Rattle.terms.proofs.Characters.{code-of-whole}
 use Rattle.terms.proofs.Found.{Found, step-found, step-refused, joined-words}
 use Rattle.terms.proofs.Runs.{after-same, after-after}
@@ -42,9 +43,14 @@ Told m cap atoms places lengths first =
     (S : List ℕ) (us : Terms) (u : Located) (ks : List Term) → Keys-of us ks → Held-rows m cap atoms S (whole-of first) first (us ▹▹ (u ▹ none))
     → among-rows m places lengths S first (first + sizes us) ≡ among (meaning u) ks
 
-pub keys-told : (m : List ℕ) (cap : ℕ) (atoms : Atoms) (places lengths : List ℕ) (first : ℕ) → Never → Told m cap atoms places lengths first
-unfolding Never
-keys-told m cap atoms places lengths first n = absurd n
+bytes-under : (m : List ℕ) → ((i : ℕ) → getD m i 0 < 256) → Under 256 m
+bytes-under [] h = tt
+bytes-under (b ∷ m) h = (h 0, bytes-under m (λ i. h (suc i)))
+
+pub keys-told : (n : ℕ) (places lengths m : List ℕ) (cap first : ℕ) → of-size (lent n places lengths) ≡ true → n < 256 → ((i : ℕ) → getD m i 0 < 256)
+    → Told m cap (atoms-of (lent n places lengths)) places lengths first
+keys-told n places lengths m cap first sized few under S us u ks k h =
+    last-among (lent n places lengths) m (record { sized = sized; few = omega arith; under = bytes-under m under }) cap S us u k h
 
 -- ts ▹▹ the two, and then the others
 two-more : (ts us : Terms) (k v : Located) → ts ▹▹ (k ▹ v ▹ us) ≡ (ts ▹▹ (k ▹ v ▹ none)) ▹▹ us

@@ -18,6 +18,7 @@ use Rattle.format.specs.Head.{Atoms, any}
 use Rattle.format.specs.Message.{Framing, Terms, version, ending, standalone-term, payload-terms, terms-framed, found, first-check, read}
 use Rattle.format.specs.Reading.{Place, Located, term}
 use Rattle.format.specs.Rows.{Row, tree-rows, rows, words-of, table-after}
+use Rattle.format.specs.declared.Refusal.{Refusal}
 use Rattle.format.specs.declared.ReadAnswer.{ReadAnswer}
 use Rattle.format.specs.declared.ReadAnswer.the-variants as reads
 use Rattle.format.proofs.Bridge.{at-offset}
@@ -29,7 +30,7 @@ use Rattle.heads.specs.declared.Wanted.the-variants.{Any}
 use Rattle.heads.specs.Code.{wanted-of}
 use Rattle.terms.specs.declared.Step.{Step}
 use Rattle.terms.specs.declared.Step.the-variants.{Got, Refused}
-use Rattle.terms.specs.Code.{whole-of, Done, TermDone, MessageDone, first-number, first-refusal, rows-in}
+use Rattle.terms.specs.Code.{whole-of, Room, Done, TermDone, MessageDone, first-number, first-refusal, rows-in}
 use Rattle.terms.proofs.Runs.{after-same}
 use Rattle.terms.proofs.Found.{Found, step-found, step-refused, joined-words}
 
@@ -191,24 +192,24 @@ module _ (atoms : Atoms) (cap : ℕ) (m : List ℕ) (T : List ℕ) (r : Step) (T
 
 module _ (list : AtomList) (m : List ℕ) where
   pub first-places : (length (list .places) ≡ 8160 → ⊥) → 13 ≡ first-refusal list m
-  unfolding first-number of-size
+  unfolding first-refusal first-number of-size
   first-places h = rw (ne-eqb (length (list .places)) 8160 h)
 
   pub first-lengths : length (list .places) ≡ 8160 → (length (list .lengths) ≡ 255 → ⊥) → 13 ≡ first-refusal list m
-  unfolding first-number of-size
+  unfolding first-refusal first-number of-size
   first-lengths e h = rw (eq-eqb (length (list .places)) 8160 e, ne-eqb (length (list .lengths)) 255 h)
 
   pub first-long : length (list .places) ≡ 8160 → length (list .lengths) ≡ 255 → 65536 < length m → 12 ≡ first-refusal list m
-  unfolding first-number of-size
+  unfolding first-refusal first-number of-size
   first-long e f h = rw (eq-eqb (length (list .places)) 8160 e, eq-eqb (length (list .lengths)) 255 f, lt-leb (length m) 65536 h)
 
   pub first-none : length (list .places) ≡ 8160 → length (list .lengths) ≡ 255 → length m ≤ 65536 → 0 ≡ first-refusal list m
-  unfolding first-number of-size
+  unfolding first-refusal first-number of-size
   first-none e f h = rw (eq-eqb (length (list .places)) 8160 e, eq-eqb (length (list .lengths)) 255 f, le-leb (length m) 65536 h)
 
   -- what reading answers after it
   pub read-refused : (framing : Framing) (lent k : ℕ) → k ≡ first-refusal list m → (k ≡ 0 → ⊥) → read framing list lent m ≡ refused k 0
-  unfolding first-number read
+  unfolding first-refusal first-number read
   read-refused framing lent k e h = go (of-size list) (leb (length m) 65536) e
     where
       go : (a b : Bool) → k ≡ first-number a b
@@ -218,7 +219,7 @@ module _ (list : AtomList) (m : List ℕ) where
       go true true e = absurd (h e)
 
   pub read-first : 0 ≡ first-refusal list m → (of-size list ≡ true) × (length m ≤ 65536)
-  unfolding first-number
+  unfolding first-refusal first-number
   read-first e = go (of-size list) (leb (length m) 65536) refl refl e
     where
       go : (a b : Bool) → of-size list ≡ a → leb (length m) 65536 ≡ b → 0 ≡ first-number a b
@@ -231,6 +232,16 @@ module _ (list : AtomList) (m : List ℕ) where
       → read framing list lent m ≡ found (terms-framed (atoms-of list) (min 8192 lent) framing (at-offset m 0 0))
   unfolding read
   read-goes framing lent e = let h = read-first e in rw (h .0, le-leb (length m) 65536 (h .1))
+
+-- ---- `settle`
+
+pub settled-terms : (a : ReadAnswer) (T U : List ℕ) (n r : ℕ) → a ≡ reads.Terms n r → U ≡ cleared r T → U ≡ cleared (rows-in a) T
+unfolding rows-in
+settled-terms a T U n r e f = f ∙ ap (λ (k : ℕ). cleared k T) (sym (ap rows-in e))
+
+pub settled-refused : (a : ReadAnswer) (T U : List ℕ) (x : Refusal) → a ≡ reads.Refused x → U ≡ cleared 0 T → U ≡ cleared (rows-in a) T
+unfolding rows-in
+settled-refused a T U x e f = f ∙ ap (λ (k : ℕ). cleared k T) (sym (ap rows-in e))
 
 -- ---- the public calls: what is read, and then the rest cleared
 
@@ -249,3 +260,24 @@ settled m cap T (good y) a T′ U wide long d e =
       d .0 ∙ ap (reads.Terms (count ts)) z,
       e ∙ ap₂ cleared f (d .1 .table-is) ∙ cleared-sets T ws (sizes ts) n (omega (arith, d .1 .room)) ∙ ap (λ (k : ℕ). ws ++ replicate (length T - k) 0) (sym n),
     )
+
+pub refused-first : (framing : Framing) (list : AtomList) (m T : List ℕ) (k : ℕ) (a : ReadAnswer) (U : List ℕ) → k ≡ first-refusal list m → (k ≡ 0 → ⊥)
+    → (a ≡ refusal k 0) × (U ≡ cleared (rows-in (refusal k 0)) T) → (a ≡ read-answer (read framing list (length T) m)) × (U ≡ table-after (length T) (read framing list (length T) m))
+unfolding rows-in read-answer table-after
+refused-first framing list m T k a U e h d =
+    rw (read-refused list m framing (length T) k e h) (d .0, d .1 ∙ cleared-all T)
+
+pub read-whole : (framing : Framing) (list : AtomList) (m T : List ℕ) (k cap : ℕ) (r a : ReadAnswer) (T′ U : List ℕ) → k ≡ first-refusal list m → k ≡ 0 → cap ≡ min (length T) 8192 → length T′ ≡ length T
+    → MessageDone m cap T (terms-framed (atoms-of list) cap framing (at-offset m 0 0)) r T′ → (a ≡ r) × (U ≡ cleared (rows-in r) T′)
+    → (a ≡ read-answer (read framing list (length T) m)) × (U ≡ table-after (length T) (read framing list (length T) m))
+read-whole framing list m T k cap r a T′ U e z c long d f =
+    let g : cap ≡ min 8192 (length T) = omega arith in
+    let h = settled m cap T (terms-framed (atoms-of list) cap framing (at-offset m 0 0)) r T′ U (omega arith) long d (f .1) in
+    let w : read framing list (length T) m ≡ found (terms-framed (atoms-of list) cap framing (at-offset m 0 0))
+    = read-goes list m framing (length T) (sym z ∙ e) ∙ ap (λ (n : ℕ). found (terms-framed (atoms-of list) n framing (at-offset m 0 0))) (sym g) in
+    rw w (f .0 ∙ h .0, h .1)
+
+pub room-first : (list : AtomList) (m T : List ℕ) (k cap : ℕ) → k ≡ first-refusal list m → k ≡ 0 → cap ≡ min (length T) 8192 → Room m list T cap 0 0 0
+room-first list m T k cap e z c =
+    let h = read-first list m (sym z ∙ e) in
+    record { sized = h .0; short = h .1; near = omega arith; few = omega arith; wide = omega arith; low = omega arith; inside = omega arith }

@@ -39,7 +39,6 @@ room-after size-of words From m list T T′ cap at row whole next end o r room d
       wide = omega (arith, room .wide);
       low = f .room;
       inside = omega (arith, room .inside);
-      never = room .never;
     }
 
 -- steps that agree agree after the same step

@@ -41,9 +41,6 @@ unfoldable pub character-words : ℕ → ℕ → ℕ → List ℕ
 character-words whole at zero = []
 character-words whole at (suc n) = pack 14 at whole 0 1 ∷ character-words whole (at + 1) n
 
-unfoldable pub Never : Type 0
-Never = ⊥
-
 -- what the reader is given: a table with room for cap rows, of which those below `row` are taken
 pub record Room (m : List ℕ) (atoms : AtomList) (T : List ℕ) (cap at row whole : ℕ) : Type 0 where
   pub sized : of-size atoms ≡ true
@@ -53,7 +50,6 @@ pub record Room (m : List ℕ) (atoms : AtomList) (T : List ℕ) (cap at row who
   pub wide : cap ≤ length T
   pub low : row ≤ cap
   pub inside : whole ≤ row
-  pub never : Never
 
 -- what a head at `place` of a message promises of what it says: parts are asked for by their number, characters stand in the message
 unfoldable pub Fits : List ℕ → ℕ → Head → Type 0
@@ -151,7 +147,7 @@ first-number false short = 13
 first-number true false = 12
 first-number true true = 0
 
-abbrev pub first-refusal : AtomList → List ℕ → ℕ
+unfoldable pub first-refusal : AtomList → List ℕ → ℕ
 first-refusal atoms m = first-number (of-size atoms) (leb (length m) 65536)
 
 -- the rows that an answer says

@@ -809,7 +809,7 @@ read-pairs-returns-2 : (t : ℕ) → read-pairs-lts.Need-returns-2 (
 read-pairs-returns-2 t c =
     let i = c .before .before .before .before .before .before .before .before .before .before .before .loop in
     let e : i .more ≡ 0 → ⊥ = omega arith in
-    λ place. key-twice _ _ _ _ _ _ _ _ _ _ _ _ (i .inv .2) e _ _ (c .before .before .before .before .before .before .before .before .read-term .ensures) _ _ _ (i .inv .0) _ _ (c .before .before .before .before .next .given .1) (keys-told _ _ _ _ _ _ (i .inv .0 .never)) _ (c .before .key-among .ensures) place _ (c .if1 .taken)
+    λ place. key-twice _ _ _ _ _ _ _ _ _ _ _ _ (i .inv .2) e _ _ (c .before .before .before .before .before .before .before .before .read-term .ensures) _ _ _ (i .inv .0) _ _ (c .before .before .before .before .next .given .1) (keys-told _ _ _ _ _ _ (i .inv .0 .sized) (omega (arith, c .before .before .before .before .before .before .before .before .before .before .before .before .before .before .before .before .fits .n)) (λ j. omega (arith, c .before .before .before .before .before .before .before .before .before .before .before .before .before .before .before .shared-slice-known .given j))) _ (c .before .key-among .ensures) place _ (c .if1 .taken)
 
 -- src/lib.rt:507:23
 read-pairs-read-term-requires-2 : (t : ℕ) → read-pairs-lts.Need-read-term-requires-2 (
@@ -848,7 +848,7 @@ read-pairs-returns-3 : (t : ℕ) → read-pairs-lts.Need-returns-3 (
 read-pairs-returns-3 t c =
     let i = c .before .before .before .before .before .before .before .before .before .before .before .before .before .before .before .before .before .before .loop in
     let e : i .more ≡ 0 → ⊥ = omega arith in
-    λ place. value-refused _ _ _ _ _ _ _ _ _ _ _ _ (i .inv .2) e _ _ (c .before .before .before .before .before .before .before .before .before .before .before .before .before .before .before .read-term .ensures) _ _ _ (i .inv .0) _ _ (c .before .before .before .before .before .before .before .before .before .before .before .next .given .1) (keys-told _ _ _ _ _ _ (i .inv .0 .never)) _ (c .before .before .before .before .before .before .before .before .key-among .ensures) (c .before .before .before .before .before .before .before .if1 .left) _ _ (c .before .before .before .before .before .read-term2 .ensures) _ _ place _ (c .before .number2 .given .1)
+    λ place. value-refused _ _ _ _ _ _ _ _ _ _ _ _ (i .inv .2) e _ _ (c .before .before .before .before .before .before .before .before .before .before .before .before .before .before .before .read-term .ensures) _ _ _ (i .inv .0) _ _ (c .before .before .before .before .before .before .before .before .before .before .before .next .given .1) (keys-told _ _ _ _ _ _ (i .inv .0 .sized) (omega (arith, c .before .before .before .before .before .before .before .before .before .before .before .before .before .before .before .before .before .before .before .before .before .before .before .fits .n)) (λ j. omega (arith, c .before .before .before .before .before .before .before .before .before .before .before .before .before .before .before .before .before .before .before .before .before .before .shared-slice-known .given j))) _ (c .before .before .before .before .before .before .before .before .key-among .ensures) (c .before .before .before .before .before .before .before .if1 .left) _ _ (c .before .before .before .before .before .read-term2 .ensures) _ _ place _ (c .before .number2 .given .1)
 
 -- src/lib.rt:521:33
 read-pairs-enum-known-next-2 : (t : ℕ) → read-pairs-lts.Need-enum-known-next-2 (
@@ -887,7 +887,7 @@ read-pairs-loop-again : (t : ℕ) → read-pairs-lts.Need-loop-again (
 read-pairs-loop-again t c =
     let i = c .before .before .before .before .before .before .before .before .before .before .before .before .before .before .before .before .before .before .loop in
     let e : i .more ≡ 0 → ⊥ = omega arith in
-    (room-after _ _ _ _ _ _ _ _ _ _ _ _ _ _ _ (room-after _ _ _ _ _ _ _ _ _ _ _ _ _ _ _ (i .inv .0) (c .before .before .before .before .before .before .before .before .before .before .before .before .before .before .before .read-term .ensures) (c .before .before .before .before .before .before .before .before .before .before .before .next .given .1) (c .before .before .before .before .before .before .before .before .before .before .before .before .before .before .before .read-term .kept .1 .1 .1 .1 .0)) (c .before .before .before .before .before .read-term2 .ensures) (c .before .next2 .given .1) (c .before .before .before .before .before .read-term2 .kept .1 .1 .1 .1 .0), c .before .before .before .before .before .read-term2 .kept .1 .1 .1 .1 .0 ∙ c .before .before .before .before .before .before .before .before .before .before .before .before .before .before .before .read-term .kept .1 .1 .1 .1 .0 ∙ i .inv .1, entered-more _ _ _ _ _ _ _ _ _ _ _ _ (i .inv .2) e _ _ (c .before .before .before .before .before .before .before .before .before .before .before .before .before .before .before .read-term .ensures) _ _ _ (i .inv .0) _ _ (c .before .before .before .before .before .before .before .before .before .before .before .next .given .1) (keys-told _ _ _ _ _ _ (i .inv .0 .never)) _ (c .before .before .before .before .before .before .before .before .key-among .ensures) (c .before .before .before .before .before .before .before .if1 .left) _ _ (c .before .before .before .before .before .read-term2 .ensures) _ _ (c .before .next2 .given .1))
+    (room-after _ _ _ _ _ _ _ _ _ _ _ _ _ _ _ (room-after _ _ _ _ _ _ _ _ _ _ _ _ _ _ _ (i .inv .0) (c .before .before .before .before .before .before .before .before .before .before .before .before .before .before .before .read-term .ensures) (c .before .before .before .before .before .before .before .before .before .before .before .next .given .1) (c .before .before .before .before .before .before .before .before .before .before .before .before .before .before .before .read-term .kept .1 .1 .1 .1 .0)) (c .before .before .before .before .before .read-term2 .ensures) (c .before .next2 .given .1) (c .before .before .before .before .before .read-term2 .kept .1 .1 .1 .1 .0), c .before .before .before .before .before .read-term2 .kept .1 .1 .1 .1 .0 ∙ c .before .before .before .before .before .before .before .before .before .before .before .before .before .before .before .read-term .kept .1 .1 .1 .1 .0 ∙ i .inv .1, entered-more _ _ _ _ _ _ _ _ _ _ _ _ (i .inv .2) e _ _ (c .before .before .before .before .before .before .before .before .before .before .before .before .before .before .before .read-term .ensures) _ _ _ (i .inv .0) _ _ (c .before .before .before .before .before .before .before .before .before .before .before .next .given .1) (keys-told _ _ _ _ _ _ (i .inv .0 .sized) (omega (arith, c .before .before .before .before .before .before .before .before .before .before .before .before .before .before .before .before .before .before .before .before .before .before .before .fits .n)) (λ j. omega (arith, c .before .before .before .before .before .before .before .before .before .before .before .before .before .before .before .before .before .before .before .before .before .before .shared-slice-known .given j))) _ (c .before .before .before .before .before .before .before .before .key-among .ensures) (c .before .before .before .before .before .before .before .if1 .left) _ _ (c .before .before .before .before .before .read-term2 .ensures) _ _ (c .before .next2 .given .1))
 
 -- src/lib.rt:533:16
 read-pairs-mul-t34 : (t : ℕ) → read-pairs-lts.Need-mul-t34 (

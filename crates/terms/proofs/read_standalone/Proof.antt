@@ -1,3 +1,5 @@
+use Rattle.terms.proofs.Message.{refused-first, read-whole, room-first}
+use Rattle.format.specs.Message.{standalone}
 use borrow.Author.Needs.{needs}
 use Rattle.terms.proofs.read_standalone.Statement.{statement}
 use Rattle.terms.proofs.read_standalone.Tie as tie
@@ -22,7 +24,7 @@ same-length c = search needs
 
 -- src/lib.rt:656:9
 returns : tie.Need-returns
-returns c = ?
+returns c = refused-first standalone _ _ _ _ _ _ (c .before .before .before .before .before .first-refusal .ensures _) (c .before .before .before .before .if1 .taken) (c .before .before .settle .ensures)
 
 -- src/lib.rt:658:9
 at-most-requires : tie.Need-at-most-requires
@@ -30,7 +32,7 @@ at-most-requires c κs = search needs
 
 -- src/lib.rt:659:9
 standalone-terms-requires : tie.Need-standalone-terms-requires
-standalone-terms-requires c κs = ?
+standalone-terms-requires c κs = room-first _ _ _ _ _ (c .before .before .before .first-refusal .ensures _) (c .before .before .if1 .left) (c .before .at-most .ensures)
 
 -- src/lib.rt:660:5
 settle-requires-2 : tie.Need-settle-requires-2
@@ -42,7 +44,7 @@ same-length-2 c = search needs
 
 -- src/lib.rt:644:1
 returns-2 : tie.Need-returns-2
-returns-2 c = ?
+returns-2 c = read-whole standalone _ _ _ _ _ _ _ _ _ (c .before .before .before .before .before .before .before .before .before .before .first-refusal .ensures _) (c .before .before .before .before .before .before .before .before .before .if1 .left) (c .before .before .before .before .before .before .before .before .at-most .ensures) (c .before .before .before .before .before .before .standalone-terms .kept .1 .1 .1 .1 .0) (c .before .before .before .before .before .before .standalone-terms .ensures) (c .before .before .settle2 .ensures)
 
 pub read-standalone-spec : {M : Type 1} → statement M
 read-standalone-spec =

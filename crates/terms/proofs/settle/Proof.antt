@@ -1,3 +1,5 @@
+use Rattle.terms.proofs.Message.{settled-terms, settled-refused}
+use mathlib.Core.Path.{sym}
 use borrow.Author.Needs.{needs}
 use Rattle.terms.proofs.settle.Statement.{statement}
 use Rattle.terms.proofs.settle.Tie as tie
@@ -27,7 +29,7 @@ same-length c = search needs
 
 -- src/lib.rt:628:1
 returns : tie.Need-returns
-returns c = ?
+returns c = (sym (c .before .before .before .before .before .answer .given .1), settled-terms _ _ _ _ _ (c .before .before .before .before .before .answer .given .1) (c .before .before .clear-words .ensures))
 
 -- src/lib.rt:628:1
 same-length-2 : tie.Need-same-length-2
@@ -35,7 +37,7 @@ same-length-2 c = search needs
 
 -- src/lib.rt:628:1
 returns-2 : tie.Need-returns-2
-returns-2 c = ?
+returns-2 c = (sym (c .before .before .before .before .before .answer2 .given .1), settled-refused _ _ _ _ (c .before .before .before .before .before .answer2 .given .1) (c .before .before .clear-words2 .ensures))
 
 pub settle-spec : {M : Type 1} → statement M
 settle-spec =
