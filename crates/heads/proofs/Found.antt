@@ -28,10 +28,10 @@ pub record Past (m : List ℕ) (from rows : ℕ) (t : Position) : Type 0 where
   pub rows-are : t .rows ≡ rows
 
 module _ (m : List ℕ) (from rows : ℕ) where
-  past-byte : (s : Position) (b : ℕ) (bs : List ℕ) → s .left ≡ b ∷ bs → Past m from rows s → Past m from rows (record { at = s .at + 1; left = bs; rows = s .rows })
+  pub past-byte : (s : Position) (b : ℕ) (bs : List ℕ) → s .left ≡ b ∷ bs → Past m from rows s → Past m from rows (record { at = s .at + 1; left = bs; rows = s .rows })
   past-byte s b bs e i = record { in-step = on-byte m rows s b bs e (i .in-step); later = omega (arith, i .later); rows-are = i .rows-are }
 
-  past-row : (s : Position) → s .rows < 0 → Past m from rows s → Past m from rows (record { at = s .at; left = s .left; rows = s .rows + 1 })
+  pub past-row : (s : Position) → s .rows < 0 → Past m from rows s → Past m from rows (record { at = s .at; left = s .left; rows = s .rows + 1 })
   past-row s h i = absurd (omega arith)
 
   -- such a position is that of its offset
