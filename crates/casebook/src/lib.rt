@@ -377,24 +377,24 @@ pub fn is_payload(case: &[u8]) -> bool {
     form == 112 || form == 80 || form == 113
 }
 
-// Of 8,193 words.
-pub fn rows_lent(case: &[u8]) -> usize
-    ensures { λ r. ⌜ r ≤ 8193 ⌝ }
+// How many words of the table are lent.
+pub fn rows_lent(case: &[u8], table: &[u64]) -> usize
+    ensures { λ r. ⌜ Counts r (now (table .entry)) ⌝ }
 {
     let n = number2(case, 1);
-    if 8193 < n {
-        return 8193;
+    if table.len() < n {
+        return table.len();
     }
     n
 }
 
-// Of 80,000 bytes.
-pub fn room_lent(case: &[u8]) -> usize
-    ensures { λ r. ⌜ r ≤ 80000 ⌝ }
+// How many bytes of the output are lent.
+pub fn room_lent(case: &[u8], out: &[u8]) -> usize
+    ensures { λ r. ⌜ Counts r (now (out .entry)) ⌝ }
 {
     let n = number3(case, 3);
-    if 80000 < n {
-        return 80000;
+    if out.len() < n {
+        return out.len();
     }
     n
 }
@@ -407,11 +407,7 @@ pub fn list_count(case: &[u8]) -> u8 {
     case[6]
 }
 
-// Of 8,161 bytes.
-pub fn places_lent(case: &[u8]) -> usize
-    ensures { λ r. ⌜ r ≤ 8161 ⌝ }
-{
-    let form = number1(case, 0);
+fn places_size(form: usize) -> usize {
     if form == 83 {
         return 8159;
     }
@@ -421,11 +417,18 @@ pub fn places_lent(case: &[u8]) -> usize
     8160
 }
 
-// Of 256 lengths.
-pub fn lengths_lent(case: &[u8]) -> usize
-    ensures { λ r. ⌜ r ≤ 256 ⌝ }
+// How many bytes of the atom list's places are lent.
+pub fn places_lent(case: &[u8], places: &[u8]) -> usize
+    ensures { λ r. ⌜ Counts r (now (places .entry)) ⌝ }
 {
-    let form = number1(case, 0);
+    let n = places_size(number1(case, 0));
+    if places.len() < n {
+        return places.len();
+    }
+    n
+}
+
+fn lengths_size(form: usize) -> usize {
     if form == 116 {
         return 256;
     }
@@ -433,6 +436,17 @@ pub fn lengths_lent(case: &[u8]) -> usize
         return 256;
     }
     255
+}
+
+// How many of the atom list's lengths are lent.
+pub fn lengths_lent(case: &[u8], lengths: &[u16]) -> usize
+    ensures { λ r. ⌜ Counts r (now (lengths .entry)) ⌝ }
+{
+    let n = lengths_size(number1(case, 0));
+    if lengths.len() < n {
+        return lengths.len();
+    }
+    n
 }
 
 fn set_length(lengths: &mut [u16], k: usize, n: usize) {

@@ -6,7 +6,7 @@ use Rattle.casebook.proofs.clean.Statement.{statement}
 use Rattle.casebook.proofs.clean.Tie as tie
 
 abbrev Inv-loop : tie.InvT-loop
-Inv-loop table from i₀ i = i ≤ i
+Inv-loop table from i₀ i = from ≤ i
 
 abbrev μ-loop : tie.MeasureT-loop
 μ-loop table from i₀ i = length table - i
