@@ -84,36 +84,46 @@ pub fn put_refused(dst: &mut [u8], at: usize, r: Refusal) -> usize
     put_number(dst, b, r.place)
 }
 
-// The name of a row's kind by docs/ROWS.md, a list's by its number of parts.
+// Entry k of 16 names that take nine bytes each, without the spaces that fill it up.
+fn put_name(dst: &mut [u8], at: usize, names: &[u8], k: usize) -> usize
+    ensures { λ r. ⌜ Counts r (now (dst .exit)) ⌝ }
+{
+    if dst.len() < at {
+        return dst.len();
+    }
+    let from = k % 16 * 9;
+    let mut next = at;
+    let mut i = from;
+    while i < from + 9 {
+        if names.len() <= i {
+            return next;
+        }
+        if names[i] == 32 {
+            return next;
+        }
+        next = put_byte(dst, next, names[i]);
+        i += 1;
+    }
+    next
+}
+
+// The number of a kind's name: the kind's of docs/ROWS.md, and 15 for a list of no parts.
+fn name_of(kind: usize, parts: usize) -> usize {
+    if kind != 5 {
+        return kind;
+    }
+    if parts != 0 {
+        return kind;
+    }
+    15
+}
+
 fn put_kind(dst: &mut [u8], at: usize, kind: usize, parts: usize) -> usize
     ensures { λ r. ⌜ Counts r (now (dst .exit)) ⌝ }
 {
-    match kind {
-        1 => put_word(dst, at, b"integer"),
-        2 => put_word(dst, at, b"float"),
-        3 => put_word(dst, at, b"atom"),
-        4 => put_word(dst, at, b"tuple"),
-        5 => put_list(dst, at, parts),
-        6 => put_word(dst, at, b"list"),
-        7 => put_word(dst, at, b"binary"),
-        8 => put_word(dst, at, b"bitstring"),
-        9 => put_word(dst, at, b"map"),
-        10 => put_word(dst, at, b"pid"),
-        11 => put_word(dst, at, b"port"),
-        12 => put_word(dst, at, b"reference"),
-        13 => put_word(dst, at, b"export"),
-        14 => put_word(dst, at, b"integer"),
-        _ => put_word(dst, at, b"none"),
-    }
-}
-
-fn put_list(dst: &mut [u8], at: usize, parts: usize) -> usize
-    ensures { λ r. ⌜ Counts r (now (dst .exit)) ⌝ }
-{
-    if parts == 0 {
-        return put_word(dst, at, b"nil");
-    }
-    put_word(dst, at, b"list")
+    let names =
+        b"none     integer  float    atom     tuple    list     list     binary   bitstringmap      pid      port     referenceexport   integer  nil      ";
+    put_name(dst, at, names, name_of(kind, parts))
 }
 
 // A space, then kind, offset and whole, parted by commas.
