@@ -189,7 +189,7 @@ def texts(book):
 def tags(book):
     # Every tag that is not in the table is 3; where an atom or an arity is wanted every other tag is 4, known or not, at that part.
     for tag in range(256):
-        here = bytes([tag]) + bytes(20)
+        here = bytes([tag, 0, 0])
         if tag not in TAGS:
             book.refused(3, 1, here)
         if tag not in ATOM_TAGS:
@@ -428,7 +428,7 @@ def keys(book):
 
 
 def atom_lists(book):
-    full = tuple((1, bytes([97 + k % 26])) for k in range(255))
+    full = ((1, b'a'),) * 255
     # 82: below n is an atom, n and above is 6, also 255 where n is 255, whatever the place holds.
     for n in (1, 2, 254, 255):
         book.accepted(bytes([82, n - 1]), n=n, places=full)
