@@ -124,10 +124,14 @@ def row_limits(book):
     # At most 8,192 rows, whatever the table holds; 9 at the tag of the term that has none, for a character at its 107's tag.
     wide = lambda k: b'\x69' + big(4, k) + small(7) * k
     for rows in (8192, 8193):
-        book.accepted(wide(8191), rows=rows, count=8192)
-        book.refused(9, 1 + 5 + 2 * 8191, wide(8192), rows=rows)
-        book.accepted(text_list(b'x' * 8191), rows=rows, count=8192)
-        book.refused(9, 1, text_list(b'x' * 8192), rows=rows)
+        for form, base in (('s', 1), ('p', 0)):
+            book.accepted(wide(8191), form=form, rows=rows, count=8192)
+            book.refused(9, base + 5 + 2 * 8191, wide(8192), form=form, rows=rows)
+            book.accepted(text_list(b'x' * 8191), form=form, rows=rows, count=8192)
+            book.refused(9, base, text_list(b'x' * 8192), form=form, rows=rows)
+        # Two terms of a payload share them.
+        book.accepted(wide(8190) + NIL, form='p', rows=rows, count=8192)
+        book.refused(9, 5 + 2 * 8191, wide(8191) + NIL, form='p', rows=rows)
     book.refused(9, 1 + 5 + 2 * 8190, wide(8191), rows=8191)
     book.refused(9, 1, text_list(b'x' * 65532))
     # A term takes its row before its parts do: with k rows lent, the term of row k is refused.
