@@ -1,2 +1,4 @@
 pub mod Signed
 pub mod Ways
+pub mod Numbers
+pub mod Texts
