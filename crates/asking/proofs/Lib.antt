@@ -2,3 +2,4 @@ pub mod Signed
 pub mod Ways
 pub mod Numbers
 pub mod Texts
+pub mod Found

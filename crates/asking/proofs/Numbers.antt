@@ -1,6 +1,6 @@
 -- The number of a content is that of the label that it says. Assumes nothing.
 use mathlib.Core.Path.{_≡_, refl, sym, ap, _∙_}
-use mathlib.Core.Bool.{Bool, true, false, not}
+use mathlib.Core.Bool.{Bool, true, false, not, cond}
 use mathlib.Core.List.{List}
 use Prim.Native.Nat.{ℕ, zero, suc, _+_, _-_, _*_, _/_, _%_, _<_, _≤_, _^_}
 use native.Mathlib.Nat.{pow-le-pow-right}
@@ -11,7 +11,7 @@ use lib.Ieee.{binary64, ofBits, toBits}
 use lib.ListN.{length}
 use borrow.Author.Tests.{lt-ltb, le-ltb, eq-eqb, ne-eqb, ltb-true, ltb-false, eqb-true, eqb-false}
 use Rattle.format.specs.Numbers.{little-endian, with-sign}
-use Rattle.format.specs.Term.{Label, integer, float, atom, tuple, list, improper-list, map, export}
+use Rattle.format.specs.Term.{Label, integer, float, atom, tuple, list, improper-list, binary, bitstring, map, pid, port, reference, export}
 use Rattle.format.specs.Head.{finite}
 use Rattle.format.specs.AtomList.{AtomList}
 use Rattle.format.specs.Look.{Number, whole, float-bits, neither, number-of}
@@ -102,3 +102,27 @@ module _ (atoms : AtomList) (m : List ℕ) (kind : ℕ) where
   content-is (Pid id serial creation) s f = refl
   content-is (Port id creation) s f = refl
   content-is (Reference creation start n) s f = refl
+
+-- ---- labels
+
+no-float : {A : Type 0} (t : Bool) (z : ℤ) (bits : ℕ) → cond t (whole z) neither ≡ float-bits bits → A
+no-float true z bits e = let no-way : _≡_ {A = ℕ} 0 1 = cc in absurd (omega arith)
+no-float false z bits e = let no-way : _≡_ {A = ℕ} 0 1 = cc in absurd (omega arith)
+
+-- only floats have the bits of one
+pub float-label : (l : Label) (bits : ℕ) → number-of l ≡ float-bits bits → l ≡ float bits
+unfolding number-of
+float-label (integer (pos n)) bits e = no-float (ltb n (2 ^ 63)) (pos n) bits e
+float-label (integer (negsuc n)) bits e = no-float (ltb n (2 ^ 63)) (negsuc n) bits e
+float-label (float b) bits e = let same : b ≡ bits = cc in ap float same
+float-label (atom cs) bits e = no-float false (pos 0) bits e
+float-label tuple bits e = no-float false (pos 0) bits e
+float-label list bits e = no-float false (pos 0) bits e
+float-label improper-list bits e = no-float false (pos 0) bits e
+float-label (binary bs) bits e = no-float false (pos 0) bits e
+float-label (bitstring n bs) bits e = no-float false (pos 0) bits e
+float-label map bits e = no-float false (pos 0) bits e
+float-label (pid i s c) bits e = no-float false (pos 0) bits e
+float-label (port i c) bits e = no-float false (pos 0) bits e
+float-label (reference c ws) bits e = no-float false (pos 0) bits e
+float-label export bits e = no-float false (pos 0) bits e
