@@ -1,28 +1,24 @@
 -- What the calls find in the table of an accepted message is what its rows say. Assumes nothing.
 use mathlib.Core.Path.{_≡_, refl, sym, ap, ap₂, _∙_, subst}
-use mathlib.Core.Bool.{Bool, true, false, _&&_, _||_, cond}
+use mathlib.Core.Bool.{Bool, true, false, _||_, cond}
 use mathlib.Core.List.{List, [], _∷_}
 use mathlib.Core.Option.{Option, some}
 use mathlib.Core.Option as option
 use Prim.Native.Nat.{ℕ, zero, suc, _+_, _^_, _<_, _≤_, min}
 use native.Mathlib.Omega.{arith}
 use lib.Dec.{eqb, leb}
-use lib.Ieee.{binary64, ofBits, toBits}
 use lib.ListN.{length, getD}
-use borrow.Author.Tests.{le-leb, lt-leb, leb-true, leb-false, eqb-true}
-use Rattle.format.specs.Tree.{Forest, node, none, _▹_, count, size, sizes}
-use Rattle.format.specs.Text.{Coding, latin-1, utf-8}
+use borrow.Author.Tests.{leb-true, leb-false, eqb-true}
+use Rattle.format.specs.Tree.{Forest, node, none, _▹_, size, sizes}
 use Rattle.format.specs.Term.{Label, integer, float, atom, tuple, list, improper-list, binary, bitstring, map, pid, port, reference, export}
-use Rattle.format.specs.Answer.{Answer, good, refused}
-use Rattle.format.specs.Answers.{read-answer, number-case, number-answer, mark-case, mark-answer}
-use Rattle.format.specs.Head.{Form, finite}
+use Rattle.format.specs.Answer.{good, refused}
+use Rattle.format.specs.Answers.{read-answer, number-case}
+use Rattle.format.specs.Head.{finite}
 use Rattle.format.specs.AtomList.{AtomList, atoms-of}
 use Rattle.format.specs.Reading.{Place, tag-at, character-at, Located, meaning}
-use Rattle.format.specs.Message.{Framing, Terms, meanings, read}
+use Rattle.format.specs.Message.{Terms, meanings}
 use Rattle.format.specs.Rows.{Row, tree-rows, rows, kind-of, kind-at, offset-of, kind-in, offset-in, word, words-of, table-after}
-use Rattle.format.specs.Look.{Number, float-bits, neither, number-of, number-at, row-number, number-in, atom-at, Stretch, of-message, of-list, text-of, atom-text, text-in, text-bytes, stretch-bytes}
-use Rattle.format.specs.declared.ReadAnswer.{ReadAnswer}
-use Rattle.format.specs.declared.NumberAnswer.{NumberAnswer}
+use Rattle.format.specs.Look.{float-bits, neither, number-of, number-at, atom-at, text-of, atom-text}
 use Rattle.format.specs.declared.NumberAnswer.the-variants as numbers
 use Rattle.format.proofs.Text.{Under}
 use Rattle.format.proofs.Valid.{Fits, Valid, Valids}
@@ -31,15 +27,14 @@ use Rattle.format.proofs.Words.{Each-row, each-row-join, each-row-at, Small-row
 use Rattle.format.proofs.Backed.{Label-at}
 use Rattle.contents.specs.declared.Content.{Content}
 use Rattle.contents.specs.Found.{choose, content-of}
-use Rattle.contents.specs.Meaning.{label-of}
 use Rattle.contents.proofs.Says.{Lent, Says}
 use Rattle.contents.proofs.Again.{content-says}
 use Rattle.keys.proofs.Held.{Backed-row, backed-rows}
 use Rattle.keys.proofs.Accepted.{Accepted, accepted}
 use Rattle.asking.specs.declared.TextAt.{TextAt}
 use Rattle.asking.specs.declared.TextAt.the-variants as texts
-use Rattle.asking.specs.Code.{content-number, number-found, atom-row, atom-among, is-latin1, stretch-at, text-at, text-said, located, mark-at, Inside, bytes-at}
-use Rattle.asking.proofs.Numbers.{Finite, content-is, float-exact, float-label}
+use Rattle.asking.specs.Code.{content-number, number-found, atom-row, atom-among, text-at, text-said, located, Inside}
+use Rattle.asking.proofs.Numbers.{content-is, float-label}
 use Rattle.asking.proofs.Texts.{atom-tag, content-stands, said-inside}
 
 -- ---- floats of valid terms
@@ -75,6 +70,24 @@ unfolding number-at
 number-within i [] d h = absurd (omega arith)
 number-within zero (r ∷ rs) d h = refl
 number-within (suc i) (r ∷ rs) d h = number-within i rs d (omega arith)
+
+no-row : Row
+no-row = record { label = tuple; place = tag-at 0; whole = option.none; parts = 0; size = 0 }
+
+-- the bits of a float that a row of valid terms answers
+pub bits-answered : (ts : Terms) → Valids (meanings ts) → (i bits : ℕ) → number-at i (rows option.none 0 ts) ≡ float-bits bits → (bits < 2 ^ 64) × (finite bits ≡ true)
+bits-answered ts v i bits e = go (leb (sizes ts) i) refl
+  where
+    go : (t : Bool) → leb (sizes ts) i ≡ t → (bits < 2 ^ 64) × (finite bits ≡ true)
+    go true f =
+        let h : length (rows option.none 0 ts) ≤ i = rw (length-rows option.none 0 ts) (leb-true (sizes ts) i f) in
+        let p : neither ≡ float-bits bits = sym (number-past i (rows option.none 0 ts) h) ∙ e in
+        let no-way : _≡_ {A = ℕ} 0 1 = cc in absurd (omega arith)
+    go false f =
+        let all : List Row = rows option.none 0 ts in
+        let k : i < length all = rw (length-rows option.none 0 ts) (leb-false (sizes ts) i f) in
+        let fit : Bits-fit (getD all i no-row .label) = each-row-at (λ q. Bits-fit (q .label)) all i no-row k (fit-rows option.none 0 ts v) in
+        fit bits (float-label (getD all i no-row .label) bits (sym (number-within i all no-row k) ∙ e))
 
 -- ---- rows of atoms
 
@@ -183,7 +196,7 @@ module _ (list : AtomList) (m : List ℕ) (ts : Terms) (few : list .n ≤ 255) (
   -- the number of a row
   row-says : (i : ℕ) → i < sizes ts → number-at i all ≡ content-number (found-at (getD T i 0))
   row-says i h =
-      let d : Row = record { label = tuple; place = tag-at 0; whole = option.none; parts = 0; size = 0 } in
+      let d : Row = no-row in
       let r : Row = getD all i d in
       let k : i < length all = rw (length-rows option.none 0 ts) h in
       let small : Small-row r = each-row-at Small-row all i d k (a .held .all-small) in
@@ -199,7 +212,7 @@ module _ (list : AtomList) (m : List ℕ) (ts : Terms) (few : list .n ≤ 255) (
       ∙ content-is list m kind c (says .sound) (λ bits e. fit bits (sym (says .means) ∙ e) .1)
       ∙ ap content-number (sym same)
 
-  numbers-are : (i : ℕ) → number-found m (list .places) (list .lengths) T (read-answer (good ts)) i ≡ number-case (number-at i all)
+  pub numbers-are : (i : ℕ) → number-found m (list .places) (list .lengths) T (read-answer (good ts)) i ≡ number-case (number-at i all)
   unfolding read-answer number-found choose number-case
   numbers-are i = go (leb (sizes ts) i) refl
     where
@@ -208,21 +221,6 @@ module _ (list : AtomList) (m : List ℕ) (ts : Terms) (few : list .n ≤ 255) (
           let h : length all ≤ i = rw (length-rows option.none 0 ts) (leb-true (sizes ts) i e) in
           sym (ap number-case (number-past i all h))
       go false e = sym (ap number-case (row-says i (leb-false (sizes ts) i e)))
-
-  -- the bits of a float that is answered
-  bits-answered : (i bits : ℕ) → number-at i all ≡ float-bits bits → (bits < 2 ^ 64) × (finite bits ≡ true)
-  bits-answered i bits e = go (leb (sizes ts) i) refl
-    where
-      go : (t : Bool) → leb (sizes ts) i ≡ t → (bits < 2 ^ 64) × (finite bits ≡ true)
-      go true f =
-          let h : length all ≤ i = rw (length-rows option.none 0 ts) (leb-true (sizes ts) i f) in
-          let p : neither ≡ float-bits bits = sym (number-past i all h) ∙ e in
-          let no-way : _≡_ {A = ℕ} 0 1 = cc in absurd (omega arith)
-      go false f =
-          let d : Row = record { label = tuple; place = tag-at 0; whole = option.none; parts = 0; size = 0 } in
-          let k : i < length all = rw (length-rows option.none 0 ts) (leb-false (sizes ts) i f) in
-          let fit : Bits-fit (getD all i d .label) = each-row-at (λ q. Bits-fit (q .label)) all i d k (fit-rows option.none 0 ts (a .valid)) in
-          fit bits (float-label (getD all i d .label) bits (sym (number-within i all d k) ∙ e))
 
   -- where the text of an atom stands
   abbrev said : ℕ → TextAt
@@ -236,7 +234,7 @@ module _ (list : AtomList) (m : List ℕ) (ts : Terms) (few : list .n ≤ 255) (
       let t = atom-tag list m (min 8192 8192) (atom (b .0)) at (b .1) refl in
       (content-stands list m (b .0) at (t .0) (t .1) (s .means), said-inside m (list .places) at _ (s .sound))
 
-  texts-are : (at : ℕ) → (located m (list .places) (list .lengths) T (read-answer (good ts)) at ≡ text-at (atom-text m list at (good ts)))
+  pub texts-are : (at : ℕ) → (located m (list .places) (list .lengths) T (read-answer (good ts)) at ≡ text-at (atom-text m list at (good ts)))
       × Inside m (list .places) (located m (list .places) (list .lengths) T (read-answer (good ts)) at)
   unfolding read-answer located atom-text text-at choose Inside
   texts-are at =
@@ -249,41 +247,3 @@ module _ (list : AtomList) (m : List ℕ) (ts : Terms) (few : list .n ≤ 255) (
           × Inside m (list .places) (choose t (said at) (texts.Refused (record { number = 4; place = at })))
       go true e = atom-says at e
       go false e = (refl, tt)
-
--- ---- the calls
-
-module _ (framing : Framing) (list : AtomList) (m : List ℕ) (few : list .n ≤ 255) (under : Under 256 m) (lent : ℕ) (T : List ℕ) (r : ReadAnswer)
-    (all-rows : lent ≡ 8192) (answer : r ≡ read-answer (read framing list lent m)) (table : T ≡ table-after lent (read framing list lent m)) where
-  answer-is : r ≡ read-answer (read framing list 8192 m)
-  answer-is = rw all-rows at answer
-
-  table-is : T ≡ table-after 8192 (read framing list 8192 m)
-  table-is = rw all-rows at table
-
-  -- a row's number
-  pub number-told : (row : ℕ) (x : NumberAnswer) → x ≡ number-found m (list .places) (list .lengths) T r row → x ≡ number-answer (number-in framing list m row)
-  unfolding number-in number-answer row-number number-found read-answer
-  number-told row x e =
-      e
-      ∙ ap₂ (λ (t : List ℕ) (q : ReadAnswer). number-found m (list .places) (list .lengths) t q row) table-is answer-is
-      ∙ go (read framing list 8192 m) refl
-    where
-      go : (o : Answer Terms) → read framing list 8192 m ≡ o
-          → number-found m (list .places) (list .lengths) (table-after 8192 o) (read-answer o) row ≡ number-answer (row-number row o)
-      go (good ts) f = numbers-are list m ts few under (accepted framing list 8192 m ts under f) row
-      go (refused n p) f = refl
-
-  -- where an atom's text stands
-  pub text-told : (at : ℕ) (x : TextAt) → x ≡ located m (list .places) (list .lengths) T r at → (x ≡ text-at (text-in framing list m at)) × Inside m (list .places) x
-  unfolding text-in atom-text text-at located read-answer Inside
-  text-told at x e =
-      let f : x ≡ located m (list .places) (list .lengths) (table-after 8192 (read framing list 8192 m)) (read-answer (read framing list 8192 m)) at
-      = e ∙ ap₂ (λ (t : List ℕ) (q : ReadAnswer). located m (list .places) (list .lengths) t q at) table-is answer-is in
-      let k = go (read framing list 8192 m) refl in
-      (f ∙ k .0, subst (Inside m (list .places)) (sym f) (k .1))
-    where
-      go : (o : Answer Terms) → read framing list 8192 m ≡ o
-          → (located m (list .places) (list .lengths) (table-after 8192 o) (read-answer o) at ≡ text-at (atom-text m list at o))
-          × Inside m (list .places) (located m (list .places) (list .lengths) (table-after 8192 o) (read-answer o) at)
-      go (good ts) f = texts-are list m ts few under (accepted framing list 8192 m ts under f) at
-      go (refused n p) f = (refl, tt)

@@ -3,3 +3,4 @@ pub mod Ways
 pub mod Numbers
 pub mod Texts
 pub mod Found
+pub mod Calls

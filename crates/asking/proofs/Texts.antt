@@ -1,27 +1,27 @@
 -- Where the text of an atom stands: what is found again of the atom says what `text-of` says. Assumes nothing.
-use mathlib.Core.Path.{_≡_, refl, sym, ap, ap₂, _∙_, subst}
+use mathlib.Core.Path.{_≡_, refl, sym, ap, ap₂, _∙_}
 use mathlib.Core.Bool.{Bool, true, false, _&&_, _||_}
 use mathlib.Core.List.{List, [], _∷_}
 use mathlib.Core.Logic.{_⊎_, inl, inr}
-use mathlib.Core.Option.{Option, some}
-use Prim.Native.Nat.{ℕ, zero, suc, _+_, _-_, _*_, _^_, _<_, _≤_}
+use mathlib.Core.Option.{some}
+use Prim.Native.Nat.{ℕ, _+_, _-_, _*_, _^_, _≤_}
 use native.Mathlib.Omega.{arith}
 use lib.Dec.{eqb, leb, ltb}
 use lib.IntN.{pos}
 use lib.ListN.{length, getD}
-use borrow.Author.Tests.{leb-true, leb-false, ltb-true, ltb-false}
+use borrow.Author.Tests.{ltb-false}
 use Rattle.format.specs.Numbers.{little-endian, signed32, with-sign}
-use Rattle.format.specs.Text.{Coding, latin-1, utf-8, check}
-use Rattle.format.specs.Term.{Label, integer, float, atom, tuple, list, improper-list, binary, bitstring, map, pid, port, reference, export}
-use Rattle.format.specs.Answer.{Answer, good, refused, Position, Reading, after, rule, bytes, number}
-use Rattle.format.specs.Head.{Atoms, Wanted, an-atom, an-arity, one-of, leaf, Form, small-integer-ext, integer-ext, big-ext, new-float-ext, atom-ext, atom-cache-ref, tuple-ext, nil-ext, string-ext, list-ext, binary-ext, bit-binary-ext, map-ext, pid-ext, port-ext, new-reference-ext, reference-ext, export-ext, form-in, forms, fields, Head, parts, characters, elements, pairs, Later, known, pid-fields, port-fields, reference-fields, old-reference-fields, later, words, words-rule, creation-rule, limits, finite, bits-rule, bits-meaning, clear-low, text-or, head}
-use Rattle.format.specs.Reading.{Place, tag-at, character-at}
+use Rattle.format.specs.Text.{Coding, latin-1, utf-8}
+use Rattle.format.specs.Term.{Label, integer, float, atom, tuple, list, improper-list, binary, bitstring, export}
+use Rattle.format.specs.Answer.{Answer, Position, Reading, after, rule, bytes, number}
+use Rattle.format.specs.Head.{Atoms, Wanted, an-atom, an-arity, one-of, Form, small-integer-ext, integer-ext, big-ext, new-float-ext, atom-ext, atom-cache-ref, tuple-ext, nil-ext, string-ext, list-ext, binary-ext, bit-binary-ext, map-ext, pid-ext, port-ext, new-reference-ext, reference-ext, export-ext, form-in, forms, fields, Head, parts, Later, known, pid-fields, port-fields, reference-fields, old-reference-fields, later, words, words-rule, creation-rule, limits, finite, bits-rule, bits-meaning, clear-low, head}
+use Rattle.format.specs.Reading.{tag-at}
 use Rattle.format.specs.AtomList.{AtomList, place-length, atoms-of}
 use Rattle.format.specs.Rows.{kind-of}
 use Rattle.format.specs.Look.{Stretch, of-message, of-list, text-of}
 use Rattle.format.proofs.Bridge.{at-offset}
 use Rattle.format.proofs.Holds.{Holds, next, done-holds, weaken}
-use Rattle.format.proofs.Backed.{Allowed, Atom-form, is-82, is-100, is-115, is-118, is-119, atom-form, Agrees, Head-at, Label-at}
+use Rattle.format.proofs.Backed.{Allowed, Atom-form, is-82, is-100, is-115, is-118, is-119, atom-form, Agrees, Label-at}
 use Rattle.octets.proofs.Numbers.{big-one}
 use Rattle.contents.specs.declared.Content.{Content}
 use Rattle.contents.specs.declared.Content.the-variants.{Nothing, Whole, Big, Float, Text, Bytes, Bits, Pid, Port, Reference}
@@ -29,7 +29,6 @@ use Rattle.contents.specs.Found.{choose, value, text-width, text-found, place-f
 use Rattle.contents.specs.Meaning.{bare, label-of}
 use Rattle.contents.proofs.Says.{Sound}
 use Rattle.contents.proofs.Read.{All-rows, row-of, position-is, head-here}
-use Rattle.asking.specs.declared.TextAt.{TextAt}
 use Rattle.asking.specs.declared.TextAt.the-variants as texts
 use Rattle.asking.specs.Code.{is-latin1, stretch-at, text-said, Inside}
 
