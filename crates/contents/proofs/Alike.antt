@@ -1,288 +1,316 @@
--- Two contents are compared as the labels that they make are.
+-- Two contents that are found of nodes are the same exactly where they say the same label. Assumes nothing.
 use mathlib.Core.Path.{_≡_, refl, sym, _∙_, ap, ap₂, subst}
+use mathlib.Core.Logic.{_⊎_, inl, inr}
 use mathlib.Core.Bool.{Bool, true, false}
 use mathlib.Core.List.{List, [], _∷_, _++_}
 use Prim.Native.Nat.{ℕ, zero, suc, _+_, _*_, _-_, _/_, _^_, _≤_, _<_}
-use native.Mathlib.Nat.{pow-le-pow-right, one-le-pow}
+use native.Mathlib.Nat.{pow-le-pow-right, le-antisymm}
 use native.Mathlib.Omega.{arith}
 use lib.Dec.{eqb, leb, ltb}
-use lib.ListN.{length, getD, take, drop, length-drop}
-use lib.Seq.{take-add, take-suc, drop-drop, getD-drop}
-use borrow.Author.Tests.{le-leb, le-ltb, ne-eqb, eqb-true, eqb-false}
+use lib.IntN.{pos-ne-negsuc}
+use lib.ListN.{length, getD, take, drop}
+use lib.Seq.{take-at, drop-at, take-add, drop-drop}
+use borrow.Author.Tests.{eqb-true, eqb-false, eq-eqb, le-leb, le-ltb}
 use Rattle.format.specs.Numbers.{big-endian, little-endian, with-sign}
 use Rattle.format.specs.Text.{valid, utf-8, check, encodes}
 use Rattle.format.specs.Term.{Label, integer, float, atom, tuple, list, improper-list, binary, bitstring, map, pid, port, reference, export}
 use Rattle.format.specs.Head.{clear-low}
 use Rattle.format.specs.AtomList.{AtomList}
+use Rattle.format.proofs.Text.{Under, utf8-spelt, utf8-encodes, latin1-characters}
 use Rattle.format.proofs.Opening.{by-less}
-use Rattle.format.proofs.Text.{Under, utf8-encodes, utf8-spelt, latin1-characters}
 use Rattle.octets.proofs.Parts.{length-part}
+use Rattle.contents.specs.declared.Flat.{Flat}
 use Rattle.contents.specs.declared.Content.{Content}
 use Rattle.contents.specs.declared.Content.the-variants.{Nothing, Whole, Big, Float, Text, Bytes, Bits, Pid, Port, Reference}
-use Rattle.contents.specs.declared.Flat.{Flat}
 use Rattle.contents.specs.Found.{choose, value}
 use Rattle.contents.specs.Meaning.{stretch, sign, words-at, characters-of, coded, bare, label-of}
-use Rattle.contents.specs.Same.{same-bool, same-list, high, same-part, same-stretch, same-spelling, same-text, same-last, same-bits, same-words, numbers-of, stretch-of, flat-of, same-numbers, source, same-atoms, same-stretches, same-flat, same-contents}
+use Rattle.contents.specs.Same.{same-bool, same-list, high, same-part, same-stretch, same-spelling, same-text, same-last, same-bits, same-words, numbers-of, stretch-of, text-of, flat-of, same-numbers, source, same-texts, same-atoms, same-stretches, same-flat, same-contents}
 use Rattle.contents.proofs.Lists.{same-true, same-self}
-use Rattle.contents.proofs.Values.{under-part, big-same, little-same, little-least, little-small}
-use Rattle.contents.proofs.Says.{Sound, Readable}
-use Rattle.contents.proofs.Tells.{Tells, not-so, tells-as, then-tells, eqb-tells}
+use Rattle.contents.proofs.Values.{under-part, big-same, little-small, little-same, little-least, top-digit}
+use Rattle.contents.proofs.Says.{Readable, Sound}
 
-bool-tells : (a b : Bool) → Tells (same-bool a b) (a ≡ b)
+-- a test and the equality that it stands for
+pub record Agree (t : Bool) (A : Type 0) : Type 0 where
+  pub sure : t ≡ true → A
+  pub back : A → t ≡ true
+
+never : {A : Type 0} → false ≡ true → A
+never e = let z : _≡_ {A = ℕ} 0 1 = cc in absurd (omega arith)
+
+-- one test and then another
+both : {t u : Bool} {A B : Type 0} → Agree t A → Agree u B → Agree (choose t u false) (A × B)
+unfolding choose
+both {t} {u} {A} {B} p q = go t p
+  where
+    go : (t : Bool) → Agree t A → Agree (choose t u false) (A × B)
+    go true p = record { sure = λ e. (p .sure refl, q .sure e); back = λ x. q .back (x .1) }
+    go false p = record { sure = λ e. never e; back = λ x. p .back (x .0) }
+
+-- the same by another equality
+pub through : {t : Bool} {A B : Type 0} → (A → B) → (B → A) → Agree t A → Agree t B
+through f g p = record { sure = λ e. f (p .sure e); back = λ b. p .back (g b) }
+
+-- decided where either holds
+agree-when : {t : Bool} {A : Type 0} → (t ≡ true → Agree t A) → (A → Agree t A) → Agree t A
+agree-when f g = record { sure = λ e. f e .sure e; back = λ x. g x .back x }
+
+numbers-agree : (x y : ℕ) → Agree (eqb x y) (x ≡ y)
+numbers-agree x y = record { sure = eqb-true x y; back = eq-eqb x y }
+
+signs-agree : (a b : Bool) → Agree (same-bool a b) (a ≡ b)
 unfolding same-bool
-bool-tells true true = (λ _. refl, λ _. refl)
-bool-tells true false = (λ e. sym e, λ e. sym e)
-bool-tells false true = (λ e. e, λ e. e)
-bool-tells false false = (λ _. refl, λ _. refl)
+signs-agree true true = record { sure = λ _. refl; back = λ _. refl }
+signs-agree true false = record { sure = λ e. never e; back = λ e. sym e }
+signs-agree false true = record { sure = λ e. never e; back = λ e. e }
+signs-agree false false = record { sure = λ _. refl; back = λ _. refl }
 
-list-tells : (xs ys : List ℕ) → Tells (same-list xs ys) (xs ≡ ys)
-list-tells xs ys = (same-true xs ys, λ e. rw e (same-self ys))
+lists-agree : (xs ys : List ℕ) → Agree (same-list xs ys) (xs ≡ ys)
+lists-agree xs ys = record { sure = same-true xs ys; back = λ e. rw e (same-self ys) }
 
--- ---- stretches
+-- ---- stretches that are there
 
 module _ (a : List ℕ) (i : ℕ) (b : List ℕ) (j : ℕ) where
-  part-tells : (n : ℕ) → i + n ≤ length a → j + n ≤ length b → Tells (same-part a i b j n) (stretch a i n ≡ stretch b j n)
+  part-agrees : (n : ℕ) → i + n ≤ length a → j + n ≤ length b → Agree (same-part a i b j n) (stretch a i n ≡ stretch b j n)
   unfolding same-part choose
-  part-tells n h k = rw (le-leb (i + n) (length a) h, le-leb (j + n) (length b) k) (list-tells (stretch a i n) (stretch b j n))
+  part-agrees n h k = rw (le-leb (i + n) (length a) h, le-leb (j + n) (length b) k) (lists-agree (stretch a i n) (stretch b j n))
 
-  stretch-tells : (n k : ℕ) → i + n ≤ length a → j + k ≤ length b → Tells (same-stretch a i n b j k) (stretch a i n ≡ stretch b j k)
-  unfolding same-stretch
-  stretch-tells n k h l =
-      tells-as _
-      (λ p. p .1 ∙ ap (λ (x : ℕ). stretch b j x) (p .0))
-      (λ e. let f : n ≡ k = sym (length-part a i n h) ∙ ap length e ∙ length-part b j k l in (f, e ∙ ap (λ (x : ℕ). stretch b j x) (sym f)))
-      (then-tells (eqb n k) (same-part a i b j n) (eqb-tells n k) (λ f. part-tells n h (omega arith)))
+  stretch-agrees : (n k : ℕ) → i + n ≤ length a → j + k ≤ length b → Agree (same-stretch a i n b j k) (stretch a i n ≡ stretch b j k)
+  unfolding same-stretch choose
+  stretch-agrees n k h g = go (eqb n k) refl
+    where
+      go : (t : Bool) → eqb n k ≡ t → Agree (choose t (same-part a i b j n) false) (stretch a i n ≡ stretch b j k)
+      go true e =
+          let q : n ≡ k = eqb-true n k e in
+          let u : j + n ≤ length b = omega arith in
+          rw (← q) (part-agrees n h u)
+      go false e =
+          record {
+            sure = λ f. never f;
+            back = λ f. absurd (eqb-false n k e (sym (length-part a i n h) ∙ ap length f ∙ length-part b j k g));
+          }
 
--- ---- signs and digits
-
--- a sign and a magnitude, zero never negative, are settled by the number
-signed-both : (a b : Bool) (n k : ℕ) → (a ≡ true → 0 < n) → (b ≡ true → 0 < k) → _≡_ {A = Label} (integer (with-sign (sign a) n)) (integer (with-sign (sign b) k)) → (a ≡ b) × (n ≡ k)
-unfolding with-sign choose
-signed-both false false n k h g e = (refl, (cc))
-signed-both false true n zero h g e = absurd (omega (arith, g refl))
-signed-both false true n (suc k) h g e = let z : _≡_ {A = ℕ} 0 1 = cc in absurd (omega arith)
-signed-both true false zero k h g e = absurd (omega (arith, h refl))
-signed-both true false (suc n) k h g e = let z : _≡_ {A = ℕ} 0 1 = cc in absurd (omega arith)
-signed-both true true zero k h g e = absurd (omega (arith, h refl))
-signed-both true true (suc n) zero h g e = absurd (omega (arith, g refl))
-signed-both true true (suc n) (suc k) h g e = (refl, (cc))
-
-positive : (a : Bool) (n : ℕ) → (n ≡ 0 → a ≡ false) → a ≡ true → 0 < n
-positive a zero h e = not-so (sym (h refl) ∙ e)
-positive a (suc n) h e = omega arith
-
--- Digits of which the highest is not zero
-module _ (m : List ℕ) (u : Under 256 m) where
-  abbrev Topped : ℕ → ℕ → Type 0
-  Topped i n = (0 < n) × (i + n ≤ length m) × (getD m (i + (n - 1)) 0 ≡ 0 → ⊥)
-
-  topped-some : (i n : ℕ) → Topped i n → 0 < little-endian (stretch m i n)
-  topped-some i n h = omega (arith, little-least m i n (h .0) (h .1) (h .2), one-le-pow (n - 1) 256 (omega arith))
-
-  -- more of them make a larger number
-  topped-more : (i n j l : ℕ) → n < l → i + n ≤ length m → Topped j l → little-endian (stretch m i n) ≡ little-endian (stretch m j l) → ⊥
-  topped-more i n j l h g t e =
-      let a : little-endian (stretch m i n) < 256 ^ n = rw (length-part m i n g) at (little-small (stretch m i n) (under-part m i n u)) in
-      let b : 256 ^ (l - 1) ≤ little-endian (stretch m j l) = little-least m j l (t .0) (t .1) (t .2) in
-      let c : 256 ^ n ≤ 256 ^ (l - 1) = pow-le-pow-right {n = 256} (omega arith) {i = n} {j = l - 1} (omega arith) in
-      omega arith
-
-  -- so they are settled by their number
-  topped-same : (i n j l : ℕ) → Topped i n → Topped j l → little-endian (stretch m i n) ≡ little-endian (stretch m j l) → stretch m i n ≡ stretch m j l
-  topped-same i n j l t s e =
-      by-less n l (λ h. absurd (topped-more i n j l h (t .1) s e)) λ h.
-      by-less l n (λ g. absurd (topped-more j l i n g (s .1) t (sym e))) λ g.
-      little-same (stretch m i n) (stretch m j l) (under-part m i n u) (under-part m j l u)
-      (length-part m i n (t .1) ∙ omega (arith, h, g) ∙ sym (length-part m j l (s .1)))
-      e
-
--- ---- lists in two
-
-append-both : (xs ys zs ws : List ℕ) → length xs ≡ length ys → xs ++ zs ≡ ys ++ ws → (xs ≡ ys) × (zs ≡ ws)
-append-both [] [] zs ws l e = (refl, e)
-append-both [] (y ∷ ys) zs ws l e = absurd (omega arith)
-append-both (x ∷ xs) [] zs ws l e = absurd (omega arith)
-append-both (x ∷ xs) (y ∷ ys) zs ws l e =
-    let h : x ≡ y = cc in
-    let t : xs ++ zs ≡ ys ++ ws = cc in
-    let more : (xs ≡ ys) × (zs ≡ ws) = append-both xs ys zs ws (omega arith) t in
-    (ap₂ (λ (v : ℕ) (vs : List ℕ). v ∷ vs) h (more .0), more .1)
-
--- a stretch in two
-stretch-split : (m : List ℕ) (i n k : ℕ) → stretch m i (n + k) ≡ stretch m i n ++ stretch m (i + n) k
-stretch-split m i n k = take-add n k (drop i m) ∙ ap (λ (l : List ℕ). take n (drop i m) ++ take k l) (drop-drop n i m)
-
-stretch-last : (m : List ℕ) (i n : ℕ) → i + suc n ≤ length m → stretch m i (suc n) ≡ stretch m i n ++ (getD m (i + n) 0 ∷ [])
-stretch-last m i n h =
-    take-suc (drop i m) n 0 (omega (arith, length-drop i m))
-    ∙ ap (λ (x : ℕ). take n (drop i m) ++ (x ∷ [])) (getD-drop i m n 0)
+  spelling-agrees : (n k : ℕ) → i + n ≤ length a → j + k ≤ length b → Agree (same-spelling a i n b j k) (encodes (stretch a i n) ≡ stretch b j k)
+  unfolding same-spelling choose
+  spelling-agrees n k h g = rw (le-leb (i + n) (length a) h, le-leb (j + k) (length b) g) (lists-agree (encodes (stretch a i n)) (stretch b j k))
 
 -- ---- texts
 
+-- Latin-1 against UTF-8
+spelt-alike : (bs ds cs : List ℕ) → Under 256 bs → length bs ≤ 255 → check utf-8 ds ≡ valid cs → (encodes bs ≡ ds → bs ≡ cs) × (bs ≡ cs → encodes bs ≡ ds)
+spelt-alike bs ds cs u h e =
+    (λ f. let g : valid bs ≡ valid cs = sym (utf8-encodes bs (latin1-characters bs u) h) ∙ ap (check utf-8) f ∙ e in cc, λ f. ap encodes f ∙ utf8-spelt ds cs e)
+
 module _ (a : List ℕ) (i n : ℕ) (b : List ℕ) (j k : ℕ) (h : i + n ≤ length a) (g : j + k ≤ length b) where
-  -- Latin-1 against UTF-8
-  spelling-tells : Under 256 (stretch a i n) → length (stretch a i n) ≤ 255 → (cs : List ℕ) → check utf-8 (stretch b j k) ≡ valid cs
-      → Tells (same-spelling a i n b j k) (stretch a i n ≡ cs)
-  unfolding same-spelling choose
-  spelling-tells u l cs e =
-      rw (le-leb (i + n) (length a) h, le-leb (j + k) (length b) g)
-      (tells-as _
-      (λ f.
-      let x : valid (stretch a i n) ≡ valid cs = sym (utf8-encodes (stretch a i n) (latin1-characters (stretch a i n) u) l) ∙ ap (check utf-8) f ∙ e in
-      (cc))
-      (λ f. ap encodes f ∙ utf8-spelt (stretch b j k) cs e)
-      (list-tells (encodes (stretch a i n)) (stretch b j k)))
+  texts-agree : (x y : Bool) → Readable x (stretch a i n) → Readable y (stretch b j k)
+      → Agree (same-text a i n x b j k y) (coded x (stretch a i n) ≡ coded y (stretch b j k))
+  unfolding same-text coded choose characters-of
+  texts-agree true true p q = stretch-agrees a i b j n k h g
+  texts-agree true false p q =
+      let w = spelt-alike (stretch a i n) (stretch b j k) (q .0) (p .0) (p .1) (q .1) in
+      rw (q .1) (through (w .0) (w .1) (spelling-agrees a i b j n k h g))
+  texts-agree false true p q =
+      let w = spelt-alike (stretch b j k) (stretch a i n) (p .0) (q .0) (q .1) (p .1) in
+      rw (p .1) (through (λ e. sym (w .0 e)) (λ e. w .1 (sym e)) (spelling-agrees b j a i k n g h))
+  texts-agree false false p q =
+      rw (p .1, q .1)
+      (through
+      (λ e. let f : valid (p .0) ≡ valid (q .0) = sym (p .1) ∙ ap (check utf-8) e ∙ q .1 in cc)
+      (λ e. sym (utf8-spelt (stretch a i n) (p .0) (p .1)) ∙ ap encodes e ∙ utf8-spelt (stretch b j k) (q .0) (q .1))
+      (stretch-agrees a i b j n k h g))
 
-  -- two valid texts in UTF-8
-  utf8-tells : (cs ds : List ℕ) → check utf-8 (stretch a i n) ≡ valid cs → check utf-8 (stretch b j k) ≡ valid ds → Tells (same-stretch a i n b j k) (cs ≡ ds)
-  utf8-tells cs ds e f =
-      tells-as _
-      (λ x. let y : valid cs ≡ valid ds = sym e ∙ ap (check utf-8) x ∙ f in (cc))
-      (λ x. sym (utf8-spelt (stretch a i n) cs e) ∙ ap encodes x ∙ utf8-spelt (stretch b j k) ds f)
-      (stretch-tells a i b j n k h g)
+-- ---- lists in two parts
 
-text-tells : (a : List ℕ) (i n : ℕ) (latin : Bool) (b : List ℕ) (j k : ℕ) (latin′ : Bool) → i + n ≤ length a → j + k ≤ length b
-    → Readable latin (stretch a i n) → Readable latin′ (stretch b j k)
-    → Tells (same-text a i n latin b j k latin′) (coded latin (stretch a i n) ≡ coded latin′ (stretch b j k))
-unfolding same-text coded choose characters-of
-text-tells a i n true b j k true h g r q = stretch-tells a i b j n k h g
-text-tells a i n true b j k false h g r q = rw (q .1) (spelling-tells a i n b j k h g (r .0) (r .1) (q .0) (q .1))
-text-tells a i n false b j k true h g r q = rw (r .1) (tells-as _ sym sym (spelling-tells b j k a i n g h (q .0) (q .1) (r .0) (r .1)))
-text-tells a i n false b j k false h g r q = rw (r .1, q .1) (utf8-tells a i n b j k h g (r .0) (q .0) (r .1) (q .1))
+parts-equal : (a b c d : List ℕ) → length a ≡ length c → a ++ b ≡ c ++ d → (a ≡ c) × (b ≡ d)
+parts-equal a b c d e f =
+    (sym (take-at a b (length c) e) ∙ ap (take (length c)) f ∙ take-at c d (length c) refl, sym (drop-at a b (length c) e) ∙ ap (drop (length c)) f ∙ drop-at c d (length c) refl)
 
 -- ---- bits
 
-clear-last : (bits : ℕ) (xs : List ℕ) (x : ℕ) → clear-low bits (xs ++ (x ∷ [])) ≡ xs ++ (high x bits ∷ [])
+length-clear : (bits : ℕ) (xs : List ℕ) → length (clear-low bits xs) ≡ length xs
 unfolding clear-low
-clear-last bits [] x = refl
-clear-last bits (y ∷ []) x = refl
-clear-last bits (y ∷ z ∷ xs) x = ap (λ (l : List ℕ). y ∷ l) (clear-last bits (z ∷ xs) x)
+length-clear bits [] = refl
+length-clear bits (x ∷ []) = refl
+length-clear bits (x ∷ y ∷ xs) = ap suc (length-clear bits (y ∷ xs))
 
-clear-length : (bits : ℕ) (xs : List ℕ) → length (clear-low bits xs) ≡ length xs
+clear-snoc : (bits : ℕ) (xs : List ℕ) (x : ℕ) → clear-low bits (xs ++ (x ∷ [])) ≡ xs ++ (high x bits ∷ [])
 unfolding clear-low
-clear-length bits [] = refl
-clear-length bits (x ∷ []) = refl
-clear-length bits (x ∷ y ∷ xs) = ap suc (clear-length bits (y ∷ xs))
+clear-snoc bits [] x = refl
+clear-snoc bits (y ∷ []) x = refl
+clear-snoc bits (y ∷ z ∷ xs) x = ap (λ (l : List ℕ). y ∷ l) (clear-snoc bits (z ∷ xs) x)
 
 module _ (m : List ℕ) (bits i j : ℕ) where
-  last-tells : (n : ℕ) → i + suc n ≤ length m → j + suc n ≤ length m
-      → Tells (same-last m bits i j n) (clear-low bits (stretch m i (suc n)) ≡ clear-low bits (stretch m j (suc n)))
-  unfolding same-last
-  last-tells n h g =
-      rw (stretch-last m i n h, stretch-last m j n g, clear-last bits (stretch m i n) (getD m (i + n) 0), clear-last bits (stretch m j n) (getD m (j + n) 0))
-      (tells-as _
-      (λ p. ap₂ (λ (xs : List ℕ) (x : ℕ). xs ++ (x ∷ [])) (p .0) (p .1))
-      (λ e.
-      let p = append-both (stretch m i n) (stretch m j n) _ _ (length-part m i n (omega arith) ∙ sym (length-part m j n (omega arith))) e in
-      let q : _≡_ {A = List ℕ} (high (getD m (i + n) 0) bits ∷ []) (high (getD m (j + n) 0) bits ∷ []) = p .1 in
-      (p .0, (cc)))
-      (then-tells (same-part m i m j n) _ (part-tells m i m j n (omega arith) (omega arith)) (λ _. eqb-tells _ _)))
+  cleared : (n at : ℕ) → 0 < n → at + n ≤ length m → clear-low bits (stretch m at n) ≡ stretch m at (n - 1) ++ (high (getD m (at + (n - 1)) 0) bits ∷ [])
+  cleared n at h k =
+      let e : suc (n - 1) ≡ n = omega arith in
+      ap (λ (x : ℕ). clear-low bits (take x (drop at m))) (sym e)
+      ∙ ap (clear-low bits) (top-digit m at (n - 1) (omega arith))
+      ∙ clear-snoc bits (stretch m at (n - 1)) (getD m (at + (n - 1)) 0)
 
-  bits-tell : (n k : ℕ) → i + n ≤ length m → j + k ≤ length m → Tells (same-bits m bits i n j k) (clear-low bits (stretch m i n) ≡ clear-low bits (stretch m j k))
+  last-agrees : (n : ℕ) → i + n < length m → j + n < length m
+      → Agree (same-last m bits i j n) (stretch m i n ++ (high (getD m (i + n) 0) bits ∷ []) ≡ stretch m j n ++ (high (getD m (j + n) 0) bits ∷ []))
+  unfolding same-last
+  last-agrees n h k =
+      let x : ℕ = high (getD m (i + n) 0) bits in
+      let y : ℕ = high (getD m (j + n) 0) bits in
+      through
+      (λ e. ap₂ (λ (l : List ℕ) (z : ℕ). l ++ (z ∷ [])) (e .0) (e .1))
+      (λ e. let f = parts-equal (stretch m i n) (x ∷ []) (stretch m j n) (y ∷ []) (length-part m i n (omega arith) ∙ sym (length-part m j n (omega arith))) e in (f .0, let g : _≡_ {A = List ℕ} (x ∷ []) (y ∷ []) = f .1 in cc))
+      (both (part-agrees m i m j n (omega arith) (omega arith)) (numbers-agree x y))
+
+  bits-agree : (n k : ℕ) → i + n ≤ length m → j + k ≤ length m → Agree (same-bits m bits i n j k) (clear-low bits (stretch m i n) ≡ clear-low bits (stretch m j k))
   unfolding same-bits choose
-  bits-tell n k h g =
-      tells-as _
-      (λ p. p .1 ∙ ap (λ (x : ℕ). clear-low bits (stretch m j x)) (p .0))
-      (λ e.
-      let f : n ≡ k
-      = sym (clear-length bits (stretch m i n) ∙ length-part m i n h) ∙ ap length e ∙ clear-length bits (stretch m j k) ∙ length-part m j k g in
-      (f, e ∙ ap (λ (x : ℕ). clear-low bits (stretch m j x)) (sym f)))
-      (then-tells (eqb n k) _ (eqb-tells n k) (λ f. some n h (omega arith)))
+  bits-agree n k h g = go (eqb n k) refl (eqb n 0) refl
     where
-      some : (n : ℕ) → i + n ≤ length m → j + n ≤ length m
-          → Tells (choose (eqb n 0) true (choose (leb (i + n) (length m)) (choose (leb (j + n) (length m)) (same-last m bits i j (n - 1)) false) false))
-          (clear-low bits (stretch m i n) ≡ clear-low bits (stretch m j n))
-      some zero h g = (λ _. refl, λ _. refl)
-      some (suc n) h g =
-          let e : suc n - 1 ≡ n = omega arith in
-          rw (e, ne-eqb (suc n) 0 (λ z. omega arith), le-leb (i + suc n) (length m) h, le-leb (j + suc n) (length m) g) (last-tells n h g)
+      go : (t : Bool) → eqb n k ≡ t → (u : Bool) → eqb n 0 ≡ u
+          → Agree (choose t (choose u true (choose (leb (i + n) (length m)) (choose (leb (j + n) (length m)) (same-last m bits i j (n - 1)) false) false)) false)
+          (clear-low bits (stretch m i n) ≡ clear-low bits (stretch m j k))
+      go true e true f =
+          let z : n ≡ 0 = eqb-true n 0 f in
+          let q : k ≡ 0 = sym (eqb-true n k e) ∙ z in
+          record { sure = λ _. rw (z, q); back = λ _. refl }
+      go true e false f =
+          let q : n ≡ k = eqb-true n k e in
+          let z : n ≡ 0 → ⊥ = eqb-false n 0 f in
+          let u : j + n ≤ length m = omega arith in
+          let a : i + (n - 1) < length m = omega arith in
+          let b : j + (n - 1) < length m = omega arith in
+          let c : 0 < n = omega arith in
+          rw (← q, le-leb (i + n) (length m) h, le-leb (j + n) (length m) u, cleared n i c h, cleared n j c u) (last-agrees (n - 1) a b)
+      go false e u f =
+          record {
+            sure = λ x. never x;
+            back = λ x. absurd (eqb-false n k e (sym (length-clear bits (stretch m i n) ∙ length-part m i n h) ∙ ap length x ∙ length-clear bits (stretch m j k) ∙ length-part m j k g));
+          }
 
 -- ---- words
 
-module _ (m : List ℕ) (u : Under 256 m) where
-  words-settle : (n i j : ℕ) → i + 4 * n ≤ length m → j + 4 * n ≤ length m → words-at m i n ≡ words-at m j n → stretch m i (4 * n) ≡ stretch m j (4 * n)
+length-words : (m : List ℕ) (n at : ℕ) → length (words-at m at n) ≡ n
+unfolding words-at
+length-words m zero at = refl
+length-words m (suc n) at = ap suc (length-words m n (at + 4))
+
+four-more : (m : List ℕ) (at n : ℕ) → stretch m at (4 * suc n) ≡ stretch m at 4 ++ stretch m (at + 4) (4 * n)
+four-more m at n =
+    let e : 4 * suc n ≡ 4 + 4 * n = omega arith in
+    rw e (take-add 4 (4 * n) (drop at m) ∙ ap (λ (l : List ℕ). stretch m at 4 ++ take (4 * n) l) (drop-drop 4 at m))
+
+module _ (m : List ℕ) (under : Under 256 m) where
+  words-of : (n i j : ℕ) → i + 4 * n ≤ length m → j + 4 * n ≤ length m → stretch m i (4 * n) ≡ stretch m j (4 * n) → words-at m i n ≡ words-at m j n
   unfolding words-at
-  words-settle zero i j h g e = refl
-  words-settle (suc n) i j h g e =
-      let four : 4 * suc n ≡ 4 + 4 * n = omega arith in
+  words-of zero i j h k e = refl
+  words-of (suc n) i j h k e =
+      let a : length (stretch m i 4) ≡ 4 = length-part m i 4 (omega arith) in
+      let b : length (stretch m j 4) ≡ 4 = length-part m j 4 (omega arith) in
+      let f = parts-equal (stretch m i 4) (stretch m (i + 4) (4 * n)) (stretch m j 4) (stretch m (j + 4) (4 * n)) (a ∙ sym b) (sym (four-more m i n) ∙ e ∙ four-more m j n) in
+      ap₂ (λ (x : ℕ) (xs : List ℕ). x ∷ xs) (ap big-endian (f .0)) (words-of n (i + 4) (j + 4) (omega arith) (omega arith) (f .1))
+
+  of-words : (n i j : ℕ) → i + 4 * n ≤ length m → j + 4 * n ≤ length m → words-at m i n ≡ words-at m j n → stretch m i (4 * n) ≡ stretch m j (4 * n)
+  unfolding words-at
+  of-words zero i j h k e = refl
+  of-words (suc n) i j h k e =
+      let a : length (stretch m i 4) ≡ 4 = length-part m i 4 (omega arith) in
+      let b : length (stretch m j 4) ≡ 4 = length-part m j 4 (omega arith) in
       let x : value m 4 i ≡ value m 4 j = cc in
-      let y : words-at m (i + 4) n ≡ words-at m (j + 4) n = cc in
-      let p : stretch m i 4 ≡ stretch m j 4
-      = big-same (stretch m i 4) (stretch m j 4) (under-part m i 4 u) (under-part m j 4 u) (length-part m i 4 (omega arith) ∙ sym (length-part m j 4 (omega arith))) x in
-      let q : stretch m (i + 4) (4 * n) ≡ stretch m (j + 4) (4 * n) = words-settle n (i + 4) (j + 4) (omega arith) (omega arith) y in
-      rw four (stretch-split m i 4 (4 * n) ∙ ap₂ (λ (xs ys : List ℕ). xs ++ ys) p q ∙ sym (stretch-split m j 4 (4 * n)))
+      let xs : words-at m (i + 4) n ≡ words-at m (j + 4) n = cc in
+      four-more m i n
+      ∙ ap₂ (λ (p q : List ℕ). p ++ q) (big-same (stretch m i 4) (stretch m j 4) (under-part m i 4 under) (under-part m j 4 under) (a ∙ sym b) x) (of-words n (i + 4) (j + 4) (omega arith) (omega arith) xs)
+      ∙ sym (four-more m j n)
 
-  words-settled : (n i j : ℕ) → i + 4 * n ≤ length m → j + 4 * n ≤ length m → stretch m i (4 * n) ≡ stretch m j (4 * n) → words-at m i n ≡ words-at m j n
-  unfolding words-at
-  words-settled zero i j h g e = refl
-  words-settled (suc n) i j h g e =
-      let four : 4 * suc n ≡ 4 + 4 * n = omega arith in
-      let f : stretch m i (4 + 4 * n) ≡ stretch m j (4 + 4 * n) = rw four at e in
-      let p = append-both (stretch m i 4) (stretch m j 4) (stretch m (i + 4) (4 * n)) (stretch m (j + 4) (4 * n))
-      (length-part m i 4 (omega arith) ∙ sym (length-part m j 4 (omega arith)))
-      (sym (stretch-split m i 4 (4 * n)) ∙ f ∙ stretch-split m j 4 (4 * n)) in
-      ap₂ (λ (x : ℕ) (xs : List ℕ). x ∷ xs) (ap big-endian (p .0)) (words-settled n (i + 4) (j + 4) (omega arith) (omega arith) (p .1))
-
-  length-words-at : (n i : ℕ) → length (words-at m i n) ≡ n
-  unfolding words-at
-  length-words-at zero i = refl
-  length-words-at (suc n) i = ap suc (length-words-at n (i + 4))
-
-  words-tell : (i n j k : ℕ) → i + 4 * n ≤ length m → j + 4 * k ≤ length m → Tells (same-words m i n j k) (words-at m i n ≡ words-at m j k)
+  words-agree : (i n j k : ℕ) → i + 4 * n ≤ length m → j + 4 * k ≤ length m → Agree (same-words m i n j k) (words-at m i n ≡ words-at m j k)
   unfolding same-words choose
-  words-tell i n j k h g =
-      tells-as _
-      (λ p. p .1 ∙ ap (λ (x : ℕ). words-at m j x) (p .0))
-      (λ e.
-      let f : n ≡ k = sym (length-words-at n i) ∙ ap length e ∙ length-words-at k j in
-      (f, e ∙ ap (λ (x : ℕ). words-at m j x) (sym f)))
-      (then-tells (eqb n k) _ (eqb-tells n k) (λ f. within (omega arith)))
+  words-agree i n j k h g = go (eqb n k) refl
     where
-      within : j + 4 * n ≤ length m → Tells (choose (ltb (length m / 4) n) false (same-part m i m j (4 * n))) (words-at m i n ≡ words-at m j n)
-      within l =
-          rw (le-ltb (length m / 4) n (omega arith))
-          (tells-as _ (words-settled n i j h l) (words-settle n i j h l) (part-tells m i m j (4 * n) h l))
+      go : (t : Bool) → eqb n k ≡ t → Agree (choose t (choose (ltb (length m / 4) n) false (same-part m i m j (4 * n))) false) (words-at m i n ≡ words-at m j k)
+      go true e =
+          let q : n ≡ k = eqb-true n k e in
+          let u : j + 4 * n ≤ length m = omega arith in
+          let v : n ≤ length m / 4 = omega arith in
+          rw (← q, le-ltb (length m / 4) n v) (through (words-of n i j h u) (of-words n i j h u) (part-agrees m i m j (4 * n) h u))
+      go false e =
+          record {
+            sure = λ x. never x;
+            back = λ x. absurd (eqb-false n k e (sym (length-words m n i) ∙ ap length x ∙ length-words m k j));
+          }
 
--- ---- contents of one case
+-- ---- integers
 
-abbrev code : Content → ℕ
-code c = flat-of c .code
+-- a magnitude with its sign, where zero is not negative
+sign-magnitude : (a b : Bool) (n k : ℕ) → (n ≡ 0 → a ≡ false) → (k ≡ 0 → b ≡ false) → with-sign (sign a) n ≡ with-sign (sign b) k → (a ≡ b) × (n ≡ k)
+unfolding with-sign choose
+sign-magnitude false false n k f g e = (refl, cc)
+sign-magnitude false true n zero f g e = never (sym (g refl))
+sign-magnitude false true n (suc k) f g e = absurd (pos-ne-negsuc n k e)
+sign-magnitude true false zero k f g e = never (sym (f refl))
+sign-magnitude true false (suc n) k f g e = absurd (pos-ne-negsuc k n (sym e))
+sign-magnitude true true zero k f g e = never (sym (f refl))
+sign-magnitude true true (suc n) zero f g e = never (sym (g refl))
+sign-magnitude true true (suc n) (suc k) f g e = let q : n ≡ k = cc in (refl, ap suc q)
 
--- the content with this case's number and these fields
-unfoldable pick : ℕ → Flat → Content
-pick n f =
-    choose (eqb n 1) (Whole (f .negative) (f .first))
-    (choose (eqb n 2) (Big (f .negative) (f .start) (f .length))
-    (choose (eqb n 3) (Float (f .first))
-    (choose (eqb n 4) (Text (f .latin1) (f .listed) (f .start) (f .length))
-    (choose (eqb n 5) (Bytes (f .start) (f .length))
-    (choose (eqb n 6) (Bits (f .first) (f .start) (f .length))
-    (choose (eqb n 7) (Pid (f .first) (f .second) (f .third))
-    (choose (eqb n 8) (Port (f .first) (f .second))
-    (choose (eqb n 9) (Reference (f .first) (f .start) (f .length))
-    Nothing))))))))
+module _ (m : List ℕ) (under : Under 256 m) where
+  below-power : (i n : ℕ) → i + n ≤ length m → little-endian (stretch m i n) < 256 ^ n
+  below-power i n h = rw (length-part m i n h) at (little-small (stretch m i n) (under-part m i n under))
 
-picked : (c : Content) → pick (code c) (flat-of c) ≡ c
-unfolding pick choose flat-of numbers-of stretch-of
-picked Nothing = refl
-picked (Whole negative n) = refl
-picked (Big negative start n) = refl
-picked (Float bits) = refl
-picked (Text latin1 listed start n) = refl
-picked (Bytes start n) = refl
-picked (Bits bits start n) = refl
-picked (Pid id serial creation) = refl
-picked (Port id creation) = refl
-picked (Reference creation start n) = refl
+  -- digits whose highest is not zero are no fewer than others of the same value
+  no-fewer : (i n j k : ℕ) → i + n ≤ length m → j + k ≤ length m → 0 < k → (getD m (j + (k - 1)) 0 ≡ 0 → ⊥) → little-endian (stretch m i n) ≡ little-endian (stretch m j k) → k ≤ n
+  no-fewer i n j k h g p f e =
+      by-less n k
+      (λ less.
+      let u : n ≤ k - 1 = omega arith in
+      let q : 256 ^ n ≤ 256 ^ (k - 1) = pow-le-pow-right {n = 256} (omega arith) {i = n} {j = k - 1} u in
+      absurd (omega (arith, below-power i n h, little-least m j k p g f)))
+      (λ more. more)
 
--- what holds of the content that has the case's number
-of-case : (P : Content → Type 0) (n : ℕ) (c : Content) → code c ≡ n → P (pick n (flat-of c)) → P c
-of-case P n c e p = subst P (picked c) (subst (λ (k : ℕ). P (pick k (flat-of c))) (sym e) p)
+  digits-agree : (i n j k : ℕ) → i + n ≤ length m → j + k ≤ length m → 0 < n → 0 < k → (getD m (i + (n - 1)) 0 ≡ 0 → ⊥) → (getD m (j + (k - 1)) 0 ≡ 0 → ⊥)
+      → Agree (same-stretch m i n m j k) (little-endian (stretch m i n) ≡ little-endian (stretch m j k))
+  digits-agree i n j k h g p q s t =
+      through (λ e. ap little-endian e)
+      (λ e.
+      let c : n ≡ k = le-antisymm (no-fewer j k i n g h p s (sym e)) (no-fewer i n j k h g q t e) in
+      little-same (stretch m i n) (stretch m j k) (under-part m i n under) (under-part m j k under) (length-part m i n h ∙ c ∙ sym (length-part m j k g)) e)
+      (stretch-agrees m i m j n k h g)
 
--- which case makes a label; both cases of integers are 1
-unfoldable class : Label → ℕ
+  -- more than eight digits are more than any number of eight
+  large : (i n : ℕ) → 8 < n → i + n ≤ length m → (getD m (i + (n - 1)) 0 ≡ 0 → ⊥) → 18446744073709551616 ≤ little-endian (stretch m i n)
+  large i n h k f =
+      let u : 8 ≤ n - 1 = omega arith in
+      let q : 256 ^ 8 ≤ 256 ^ (n - 1) = pow-le-pow-right {n = 256} (omega arith) {i = 8} {j = n - 1} u in
+      omega (arith, little-least m i n (omega arith) k f)
+
+-- ---- contents by their case's number
+
+case-of : ℕ → Flat → Content
+case-of code f =
+    choose (eqb code 0) Nothing
+    (choose (eqb code 1) (Whole (f .negative) (f .first))
+    (choose (eqb code 2) (Big (f .negative) (f .start) (f .length))
+    (choose (eqb code 3) (Float (f .first))
+    (choose (eqb code 4) (Text (f .latin1) (f .listed) (f .start) (f .length))
+    (choose (eqb code 5) (Bytes (f .start) (f .length))
+    (choose (eqb code 6) (Bits (f .first) (f .start) (f .length))
+    (choose (eqb code 7) (Pid (f .first) (f .second) (f .third))
+    (choose (eqb code 8) (Port (f .first) (f .second))
+    (Reference (f .first) (f .start) (f .length))))))))))
+
+case-is : (c : Content) → c ≡ case-of (flat-of c .code) (flat-of c)
+unfolding case-of flat-of numbers-of stretch-of text-of choose
+case-is Nothing = refl
+case-is (Whole s n) = refl
+case-is (Big s i n) = refl
+case-is (Float b) = refl
+case-is (Text l p i n) = refl
+case-is (Bytes i n) = refl
+case-is (Bits b i n) = refl
+case-is (Pid i s c) = refl
+case-is (Port i c) = refl
+case-is (Reference c i n) = refl
+
+shape : (c : Content) (code : ℕ) → flat-of c .code ≡ code → c ≡ case-of code (flat-of c)
+shape c code e = case-is c ∙ ap (λ (n : ℕ). case-of n (flat-of c)) e
+
+-- labels by the same numbers; those with no fields have 0
+class : Label → ℕ
 class (integer z) = 1
-class (float bits) = 3
+class (float b) = 3
 class (atom cs) = 4
 class tuple = 0
 class list = 0
@@ -295,9 +323,13 @@ class (port i c) = 8
 class (reference c ws) = 9
 class export = 0
 
-bare-class : (k : ℕ) → class (bare k) ≡ 0
+-- integers have two cases
+merged : ℕ → ℕ
+merged code = choose (eqb code 2) 1 code
+
+bare-class : (kind : ℕ) → class (bare kind) ≡ 0
 unfolding class bare choose
-bare-class k = go (eqb k 4) (eqb k 5) (eqb k 6) (eqb k 9)
+bare-class kind = go (eqb kind 4) (eqb kind 5) (eqb kind 6) (eqb kind 9)
   where
     go : (a b c d : Bool) → class (choose a tuple (choose b list (choose c improper-list (choose d map export)))) ≡ 0
     go true b c d = refl
@@ -306,181 +338,211 @@ bare-class k = go (eqb k 4) (eqb k 5) (eqb k 6) (eqb k 9)
     go false false false true = refl
     go false false false false = refl
 
-module _ (m : List ℕ) (atoms : AtomList) where
-  class-of : (k : ℕ) (c : Content) → class (label-of m atoms k c) ≡ choose (eqb (code c) 2) 1 (code c)
-  unfolding class label-of choose flat-of numbers-of stretch-of
-  class-of k Nothing = bare-class k
-  class-of k (Whole negative n) = refl
-  class-of k (Big negative start n) = refl
-  class-of k (Float bits) = refl
-  class-of k (Text latin1 listed start n) = refl
-  class-of k (Bytes start n) = refl
-  class-of k (Bits bits start n) = refl
-  class-of k (Pid id serial creation) = refl
-  class-of k (Port id creation) = refl
-  class-of k (Reference creation start n) = refl
+label-class : (m : List ℕ) (atoms : AtomList) (kind : ℕ) (c : Content) → class (label-of m atoms kind c) ≡ merged (flat-of c .code)
+unfolding class merged label-of flat-of numbers-of stretch-of text-of choose
+label-class m atoms kind Nothing = bare-class kind
+label-class m atoms kind (Whole s n) = refl
+label-class m atoms kind (Big s i n) = refl
+label-class m atoms kind (Float b) = refl
+label-class m atoms kind (Text l p i n) = refl
+label-class m atoms kind (Bytes i n) = refl
+label-class m atoms kind (Bits b i n) = refl
+label-class m atoms kind (Pid i s c) = refl
+label-class m atoms kind (Port i c) = refl
+label-class m atoms kind (Reference c i n) = refl
 
--- two contents agree in their case and their numbers
-abbrev Numbers : Flat → Flat → Type 0
-Numbers f g = (f .code ≡ g .code) × ((f .negative ≡ g .negative) × ((f .first ≡ g .first) × ((f .second ≡ g .second) × (f .third ≡ g .third))))
+merged-other : (x c : ℕ) → merged x ≡ c → (c ≡ 1 → ⊥) → x ≡ c
+unfolding merged choose
+merged-other x c e f = go (eqb x 2) e
+  where
+    go : (t : Bool) → choose t 1 x ≡ c → x ≡ c
+    go true k = absurd (f (sym k))
+    go false k = k
 
-numbers-tell : (f g : Flat) → Tells (same-numbers f g) (Numbers f g)
-unfolding same-numbers
-numbers-tell f g =
-    then-tells (eqb (f .code) (g .code)) _ (eqb-tells _ _) λ _.
-    then-tells (same-bool (f .negative) (g .negative)) _ (bool-tells _ _) λ _.
-    then-tells (eqb (f .first) (g .first)) _ (eqb-tells _ _) λ _.
-    then-tells (eqb (f .second) (g .second)) _ (eqb-tells _ _) λ _.
-    eqb-tells (f .third) (g .third)
+merged-integer : (x : ℕ) → merged x ≡ 1 → (x ≡ 1) ⊎ (x ≡ 2)
+unfolding merged choose
+merged-integer x e = go (eqb x 2) refl e
+  where
+    go : (t : Bool) → eqb x 2 ≡ t → choose t 1 x ≡ 1 → (x ≡ 1) ⊎ (x ≡ 2)
+    go true p k = inr (eqb-true x 2 p)
+    go false p k = inl k
 
-module _ (m : List ℕ) (atoms : AtomList) (u : Under 256 m) (k k′ : ℕ) (same-kind : bare k ≡ bare k′) where
-  abbrev places : List ℕ
-  places = atoms .places
+-- ---- two contents
 
-  -- they are compared as their labels are
-  abbrev Alike : Content → Content → Type 0
-  Alike c d = Tells (same-contents m places c d) (label-of m atoms k c ≡ label-of m atoms k′ d)
+pub record Numbers (a b : Flat) : Type 0 where
+  pub code : a .code ≡ b .code
+  pub negative : a .negative ≡ b .negative
+  pub first : a .first ≡ b .first
+  pub second : a .second ≡ b .second
+  pub third : a .third ≡ b .third
 
-  -- by the numbers, and then by what the case compares
-  by-stretches : (c d : Content) {P : Type 0} → (Numbers (flat-of c) (flat-of d) → Tells (same-stretches m places (code c) (flat-of c) (flat-of d)) P)
-      → (Numbers (flat-of c) (flat-of d) × P → label-of m atoms k c ≡ label-of m atoms k′ d) → (label-of m atoms k c ≡ label-of m atoms k′ d → Numbers (flat-of c) (flat-of d) × P)
-      → Alike c d
-  unfolding same-contents same-flat
-  by-stretches c d t f g = tells-as _ f g (then-tells (same-numbers (flat-of c) (flat-of d)) _ (numbers-tell (flat-of c) (flat-of d)) t)
+flats-agree : (m places : List ℕ) (a b : Flat) {A : Type 0} → Agree (same-stretches m places (a .code) a b) A → Agree (same-flat m places a b) (Numbers a b × A)
+unfolding same-flat same-numbers
+flats-agree m places a b p =
+    through (λ x. (record { code = x .0 .0; negative = x .0 .1 .0; first = x .0 .1 .1 .0; second = x .0 .1 .1 .1 .0; third = x .0 .1 .1 .1 .1 }, x .1))
+    (λ x. let n = x .0 in ((n .code, (n .negative, (n .first, (n .second, n .third)))), x .1))
+    (both (both (numbers-agree (a .code) (b .code)) (both (signs-agree (a .negative) (b .negative)) (both (numbers-agree (a .first) (b .first)) (both (numbers-agree (a .second) (b .second)) (numbers-agree (a .third) (b .third)))))) p)
 
-  by-numbers : (c d : Content) → same-stretches m places (code c) (flat-of c) (flat-of d) ≡ true
-      → (Numbers (flat-of c) (flat-of d) → label-of m atoms k c ≡ label-of m atoms k′ d) → (label-of m atoms k c ≡ label-of m atoms k′ d → Numbers (flat-of c) (flat-of d))
-      → Alike c d
-  by-numbers c d e f g = by-stretches c d {P = Unit {0}} (λ _. (λ _. tt, λ _. e)) (λ p. f (p .0)) (λ x. (g x, tt))
+yes-agrees : Agree true (Unit {0})
+yes-agrees = record { sure = λ _. tt; back = λ _. refl }
 
-  nothings : Alike Nothing Nothing
-  unfolding flat-of numbers-of same-stretches choose label-of
-  nothings = by-numbers Nothing Nothing refl (λ _. same-kind) (λ _. (refl, (refl, (refl, (refl, refl)))))
+self-agrees : (t : Bool) → Agree t (t ≡ true)
+self-agrees t = record { sure = λ e. e; back = λ e. e }
 
-  wholes : (a : Bool) (n : ℕ) (b : Bool) (l : ℕ) → Sound m places (Whole a n) → Sound m places (Whole b l) → Alike (Whole a n) (Whole b l)
-  unfolding flat-of numbers-of same-stretches choose label-of
-  wholes a n b l h g =
-      by-numbers (Whole a n) (Whole b l) refl
-      (λ p. ap₂ (λ (x : Bool) (y : ℕ). integer (with-sign (sign x) y)) (p .1 .0) (p .1 .1 .0))
-      (λ e. let p : (a ≡ b) × (n ≡ l) = signed-both a b n l (positive a n (h .1)) (positive b l (g .1)) e in (refl, (p .0, (p .1, (refl, refl)))))
+-- the kinds k and k′ are equal where neither term has fields of its own
+module _ (atoms : AtomList) (m : List ℕ) (under : Under 256 m) (k k′ : ℕ) (alike : bare k ≡ bare k′) where
+  abbrev Goal : Content → Content → Type 0
+  Goal a b = Agree (same-contents m (atoms .places) a b) (label-of m atoms k a ≡ label-of m atoms k′ b)
 
-  floats : (x y : ℕ) → Alike (Float x) (Float y)
-  unfolding flat-of numbers-of same-stretches choose label-of
-  floats x y = by-numbers (Float x) (Float y) refl (λ p. ap float (p .1 .1 .0)) (λ e. let f : x ≡ y = cc in (refl, (refl, (f, (refl, refl)))))
+  -- contents of one case
 
-  pids : (i s c i′ s′ c′ : ℕ) → Alike (Pid i s c) (Pid i′ s′ c′)
-  unfolding flat-of numbers-of same-stretches choose label-of
-  pids i s c i′ s′ c′ =
-      by-numbers (Pid i s c) (Pid i′ s′ c′) refl
-      (λ p. let x : i ≡ i′ = p .1 .1 .0 in let y : s ≡ s′ = p .1 .1 .1 .0 in let z : c ≡ c′ = p .1 .1 .1 .1 in (cc))
-      (λ e. let x : i ≡ i′ = cc in let y : s ≡ s′ = cc in let z : c ≡ c′ = cc in (refl, (refl, (x, (y, z)))))
+  nothings : Goal Nothing Nothing
+  unfolding same-contents same-flat same-numbers same-stretches flat-of numbers-of same-bool label-of choose
+  nothings = record { sure = λ _. alike; back = λ _. refl }
 
-  ports : (i c i′ c′ : ℕ) → Alike (Port i c) (Port i′ c′)
-  unfolding flat-of numbers-of same-stretches choose label-of
-  ports i c i′ c′ =
-      by-numbers (Port i c) (Port i′ c′) refl
-      (λ p. let x : i ≡ i′ = p .1 .1 .0 in let y : c ≡ c′ = p .1 .1 .1 .0 in (cc))
-      (λ e. let x : i ≡ i′ = cc in let y : c ≡ c′ = cc in (refl, (refl, (x, (y, refl)))))
+  wholes : (s t : Bool) (n o : ℕ) → (n ≡ 0 → s ≡ false) → (o ≡ 0 → t ≡ false) → Goal (Whole s n) (Whole t o)
+  unfolding same-contents flat-of numbers-of same-stretches label-of choose
+  wholes s t n o f g =
+      through
+      (λ x. ap₂ (λ (z : Bool) (y : ℕ). integer (with-sign (sign z) y)) (x .0 .negative) (x .0 .first))
+      (λ e. let w : with-sign (sign s) n ≡ with-sign (sign t) o = cc in let v = sign-magnitude s t n o f g w in (record { code = refl; negative = v .0; first = v .1; second = refl; third = refl }, tt))
+      (flats-agree m (atoms .places) (flat-of (Whole s n)) (flat-of (Whole t o)) yes-agrees)
 
-  bytes : (i n j l : ℕ) → i + n ≤ length m → j + l ≤ length m → Alike (Bytes i n) (Bytes j l)
-  unfolding flat-of stretch-of same-stretches choose label-of
-  bytes i n j l h g =
-      by-stretches (Bytes i n) (Bytes j l) (λ _. stretch-tells m i m j n l h g) (λ p. ap binary (p .1))
-      (λ e. let x : stretch m i n ≡ stretch m j l = cc in ((refl, (refl, (refl, (refl, refl)))), x))
+  module _ (s t : Bool) (i n j o : ℕ) (a : Sound m (atoms .places) (Big s i n)) (b : Sound m (atoms .places) (Big t j o)) where
+    bigs : Goal (Big s i n) (Big t j o)
+    unfolding same-contents flat-of stretch-of same-stretches label-of choose
+    bigs =
+        let x : 18446744073709551616 ≤ little-endian (stretch m i n) = large m under i n (a .0) (a .1) (a .2) in
+        let y : 18446744073709551616 ≤ little-endian (stretch m j o) = large m under j o (b .0) (b .1) (b .2) in
+        through
+        (λ x. ap₂ (λ (z : Bool) (y : ℕ). integer (with-sign (sign z) y)) (x .0 .negative) (x .1))
+        (λ e. let w : with-sign (sign s) (little-endian (stretch m i n)) ≡ with-sign (sign t) (little-endian (stretch m j o)) = cc in
+        let v = sign-magnitude s t (little-endian (stretch m i n)) (little-endian (stretch m j o)) (λ z. absurd (omega arith)) (λ z. absurd (omega arith)) w in
+        (record { code = refl; negative = v .0; first = refl; second = refl; third = refl }, v .1))
+        (flats-agree m (atoms .places) (flat-of (Big s i n)) (flat-of (Big t j o))
+        (digits-agree m under i n j o (a .1) (b .1) (omega (arith, a .0)) (omega (arith, b .0)) (a .2) (b .2)))
 
-  bits : (x i n y j l : ℕ) → i + n ≤ length m → j + l ≤ length m → Alike (Bits x i n) (Bits y j l)
-  unfolding flat-of stretch-of same-stretches choose label-of
-  bits x i n y j l h g =
-      by-stretches (Bits x i n) (Bits y j l) (λ _. bits-tell m x i j n l h g)
-      (λ p. let e : x ≡ y = p .0 .1 .1 .0 in ap (bitstring x) (p .1) ∙ ap (λ (z : ℕ). bitstring z (clear-low z (stretch m j l))) e)
-      (λ e.
-      let f : x ≡ y = cc in
-      let q : clear-low x (stretch m i n) ≡ clear-low y (stretch m j l) = cc in
-      ((refl, (refl, (f, (refl, refl)))), q ∙ ap (λ (z : ℕ). clear-low z (stretch m j l)) (sym f)))
+  module _ (s t : Bool) (n j o : ℕ) (a : Sound m (atoms .places) (Whole s n)) (b : Sound m (atoms .places) (Big t j o)) where
+    apart : with-sign (sign s) n ≡ with-sign (sign t) (little-endian (stretch m j o)) → ⊥
+    apart w =
+        let y : 18446744073709551616 ≤ little-endian (stretch m j o) = large m under j o (b .0) (b .1) (b .2) in
+        let v = sign-magnitude s t n (little-endian (stretch m j o)) (a .1) (λ z. absurd (omega arith)) w in
+        omega (arith, v .1, a .0)
 
-  references : (x i n y j l : ℕ) → i + 4 * n ≤ length m → j + 4 * l ≤ length m → Alike (Reference x i n) (Reference y j l)
-  unfolding flat-of stretch-of same-stretches choose label-of
-  references x i n y j l h g =
-      by-stretches (Reference x i n) (Reference y j l) (λ _. words-tell m u i n j l h g)
-      (λ p. ap₂ reference (p .0 .1 .1 .0) (p .1))
-      (λ e. let f : x ≡ y = cc in let q : words-at m i n ≡ words-at m j l = cc in ((refl, (refl, (f, (refl, refl)))), q))
+    whole-big : Goal (Whole s n) (Big t j o)
+    unfolding same-contents same-flat same-numbers flat-of numbers-of stretch-of label-of choose
+    whole-big = record { sure = λ e. never e; back = λ e. let w : with-sign (sign s) n ≡ with-sign (sign t) (little-endian (stretch m j o)) = cc in absurd (apart w) }
 
-  texts : (a b : Bool) (i n : ℕ) (c d : Bool) (j l : ℕ) → Sound m places (Text a b i n) → Sound m places (Text c d j l) → Alike (Text a b i n) (Text c d j l)
-  unfolding flat-of same-stretches same-atoms choose label-of
-  texts a b i n c d j l h g =
-      by-stretches (Text a b i n) (Text c d j l) (λ _. text-tells (source m places b) i n a (source m places d) j l c (h .0) (g .0) (h .1) (g .1)) (λ p. ap atom (p .1))
-      (λ e. let q : coded a (stretch (source m places b) i n) ≡ coded c (stretch (source m places d) j l) = cc in ((refl, (refl, (refl, (refl, refl)))), q))
+    big-whole : Goal (Big t j o) (Whole s n)
+    unfolding same-contents same-flat same-numbers flat-of numbers-of stretch-of label-of choose
+    big-whole = record { sure = λ e. never e; back = λ e. let w : with-sign (sign s) n ≡ with-sign (sign t) (little-endian (stretch m j o)) = cc in absurd (apart w) }
 
-  bigs : (a : Bool) (i n : ℕ) (b : Bool) (j l : ℕ) → Sound m places (Big a i n) → Sound m places (Big b j l) → Alike (Big a i n) (Big b j l)
-  unfolding flat-of stretch-of same-stretches choose label-of
-  bigs a i n b j l h g =
-      let t : Topped m u i n = (omega (arith, h .0), h .1, h .2) in
-      let s : Topped m u j l = (omega (arith, g .0), g .1, g .2) in
-      by-stretches (Big a i n) (Big b j l) (λ _. stretch-tells m i m j n l (h .1) (g .1))
-      (λ p. ap₂ (λ (x : Bool) (y : List ℕ). integer (with-sign (sign x) (little-endian y))) (p .0 .1 .0) (p .1))
-      (λ e.
-      let p = signed-both a b (little-endian (stretch m i n)) (little-endian (stretch m j l)) (λ _. topped-some m u i n t) (λ _. topped-some m u j l s) e in
-      let q : stretch m i n ≡ stretch m j l = topped-same m u i n j l t s (p .1) in
-      ((refl, (p .0, (refl, (refl, refl)))), q))
+  floats : (x y : ℕ) → Goal (Float x) (Float y)
+  unfolding same-contents flat-of numbers-of same-stretches label-of choose
+  floats x y =
+      through (λ x. ap float (x .0 .first))
+      (λ e. (record { code = refl; negative = refl; first = cc; second = refl; third = refl }, tt))
+      (flats-agree m (atoms .places) (flat-of (Float x)) (flat-of (Float y)) yes-agrees)
 
-  one-case : (c d : Content) → code c ≡ code d → Sound m places c → Sound m places d → Alike c d
-  unfolding pick choose flat-of numbers-of stretch-of
-  one-case Nothing d e h g = of-case (λ d. Sound m places d → Alike Nothing d) 0 d (sym e) (λ _. nothings) g
-  one-case (Whole a n) d e h g = of-case (λ d. Sound m places d → Alike (Whole a n) d) 1 d (sym e) (λ g. wholes a n _ _ h g) g
-  one-case (Big a i n) d e h g = of-case (λ d. Sound m places d → Alike (Big a i n) d) 2 d (sym e) (λ g. bigs a i n _ _ _ h g) g
-  one-case (Float x) d e h g = of-case (λ d. Sound m places d → Alike (Float x) d) 3 d (sym e) (λ g. floats x _) g
-  one-case (Text a b i n) d e h g = of-case (λ d. Sound m places d → Alike (Text a b i n) d) 4 d (sym e) (λ g. texts a b i n _ _ _ _ h g) g
-  one-case (Bytes i n) d e h g = of-case (λ d. Sound m places d → Alike (Bytes i n) d) 5 d (sym e) (λ g. bytes i n _ _ h g) g
-  one-case (Bits x i n) d e h g = of-case (λ d. Sound m places d → Alike (Bits x i n) d) 6 d (sym e) (λ g. bits x i n _ _ _ h g) g
-  one-case (Pid i s c) d e h g = of-case (λ d. Sound m places d → Alike (Pid i s c) d) 7 d (sym e) (λ g. pids i s c _ _ _) g
-  one-case (Port i c) d e h g = of-case (λ d. Sound m places d → Alike (Port i c) d) 8 d (sym e) (λ g. ports i c _ _) g
-  one-case (Reference x i n) d e h g = of-case (λ d. Sound m places d → Alike (Reference x i n) d) 9 d (sym e) (λ g. references x i n _ _ _ h g) g
+  texts : (x y p q : Bool) (i n j o : ℕ) → Sound m (atoms .places) (Text x p i n) → Sound m (atoms .places) (Text y q j o) → Goal (Text x p i n) (Text y q j o)
+  unfolding same-contents flat-of text-of same-stretches same-atoms same-texts label-of choose
+  texts x y p q i n j o a b =
+      through (λ z. ap atom (z .1))
+      (λ e. (record { code = refl; negative = refl; first = refl; second = refl; third = refl }, cc))
+      (flats-agree m (atoms .places) (flat-of (Text x p i n)) (flat-of (Text y q j o))
+      (texts-agree (source m (atoms .places) p) i n (source m (atoms .places) q) j o (a .0) (b .0) x y (a .1) (b .1)))
 
-  -- a number of more than 8 digits is none of at most 8
-  big-whole : (a : Bool) (i n : ℕ) (b : Bool) (l : ℕ) → Sound m places (Big a i n) → Sound m places (Whole b l)
-      → _≡_ {A = Label} (integer (with-sign (sign a) (little-endian (stretch m i n)))) (integer (with-sign (sign b) l)) → ⊥
-  big-whole a i n b l h g e =
-      let t : Topped m u i n = (omega (arith, h .0), h .1, h .2) in
-      let p = signed-both a b (little-endian (stretch m i n)) l (λ _. topped-some m u i n t) (positive b l (g .1)) e in
-      let q : 256 ^ (n - 1) ≤ little-endian (stretch m i n) = little-least m i n (t .0) (t .1) (t .2) in
-      let r : 256 ^ 8 ≤ 256 ^ (n - 1) = pow-le-pow-right {n = 256} (omega arith) {i = 8} {j = n - 1} (omega (arith, h .0)) in
-      omega (arith, p .1, g .0)
+  byteses : (i n j o : ℕ) → i + n ≤ length m → j + o ≤ length m → Goal (Bytes i n) (Bytes j o)
+  unfolding same-contents flat-of stretch-of same-stretches label-of choose
+  byteses i n j o a b =
+      through (λ z. ap binary (z .1))
+      (λ e. (record { code = refl; negative = refl; first = refl; second = refl; third = refl }, cc))
+      (flats-agree m (atoms .places) (flat-of (Bytes i n)) (flat-of (Bytes j o)) (stretch-agrees m i m j n o a b))
 
-  integers-apart : (c d : Content) → code c ≡ 2 → code d ≡ 1 → Sound m places c → Sound m places d
-      → (label-of m atoms k c ≡ label-of m atoms k′ d → ⊥) × (label-of m atoms k d ≡ label-of m atoms k′ c → ⊥)
-  unfolding pick choose label-of
-  integers-apart c d e f h g =
-      of-case (λ c. Sound m places c → (label-of m atoms k c ≡ label-of m atoms k′ d → ⊥) × (label-of m atoms k d ≡ label-of m atoms k′ c → ⊥)) 2 c e
-      (λ h.
-      of-case (λ d. Sound m places d → (label-of m atoms k (pick 2 (flat-of c)) ≡ label-of m atoms k′ d → ⊥) × (label-of m atoms k d ≡ label-of m atoms k′ (pick 2 (flat-of c)) → ⊥)) 1 d f
-      (λ g. (λ e. big-whole (flat-of c .negative) _ _ (flat-of d .negative) _ h g e, λ e. big-whole (flat-of c .negative) _ _ (flat-of d .negative) _ h g (sym e)))
-      g)
-      h
+  bitses : (x y i n j o : ℕ) → i + n ≤ length m → j + o ≤ length m → Goal (Bits x i n) (Bits y j o)
+  unfolding same-contents flat-of stretch-of same-stretches label-of choose
+  bitses x y i n j o a b =
+      through
+      (λ z. ap₂ (λ (u : ℕ) (v : List ℕ). bitstring u v) (z .0 .first) (z .1 ∙ ap (λ (u : ℕ). clear-low u (stretch m j o)) (z .0 .first)))
+      (λ e. let f : x ≡ y = cc in let g : clear-low x (stretch m i n) ≡ clear-low y (stretch m j o) = cc in
+      (record { code = refl; negative = refl; first = f; second = refl; third = refl }, g ∙ ap (λ (u : ℕ). clear-low u (stretch m j o)) (sym f)))
+      (flats-agree m (atoms .places) (flat-of (Bits x i n)) (flat-of (Bits y j o)) (bits-agree m x i j n o a b))
 
-  two-cases : (c d : Content) → (code c ≡ code d → ⊥) → Sound m places c → Sound m places d → Alike c d
-  unfolding same-contents same-flat choose
-  two-cases c d n h g = (λ e. absurd (n (differ e)), λ e. absurd (apart e))
+  pids : (i s c j t d : ℕ) → Goal (Pid i s c) (Pid j t d)
+  unfolding same-contents flat-of numbers-of same-stretches label-of choose
+  pids i s c j t d =
+      through (λ z. let n = z .0 in ap₂ (λ (u : ℕ) (v : ℕ). pid u v c) (n .first) (n .second) ∙ ap (pid j t) (n .third))
+      (λ e. (record { code = refl; negative = refl; first = cc; second = cc; third = cc }, tt))
+      (flats-agree m (atoms .places) (flat-of (Pid i s c)) (flat-of (Pid j t d)) yes-agrees)
+
+  ports : (i c j d : ℕ) → Goal (Port i c) (Port j d)
+  unfolding same-contents flat-of numbers-of same-stretches label-of choose
+  ports i c j d =
+      through (λ z. let n = z .0 in ap₂ (λ (u : ℕ) (v : ℕ). port u v) (n .first) (n .second))
+      (λ e. (record { code = refl; negative = refl; first = cc; second = cc; third = refl }, tt))
+      (flats-agree m (atoms .places) (flat-of (Port i c)) (flat-of (Port j d)) yes-agrees)
+
+  references : (c i n d j o : ℕ) → i + 4 * n ≤ length m → j + 4 * o ≤ length m → Goal (Reference c i n) (Reference d j o)
+  unfolding same-contents flat-of stretch-of same-stretches label-of choose
+  references c i n d j o a b =
+      through (λ z. ap₂ (λ (u : ℕ) (v : List ℕ). reference u v) (z .0 .first) (z .1))
+      (λ e. (record { code = refl; negative = refl; first = cc; second = refl; third = refl }, cc))
+      (flats-agree m (atoms .places) (flat-of (Reference c i n)) (flat-of (Reference d j o)) (words-agree m under i n j o a b))
+
+  -- contents of any case
+
+  abbrev S : Content → Type 0
+  S = Sound m (atoms .places)
+
+  same-code : (a b : Content) → same-contents m (atoms .places) a b ≡ true → flat-of a .code ≡ flat-of b .code
+  unfolding same-contents
+  same-code a b e = flats-agree m (atoms .places) (flat-of a) (flat-of b) (self-agrees (same-stretches m (atoms .places) (flat-of a .code) (flat-of a) (flat-of b))) .sure e .0 .code
+
+  label-code : (a b : Content) → label-of m atoms k a ≡ label-of m atoms k′ b → merged (flat-of a .code) ≡ merged (flat-of b .code)
+  label-code a b e = sym (label-class m atoms k a) ∙ ap class e ∙ label-class m atoms k′ b
+
+  at-case : (a b : Content) (code : ℕ) → S b → (S (case-of code (flat-of b)) → Goal a (case-of code (flat-of b))) → flat-of b .code ≡ code → Goal a b
+  at-case a b code s h x = subst (λ (c : Content). S c → Goal a c) (sym (shape b code x)) h s
+
+  -- where b can only be of one case
+  one-case : (a b : Content) (code : ℕ) → flat-of a .code ≡ code → merged code ≡ code → (code ≡ 1 → ⊥) → S b
+      → (S (case-of code (flat-of b)) → Goal a (case-of code (flat-of b))) → Goal a b
+  one-case a b code e f g s h =
+      agree-when (λ x. at-case a b code s h (sym (same-code a b x) ∙ e))
+      (λ x. at-case a b code s h (merged-other (flat-of b .code) code (sym (label-code a b x) ∙ ap merged e ∙ f) g))
+
+  -- where both are integers
+  two-cases : (a b : Content) → merged (flat-of a .code) ≡ 1 → S b
+      → (S (case-of 1 (flat-of b)) → Goal a (case-of 1 (flat-of b))) → (S (case-of 2 (flat-of b)) → Goal a (case-of 2 (flat-of b))) → Goal a b
+  two-cases a b e s g h =
+      agree-when (λ x. go (merged-integer (flat-of b .code) (ap merged (sym (same-code a b x)) ∙ e)))
+      (λ x. go (merged-integer (flat-of b .code) (sym (label-code a b x) ∙ e)))
     where
-      differ : choose (same-numbers (flat-of c) (flat-of d)) (same-stretches m places (code c) (flat-of c) (flat-of d)) false ≡ true → code c ≡ code d
-      differ e = first (same-numbers (flat-of c) (flat-of d)) refl e
-        where
-          first : (t : Bool) → same-numbers (flat-of c) (flat-of d) ≡ t → choose t (same-stretches m places (code c) (flat-of c) (flat-of d)) false ≡ true → code c ≡ code d
-          first true f e = numbers-tell (flat-of c) (flat-of d) .0 f .0
-          first false f e = not-so e
+      go : (flat-of b .code ≡ 1) ⊎ (flat-of b .code ≡ 2) → Goal a b
+      go (inl x) = at-case a b 1 s g x
+      go (inr x) = at-case a b 2 s h x
 
-      classes : (a b : Bool) → eqb (code c) 2 ≡ a → eqb (code d) 2 ≡ b → choose a 1 (code c) ≡ choose b 1 (code d) → label-of m atoms k c ≡ label-of m atoms k′ d → ⊥
-      classes true true p q e l = n (eqb-true (code c) 2 p ∙ sym (eqb-true (code d) 2 q))
-      classes true false p q e l = integers-apart c d (eqb-true (code c) 2 p) (sym e) h g .0 l
-      classes false true p q e l = integers-apart d c (eqb-true (code d) 2 q) e g h .1 l
-      classes false false p q e l = n e
-
-      apart : label-of m atoms k c ≡ label-of m atoms k′ d → ⊥
-      apart l = classes (eqb (code c) 2) (eqb (code d) 2) refl refl (sym (class-of m atoms k c) ∙ ap class l ∙ class-of m atoms k′ d) l
-
-  -- two contents that are sound are compared as the labels that they make are
-  pub alike : (c d : Content) → Sound m places c → Sound m places d → Tells (same-contents m places c d) (label-of m atoms k c ≡ label-of m atoms k′ d)
-  alike c d h g = go (eqb (code c) (code d)) refl
-    where
-      go : (t : Bool) → eqb (code c) (code d) ≡ t → Alike c d
-      go true e = one-case c d (eqb-true (code c) (code d) e) h g
-      go false e = two-cases c d (eqb-false (code c) (code d) e) h g
+  pub alike-contents : (a b : Content) → S a → S b → Goal a b
+  unfolding case-of flat-of numbers-of stretch-of text-of merged choose
+  alike-contents Nothing b s t = one-case Nothing b 0 refl refl (λ z. omega arith) t (λ _. nothings)
+  alike-contents (Whole x n) b s t =
+      let f : Flat = flat-of b in
+      two-cases (Whole x n) b refl t (λ u. wholes x (f .negative) n (f .first) (s .1) (u .1)) (λ u. whole-big x (f .negative) n (f .start) (f .length) s u)
+  alike-contents (Big x i n) b s t =
+      let f : Flat = flat-of b in
+      two-cases (Big x i n) b refl t (λ u. big-whole (f .negative) x (f .first) i n u s) (λ u. bigs x (f .negative) i n (f .start) (f .length) s u)
+  alike-contents (Float x) b s t = one-case (Float x) b 3 refl refl (λ z. omega arith) t (λ _. floats x (flat-of b .first))
+  alike-contents (Text x p i n) b s t =
+      let f : Flat = flat-of b in
+      one-case (Text x p i n) b 4 refl refl (λ z. omega arith) t (λ u. texts x (f .latin1) p (f .listed) i n (f .start) (f .length) s u)
+  alike-contents (Bytes i n) b s t = one-case (Bytes i n) b 5 refl refl (λ z. omega arith) t (λ u. byteses i n (flat-of b .start) (flat-of b .length) s u)
+  alike-contents (Bits x i n) b s t =
+      let f : Flat = flat-of b in
+      one-case (Bits x i n) b 6 refl refl (λ z. omega arith) t (λ u. bitses x (f .first) i n (f .start) (f .length) s u)
+  alike-contents (Pid i x c) b s t =
+      let f : Flat = flat-of b in
+      one-case (Pid i x c) b 7 refl refl (λ z. omega arith) t (λ _. pids i x c (f .first) (f .second) (f .third))
+  alike-contents (Port i c) b s t = one-case (Port i c) b 8 refl refl (λ z. omega arith) t (λ _. ports i c (flat-of b .first) (flat-of b .second))
+  alike-contents (Reference c i n) b s t =
+      let f : Flat = flat-of b in
+      one-case (Reference c i n) b 9 refl refl (λ z. omega arith) t (λ u. references c i n (f .first) (f .start) (f .length) s u)

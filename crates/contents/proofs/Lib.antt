@@ -8,6 +8,5 @@ pub mod Read
 pub mod There
 pub mod Says
 pub mod Layouts
-pub mod Again
-pub mod Tells
 pub mod Alike
+pub mod Again

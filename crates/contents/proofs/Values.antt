@@ -80,7 +80,7 @@ little-snoc (x ∷ ds) d =
     rw (little-snoc ds d, p, q) (omega arith)
 
 module _ (m : List ℕ) (start : ℕ) where
-  top-digit : (n : ℕ) → start + suc n ≤ length m → take (suc n) (drop start m) ≡ take n (drop start m) ++ (getD m (start + n) 0 ∷ [])
+  pub top-digit : (n : ℕ) → start + suc n ≤ length m → take (suc n) (drop start m) ≡ take n (drop start m) ++ (getD m (start + n) 0 ∷ [])
   top-digit n h =
       take-suc (drop start m) n 0 (omega (arith, length-drop start m))
       ∙ ap (λ (x : ℕ). take n (drop start m) ++ (x ∷ [])) (getD-drop start m n 0)

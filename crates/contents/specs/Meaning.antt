@@ -1,5 +1,5 @@
 -- What a content says: the label that its fields make.
-use mathlib.Core.Bool.{Bool, true, false}
+use mathlib.Core.Bool.{Bool}
 use mathlib.Core.List.{List, [], _∷_}
 use Prim.Native.Nat.{ℕ, zero, suc, _+_}
 use lib.Dec.{eqb}
@@ -48,3 +48,7 @@ label-of m atoms kind (Bits bits start n) = bitstring bits (clear-low bits (stre
 label-of m atoms kind (Pid id serial creation) = pid id serial creation
 label-of m atoms kind (Port id creation) = port id creation
 label-of m atoms kind (Reference creation start n) = reference creation (words-at m start n)
+
+-- a row's kind, that of a character being an integer's
+unfoldable pub term-kind : ℕ → ℕ
+term-kind kind = choose (eqb kind 14) 1 kind

@@ -2,9 +2,9 @@
 use mathlib.Core.Path.{_≡_}
 use mathlib.Core.Bool.{Bool, true, false, not}
 use mathlib.Core.List.{List, [], _∷_, _++_}
-use Prim.Native.Nat.{ℕ, zero, suc, _+_, _*_, _-_, _/_, _%_, _^_, _≤_}
+use Prim.Native.Nat.{ℕ, _+_, _*_, _-_, _/_, _%_, _^_, _≤_}
 use lib.Dec.{eqb, leb, ltb}
-use lib.ListN.{length, getD, take, drop}
+use lib.ListN.{length, getD, drop}
 use Rattle.format.specs.Text.{encode, encodes}
 use Rattle.contents.specs.Found.{choose}
 use Rattle.contents.specs.Meaning.{stretch}
@@ -79,13 +79,16 @@ unfoldable pub stretch-of : ℕ → Bool → ℕ → ℕ → ℕ → Flat
 stretch-of code negative first start length =
     record { code = code; negative = negative; latin1 = false; listed = false; first = first; second = 0; third = 0; start = start; length = length }
 
+unfoldable pub text-of : Bool → Bool → ℕ → ℕ → Flat
+text-of latin1 listed start length =
+    record { code = 4; negative = false; latin1 = latin1; listed = listed; first = 0; second = 0; third = 0; start = start; length = length }
+
 unfoldable pub flat-of : Content → Flat
 flat-of Nothing = numbers-of 0 false 0 0 0
 flat-of (Whole negative n) = numbers-of 1 negative n 0 0
 flat-of (Big negative start n) = stretch-of 2 negative 0 start n
 flat-of (Float bits) = numbers-of 3 false bits 0 0
-flat-of (Text latin1 listed start n) =
-    record { code = 4; negative = false; latin1 = latin1; listed = listed; first = 0; second = 0; third = 0; start = start; length = n }
+flat-of (Text latin1 listed start n) = text-of latin1 listed start n
 flat-of (Bytes start n) = stretch-of 5 false 0 start n
 flat-of (Bits bits start n) = stretch-of 6 false bits start n
 flat-of (Pid id serial creation) = numbers-of 7 false id serial creation
@@ -106,9 +109,11 @@ same-numbers a b =
 abbrev pub source : List ℕ → List ℕ → Bool → List ℕ
 source m places listed = choose listed places m
 
+unfoldable pub same-texts : List ℕ → List ℕ → Flat → Flat → Bool
+same-texts x y a b = same-text x (a .start) (a .length) (a .latin1) y (b .start) (b .length) (b .latin1)
+
 unfoldable pub same-atoms : List ℕ → List ℕ → Flat → Flat → Bool
-same-atoms m places a b =
-    same-text (source m places (a .listed)) (a .start) (a .length) (a .latin1) (source m places (b .listed)) (b .start) (b .length) (b .latin1)
+same-atoms m places a b = same-texts (source m places (a .listed)) (source m places (b .listed)) a b
 
 unfoldable pub same-stretches : List ℕ → List ℕ → ℕ → Flat → Flat → Bool
 same-stretches m places code a b =

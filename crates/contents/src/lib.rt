@@ -8,7 +8,7 @@ ghost use lib.ListN.{length, getD, take, drop};
 ghost use Rattle.format.specs.Numbers.{little-endian};
 ghost use Rattle.format.specs.Text.{encode, encodes};
 ghost use Rattle.contents.specs.Found.{Width, value, stripped, byte-found, signed-whole, signed-found, whole-of, stripped-found, big-found, integer-found, float-found, text-width, text-found, place-found, listed-found, atom-found, text-end, atom-end, bytes-found, bits-of, bits-found, binary-found, pid-found, port-found, words-found, word-found, counted-found, pids-found, ports-found, references-found, content-of};
-ghost use Rattle.contents.specs.Same.{same-bool, same-list, high, same-part, same-stretch, same-spelling, same-text, same-last, same-bits, same-words, Spelling, numbers-of, stretch-of, flat-of, same-numbers, same-atoms, same-stretches, same-flat, same-contents};
+ghost use Rattle.contents.specs.Same.{same-bool, same-list, high, same-part, same-stretch, same-spelling, same-text, same-texts, same-last, same-bits, same-words, Spelling, numbers-of, stretch-of, text-of, flat-of, same-numbers, same-atoms, same-stretches, same-flat, same-contents};
 
 // A term's own fields.
 pub enum Content {
@@ -596,6 +596,22 @@ fn stretch(code: usize, negative: bool, first: u64, start: usize, length: usize)
     }
 }
 
+fn texts(latin1: bool, listed: bool, start: usize, length: usize) -> Flat
+    ensures { λ r. ⌜ r ≡ text-of latin1 listed start length ⌝ }
+{
+    Flat {
+        code: 4,
+        negative: false,
+        latin1: latin1,
+        listed: listed,
+        first: 0,
+        second: 0,
+        third: 0,
+        start: start,
+        length: length,
+    }
+}
+
 fn flatten(c: Content) -> Flat
     ensures { λ r. ⌜ r ≡ flat-of c ⌝ }
 {
@@ -616,17 +632,7 @@ fn flatten(c: Content) -> Flat
             listed,
             start,
             length,
-        } => Flat {
-            code: 4,
-            negative: false,
-            latin1: latin1,
-            listed: listed,
-            first: 0,
-            second: 0,
-            third: 0,
-            start: start,
-            length: length,
-        },
+        } => texts(latin1, listed, start, length),
         Content::Bytes { start, length } => stretch(5, false, 0, start, length),
         Content::Bits {
             bits,
@@ -854,55 +860,35 @@ fn same_numbers(a: Flat, b: Flat) -> bool
     a.third == b.third
 }
 
+// Whether two texts, the first in a and the second in b, have the same characters.
+fn same_texts(a: &[u8], b: &[u8], x: Flat, y: Flat) -> bool
+    ensures { λ r. ⌜ r ≡ same-texts (now (a .entry)) (now (b .entry)) x y ⌝ }
+{
+    same_text(
+        a,
+        x.start,
+        x.length,
+        x.latin1,
+        b,
+        y.start,
+        y.length,
+        y.latin1,
+    )
+}
+
 fn same_atoms(msg: &[u8], places: &[u8], a: Flat, b: Flat) -> bool
     ensures { λ r. ⌜ r ≡ same-atoms (now (msg .entry)) (now (places .entry)) a b ⌝ }
 {
     if a.listed {
         if b.listed {
-            return same_text(
-                places,
-                a.start,
-                a.length,
-                a.latin1,
-                places,
-                b.start,
-                b.length,
-                b.latin1,
-            );
+            return same_texts(places, places, a, b);
         }
-        return same_text(
-            places,
-            a.start,
-            a.length,
-            a.latin1,
-            msg,
-            b.start,
-            b.length,
-            b.latin1,
-        );
+        return same_texts(places, msg, a, b);
     }
     if b.listed {
-        return same_text(
-            msg,
-            a.start,
-            a.length,
-            a.latin1,
-            places,
-            b.start,
-            b.length,
-            b.latin1,
-        );
+        return same_texts(msg, places, a, b);
     }
-    same_text(
-        msg,
-        a.start,
-        a.length,
-        a.latin1,
-        msg,
-        b.start,
-        b.length,
-        b.latin1,
-    )
+    same_texts(msg, msg, a, b)
 }
 
 fn same_stretches(msg: &[u8], places: &[u8], code: usize, a: Flat, b: Flat) -> bool

@@ -1,6 +1,6 @@
 -- What a comparison of rows finds in a table that holds the rows of terms: whether the terms mean the same.
 use mathlib.Core.Path.{_≡_, refl, sym, _∙_, ap, ap₂, subst}
-use mathlib.Core.Bool.{Bool, true, false, _||_, or-false}
+use mathlib.Core.Bool.{Bool, true, false, false≢true, _||_, or-false}
 use mathlib.Core.List.{List, [], _∷_, _++_}
 use mathlib.Core.Option.{Option, some}
 use Prim.Native.Nat.{ℕ, zero, suc, _+_, _-_, _≤_, _<_}
@@ -19,17 +19,33 @@ use Rattle.format.proofs.Rows.{size-meaning, size-positive, count-relabels, len
 use Rattle.format.proofs.Words.{Here, here-word, here-rest, Each-row, Small-row, Tree-here, Rows-here, node-packed, node-below, first-here, others-here, row-of}
 use Rattle.contents.specs.Found.{choose}
 use Rattle.keys.specs.Compare.{same-rows, same-from, pair-size, among-steps, among-from}
-use Rattle.contents.proofs.Tells.{Tells, not-so, tells-same, tells-as, then-tells}
+use Rattle.contents.proofs.Alike.{Agree, through}
 
--- ---- equal terms
+-- ---- tests and the equalities that they stand for
 
-decided-tells : {P : Type 0} (d : Dec P) → Tells (decided d) P
-decided-tells (yes p) = (λ _. p, λ _. refl)
-decided-tells (no n) = (λ e. not-so e, λ p. absurd (n p))
+never : {P : Type 0} → false ≡ true → P
+never e = absurd (false≢true e)
 
-pub same-tells : (t u : Term) → Tells (same t u) (t ≡ u)
+-- two tests of one fact are equal
+agree-same : {P : Type 0} (b c : Bool) → Agree b P → Agree c P → b ≡ c
+agree-same true true p q = refl
+agree-same true false p q = sym (q .back (p .sure refl))
+agree-same false true p q = p .back (q .sure refl)
+agree-same false false p q = refl
+
+-- one test, and where it holds another
+pub and-then : {P Q : Type 0} (b c : Bool) → Agree b P → (P → Agree c Q) → Agree (choose b c false) (P × Q)
+unfolding choose
+and-then true c p q = let k = q (p .sure refl) in record { sure = λ e. (p .sure refl, k .sure e); back = λ h. k .back (h .1) }
+and-then false c p q = record { sure = never; back = λ h. p .back (h .0) }
+
+decided-agrees : {P : Type 0} (d : Dec P) → Agree (decided d) P
+decided-agrees (yes p) = record { sure = λ _. p; back = λ _. refl }
+decided-agrees (no n) = record { sure = never; back = λ p. absurd (n p) }
+
+same-agrees : (t u : Term) → Agree (same t u) (t ≡ u)
 unfolding same
-same-tells t u = decided-tells (term-discrete t u)
+same-agrees t u = decided-agrees (term-discrete t u)
 
 -- ---- lists of rows
 
@@ -66,9 +82,9 @@ each-row-split P [] qs h = (tt, h)
 each-row-split P (r ∷ rs) qs h = let g : Each-row P rs × Each-row P qs = each-row-split P rs qs (h .1) in ((h .0, g .0), g .1)
 
 -- where nodes are told apart one by one, lists of them are
-tells-cons : {A : Type 0} (x y : A) (xs ys : List A) (b c : Bool) → Tells b (x ≡ y) → Tells c (xs ≡ ys) → Tells (choose b c false) (_≡_ {A = List A} (x ∷ xs) (y ∷ ys))
-tells-cons x y xs ys b c p q =
-    tells-as _ (λ e. let h : x ≡ y = e .0 in let g : xs ≡ ys = e .1 in cc) (λ e. let h : x ≡ y = cc in let g : xs ≡ ys = cc in (h, g)) (then-tells b c p (λ _. q))
+agree-cons : {A : Type 0} (x y : A) (xs ys : List A) (b c : Bool) → Agree b (x ≡ y) → Agree c (xs ≡ ys) → Agree (choose b c false) (_≡_ {A = List A} (x ∷ xs) (y ∷ ys))
+agree-cons x y xs ys b c p q =
+    through (λ e. let h : x ≡ y = e .0 in let g : xs ≡ ys = e .1 in cc) (λ e. let h : x ≡ y = cc in let g : xs ≡ ys = cc in (h, g)) (and-then b c p (λ _. q))
 
 -- ---- the rows of terms that stand in a table, each of which is known
 
@@ -139,44 +155,45 @@ module _
     (alike : ℕ → ℕ → Bool)
     (Known : Row → Type 0)
     (small : (r : Row) → Known r → Small-row r)
-    (row-tells : (r q : Row) → Known r → Known q → Tells (alike (word r) (word q)) (own r ≡ own q))
+    (row-agrees : (r q : Row) → Known r → Known q → Agree (alike (word r) (word q)) (own r ≡ own q))
     (T : List ℕ) where
-  rows-tell : (n a b : ℕ) (rs qs : List Row) → length rs ≡ n → length qs ≡ n → Each-row Known rs → Each-row Known qs → Here T a (words-of rs) → Here T b (words-of qs)
-      → Tells (same-rows alike T n a b) (owns rs ≡ owns qs)
+  rows-agree : (n a b : ℕ) (rs qs : List Row) → length rs ≡ n → length qs ≡ n → Each-row Known rs → Each-row Known qs → Here T a (words-of rs) → Here T b (words-of qs)
+      → Agree (same-rows alike T n a b) (owns rs ≡ owns qs)
   unfolding same-rows owns Each-row words-of
-  rows-tell zero a b [] [] e f k m h g = (λ _. refl, λ _. refl)
-  rows-tell zero a b [] (q ∷ qs) e f k m h g = absurd (omega arith)
-  rows-tell zero a b (r ∷ rs) qs e f k m h g = absurd (omega arith)
-  rows-tell (suc n) a b [] qs e f k m h g = absurd (omega arith)
-  rows-tell (suc n) a b (r ∷ rs) [] e f k m h g = absurd (omega arith)
-  rows-tell (suc n) a b (r ∷ rs) (q ∷ qs) e f k m h g =
+  rows-agree zero a b [] [] e f k m h g = record { sure = λ _. refl; back = λ _. refl }
+  rows-agree zero a b [] (q ∷ qs) e f k m h g = absurd (omega arith)
+  rows-agree zero a b (r ∷ rs) qs e f k m h g = absurd (omega arith)
+  rows-agree (suc n) a b [] qs e f k m h g = absurd (omega arith)
+  rows-agree (suc n) a b (r ∷ rs) [] e f k m h g = absurd (omega arith)
+  rows-agree (suc n) a b (r ∷ rs) (q ∷ qs) e f k m h g =
       rw (here-word h, here-word g)
-      (tells-cons (own r) (own q) (owns rs) (owns qs) (alike (word r) (word q)) (same-rows alike T n (a + 1) (b + 1))
-      (row-tells r q (k .0) (m .0))
-      (rows-tell n (a + 1) (b + 1) rs qs (omega arith) (omega arith) (k .1) (m .1) (here-rest h) (here-rest g)))
+      (agree-cons (own r) (own q) (owns rs) (owns qs) (alike (word r) (word q)) (same-rows alike T n (a + 1) (b + 1))
+      (row-agrees r q (k .0) (m .0))
+      (rows-agree n (a + 1) (b + 1) rs qs (omega arith) (omega arith) (k .1) (m .1) (here-rest h) (here-rest g)))
 
   -- two terms whose rows stand in the table
   module _ (whole whole′ : Option ℕ) (a b : ℕ) (t u : Located) (k : Known-tree Known T whole a t) (m : Known-tree Known T whole′ b u) where
-    sizes-tell : size t ≡ size u → Tells (same-rows alike T (size t) a b) (meaning t ≡ meaning u)
-    sizes-tell e =
-        let h : Tells (same-rows alike T (size t) a b) (owns (tree-rows whole a t) ≡ owns (tree-rows whole′ b u))
-        = rows-tell (size t) a b (tree-rows whole a t) (tree-rows whole′ b u) (length-tree-rows whole a t) (length-tree-rows whole′ b u ∙ sym e) (k .known) (m .known) (k .stands .tree-words) (m .stands .tree-words) in
+    sizes-agree : size t ≡ size u → Agree (same-rows alike T (size t) a b) (meaning t ≡ meaning u)
+    sizes-agree e =
+        let h : Agree (same-rows alike T (size t) a b) (owns (tree-rows whole a t) ≡ owns (tree-rows whole′ b u))
+        = rows-agree (size t) a b (tree-rows whole a t) (tree-rows whole′ b u) (length-tree-rows whole a t) (length-tree-rows whole′ b u ∙ sym e) (k .known) (m .known) (k .stands .tree-words) (m .stands .tree-words) in
         let x : owns (tree-rows whole a t) ≡ nodes (meaning t) = owns-tree whole a t in
-        let y : owns (tree-rows whole′ b u) ≡ nodes (meaning u) = owns-tree whole′ b u in (
-          λ r. nodes-prefix (meaning t) (meaning u) [] [] (ap (λ (xs : List (Label × ℕ)). xs ++ []) (sym x ∙ h .0 r ∙ y)) .0,
-          λ r. h .1 (x ∙ ap nodes r ∙ sym y),
-        )
+        let y : owns (tree-rows whole′ b u) ≡ nodes (meaning u) = owns-tree whole′ b u in
+        through
+        (λ r. nodes-prefix (meaning t) (meaning u) [] [] (ap (λ (xs : List (Label × ℕ)). xs ++ []) (sym x ∙ r ∙ y)) .0)
+        (λ r. x ∙ ap nodes r ∙ sym y)
+        h
 
     -- they compare as their meanings do
     pub same-from-same : same-from alike T a b ≡ same (meaning t) (meaning u)
     unfolding same-from choose
     same-from-same =
         rw (lt-leb (length T) a (tree-below t k), lt-leb (length T) b (tree-below u m), tree-size small t k, tree-size small u m)
-        (tells-same _ _ (go (eqb (size t) (size u)) refl) (same-tells (meaning t) (meaning u)))
+        (agree-same _ _ (go (eqb (size t) (size u)) refl) (same-agrees (meaning t) (meaning u)))
       where
-        go : (z : Bool) → eqb (size t) (size u) ≡ z → Tells (choose z (same-rows alike T (size t) a b) false) (meaning t ≡ meaning u)
-        go true e = sizes-tell (eqb-true (size t) (size u) e)
-        go false e = (λ f. not-so f, λ f. absurd (eqb-false (size t) (size u) e (sym (size-meaning t) ∙ ap size f ∙ size-meaning u)))
+        go : (z : Bool) → eqb (size t) (size u) ≡ z → Agree (choose z (same-rows alike T (size t) a b) false) (meaning t ≡ meaning u)
+        go true e = sizes-agree (eqb-true (size t) (size u) e)
+        go false e = record { sure = never; back = λ f. absurd (eqb-false (size t) (size u) e (sym (size-meaning t) ∙ ap size f ∙ size-meaning u)) }
 
   -- a term whose rows stand at `key`, past the rows of pairs
   module _ (whole whole′ : Option ℕ) (key : ℕ) (u : Located) (m : Known-tree Known T whole′ key u) where
@@ -186,13 +203,13 @@ module _
         let e : size-in (getD T n 0) ≡ size k = tree-size small k (first-known h) in
         rw e (ap (λ (i : ℕ). size k + i) (tree-size small v (first-known (others-known h))))
 
-    pairs-tell : (n at : ℕ) {ts : Terms} {ks ls : List Term} → Pairs ts ks ls → key ≡ at + sizes ts → sizes ts ≤ n → Known-rows Known T whole at ts
+    pairs-agree : (n at : ℕ) {ts : Terms} {ks ls : List Term} → Pairs ts ks ls → key ≡ at + sizes ts → sizes ts ≤ n → Known-rows Known T whole at ts
         → (among (meaning u) ks || among-steps alike T n at key) ≡ among (meaning u) ls
     unfolding among-steps among choose
-    pairs-tell n at {ks = ks} no-pair e h g =
+    pairs-agree n at {ks = ks} no-pair e h g =
         ap (λ (b : Bool). among (meaning u) ks || b) (among-ended alike T n at key (omega arith)) ∙ or-false (among (meaning u) ks)
-    pairs-tell zero at (a-pair {k = k} p) e h g = absurd (omega (arith, size-positive k))
-    pairs-tell (suc n) at {ks = ks} (a-pair {k = k} {v = v} {ts = ts} p) e h g =
+    pairs-agree zero at (a-pair {k = k} p) e h g = absurd (omega (arith, size-positive k))
+    pairs-agree (suc n) at {ks = ks} (a-pair {k = k} {v = v} {ts = ts} p) e h g =
         let some : 1 ≤ size k = size-positive k in
         let past : at + size k + size v ≡ at + (size k + size v) = omega arith in
         rw (
@@ -202,10 +219,10 @@ module _
           ne-eqb (size k + size v) 0 (λ z. omega arith),
         )
         (or-later (among (meaning u) ks) (same (meaning u) (meaning k)) (among-steps alike T n (at + (size k + size v)) key)
-        ∙ pairs-tell n (at + (size k + size v)) p (omega arith) (omega arith) (subst (λ (i : ℕ). Known-rows Known T whole i ts) past (others-known (others-known g))))
+        ∙ pairs-agree n (at + (size k + size v)) p (omega arith) (omega arith) (subst (λ (i : ℕ). Known-rows Known T whole i ts) past (others-known (others-known g))))
 
     -- it is compared with each key
     pub among-from-among : (first : ℕ) {ts : Terms} {ks : List Term} → Keys-of ts ks → key ≡ first + sizes ts → Known-rows Known T whole first ts
         → among-from alike T first key ≡ among (meaning u) ks
     unfolding among-from among choose
-    among-from-among first p e g = rw (lt-leb (length T) key (tree-below u m)) (pairs-tell (key - first) first p e (omega arith) g)
+    among-from-among first p e g = rw (lt-leb (length T) key (tree-below u m)) (pairs-agree (key - first) first p e (omega arith) g)

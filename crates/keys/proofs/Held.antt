@@ -1,12 +1,12 @@
 -- Terms whose rows stand in the table and that the message backs compare as their meanings do.
 use mathlib.Core.Path.{_≡_, refl, sym, _∙_, ap, ap₂}
-use mathlib.Core.Bool.{Bool, true, false}
+use mathlib.Core.Bool.{Bool, false}
 use mathlib.Core.List.{List, [], _∷_}
 use mathlib.Core.Option.{Option, some}
 use Prim.Native.Nat.{ℕ, _+_}
 use native.Mathlib.Omega.{arith}
 use lib.Dec.{eqb}
-use borrow.Author.Tests.{ne-eqb, eqb-true}
+use borrow.Author.Tests.{eq-eqb, ne-eqb, eqb-true}
 use Rattle.format.specs.Tree.{node, none, _▹_, _▹▹_, size, sizes}
 use Rattle.format.specs.Term.{Label, Term}
 use Rattle.format.specs.Equal.{same, among}
@@ -14,18 +14,20 @@ use Rattle.format.specs.Head.{Atoms}
 use Rattle.format.specs.AtomList.{AtomList, atoms-of}
 use Rattle.format.specs.Reading.{Place, tag-at, character-at, Located, meaning}
 use Rattle.format.specs.Message.{Terms}
-use Rattle.format.specs.Rows.{Row, tree-rows, rows, word, kind-of, kind-at, offset-of}
+use Rattle.format.specs.Rows.{Row, tree-rows, rows, word, kind-of, kind-at}
 use Rattle.format.proofs.Backed.{Label-at, Backed, Backeds}
 use Rattle.format.proofs.Rows.{rows-join}
 use Rattle.format.proofs.Words.{Each-row, each-row-join, Small-row, Word-of, word-packed, Between, kind-of-range, Tree-here, Rows-here, left-here, right-here, first-here}
 use Rattle.contents.specs.Found.{choose}
-use Rattle.contents.specs.Meaning.{bare}
-use Rattle.keys.specs.Compare.{plain-kind, same-fields, same-row, same-terms-raw, among-rows}
-use Rattle.contents.proofs.Tells.{Tells, tells-as, then-tells, eqb-tells}
-use Rattle.contents.proofs.Says.{Lent, Says}
-use Rattle.contents.proofs.Again.{content-says}
-use Rattle.contents.proofs.Alike.{alike}
-use Rattle.keys.proofs.Compare.{own, each-row-split, Known-tree, Known-rows, same-from-same, among-from-among, Keys-of}
+use Rattle.contents.specs.Meaning.{term-kind}
+use Rattle.keys.specs.Compare.{same-fields, same-row, same-terms-raw, among-rows}
+use Rattle.contents.proofs.Says.{Lent}
+use Rattle.contents.proofs.Alike.{Agree, through}
+use Rattle.contents.proofs.Again.{contents-agree}
+use Rattle.keys.proofs.Compare.{and-then, own, each-row-split, Known-tree, Known-rows, same-from-same, among-from-among, Keys-of}
+
+numbers : (a b : ℕ) → Agree (eqb a b) (a ≡ b)
+numbers a b = record { sure = eqb-true a b; back = eq-eqb a b }
 
 each-row-both : (P Q : Row → Type 0) (rs : List Row) → Each-row P rs → Each-row Q rs → Each-row (λ r. P r × Q r) rs
 unfolding Each-row
@@ -49,10 +51,10 @@ module _ (message : List ℕ) (cap : ℕ) (atoms : Atoms) where
         each-row-join Backed-row (tree-rows whole n t) (rows whole (n + size t) ts) (backed-tree-rows whole n t (b .0)) (backed-rows whole (n + size t) ts (b .1))
 
   -- without the kind of characters a kind is that of the label
-  plain-kind-of : (l : Label) (p : Place) → Label-at message cap atoms p l → plain-kind (kind-at l p) ≡ kind-of l
-  unfolding plain-kind choose kind-at kind-of
-  plain-kind-of l (tag-at p) h = let r : Between 1 13 (kind-of l) = kind-of-range l in rw (ne-eqb (kind-of l) 14 (λ e. omega arith))
-  plain-kind-of l (character-at p) h = sym (ap kind-of (h .1))
+  term-kind-of : (l : Label) (p : Place) → Label-at message cap atoms p l → term-kind (kind-at l p) ≡ kind-of l
+  unfolding term-kind choose kind-at kind-of
+  term-kind-of l (tag-at p) h = let r : Between 1 13 (kind-of l) = kind-of-range l in rw (ne-eqb (kind-of l) 14 (λ e. omega arith))
+  term-kind-of l (character-at p) h = sym (ap kind-of (h .1))
 
   -- the rows of a term, of terms, stand in the table from row n on and are small, and the message backs them
   pub record Held (T : List ℕ) (whole : Option ℕ) (n : ℕ) (t : Located) : Type 0 where
@@ -93,60 +95,32 @@ module _ (message : List ℕ) (cap : ℕ) (atoms : Atoms) where
         backed = h .all-backed .0;
       }
 
--- a character's content says the same under the kind of integers
-bare-plain : (k : ℕ) → bare (plain-kind k) ≡ bare k
-unfolding bare plain-kind choose
-bare-plain k = go (eqb k 14) refl
-  where
-    go : (t : Bool) → eqb k 14 ≡ t → bare (choose t 1 k) ≡ bare k
-    go true e = ap bare (sym (eqb-true k 14 e))
-    go false e = refl
-
 module _ (list : AtomList) (message : List ℕ) (lent : Lent list message) (cap : ℕ) where
-  abbrev places : List ℕ
-  places = list .places
-
-  abbrev lengths : List ℕ
-  lengths = list .lengths
-
-  abbrev atoms : Atoms
+  -- what reading asks of the list
+  abbrev pub atoms : Atoms
   atoms = atoms-of list
 
-  -- the fields of two nodes of one kind are compared as their labels are
-  fields-tell : (l l′ : Label) (p p′ : Place) → Label-at message cap atoms p l → Label-at message cap atoms p′ l′ → kind-of l ≡ kind-of l′
-      → Tells (same-fields message places lengths (kind-at l p) (offset-of p) (kind-at l′ p′) (offset-of p′)) (l ≡ l′)
-  unfolding same-fields
-  fields-tell l l′ p p′ h g e =
-      let s : Says list message (kind-at l p) (offset-of p) l = content-says list message lent cap l p h in
-      let r : Says list message (kind-at l′ p′) (offset-of p′) l′ = content-says list message lent cap l′ p′ g in
-      let k : bare (kind-at l p) ≡ bare (kind-at l′ p′)
-      = sym (bare-plain (kind-at l p))
-      ∙ ap bare (plain-kind-of message cap atoms l p h ∙ e ∙ sym (plain-kind-of message cap atoms l′ p′ g))
-      ∙ bare-plain (kind-at l′ p′) in
-      tells-as _ (λ x. sym (s .means) ∙ x ∙ r .means) (λ x. s .means ∙ x ∙ sym (r .means))
-      (alike message list (lent .under) (kind-at l p) (kind-at l′ p′) k _ _ (s .sound) (r .sound))
-
-  abbrev Known : Row → Type 0
+  abbrev pub Known : Row → Type 0
   Known r = Small-row r × Backed-row message cap atoms r
 
-  row-tells : (r q : Row) → Known r → Known q → Tells (same-row message places lengths (word r) (word q)) (own r ≡ own q)
-  unfolding same-row
-  row-tells r q k m =
+  row-agrees : (r q : Row) → Known r → Known q → Agree (same-row message (list .places) (list .lengths) (word r) (word q)) (own r ≡ own q)
+  unfolding same-row same-fields
+  row-agrees r q k m =
       let v : Word-of r (word r) = word-packed r (k .0) in
       let w : Word-of q (word q) = word-packed q (m .0) in
-      let x : plain-kind (kind-at (r .label) (r .place)) ≡ kind-of (r .label) = plain-kind-of message cap atoms (r .label) (r .place) (k .1) in
-      let y : plain-kind (kind-at (q .label) (q .place)) ≡ kind-of (q .label) = plain-kind-of message cap atoms (q .label) (q .place) (m .1) in
+      let x : term-kind (kind-at (r .label) (r .place)) ≡ kind-of (r .label) = term-kind-of message cap atoms (r .label) (r .place) (k .1) in
+      let y : term-kind (kind-at (q .label) (q .place)) ≡ kind-of (q .label) = term-kind-of message cap atoms (q .label) (q .place) (m .1) in
       rw (v .kind-is, w .kind-is, v .offset-is, w .offset-is, v .parts-is, w .parts-is, x, y)
       (one (kind-of (r .label)) (kind-of (q .label)) (r .parts) (q .parts) _ (ap kind-of)
-      (λ e. fields-tell (r .label) (q .label) (r .place) (q .place) (k .1) (m .1) e))
+      (λ e. contents-agree list message lent cap (r .label) (q .label) (r .place) (q .place) (k .1) (m .1) (x ∙ e ∙ sym y)))
     where
-      one : (i j n n′ : ℕ) (c : Bool) → (r .label ≡ q .label → i ≡ j) → (i ≡ j → Tells c (r .label ≡ q .label))
-          → Tells (choose (eqb i j) (choose (eqb n n′) c false) false) (_≡_ {A = Label × ℕ} (r .label, n) (q .label, n′))
+      one : (i j n n′ : ℕ) (c : Bool) → (r .label ≡ q .label → i ≡ j) → (i ≡ j → Agree c (r .label ≡ q .label))
+          → Agree (choose (eqb i j) (choose (eqb n n′) c false) false) (_≡_ {A = Label × ℕ} (r .label, n) (q .label, n′))
       one i j n n′ c f g =
-          tells-as _
+          through
           (λ z. ap₂ (λ (a : Label) (b : ℕ). (a, b)) (z .1 .1) (z .1 .0))
           (λ e. let a : r .label ≡ q .label = ap (λ (x : Label × ℕ). x .0) e in (f a, (ap (λ (x : Label × ℕ). x .1) e, a)))
-          (then-tells (eqb i j) _ (eqb-tells i j) (λ e. then-tells (eqb n n′) c (eqb-tells n n′) (λ _. g e)))
+          (and-then (eqb i j) _ (numbers i j) (λ e. and-then (eqb n n′) c (numbers n n′) (λ _. g e)))
 
   module _ (T : List ℕ) where
     known-tree : {whole : Option ℕ} {n : ℕ} (t : Located) → Held message cap atoms T whole n t → Known-tree Known T whole n t
@@ -159,18 +133,18 @@ module _ (list : AtomList) (message : List ℕ) (lent : Lent list message) (cap 
 
     -- two terms compare as their meanings do
     pub same-terms-same : {whole whole′ : Option ℕ} {a b : ℕ} (t u : Located) → Held message cap atoms T whole a t → Held message cap atoms T whole′ b u
-        → same-terms-raw message places lengths T a b ≡ same (meaning t) (meaning u)
+        → same-terms-raw message (list .places) (list .lengths) T a b ≡ same (meaning t) (meaning u)
     same-terms-same {whole} {whole′} {a} {b} t u h g =
-        same-from-same (same-row message places lengths) Known (λ r k. k .0) row-tells T whole whole′ a b t u (known-tree t h) (known-tree u g)
+        same-from-same (same-row message (list .places) (list .lengths)) Known (λ r k. k .0) row-agrees T whole whole′ a b t u (known-tree t h) (known-tree u g)
 
     -- a term right past pairs is compared with each of their keys
     pub among-rows-among : {whole whole′ : Option ℕ} {first key : ℕ} (ts : Terms) (u : Located) {ks : List Term} → Keys-of ts ks → key ≡ first + sizes ts
-        → Held-rows message cap atoms T whole first ts → Held message cap atoms T whole′ key u → among-rows message places lengths T first key ≡ among (meaning u) ks
+        → Held-rows message cap atoms T whole first ts → Held message cap atoms T whole′ key u → among-rows message (list .places) (list .lengths) T first key ≡ among (meaning u) ks
     among-rows-among {whole} {whole′} {first} {key} ts u p e h g =
-        among-from-among (same-row message places lengths) Known (λ r k. k .0) row-tells T whole whole′ key u (known-tree u g) first p e (known-rows ts h)
+        among-from-among (same-row message (list .places) (list .lengths)) Known (λ r k. k .0) row-agrees T whole whole′ key u (known-tree u g) first p e (known-rows ts h)
 
     -- the same of the last of terms, after pairs
     pub last-among : {whole : Option ℕ} {first : ℕ} (ts : Terms) (u : Located) {ks : List Term} → Keys-of ts ks → Held-rows message cap atoms T whole first (ts ▹▹ (u ▹ none))
-        → among-rows message places lengths T first (first + sizes ts) ≡ among (meaning u) ks
+        → among-rows message (list .places) (list .lengths) T first (first + sizes ts) ≡ among (meaning u) ks
     last-among ts u p h =
         among-rows-among ts u p refl (held-left message cap atoms ts (u ▹ none) h) (held-first message cap atoms u none (held-right message cap atoms ts (u ▹ none) h))

@@ -2,7 +2,8 @@
 ghost use mathlib.Core.Path.{_≡_};
 ghost use Prim.Native.Nat.{_+_, _<_};
 ghost use lib.ListN.{getD};
-ghost use Rattle.keys.specs.Compare.{plain-kind, same-fields, same-row, same-rows, pair-size, same-terms-raw, among-rows};
+ghost use Rattle.contents.specs.Meaning.{term-kind};
+ghost use Rattle.keys.specs.Compare.{same-fields, same-row, same-rows, pair-size, same-terms-raw, among-rows};
 use contents::content_at;
 use contents::same_content;
 use row::kind_in;
@@ -21,8 +22,8 @@ pub fn word_at(table: &[u64], i: usize) -> u64
 }
 
 // A character of a 107 is an integer.
-fn plain_kind(kind: usize) -> usize
-    ensures { λ r. ⌜ r ≡ plain-kind kind ⌝ }
+fn term_kind(kind: usize) -> usize
+    ensures { λ r. ⌜ r ≡ term-kind kind ⌝ }
 {
     if kind == 14 {
         return 1;
@@ -53,7 +54,7 @@ fn same_row(msg: &[u8], places: &[u8], lengths: &[u16], v: u64, w: u64) -> bool
 {
     let kind = kind_in(v);
     let other = kind_in(w);
-    if plain_kind(kind) != plain_kind(other) {
+    if term_kind(kind) != term_kind(other) {
         return false;
     }
     if parts_in(v) != parts_in(w) {

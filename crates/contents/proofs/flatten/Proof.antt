@@ -32,6 +32,9 @@ numbers-requires-3 c κs = search needs
 enum-known-c-4 : tie.Need-enum-known-c-4
 enum-known-c-4 c = search needs
 
+texts-requires : tie.Need-texts-requires
+texts-requires c κs = search needs
+
 enum-known-c-5 : tie.Need-enum-known-c-5
 enum-known-c-5 c = search needs
 
@@ -80,7 +83,7 @@ returns-4 c = c .numbers3 .ensures ∙ sym (ap flat-of (c .before .before .c3 .g
 
 returns-5 : tie.Need-returns-5
 unfolding flat-of
-returns-5 c = sym (ap flat-of (c .before .c4 .given .1))
+returns-5 c = c .texts .ensures ∙ sym (ap flat-of (c .before .before .c4 .given .1))
 
 returns-6 : tie.Need-returns-6
 unfolding flat-of
@@ -115,6 +118,7 @@ flatten-spec =
     enum-known-c-3
     numbers-requires-3
     enum-known-c-4
+    texts-requires
     enum-known-c-5
     stretch-requires-2
     enum-known-c-6

@@ -2,48 +2,48 @@
 use mathlib.Core.Bool.{Bool}
 use mathlib.Core.Path.{sym, _∙_, ap₂}
 use borrow.Author.Needs.{needs}
-use Rattle.contents.specs.Same.{source, same-text, same-atoms}
+use Rattle.contents.specs.Same.{source, same-texts, same-atoms}
 use Rattle.contents.specs.Found.{choose}
 use Rattle.contents.proofs.same_atoms.Statement.{statement}
 use Rattle.contents.proofs.same_atoms.Tie as tie
 
-same-text-requires : tie.Need-same-text-requires
-same-text-requires c κs = search needs
+same-texts-requires : tie.Need-same-texts-requires
+same-texts-requires c κs = search needs
 
 returns : tie.Need-returns
 unfolding same-atoms choose
-returns c = c .same-text .ensures ∙ sym (ap₂ (λ (x y : Bool). same-text (source (c .before .before .before .before .before .args .msg .now) (c .before .before .before .before .before .args .places .now) x) (c .before .before .before .before .before .args .a .start) (c .before .before .before .before .before .args .a .length) (c .before .before .before .before .before .args .a .latin1) (source (c .before .before .before .before .before .args .msg .now) (c .before .before .before .before .before .args .places .now) y) (c .before .before .before .before .before .args .b .start) (c .before .before .before .before .before .args .b .length) (c .before .before .before .before .before .args .b .latin1)) (c .before .before .if1 .taken) (c .before .if2 .taken))
+returns c = c .same-texts .ensures ∙ sym (ap₂ (λ (x y : Bool). same-texts (source (c .before .before .before .before .before .args .msg .now) (c .before .before .before .before .before .args .places .now) x) (source (c .before .before .before .before .before .args .msg .now) (c .before .before .before .before .before .args .places .now) y) (c .before .before .before .before .before .args .a) (c .before .before .before .before .before .args .b)) (c .before .before .if1 .taken) (c .before .if2 .taken))
 
-same-text-requires-2 : tie.Need-same-text-requires-2
-same-text-requires-2 c κs = search needs
+same-texts-requires-2 : tie.Need-same-texts-requires-2
+same-texts-requires-2 c κs = search needs
 
 returns-2 : tie.Need-returns-2
 unfolding same-atoms choose
-returns-2 c = c .same-text2 .ensures ∙ sym (ap₂ (λ (x y : Bool). same-text (source (c .before .before .before .before .before .args .msg .now) (c .before .before .before .before .before .args .places .now) x) (c .before .before .before .before .before .args .a .start) (c .before .before .before .before .before .args .a .length) (c .before .before .before .before .before .args .a .latin1) (source (c .before .before .before .before .before .args .msg .now) (c .before .before .before .before .before .args .places .now) y) (c .before .before .before .before .before .args .b .start) (c .before .before .before .before .before .args .b .length) (c .before .before .before .before .before .args .b .latin1)) (c .before .before .if1 .taken) (c .before .if2 .left))
+returns-2 c = c .same-texts2 .ensures ∙ sym (ap₂ (λ (x y : Bool). same-texts (source (c .before .before .before .before .before .args .msg .now) (c .before .before .before .before .before .args .places .now) x) (source (c .before .before .before .before .before .args .msg .now) (c .before .before .before .before .before .args .places .now) y) (c .before .before .before .before .before .args .a) (c .before .before .before .before .before .args .b)) (c .before .before .if1 .taken) (c .before .if2 .left))
 
-same-text-requires-3 : tie.Need-same-text-requires-3
-same-text-requires-3 c κs = search needs
+same-texts-requires-3 : tie.Need-same-texts-requires-3
+same-texts-requires-3 c κs = search needs
 
 returns-3 : tie.Need-returns-3
 unfolding same-atoms choose
-returns-3 c = c .same-text3 .ensures ∙ sym (ap₂ (λ (x y : Bool). same-text (source (c .before .before .before .before .before .args .msg .now) (c .before .before .before .before .before .args .places .now) x) (c .before .before .before .before .before .args .a .start) (c .before .before .before .before .before .args .a .length) (c .before .before .before .before .before .args .a .latin1) (source (c .before .before .before .before .before .args .msg .now) (c .before .before .before .before .before .args .places .now) y) (c .before .before .before .before .before .args .b .start) (c .before .before .before .before .before .args .b .length) (c .before .before .before .before .before .args .b .latin1)) (c .before .before .if1 .left) (c .before .if3 .taken))
+returns-3 c = c .same-texts3 .ensures ∙ sym (ap₂ (λ (x y : Bool). same-texts (source (c .before .before .before .before .before .args .msg .now) (c .before .before .before .before .before .args .places .now) x) (source (c .before .before .before .before .before .args .msg .now) (c .before .before .before .before .before .args .places .now) y) (c .before .before .before .before .before .args .a) (c .before .before .before .before .before .args .b)) (c .before .before .if1 .left) (c .before .if3 .taken))
 
-same-text-requires-4 : tie.Need-same-text-requires-4
-same-text-requires-4 c κs = search needs
+same-texts-requires-4 : tie.Need-same-texts-requires-4
+same-texts-requires-4 c κs = search needs
 
 returns-4 : tie.Need-returns-4
 unfolding same-atoms choose
-returns-4 c = c .same-text4 .ensures ∙ sym (ap₂ (λ (x y : Bool). same-text (source (c .before .before .before .before .before .args .msg .now) (c .before .before .before .before .before .args .places .now) x) (c .before .before .before .before .before .args .a .start) (c .before .before .before .before .before .args .a .length) (c .before .before .before .before .before .args .a .latin1) (source (c .before .before .before .before .before .args .msg .now) (c .before .before .before .before .before .args .places .now) y) (c .before .before .before .before .before .args .b .start) (c .before .before .before .before .before .args .b .length) (c .before .before .before .before .before .args .b .latin1)) (c .before .before .if1 .left) (c .before .if3 .left))
+returns-4 c = c .same-texts4 .ensures ∙ sym (ap₂ (λ (x y : Bool). same-texts (source (c .before .before .before .before .before .args .msg .now) (c .before .before .before .before .before .args .places .now) x) (source (c .before .before .before .before .before .args .msg .now) (c .before .before .before .before .before .args .places .now) y) (c .before .before .before .before .before .args .a) (c .before .before .before .before .before .args .b)) (c .before .before .if1 .left) (c .before .if3 .left))
 
 pub same-atoms-spec : {M : Type 1} → statement M
 same-atoms-spec =
     tie.close
     (tie.spec
-    same-text-requires
+    same-texts-requires
     returns
-    same-text-requires-2
+    same-texts-requires-2
     returns-2
-    same-text-requires-3
+    same-texts-requires-3
     returns-3
-    same-text-requires-4
+    same-texts-requires-4
     returns-4)

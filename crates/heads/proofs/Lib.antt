@@ -1,0 +1,7 @@
+mod Leaves
+mod Texts
+mod LaterFields
+mod Tags
+pub mod Found
+mod Openings
+pub mod OpeningFacts
