@@ -30,7 +30,7 @@ use Rattle.contents.specs.Found.{choose, content-of}
 use Rattle.contents.proofs.Says.{Lent, Says}
 use Rattle.contents.proofs.Again.{content-says}
 use Rattle.keys.proofs.Held.{Backed-row, backed-rows}
-use Rattle.keys.proofs.Accepted.{Accepted, accepted}
+use Rattle.keys.proofs.Accepted.{Accepted}
 use Rattle.asking.specs.declared.TextAt.{TextAt}
 use Rattle.asking.specs.declared.TextAt.the-variants as texts
 use Rattle.asking.specs.Code.{content-number, number-found, atom-row, atom-among, text-at, text-said, located, Inside}

@@ -1,5 +1,4 @@
 -- What the calls find, said of the table's words and the message's bytes alone, with the tests of the code in their order.
-use mathlib.Core.Path.{_≡_}
 use mathlib.Core.Bool.{Bool, true, false}
 use mathlib.Core.List.{List, []}
 use Prim.Native.Nat.{ℕ, zero, suc, _+_, _-_, _%_, _≤_}
@@ -11,7 +10,6 @@ use Rattle.format.specs.Answer.{Answer, good, refused}
 use Rattle.format.specs.Rows.{kind-in, offset-in}
 use Rattle.format.specs.Look.{Number, whole, float-bits, neither, Stretch, of-message, of-list}
 use Rattle.format.specs.Answers.{number-case}
-use Rattle.format.specs.declared.Refusal.{Refusal}
 use Rattle.format.specs.declared.ReadAnswer.{ReadAnswer}
 use Rattle.format.specs.declared.ReadAnswer.the-variants as reads
 use Rattle.format.specs.declared.NumberAnswer.{NumberAnswer}

@@ -1,11 +1,12 @@
 // Two questions on a message: a row's number, and an atom's text with its mark.
 ghost use mathlib.Core.Path.{_≡_};
-ghost use mathlib.Core.List.{[]};
-ghost use Prim.Native.Nat.{ℕ, _+_, _<_, _≤_, _^_};
+ghost use Prim.Native.Nat.{_<_};
 ghost use lib.IntN.{pos, negsuc};
-ghost use lib.ListN.{length, getD};
-ghost use Rattle.format.specs.Answers.{number-case};
-ghost use Rattle.asking.specs.Code.{signed-number, float-number, content-number, number-found, atom-row, atom-among, text-said, located, mark-at, Inside, bytes-at};
+ghost use Rattle.format.specs.Answers.{number-case, number-answer, mark-answer};
+ghost use Rattle.format.specs.Look.{number-in, text-in, text-bytes};
+ghost use Rattle.format.specs.Message.{standalone, payload};
+ghost use Rattle.heads.specs.Code.{lent};
+ghost use Rattle.asking.specs.Code.{signed-number, float-number, content-number, number-found, atom-row, atom-among, text-said, located, text-at, mark-at, Inside, bytes-at};
 use contents::Content;
 use contents::content_at;
 use format::MarkAnswer;
@@ -15,6 +16,8 @@ use format::Refusal;
 use keys::word_at;
 use row::kind_in;
 use row::offset_in;
+use terms::read_payload;
+use terms::read_standalone;
 
 // Where an atom's text stands: in the message, or in the list's places.
 pub enum TextAt {
@@ -227,4 +230,86 @@ fn bytes_at<'a>(msg: &'a [u8], places: &'a [u8], t: TextAt) -> &'a [u8]
         }
         TextAt::Refused(refusal) => &msg[0..0],
     }
+}
+
+// The number of a row of a standalone term, with this atom list.
+pub fn number_standalone(
+    msg: &[u8],
+    n: u8,
+    places: &[u8],
+    lengths: &[u16],
+    row: usize,
+) -> NumberAnswer
+    ensures { λ r. ⌜ r ≡ number-answer (number-in standalone (lent n (now (places .entry)) (now (lengths .entry))) (now (msg .entry)) row) ⌝ }
+{
+    let mut table = [0u64; 8192];
+    let read = read_standalone(msg, n, places, lengths, &mut table);
+    number_found(msg, places, lengths, &table, read, row)
+}
+
+// Where the text stands of the atom whose tag is at this offset of a standalone term.
+pub fn locate_standalone(msg: &[u8], n: u8, places: &[u8], lengths: &[u16], at: usize) -> TextAt
+    ensures { λ r. ⌜ (r ≡ text-at (text-in standalone (lent n (now (places .entry)) (now (lengths .entry))) (now (msg .entry)) at)) × Inside (now (msg .entry)) (now (places .entry)) r ⌝ }
+{
+    let mut table = [0u64; 8192];
+    let read = read_standalone(msg, n, places, lengths, &mut table);
+    located(msg, places, lengths, &table, read, at)
+}
+
+// The text of the atom whose tag is at this offset of a standalone term, empty where refused.
+pub fn text_standalone<'a>(
+    msg: &'a [u8],
+    n: u8,
+    places: &'a [u8],
+    lengths: &[u16],
+    at: usize,
+) -> &'a [u8]
+    ensures { λ r. ⌜ now r ≡ text-bytes (now (msg .entry)) (lent n (now (places .entry)) (now (lengths .entry))) (text-in standalone (lent n (now (places .entry)) (now (lengths .entry))) (now (msg .entry)) at) ⌝ }
+{
+    bytes_at(msg, places, locate_standalone(msg, n, places, lengths, at))
+}
+
+// The mark of that text, or the refusal.
+pub fn mark_standalone(msg: &[u8], n: u8, places: &[u8], lengths: &[u16], at: usize) -> MarkAnswer
+    ensures { λ r. ⌜ r ≡ mark-answer (text-in standalone (lent n (now (places .entry)) (now (lengths .entry))) (now (msg .entry)) at) ⌝ }
+{
+    mark_at(locate_standalone(msg, n, places, lengths, at))
+}
+
+// The number of a row of a payload, with this atom list.
+pub fn number_payload(msg: &[u8], n: u8, places: &[u8], lengths: &[u16], row: usize) -> NumberAnswer
+    ensures { λ r. ⌜ r ≡ number-answer (number-in payload (lent n (now (places .entry)) (now (lengths .entry))) (now (msg .entry)) row) ⌝ }
+{
+    let mut table = [0u64; 8192];
+    let read = read_payload(msg, n, places, lengths, &mut table);
+    number_found(msg, places, lengths, &table, read, row)
+}
+
+// Where the text stands of the atom whose tag is at this offset of a payload.
+pub fn locate_payload(msg: &[u8], n: u8, places: &[u8], lengths: &[u16], at: usize) -> TextAt
+    ensures { λ r. ⌜ (r ≡ text-at (text-in payload (lent n (now (places .entry)) (now (lengths .entry))) (now (msg .entry)) at)) × Inside (now (msg .entry)) (now (places .entry)) r ⌝ }
+{
+    let mut table = [0u64; 8192];
+    let read = read_payload(msg, n, places, lengths, &mut table);
+    located(msg, places, lengths, &table, read, at)
+}
+
+// The text of the atom whose tag is at this offset of a payload, empty where refused.
+pub fn text_payload<'a>(
+    msg: &'a [u8],
+    n: u8,
+    places: &'a [u8],
+    lengths: &[u16],
+    at: usize,
+) -> &'a [u8]
+    ensures { λ r. ⌜ now r ≡ text-bytes (now (msg .entry)) (lent n (now (places .entry)) (now (lengths .entry))) (text-in payload (lent n (now (places .entry)) (now (lengths .entry))) (now (msg .entry)) at) ⌝ }
+{
+    bytes_at(msg, places, locate_payload(msg, n, places, lengths, at))
+}
+
+// The mark of that text, or the refusal.
+pub fn mark_payload(msg: &[u8], n: u8, places: &[u8], lengths: &[u16], at: usize) -> MarkAnswer
+    ensures { λ r. ⌜ r ≡ mark-answer (text-in payload (lent n (now (places .entry)) (now (lengths .entry))) (now (msg .entry)) at) ⌝ }
+{
+    mark_at(locate_payload(msg, n, places, lengths, at))
 }

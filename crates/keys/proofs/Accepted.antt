@@ -1,14 +1,14 @@
 -- The terms of an accepted message: valid, as many rows as the table has at most, each row small and backed by the message.
-use mathlib.Core.Path.{_≡_, refl, sym, _∙_, ap, subst}
+use mathlib.Core.Path.{_≡_, refl, ap, subst}
 use mathlib.Core.Bool.{Bool, true, false}
 use mathlib.Core.List.{List, [], _∷_}
 use mathlib.Core.Option as option
-use Prim.Native.Nat.{ℕ, suc, _+_, _≤_, _<_, min}
+use Prim.Native.Nat.{ℕ, _+_, _≤_, _<_, min}
 use native.Mathlib.Omega.{arith}
 use lib.Dec.{leb}
-use lib.ListN.{length, getD}
+use lib.ListN.{length}
 use borrow.Author.Tests.{leb-true}
-use Rattle.format.specs.Tree.{Forest, node, none, _▹_, size, sizes}
+use Rattle.format.specs.Tree.{node, none, _▹_, size, sizes}
 use Rattle.format.specs.Term.{Label}
 use Rattle.format.specs.Answer.{Answer, good, refused, Position, Reading, after, done}
 use Rattle.format.specs.Head.{Atoms, any, Head, head}
@@ -18,16 +18,16 @@ use Rattle.format.specs.Message.{Framing, standalone, payload, Terms, meanings,
 use Rattle.format.specs.Rows.{rows, offset-of, whole-code, table-after}
 use Rattle.format.proofs.Steps.{spot}
 use Rattle.format.proofs.Text.{Under}
-use Rattle.format.proofs.Valid.{Valid, Valids}
-use Rattle.format.proofs.Holds.{Holds, Fine, bind, done-holds, refused-holds, next, version-holds, ending-holds}
+use Rattle.format.proofs.Valid.{Valids}
+use Rattle.format.proofs.Holds.{Holds, Fine, bind, done-holds, next, version-holds, ending-holds}
 use Rattle.format.proofs.Heads.{True-atoms, for-any}
 use Rattle.format.proofs.Accepted.{Found, term-holds}
 use Rattle.format.proofs.Invariant.{In-step, on-byte}
 use Rattle.format.proofs.Backed.{Head-at, Label-at, Backed, Backeds, term-backed}
 use Rattle.format.proofs.Demand.{list-true}
-use Rattle.format.proofs.Rows.{Each-node, Each-nodes, size-meaning, sizes-meanings}
-use Rattle.format.proofs.Words.{Placed, Each-row, Small-row, small-rows, table-rows}
-use Rattle.contents.proofs.Read.{position-is, head-here}
+use Rattle.format.proofs.Rows.{Each-node, Each-nodes, sizes-meanings}
+use Rattle.format.proofs.Words.{Placed, small-rows, table-rows}
+use Rattle.contents.proofs.Read.{head-here}
 use Rattle.keys.proofs.Held.{Held-rows}
 
 -- ---- every node stands below the message's end

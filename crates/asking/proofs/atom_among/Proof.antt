@@ -1,15 +1,12 @@
-use Rattle.asking.proofs.Ways.{among-start, among-here, among-next, among-ended}
-use Rattle.asking.specs.Code.{atom-among}
-use borrow.Author.Needs.{needs}
-use native.Mathlib.Omega.{arith}
-use Prim.Native.Nat.{_-_, _≤_}
+-- `asking::atom_among` meets its contract.
 use mathlib.Core.Path.{_≡_}
+use Prim.Native.Nat.{_-_, _≤_}
+use native.Mathlib.Omega.{arith}
+use borrow.Author.Needs.{needs}
+use Rattle.asking.specs.Code.{atom-among}
+use Rattle.asking.proofs.Ways.{among-start, among-here, among-next, among-ended}
 use Rattle.asking.proofs.atom_among.Statement.{statement}
 use Rattle.asking.proofs.atom_among.Tie as tie
-use Rattle.asking.proofs.atom_among.Reads as reads
-use Rattle.asking.proofs.atom_among.Lts as lts
-use Rattle.asking.proofs.atom_row.Reads as atom-row-reads
-use Rattle.keys.proofs.word_at.Reads as word-at-reads
 
 abbrev Inv-loop : tie.InvT-loop
 Inv-loop table rows at i₀ i = (i ≤ rows) × (atom-among table (rows - i) i at ≡ atom-among table rows 0 at)
@@ -17,35 +14,27 @@ Inv-loop table rows at i₀ i = (i ≤ rows) × (atom-among table (rows - i) i a
 abbrev μ-loop : tie.MeasureT-loop
 μ-loop table rows at i₀ i = rows - i
 
--- src/lib.rt:129:5
 loop-holds : tie.Need-loop-holds Inv-loop μ-loop
 loop-holds c = (omega arith, among-start _ _ _)
 
--- src/lib.rt:130:21
 word-at-requires : tie.Need-word-at-requires Inv-loop μ-loop
 word-at-requires c κs = search needs
 
--- src/lib.rt:130:12
 atom-row-requires : tie.Need-atom-row-requires Inv-loop μ-loop
 atom-row-requires c κs = search needs
 
--- src/lib.rt:131:13
 returns : tie.Need-returns Inv-loop μ-loop
 returns c = among-here _ _ _ _ _ (c .before .before .before .before .loop .inv .1) (c .before .before .before .loop-test .taken) _ (c .before .before .word-at .ensures) _ (c .before .atom-row .ensures) (c .if1 .taken)
 
--- src/lib.rt:133:9
 add-i : tie.Need-add-i Inv-loop μ-loop
 add-i c = omega arith
 
--- src/lib.rt:129:5
 loop-less : tie.Need-loop-less Inv-loop μ-loop
 loop-less c = omega arith
 
--- src/lib.rt:129:5
 loop-again : tie.Need-loop-again Inv-loop μ-loop
 loop-again c = (omega arith, among-next _ _ _ _ _ (c .before .before .before .before .loop .inv .1) (c .before .before .before .loop-test .taken) _ (c .before .before .word-at .ensures) _ (c .before .atom-row .ensures) (c .if1 .left))
 
--- src/lib.rt:125:1
 returns-2 : tie.Need-returns-2 Inv-loop μ-loop
 returns-2 c = among-ended _ _ _ _ _ (c .before .loop .inv .1) (c .loop-test .left)
 

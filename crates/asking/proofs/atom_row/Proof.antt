@@ -1,25 +1,18 @@
-use Rattle.asking.proofs.Ways.{other-kind, atom-kind}
+-- `asking::atom_row` meets its contract.
 use borrow.Author.Needs.{needs}
+use Rattle.asking.proofs.Ways.{other-kind, atom-kind}
 use Rattle.asking.proofs.atom_row.Statement.{statement}
 use Rattle.asking.proofs.atom_row.Tie as tie
-use Rattle.asking.proofs.atom_row.Reads as reads
-use Rattle.asking.proofs.atom_row.Lts as lts
-use Rattle.row.proofs.kind_in.Reads as kind-in-reads
-use Rattle.row.proofs.offset_in.Reads as offset-in-reads
 
--- src/lib.rt:118:8
 kind-in-requires : tie.Need-kind-in-requires
 kind-in-requires c κs = search needs
 
--- src/lib.rt:119:9
 returns : tie.Need-returns
 returns c = other-kind _ _ _ (c .before .kind-in .ensures .0) (c .if1 .taken)
 
--- src/lib.rt:121:5
 offset-in-requires : tie.Need-offset-in-requires
 offset-in-requires c κs = search needs
 
--- src/lib.rt:115:1
 returns-2 : tie.Need-returns-2
 returns-2 c = atom-kind _ _ _ (c .before .before .kind-in .ensures .0) (c .before .if1 .left) _ (c .offset-in .ensures .0)
 

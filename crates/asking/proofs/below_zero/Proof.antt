@@ -1,15 +1,13 @@
+-- `asking::below_zero` meets its contract.
 use mathlib.Core.Path.{sym, _∙_, ap, subst}
 use lib.IntN.{ℤ, negsuc}
 use mir.Syntax.{w64}
 use mir.Val.{SFits, toZ, ofZ}
 use mir.ValLaws.{toZ-ofZ}
-use native.Mathlib.Omega.{arith}
-use Rattle.asking.proofs.Signed.{below-zero}
 use borrow.Author.Needs.{needs}
+use Rattle.asking.proofs.Signed.{below-zero}
 use Rattle.asking.proofs.below_zero.Statement.{statement}
 use Rattle.asking.proofs.below_zero.Tie as tie
-use Rattle.asking.proofs.below_zero.Reads as reads
-use Rattle.asking.proofs.below_zero.Lts as lts
 
 cast-result : tie.Need-cast-result
 cast-result c = search needs

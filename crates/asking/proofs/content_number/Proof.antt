@@ -1,43 +1,33 @@
-use Rattle.asking.proofs.Ways.{no-number}
-use Rattle.asking.specs.Code.{content-number}
-use Rattle.contents.specs.declared.Content.{Content}
-use Rattle.format.specs.Answers.{number-case}
+-- `asking::content_number` meets its contract.
 use mathlib.Core.Path.{sym, ap, _∙_}
 use borrow.Author.Needs.{needs}
+use Rattle.format.specs.Answers.{number-case}
+use Rattle.contents.specs.declared.Content.{Content}
+use Rattle.asking.specs.Code.{content-number}
+use Rattle.asking.proofs.Ways.{no-number}
 use Rattle.asking.proofs.content_number.Statement.{statement}
 use Rattle.asking.proofs.content_number.Tie as tie
-use Rattle.asking.proofs.content_number.Reads as reads
-use Rattle.asking.proofs.content_number.Lts as lts
-use Rattle.asking.proofs.float_number.Reads as float-number-reads
-use Rattle.asking.proofs.signed_number.Reads as signed-number-reads
 
--- src/lib.rt:83:13
 enum-known-c : tie.Need-enum-known-c
 enum-known-c c = search needs
 
--- src/lib.rt:85:14
 signed-number-requires : tie.Need-signed-number-requires
 signed-number-requires c κs = search needs
 
--- src/lib.rt:86:26
 enum-known-c-2 : tie.Need-enum-known-c-2
 enum-known-c-2 c = search needs
 
--- src/lib.rt:86:36
 float-number-requires : tie.Need-float-number-requires
 float-number-requires c κs = search needs
 
--- src/lib.rt:78:1
 returns : tie.Need-returns
 unfolding content-number
 returns c = c .signed-number .ensures ∙ sym (ap (λ (x : Content). number-case (content-number x)) (c .before .before .c .given .1))
 
--- src/lib.rt:78:1
 returns-2 : tie.Need-returns-2
 unfolding content-number
 returns-2 c = c .float-number .ensures ∙ sym (ap (λ (x : Content). number-case (content-number x)) (c .before .before .c2 .given .1))
 
--- src/lib.rt:78:1
 returns-3 : tie.Need-returns-3
 returns-3 c = no-number _ (c .match .keys3)
 

@@ -1,10 +1,9 @@
+-- `asking::from_zero` meets its contract.
 use mir.Syntax.{w64}
 use mir.ValLaws.{toZ-pos}
 use borrow.Author.Needs.{needs}
 use Rattle.asking.proofs.from_zero.Statement.{statement}
 use Rattle.asking.proofs.from_zero.Tie as tie
-use Rattle.asking.proofs.from_zero.Reads as reads
-use Rattle.asking.proofs.from_zero.Lts as lts
 
 cast-result : tie.Need-cast-result
 cast-result c = search needs

@@ -1,43 +1,31 @@
-use Rattle.asking.proofs.Ways.{no-atom, atom-here, located-refused}
+-- `asking::located` meets its contract.
 use borrow.Author.Tests.{not-true, not-false}
 use borrow.Author.Needs.{needs}
+use Rattle.asking.proofs.Ways.{no-atom, atom-here, located-refused}
 use Rattle.asking.proofs.located.Statement.{statement}
 use Rattle.asking.proofs.located.Tie as tie
-use Rattle.asking.proofs.located.Reads as reads
-use Rattle.asking.proofs.located.Lts as lts
-use Rattle.asking.proofs.atom_among.Reads as atom-among-reads
-use Rattle.asking.proofs.text_said.Reads as text-said-reads
-use Rattle.contents.proofs.content_at.Reads as content-at-reads
 
--- src/lib.rt:177:29
 enum-known-read : tie.Need-enum-known-read
 enum-known-read c = search needs
 
--- src/lib.rt:178:17
 atom-among-requires : tie.Need-atom-among-requires
 atom-among-requires c κs = search needs
 
--- src/lib.rt:179:17
 returns : tie.Need-returns
 returns c = no-atom _ _ _ _ _ _ _ _ (c .before .before .before .read .given .1) _ (c .before .atom-among .ensures) (not-true _ (c .if1 .taken))
 
--- src/lib.rt:184:23
 content-at-requires : tie.Need-content-at-requires
 content-at-requires c κs = search needs
 
--- src/lib.rt:184:13
 text-said-requires : tie.Need-text-said-requires
 text-said-requires c κs = search needs
 
--- src/lib.rt:186:29
 enum-known-read-2 : tie.Need-enum-known-read-2
 enum-known-read-2 c = search needs
 
--- src/lib.rt:166:1
 returns-2 : tie.Need-returns-2
 returns-2 c = atom-here _ _ _ _ _ _ _ _ (c .before .before .before .before .before .read .given .1) _ (c .before .before .before .atom-among .ensures) (not-false _ (c .before .before .if1 .left)) _ _ (c .before .content-at .ensures) (c .text-said .ensures)
 
--- src/lib.rt:166:1
 returns-3 : tie.Need-returns-3
 returns-3 c = located-refused _ _ _ _ _ _ _ (c .before .read2 .given .1)
 
