@@ -43,7 +43,7 @@ Told m cap atoms places lengths first =
     (S : List ℕ) (us : Terms) (u : Located) (ks : List Term) → Keys-of us ks → Held-rows m cap atoms S (whole-of first) first (us ▹▹ (u ▹ none))
     → among-rows m places lengths S first (first + sizes us) ≡ among (meaning u) ks
 
-bytes-under : (m : List ℕ) → ((i : ℕ) → getD m i 0 < 256) → Under 256 m
+pub bytes-under : (m : List ℕ) → ((i : ℕ) → getD m i 0 < 256) → Under 256 m
 bytes-under [] h = tt
 bytes-under (b ∷ m) h = (h 0, bytes-under m (λ i. h (suc i)))
 

@@ -1,0 +1,6 @@
+pub mod Standing
+pub mod Marks
+pub mod Texts
+pub mod Judging
+pub mod Walk
+pub mod Good

@@ -1,0 +1,7 @@
+pub mod States
+pub mod Openings
+pub mod Passing
+pub mod Naming
+pub mod Taking
+pub mod Rests
+pub mod Whole
