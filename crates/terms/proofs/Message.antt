@@ -1,29 +1,28 @@
 -- Messages: one law for each way through `standalone_terms`, `payload_terms` and the public calls. Assumes nothing.
 use mathlib.Core.Path.{_≡_, refl, sym, ap, ap₂, _∙_}
-use mathlib.Core.Bool.{Bool, true, false, _&&_}
+use mathlib.Core.Bool.{Bool, true, false}
 use mathlib.Core.List.{List, [], _∷_, _++_, append-nil}
 use mathlib.Core.Option as option
-use Prim.Native.Nat.{ℕ, zero, suc, _+_, _-_, _≤_, _<_, min}
+use Prim.Native.Nat.{ℕ, _+_, _-_, _≤_, _<_, min}
 use native.Mathlib.Omega.{arith}
-use lib.Dec.{eqb, leb}
+use lib.Dec.{leb}
 use lib.ListN.{length, getD, drop, replicate, drop-of-length-le}
 use lib.Seq.{sets, drop-cons}
 use borrow.Author.Tests.{eq-eqb, ne-eqb, le-leb, lt-leb, leb-true}
-use Rattle.format.specs.Tree.{Forest, none, _▹_, count, size, sizes}
-use Rattle.format.specs.Term.{Label}
+use Rattle.format.specs.Tree.{none, _▹_, count, size, sizes}
 use Rattle.format.specs.Answer.{Answer, good, refused, Position, Reading, after, done}
 use Rattle.format.specs.Answers.{read-answer}
 use Rattle.format.specs.AtomList.{AtomList, of-size, atoms-of}
 use Rattle.format.specs.Head.{Atoms, any}
 use Rattle.format.specs.Message.{Framing, Terms, version, ending, standalone-term, payload-terms, terms-framed, found, first-check, read}
-use Rattle.format.specs.Reading.{Place, Located, term}
+use Rattle.format.specs.Reading.{Located, term}
 use Rattle.format.specs.Rows.{Row, tree-rows, rows, words-of, table-after}
 use Rattle.format.specs.declared.Refusal.{Refusal}
 use Rattle.format.specs.declared.ReadAnswer.{ReadAnswer}
 use Rattle.format.specs.declared.ReadAnswer.the-variants as reads
 use Rattle.format.proofs.Bridge.{at-offset}
 use Rattle.format.proofs.Rows.{Each-node, length-rows}
-use Rattle.format.proofs.Words.{Placed, length-words-of, words-of-join}
+use Rattle.format.proofs.Words.{Placed, length-words-of}
 use Rattle.octets.specs.Cleared.{cleared}
 use Rattle.octets.proofs.Cleared.{cleared-all, cleared-sets}
 use Rattle.terms.specs.declared.Step.{Step}

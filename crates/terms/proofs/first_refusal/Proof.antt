@@ -1,9 +1,8 @@
+-- `terms::first_refusal` meets its contract. Assumes nothing.
 use Rattle.terms.proofs.Message.{first-places, first-lengths, first-long, first-none}
 use Rattle.heads.specs.Code.{lent}
 use Rattle.terms.proofs.first_refusal.Statement.{statement}
 use Rattle.terms.proofs.first_refusal.Tie as tie
-use Rattle.terms.proofs.first_refusal.Reads as reads
-use Rattle.terms.proofs.first_refusal.Lts as lts
 
 returns : tie.Need-returns
 returns c = λ n. first-places (lent n _ _) _ (c .if1 .taken)

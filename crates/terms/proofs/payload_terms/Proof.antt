@@ -1,11 +1,9 @@
+-- `terms::payload_terms` meets its contract. Assumes nothing.
 use Rattle.terms.proofs.Message.{payload-one, payload-refused, payload-over, payload-second-refused, payload-two}
 use Rattle.terms.proofs.Runs.{room-after}
 use borrow.Author.Needs.{needs}
 use Rattle.terms.proofs.payload_terms.Statement.{statement}
 use Rattle.terms.proofs.payload_terms.Tie as tie
-use Rattle.terms.proofs.payload_terms.Reads as reads
-use Rattle.terms.proofs.payload_terms.Lts as lts
-use Rattle.terms.proofs.read_outermost.Reads as read-outermost-reads
 
 read-outermost-requires : tie.Need-read-outermost-requires
 read-outermost-requires c κs = search needs

@@ -1,11 +1,9 @@
+-- `terms::put_characters` meets its contract. The loop has stored the rows of the first i characters. Assumes nothing.
 use Rattle.terms.proofs.Characters.{Put, put-none, put-more, put-all}
 use native.Mathlib.Omega.{arith}
 use Prim.Native.Nat.{_-_, _≤_}
 use Rattle.terms.proofs.put_characters.Statement.{statement}
 use Rattle.terms.proofs.put_characters.Tie as tie
-use Rattle.terms.proofs.put_characters.Reads as reads
-use Rattle.terms.proofs.put_characters.Lts as lts
-use Rattle.row.proofs.pack.Reads as pack-reads
 
 abbrev Inv-loop : tie.InvT-loop
 Inv-loop table₀ at count row whole i₀ table i = (i ≤ count) × Put table₀ at row whole table i

@@ -1,12 +1,10 @@
+-- `terms::read_characters` meets its contract. Assumes nothing.
 use Rattle.terms.proofs.Characters.{characters-none, characters-deep, characters-full, characters-got}
 use native.Mathlib.Omega.{arith}
 use mathlib.Core.Path.{refl}
 use borrow.Author.Needs.{needs}
 use Rattle.terms.proofs.read_characters.Statement.{statement}
 use Rattle.terms.proofs.read_characters.Tie as tie
-use Rattle.terms.proofs.read_characters.Reads as reads
-use Rattle.terms.proofs.read_characters.Lts as lts
-use Rattle.terms.proofs.put_characters.Reads as put-characters-reads
 
 returns : tie.Need-returns
 returns c = λ atoms m cs same near. characters-none atoms m cs _ _ _ _ _ _ _ _ _ _ same (c .if1 .taken) near (omega arith) refl

@@ -1,10 +1,8 @@
+-- `terms::read_outermost` meets its contract. Assumes nothing.
 use Rattle.heads.specs.Code.{wanted-of}
 use borrow.Author.Needs.{needs}
 use Rattle.terms.proofs.read_outermost.Statement.{statement}
 use Rattle.terms.proofs.read_outermost.Tie as tie
-use Rattle.terms.proofs.read_outermost.Reads as reads
-use Rattle.terms.proofs.read_outermost.Lts as lts
-use Rattle.terms.proofs.read_term.Reads as read-term-reads
 
 read-term-requires : tie.Need-read-term-requires
 read-term-requires c κs = search needs

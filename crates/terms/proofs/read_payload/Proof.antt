@@ -1,14 +1,9 @@
+-- `terms::read_payload` meets its contract. Assumes nothing.
 use Rattle.terms.proofs.Message.{refused-first, read-whole, room-first}
 use Rattle.format.specs.Message.{payload}
 use borrow.Author.Needs.{needs}
 use Rattle.terms.proofs.read_payload.Statement.{statement}
 use Rattle.terms.proofs.read_payload.Tie as tie
-use Rattle.terms.proofs.read_payload.Reads as reads
-use Rattle.terms.proofs.read_payload.Lts as lts
-use Rattle.terms.proofs.at_most.Reads as at-most-reads
-use Rattle.terms.proofs.first_refusal.Reads as first-refusal-reads
-use Rattle.terms.proofs.payload_terms.Reads as payload-terms-reads
-use Rattle.terms.proofs.settle.Reads as settle-reads
 
 first-refusal-requires : tie.Need-first-refusal-requires
 first-refusal-requires c κs = search needs

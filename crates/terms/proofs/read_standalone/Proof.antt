@@ -1,14 +1,9 @@
+-- `terms::read_standalone` meets its contract. Assumes nothing.
 use Rattle.terms.proofs.Message.{refused-first, read-whole, room-first}
 use Rattle.format.specs.Message.{standalone}
 use borrow.Author.Needs.{needs}
 use Rattle.terms.proofs.read_standalone.Statement.{statement}
 use Rattle.terms.proofs.read_standalone.Tie as tie
-use Rattle.terms.proofs.read_standalone.Reads as reads
-use Rattle.terms.proofs.read_standalone.Lts as lts
-use Rattle.terms.proofs.at_most.Reads as at-most-reads
-use Rattle.terms.proofs.first_refusal.Reads as first-refusal-reads
-use Rattle.terms.proofs.settle.Reads as settle-reads
-use Rattle.terms.proofs.standalone_terms.Reads as standalone-terms-reads
 
 first-refusal-requires : tie.Need-first-refusal-requires
 first-refusal-requires c κs = search needs

@@ -1,11 +1,9 @@
+-- `terms::settle` meets its contract. Assumes nothing.
 use Rattle.terms.proofs.Message.{settled-terms, settled-refused}
 use mathlib.Core.Path.{sym}
 use borrow.Author.Needs.{needs}
 use Rattle.terms.proofs.settle.Statement.{statement}
 use Rattle.terms.proofs.settle.Tie as tie
-use Rattle.terms.proofs.settle.Reads as reads
-use Rattle.terms.proofs.settle.Lts as lts
-use Rattle.octets.proofs.clear_words.Reads as clear-words-reads
 
 enum-known-answer : tie.Need-enum-known-answer
 enum-known-answer c = search needs

@@ -1,10 +1,8 @@
+-- `terms::standalone_terms` meets its contract. Assumes nothing.
 use Rattle.terms.proofs.Message.{standalone-empty, standalone-other, standalone-refused, standalone-over, standalone-one}
 use borrow.Author.Needs.{needs}
 use Rattle.terms.proofs.standalone_terms.Statement.{statement}
 use Rattle.terms.proofs.standalone_terms.Tie as tie
-use Rattle.terms.proofs.standalone_terms.Reads as reads
-use Rattle.terms.proofs.standalone_terms.Lts as lts
-use Rattle.terms.proofs.read_outermost.Reads as read-outermost-reads
 
 returns : tie.Need-returns
 returns c = standalone-empty _ _ _ _ _ (c .if1 .taken)
