@@ -1,4 +1,4 @@
--- Demand 3 over the promises of the calls `read_standalone`, `read_payload`, `write_standalone` and `write_payload`, as one statement: `demand-3`, at the end.
+-- Demand 3 over the promises of the calls `write_standalone`, `write_payload` and `read_standalone`, as one statement: `demand-3`, at the end.
 use mathlib.Core.Path.{_≡_, _∙_, ap, ap₂}
 use mathlib.Core.Logic.{_↔_}
 use mathlib.Core.Bool.{true}
@@ -27,7 +27,6 @@ use Rattle.format.proofs.Demand as definitions
 use Rattle.format.proofs.Demand.{Accepted-term, Read-again}
 use Rattle.heads.specs.Code.{lent}
 use Rattle.terms.proofs.read_standalone.Reads as read-standalone
-use Rattle.terms.proofs.read_payload.Reads as read-payload
 use Rattle.canon.proofs.write_standalone.Reads as write-standalone
 use Rattle.canon.proofs.write_payload.Reads as write-payload
 
