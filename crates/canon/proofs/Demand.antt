@@ -1,16 +1,15 @@
--- Demand 3 over the promises of the calls `read_standalone`, `read_payload`, `write_standalone` and `write_payload`, as one statement: `demand-3`, at the end.
-use mathlib.Core.Path.{_≡_, refl, sym, _∙_, ap, ap₂}
+-- Demand 3 over the promises of the calls `write_standalone`, `write_payload` and `read_standalone`, as one statement: `demand-3`, at the end.
+use mathlib.Core.Path.{_≡_, _∙_, ap, ap₂}
 use mathlib.Core.Logic.{_↔_}
 use mathlib.Core.Bool.{true}
-use mathlib.Core.List.{List, [], _∷_, _++_, append-nil}
+use mathlib.Core.List.{List, _++_}
 use Prim.Native.Nat.{ℕ, _+_, _≤_}
 use native.Mathlib.Omega.{arith}
 use lib.ListN.{length, drop, replicate}
 use contract.Lifetimes.{Lfts}
-use borrow.Fn.Kinds.{endedOf, resT}
-use Rattle.format.specs.Tree.{Forest, node, _▹_, count, size, sizes}
-use Rattle.format.specs.Term.{Label, Term}
-use Rattle.format.specs.Answer.{Answer, good, refused}
+use Rattle.format.specs.Tree.{Forest, _▹_, count, size, sizes}
+use Rattle.format.specs.Term.{Term}
+use Rattle.format.specs.Answer.{good}
 use Rattle.format.specs.AtomList.{AtomList, of-size}
 use Rattle.format.specs.Reading.{Located, meaning}
 use Rattle.format.specs.Message.{Framing, standalone, payload, Terms, meanings, read}
@@ -28,7 +27,6 @@ use Rattle.format.proofs.Demand as definitions
 use Rattle.format.proofs.Demand.{Accepted-term, Read-again}
 use Rattle.heads.specs.Code.{lent}
 use Rattle.terms.proofs.read_standalone.Reads as read-standalone
-use Rattle.terms.proofs.read_payload.Reads as read-payload
 use Rattle.canon.proofs.write_standalone.Reads as write-standalone
 use Rattle.canon.proofs.write_payload.Reads as write-payload
 

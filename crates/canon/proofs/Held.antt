@@ -1,29 +1,21 @@
 -- What a table says of the terms whose rows stand in it.
-use mathlib.Core.Path.{_≡_, refl, sym, _∙_, ap, ap₂}
-use mathlib.Core.Bool.{Bool, true, false}
-use mathlib.Core.List.{List, [], _∷_, _++_}
-use mathlib.Core.Option.{Option, none, some}
-use Prim.Native.Nat.{ℕ, zero, suc, _+_, _-_, _^_, _≤_, _<_}
+use mathlib.Core.Path.{_≡_, refl, sym, _∙_, ap₂}
+use mathlib.Core.List.{List}
+use mathlib.Core.Option.{none, some}
+use Prim.Native.Nat.{ℕ, suc, _+_, _≤_, _<_}
 use native.Mathlib.Omega.{arith}
-use lib.Dec.{eqb}
 use lib.ListN.{length, getD}
-use borrow.Author.Tests.{eq-eqb, ne-eqb}
-use Rattle.format.specs.Tree.{Tree, Forest, node, _▹_, count, size, sizes, relabels}
-use Rattle.format.specs.Term.{Label, Term, integer, float, atom, tuple, list, improper-list, binary, bitstring, map, pid, port, reference, export}
-use Rattle.format.specs.Reading.{Place, tag-at, character-at, Located, meaning}
+use Rattle.format.specs.Tree.{Forest, node, _▹_, count, size, sizes}
+use Rattle.format.specs.Term.{Label, integer, float, atom, tuple, list, improper-list, binary, bitstring, map, pid, port, reference, export}
+use Rattle.format.specs.Reading.{Place, tag-at, character-at, Located}
 use Rattle.format.specs.Message.{Terms, meanings}
-use Rattle.format.specs.Rows.{kind-of, kind-at, offset-of, whole-code, kind-in, offset-in, parts-in, size-in}
-use Rattle.format.specs.Canonical.{small, all-small, canonical, canonicals}
+use Rattle.format.specs.Rows.{kind-of, kind-at, offset-of, whole-code, kind-in, parts-in, size-in}
 use Rattle.format.proofs.Valid.{Fits, Improper}
-use Rattle.format.proofs.Rows.{Each-node, Each-nodes, count-le-sizes, count-relabels}
-use Rattle.format.proofs.Words.{Between, kind-of-range, kind-at-range, Small-row, Word-of, row-of, Tree-here, Rows-here, first-here, others-here, parts-here, node-here, node-packed, node-below}
+use Rattle.format.proofs.Rows.{Each-node, count-le-sizes, count-relabels}
+use Rattle.format.proofs.Words.{Between, kind-at-range, Small-row, Word-of, row-of, first-here, others-here, parts-here, node-packed, node-below}
 use Rattle.contents.specs.Found.{content-of}
-use Rattle.contents.specs.Meaning.{label-of}
-use Rattle.fields.specs.Sound.{Sound, listed-in, content-in, label-in, before-in, after-in, Sound-word, character-code}
-use Rattle.fields.specs.Shape.{before, after, some-small}
-use Rattle.fields.proofs.Shape.{canonical-parts, canonical-string}
-use Rattle.canon.specs.Held.{Writable, Held, Held-run, as-string, is-some}
-use Rattle.canon.specs.Code.{string-term, Some-term, Some-run}
+use Rattle.fields.specs.Sound.{content-in, label-in, Sound-word}
+use Rattle.canon.specs.Held.{Writable, Held, Held-run}
 
 -- ---- kinds and labels
 

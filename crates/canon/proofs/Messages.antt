@@ -1,18 +1,17 @@
 -- Standalone terms one after the other, and what writing a message answers.
 use mathlib.Core.Path.{_≡_, refl, sym, _∙_, ap, ap₂, subst}
 use mathlib.Core.Bool.{Bool, true, false}
-use mathlib.Core.List.{List, [], _∷_, _++_, append-assoc}
-use Prim.Native.Nat.{ℕ, zero, suc, _+_, _*_, _-_, _≤_, _<_}
+use mathlib.Core.List.{List, [], _∷_, _++_}
+use Prim.Native.Nat.{ℕ, suc, _+_, _≤_, _<_}
 use native.Mathlib.Omega.{arith}
-use lib.Dec.{leb}
-use lib.ListN.{length, take, drop, replicate, length-append}
+use lib.ListN.{length, take, drop, length-append}
 use lib.Seq.{sets, sets-eq}
-use borrow.Author.Tests.{le-leb, lt-leb}
-use Rattle.format.specs.Tree.{Forest, node, _▹_, count, size, sizes}
+use borrow.Author.Tests.{lt-leb}
+use Rattle.format.specs.Tree.{Forest, _▹_, count, sizes}
 use Rattle.format.specs.Numbers.{in-bytes}
 use Rattle.format.specs.Term.{Label, Term}
 use Rattle.format.specs.Answer.{Answer, good, refused}
-use Rattle.format.specs.Reading.{Located, meaning}
+use Rattle.format.specs.Reading.{meaning}
 use Rattle.format.specs.AtomList.{AtomList}
 use Rattle.format.specs.Message.{Framing, Terms, meanings, read}
 use Rattle.format.specs.Rows.{table-after}
@@ -25,14 +24,14 @@ use Rattle.format.specs.declared.ReadAnswer.the-variants as reads
 use Rattle.format.specs.declared.WriteAnswer.{WriteAnswer}
 use Rattle.format.specs.declared.WriteAnswer.the-variants as writes
 use Rattle.format.proofs.Text.{Under}
-use Rattle.format.proofs.Rows.{count-relabels, count-le-sizes}
+use Rattle.format.proofs.Rows.{count-le-sizes}
 use Rattle.format.proofs.Demand.{written-good}
 use Rattle.octets.specs.Cleared.{cleared}
 use Rattle.octets.proofs.Cleared.{cleared-all}
 use Rattle.octets.proofs.Numbers.{bytes-one}
 use Rattle.layout.specs.Layout.{Put}
-use Rattle.layout.proofs.Puts.{put-then, put-length}
-use Rattle.canon.specs.Held.{Held, Held-run}
+use Rattle.layout.proofs.Puts.{put-then}
+use Rattle.canon.specs.Held.{Held-run}
 use Rattle.canon.specs.Code.{Term-put, Term-fits, Run-put, Run-fits, Run-length, Some-run, Rows-written}
 use Rattle.canon.proofs.Strings.{count-meanings}
 use Rattle.canon.proofs.Read.{read-held}

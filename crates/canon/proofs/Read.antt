@@ -3,19 +3,19 @@ use mathlib.Core.Path.{_≡_, refl, sym, _∙_, ap, subst}
 use mathlib.Core.Bool.{Bool, true, false, _&&_}
 use mathlib.Core.List.{List, [], _∷_}
 use mathlib.Core.Option.{none}
-use Prim.Native.Nat.{ℕ, zero, suc, _+_, _*_, _-_, _≤_, _<_, min}
+use Prim.Native.Nat.{ℕ, zero, suc, _+_, _≤_, _<_, min}
 use native.Mathlib.Omega.{arith}
 use lib.Dec.{eqb, leb}
-use lib.ListN.{length, getD, take, drop}
+use lib.ListN.{length}
 use borrow.Author.Tests.{leb-true, eqb-true}
-use Rattle.format.specs.Tree.{Forest, node, _▹_, count, size, sizes}
-use Rattle.format.specs.Text.{Checked, valid, invalid-at, utf-8, check, encodes}
-use Rattle.format.specs.Term.{Label, Term, integer, list, bitstring}
+use Rattle.format.specs.Tree.{Forest, node, _▹_, size, sizes}
+use Rattle.format.specs.Text.{Checked, valid, encodes}
+use Rattle.format.specs.Term.{Label, list, bitstring}
 use Rattle.format.specs.Answer.{Answer, good, refused, Position, Reading, after, done}
 use Rattle.format.specs.Head.{Atoms, Head, any, bits-rule, bits-meaning, clear-low, head}
 use Rattle.format.specs.Reading.{Place, tag-at, character-at, Located, meaning, term}
 use Rattle.format.specs.AtomList.{AtomList, of-size, atoms-of}
-use Rattle.format.specs.Message.{Framing, standalone, payload, Terms, meanings, ending, version, found, first-check, standalone-term, payload-terms, terms-framed, read}
+use Rattle.format.specs.Message.{Framing, standalone, payload, Terms, meanings, ending, found, first-check, standalone-term, payload-terms, terms-framed, read}
 use Rattle.format.specs.Rows.{kind-of, kind-at, offset-of, whole-code, table-after}
 use Rattle.format.proofs.Steps.{spot}
 use Rattle.format.proofs.Text.{Under, utf8-spelt}
@@ -26,7 +26,7 @@ use Rattle.format.proofs.Accepted.{Found, term-holds}
 use Rattle.format.proofs.Bridge.{at-offset}
 use Rattle.format.proofs.Invariant.{In-step, on-byte}
 use Rattle.format.proofs.Backed.{Head-at, Label-at, Backed, Backeds, term-backed}
-use Rattle.format.proofs.Rows.{Each-node, Each-nodes, size-meaning, sizes-meanings}
+use Rattle.format.proofs.Rows.{Each-node, Each-nodes, size-meaning}
 use Rattle.format.proofs.Words.{table-rows}
 use Rattle.format.proofs.Demand.{list-true}
 use Rattle.contents.specs.declared.Content.{Content}
@@ -39,7 +39,7 @@ use Rattle.contents.proofs.Again.{content-says}
 use Rattle.contents.proofs.Read.{position-is, head-here}
 use Rattle.layout.specs.Layout.{source, stretch, Inside}
 use Rattle.layout.proofs.Bodies.{length-bits}
-use Rattle.fields.specs.Sound.{Spelt, High, Sound, listed-in}
+use Rattle.fields.specs.Sound.{Spelt, Sound, listed-in}
 use Rattle.canon.specs.Held.{Writable, Held-run}
 
 -- ---- the terms of an accepted message

@@ -1,23 +1,22 @@
 -- Lists of integers 0 to 255: whether a run is one, and its characters written.
 use mathlib.Core.Path.{_≡_, refl, sym, _∙_, ap, ap₂}
 use mathlib.Core.Bool.{Bool, true, false, cond}
-use mathlib.Core.List.{List, [], _∷_, _++_}
+use mathlib.Core.List.{List, [], _∷_}
 use mathlib.Core.Option.{Option, none, some}
 use Prim.Native.Nat.{ℕ, zero, suc, _+_, _-_, _≤_, _<_}
 use native.Mathlib.Omega.{arith}
-use native.Mathlib.Numerals.{add-one}
 use lib.Dec.{eqb, ltb}
 use lib.IntN.{pos, negsuc}
 use lib.ListN.{length, getD}
 use lib.Seq.{sets}
 use borrow.Author.Tests.{ltb-true, eqb-true, eq-eqb, ne-eqb}
-use Rattle.format.specs.Tree.{Tree, Forest, node, _▹_, count, size, sizes, relabels}
+use Rattle.format.specs.Tree.{Forest, node, _▹_, count, sizes}
 use Rattle.format.specs.Numbers.{in-bytes}
 use Rattle.format.specs.Term.{Label, integer, float, atom, tuple, list, improper-list, binary, bitstring, map, pid, port, reference, export}
-use Rattle.format.specs.Reading.{Place, Located, meaning}
+use Rattle.format.specs.Reading.{Place, Located}
 use Rattle.format.specs.Message.{Terms, meanings}
-use Rattle.format.specs.Rows.{kind-of, kind-at, kind-in, parts-in}
-use Rattle.format.specs.Canonical.{small, put, all-small, canonical}
+use Rattle.format.specs.Rows.{kind-of, kind-in, parts-in}
+use Rattle.format.specs.Canonical.{small, put, all-small}
 use Rattle.format.proofs.Valid.{Fits}
 use Rattle.format.proofs.Rows.{count-relabels}
 use Rattle.octets.proofs.Numbers.{bytes-one}
@@ -25,7 +24,7 @@ use Rattle.layout.specs.Layout.{Put}
 use Rattle.fields.specs.Shape.{some-small}
 use Rattle.fields.specs.Sound.{label-in, Sound-word, character-code}
 use Rattle.canon.specs.Held.{Held, Held-run, as-string, is-some}
-use Rattle.canon.specs.Code.{string-term, Some-term, Some-run, Some-small, Small-told}
+use Rattle.canon.specs.Code.{string-term, Some-run, Small-told}
 use Rattle.canon.proofs.Held.{run-first, run-others, held-parts, held-writable, held-below, held-kind, held-count, held-label, held-sound, kind-list, tag-kind}
 
 -- ---- small labels

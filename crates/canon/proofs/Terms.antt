@@ -1,34 +1,32 @@
 -- A term's canonical form from its own bytes and those of its parts; runs of terms one after the other.
 use mathlib.Core.Path.{_≡_, refl, sym, _∙_, ap, ap₂}
-use mathlib.Core.Bool.{Bool, true, false}
-use mathlib.Core.List.{List, [], _∷_, _++_, append-assoc}
-use mathlib.Core.Option.{Option, none, some}
-use Prim.Native.Nat.{ℕ, zero, suc, _+_, _*_, _-_, _≤_, _<_}
+use mathlib.Core.Bool.{true, false}
+use mathlib.Core.List.{List, [], _∷_, _++_}
+use mathlib.Core.Option.{none, some}
+use Prim.Native.Nat.{ℕ, suc, _+_, _*_, _-_, _≤_, _<_}
 use native.Mathlib.Omega.{arith}
-use lib.Dec.{eqb}
 use lib.ListN.{length, getD, length-append}
-use lib.Seq.{sets, length-sets}
-use borrow.Author.Tests.{eqb-true}
-use Rattle.format.specs.Tree.{Tree, Forest, node, _▹_, count, size, sizes, relabels}
+use lib.Seq.{sets}
+use Rattle.format.specs.Tree.{Forest, node, _▹_, count, size, sizes}
 use Rattle.format.specs.Numbers.{in-bytes}
-use Rattle.format.specs.Term.{Label, Term, list}
+use Rattle.format.specs.Term.{Label, Term}
 use Rattle.format.specs.Reading.{Place, Located, meaning}
 use Rattle.format.specs.Message.{Terms, meanings}
-use Rattle.format.specs.Rows.{kind-of, kind-in, parts-in, size-in}
+use Rattle.format.specs.Rows.{kind-of, parts-in, size-in}
 use Rattle.format.specs.Canonical.{all-small, canonical, canonicals}
 use Rattle.format.proofs.Numbers.{length-in-bytes}
-use Rattle.format.proofs.Rows.{count-le-sizes, count-relabels}
+use Rattle.format.proofs.Rows.{count-le-sizes}
 use Rattle.octets.proofs.Numbers.{bytes-one}
 use Rattle.octets.proofs.Stores.{sets-at}
 use Rattle.layout.specs.Layout.{Put}
 use Rattle.layout.proofs.Puts.{put-then, put-same, put-length}
-use Rattle.fields.specs.Shape.{before, after, some-small}
+use Rattle.fields.specs.Shape.{before, after}
 use Rattle.fields.specs.Sound.{label-in, before-in, after-in, Sound-word}
 use Rattle.fields.proofs.Shape.{canonical-parts, canonical-string}
-use Rattle.canon.specs.Held.{Held, Held-run, as-string, is-some}
-use Rattle.canon.specs.Code.{string-term, Some-term, Some-run, Some-small, String-put, Run-length, Run-put, Term-length, Term-put, Run-fits, Term-fits}
-use Rattle.canon.proofs.Held.{run-first, run-others, held-parts, held-writable, held-below, held-count, held-size, held-label, held-sound, kind-list}
-use Rattle.canon.proofs.Strings.{Front, front, run-below, all-small-length, as-list, as-inverse, small-is, some-told, none-told, count-meanings}
+use Rattle.canon.specs.Held.{Held, Held-run, as-string}
+use Rattle.canon.specs.Code.{string-term, Some-term, Some-small, String-put, Run-length, Run-put, Term-length, Term-put, Run-fits, Term-fits}
+use Rattle.canon.proofs.Held.{held-parts, held-writable, held-count, held-size, held-label, held-sound}
+use Rattle.canon.proofs.Strings.{front, run-below, all-small-length, as-list, as-inverse, small-is, some-told, none-told, count-meanings}
 
 -- ---- a string
 

@@ -2,15 +2,15 @@
 use mathlib.Core.Path.{_≡_}
 use mathlib.Core.Bool.{Bool}
 use mathlib.Core.List.{List, _∷_, _++_}
-use mathlib.Core.Option.{Option, some}
+use mathlib.Core.Option.{some}
 use Prim.Native.Nat.{ℕ, _+_, _*_, _≤_}
 use lib.ListN.{length}
-use Rattle.format.specs.Tree.{Forest, node, _▹_, count, size, sizes}
+use Rattle.format.specs.Tree.{Forest, node, count, size, sizes}
 use Rattle.format.specs.Numbers.{in-bytes}
 use Rattle.format.specs.Term.{Label, Term}
 use Rattle.format.specs.Reading.{Located, meaning}
 use Rattle.format.specs.Message.{Terms, meanings}
-use Rattle.format.specs.Canonical.{all-small, canonical, canonicals}
+use Rattle.format.specs.Canonical.{all-small}
 use Rattle.format.specs.Answer.{good}
 use Rattle.format.specs.Writing.{written, output-after}
 use Rattle.format.specs.Answers.{write-answer}

@@ -5,7 +5,7 @@ use mathlib.Core.List.{List}
 use mathlib.Core.Option.{Option, none, some}
 use Prim.Native.Nat.{ℕ, _+_, _≤_, _<_}
 use lib.Dec.{eqb}
-use Rattle.format.specs.Tree.{Forest, node, count, size, sizes}
+use Rattle.format.specs.Tree.{Forest, count, size, sizes}
 use Rattle.format.specs.Term.{Label, list}
 use Rattle.format.specs.Reading.{Place, Located}
 use Rattle.format.specs.Message.{Terms, meanings}

@@ -3,16 +3,16 @@ use mathlib.Core.Path.{_≡_, refl, sym, _∙_, ap}
 use mathlib.Core.Bool.{Bool, true, false, cond}
 use mathlib.Core.List.{List, [], _∷_, _++_, append-assoc, append-nil}
 use mathlib.Core.Option.{Option, none, some}
-use Prim.Native.Nat.{ℕ, zero, suc, _+_, _-_, _/_, _^_, _≤_, _<_}
+use Prim.Native.Nat.{ℕ, zero, suc, _^_, _≤_}
 use native.Mathlib.Omega.{arith}
 use lib.Dec.{ltb, leb}
 use lib.ListN.{length}
 use borrow.Author.Tests.{le-leb}
-use Rattle.format.specs.Tree.{Tree, Forest, node, _▹_, count}
+use Rattle.format.specs.Tree.{Forest, node, _▹_, count}
 use Rattle.format.specs.Numbers.{in-bytes}
 use Rattle.format.specs.Text.{encodes}
-use Rattle.format.specs.Term.{Label, Term, integer, float, atom, tuple, list, improper-list, binary, bitstring, map, pid, port, reference, export}
-use Rattle.format.specs.Canonical.{integer-bytes, atom-bytes, tuple-bytes, port-bytes, words-bytes, all-small, long-list, list-bytes, term-bytes, canonical, canonicals}
+use Rattle.format.specs.Term.{Label, integer, float, atom, tuple, list, improper-list, binary, bitstring, map, pid, port, reference, export}
+use Rattle.format.specs.Canonical.{integer-bytes, atom-bytes, tuple-bytes, port-bytes, all-small, long-list, list-bytes, term-bytes, canonical, canonicals}
 use Rattle.format.proofs.Valid.{Fits}
 use Rattle.fields.specs.Shape.{list-start, list-end, before, after, some-small}
 

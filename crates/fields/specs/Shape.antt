@@ -1,15 +1,14 @@
 -- The canonical form of a term that is written part by part: bytes before its parts, and bytes after them.
-use mathlib.Core.Bool.{Bool, true, false, cond}
+use mathlib.Core.Bool.{cond}
 use mathlib.Core.List.{List, [], _∷_, _++_}
-use mathlib.Core.Option.{Option, none, some}
+use mathlib.Core.Option.{Option, none}
 use Prim.Native.Nat.{ℕ, zero, suc, _-_, _/_, _^_}
 use lib.Dec.{ltb}
 use lib.ListN.{length}
-use Rattle.format.specs.Tree.{Tree, Forest, node, _▹_}
 use Rattle.format.specs.Numbers.{in-bytes}
 use Rattle.format.specs.Text.{encodes}
 use Rattle.format.specs.Term.{Label, integer, float, atom, tuple, list, improper-list, binary, bitstring, map, pid, port, reference, export}
-use Rattle.format.specs.Canonical.{integer-bytes, atom-bytes, tuple-bytes, words-bytes, all-small}
+use Rattle.format.specs.Canonical.{integer-bytes, atom-bytes, tuple-bytes, words-bytes}
 
 -- a tag, a number in its width, and a body
 unfoldable pub tagged-bytes : ℕ → ℕ → ℕ → List ℕ → List ℕ

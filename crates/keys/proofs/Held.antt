@@ -45,7 +45,7 @@ module _ (message : List ℕ) (cap : ℕ) (atoms : Atoms) where
     backed-tree-rows : (whole : Option ℕ) (n : ℕ) (t : Located) → Backed message cap atoms t → Each-row Backed-row (tree-rows whole n t)
     backed-tree-rows whole n (node l ts) b = (b .0, backed-rows (some n) (n + 1) ts (b .1))
 
-    backed-rows : (whole : Option ℕ) (n : ℕ) (ts : Terms) → Backeds message cap atoms ts → Each-row Backed-row (rows whole n ts)
+    pub backed-rows : (whole : Option ℕ) (n : ℕ) (ts : Terms) → Backeds message cap atoms ts → Each-row Backed-row (rows whole n ts)
     backed-rows whole n none b = tt
     backed-rows whole n (t ▹ ts) b =
         each-row-join Backed-row (tree-rows whole n t) (rows whole (n + size t) ts) (backed-tree-rows whole n t (b .0)) (backed-rows whole (n + size t) ts (b .1))

@@ -1,3 +1,4 @@
 pub mod Compare
 pub mod Steps
 pub mod Held
+pub mod Accepted

@@ -12,7 +12,7 @@ use row::parts_in;
 use row::size_in;
 
 // The word at an index of the table, 0 past its end.
-fn word_at(table: &[u64], i: usize) -> u64
+pub fn word_at(table: &[u64], i: usize) -> u64
     ensures { λ r. ⌜ r ≡ getD (now (table .entry)) i 0 ⌝ }
 {
     if i < table.len() {

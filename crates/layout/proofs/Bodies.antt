@@ -1,6 +1,6 @@
 -- The bytes of a body, case by case, and of a layout.
 use mathlib.Core.Path.{_≡_, refl, sym, _∙_, ap}
-use mathlib.Core.Bool.{Bool, true, false}
+use mathlib.Core.Bool.{Bool}
 use mathlib.Core.List.{List, [], _∷_, _++_}
 use Prim.Native.Nat.{ℕ, zero, suc, _+_, _-_, _%_, _^_, _≤_, _<_}
 use native.Mathlib.Nat.{div-add-mod'}
@@ -18,7 +18,7 @@ use Rattle.octets.proofs.Stores.{sets-at}
 use Rattle.layout.specs.declared.Body.{Body}
 use Rattle.layout.specs.declared.Body.the-variants.{Empty, Part, Latin1, Digits, Bits}
 use Rattle.layout.specs.declared.Layout.{Layout}
-use Rattle.layout.specs.Layout.{source, stretch, body-bytes, layout-bytes, number-bytes, Inside, Body-inside, Layout-inside, Put, Lays, laid-of}
+use Rattle.layout.specs.Layout.{source, stretch, body-bytes, layout-bytes, Inside, Body-inside, Put, Lays, laid-of}
 use Rattle.layout.proofs.Puts.{put-then}
 
 pub rest-le : (n u : ℕ) → n % u ≤ n

@@ -18,15 +18,12 @@ use Rattle.packets.specs.Memory.{cache-of, list-lent, Memory, cache-of-size, me
 use Rattle.packets.specs.Packet.{Kind, normal, starting, continuing, opening, Packet, rest, packet, judged}
 use Rattle.packets.specs.Calls.{taken, left-after, take-packet, after-packet}
 use Rattle.packets.specs.Answers.{packet-answer, taken-answer}
-use Rattle.packets.proofs.Cache.{Sized, sized, both}
+use Rattle.packets.proofs.Cache.{both}
 use Rattle.packets.specs.declared.PacketAnswer.the-variants as packets
 use Rattle.link.specs.Code.{OpensPacket, Takes}
 use Rattle.link.specs.declared.Kind.the-variants as kinds
 
 -- ---- sizes
-
-pub sizes-of : (places lengths : List ℕ) → cache-of-size (cache-of places lengths) ≡ true → (length places ≡ 65536) × (length lengths ≡ 2048)
-sizes-of places lengths e = let s : Sized (cache-of places lengths) = sized (cache-of places lengths) e in (s .places-are, s .lengths-are)
 
 pub list-sizes : (n : ℕ) (places lengths : List ℕ) → of-size (list-lent n places lengths) ≡ true → (length places ≡ 8160) × (length lengths ≡ 255)
 unfolding of-size
@@ -49,13 +46,9 @@ module _ (m : Memory) where
       unfolding memory-of-size
       pending-not c = rw (a, b, c)
 
-      pub gather-not : of-size (m .pending-list) ≡ true → (length (m .gather) ≡ 65536 → ⊥) → memory-of-size m ≡ false
+      pub gather-if : of-size (m .pending-list) ≡ true → eqb (length (m .gather)) 65536 ≡ memory-of-size m
       unfolding memory-of-size
-      gather-not c d = rw (a, b, c, ne-eqb (length (m .gather)) 65536 d)
-
-      pub all-right : of-size (m .pending-list) ≡ true → length (m .gather) ≡ 65536 → memory-of-size m ≡ true
-      unfolding memory-of-size
-      all-right c d = rw (a, b, c, eq-eqb (length (m .gather)) 65536 d)
+      gather-if c = rw (a, b, c)
 
 -- ---- what the call answers and leaves, by how the packet is judged
 

@@ -8,8 +8,10 @@ use Rattle.format.specs.Answer.{Answer, good, refused, Position, Reading, _>>=_
 use Rattle.format.proofs.Bridge.{at-offset}
 use Rattle.format.specs.AtomList.{AtomList}
 use Rattle.format.specs.Message.{found as result-of}
+use Rattle.packets.specs.declared.Pending.{Pending}
 use Rattle.packets.specs.declared.Taken.{Taken}
 use Rattle.packets.specs.declared.PacketAnswer.{PacketAnswer}
+use Rattle.packets.specs.declared.PacketAnswer.the-variants as packets
 use Rattle.packets.specs.Memory.{Cache, Memory, Held, text}
 use Rattle.packets.specs.Header.{Reference, reference, references, header}
 use Rattle.packets.specs.Packet.{normal, starting, continuing, ids, opening, Packet, payload-after}
@@ -86,6 +88,10 @@ Heads o s c list c′ list′ (headeds.Payload offset size) = TakesHeader o s c 
 -- what a fragment answers and leaves in the record
 unfoldable pub settled : ℕ → ℕ → ℕ → Taken
 settled sequence fragment gathered = record { answer = outcome-case (told-after fragment gathered); pending = record-after sequence fragment gathered }
+
+-- a refused packet: its number, and the record as it was
+abbrev pub refusal : ℕ → Pending → Taken
+refusal number r = record { answer = packets.Refused (record { number = number; place = 0 }); pending = r }
 
 -- a packet judged so: what the call answers, and all memory after it
 pub record Takes (m : Memory) (o : Answer Packet) (answer : PacketAnswer) (m′ : Memory) : Type 0 where

@@ -1,26 +1,19 @@
 // The packet calls: taking a packet, dropping the pending sequence, a reset, the place that a reference names, the text that a place holds.
 ghost use mathlib.Core.Path.{_≡_};
-ghost use mathlib.Core.Bool.{Bool, true, false};
-ghost use mathlib.Core.List.{List, []};
-ghost use Prim.Native.Nat.{ℕ, _+_, _*_, _/_, _≤_, _<_};
-ghost use lib.ListN.{length, take, drop, replicate};
-ghost use lib.Seq.{sets};
-ghost use Rattle.packets.specs.Memory.{cache-of};
-ghost use Rattle.packets.specs.Answers.{drop-answer, reset-answer, text-answer};
-ghost use Rattle.packets.specs.Look.{text-of-place};
-ghost use Rattle.link.specs.Code.{IdsAre, OpensPacket, Passes, HeaderRead, NamedAt, named-in, headed, Heads, settled, Takes};
+ghost use mathlib.Core.List.{List};
+ghost use Prim.Native.Nat.{ℕ, _≤_, _<_};
+ghost use lib.ListN.{length};
+ghost use Rattle.packets.specs.Memory.{cache-of, Cache, list-lent, memory-of, held, cache-of-size, memory-of-size};
+ghost use Rattle.packets.specs.Answers.{drop-answer, reset-answer, text-answer, taken-answer, coding-of, place-answer};
+ghost use Rattle.packets.specs.Look.{text-of-place, place-of-reference};
+ghost use Rattle.link.specs.Code.{IdsAre, OpensPacket, Passes, HeaderRead, NamedAt, named-in, headed, Heads, settled, refusal, Takes};
 ghost use Rattle.format.specs.AtomList.{AtomList, of-size};
 ghost use Rattle.format.specs.Message.{found};
 ghost use Rattle.packets.specs.declared.Pending.{Pending};
-ghost use Rattle.packets.specs.Memory.{Cache, list-lent, memory-of, held, cache-of-size, Held};
 ghost use Rattle.packets.specs.Packet.{normal, starting, continuing, rest};
 ghost use Rattle.packets.specs.Calls.{after-packet, cache-after-reset};
-ghost use Rattle.packets.specs.Answers.{taken-answer};
 ghost use Rattle.format.specs.Text.{Coding};
 ghost use Rattle.format.proofs.Bridge.{at-offset};
-ghost use Rattle.packets.specs.Answers.{coding-of, place-answer};
-ghost use Rattle.packets.specs.Header.{flag-bytes};
-ghost use Rattle.packets.specs.Look.{place-of-reference};
 use format::Refusal;
 use headers::HeaderAnswer;
 use headers::Held;
@@ -415,6 +408,43 @@ fn settle(sequence: u64, fragment: u64, gathered: u64) -> Taken
     }
 }
 
+// Whether all lent memory is of its stated size.
+fn memory_fits(
+    places: &[u8],
+    lengths: &[u16],
+    texts: &[u8],
+    sizes: &[u16],
+    kept: &[u8],
+    extents: &[u16],
+    gather: &[u8],
+) -> bool
+    ensures { λ r. ⌜ ((n count : ℕ) (pending : Pending) → r ≡ memory-of-size (memory-of (cache-of (now (places .entry)) (now (lengths .entry))) (list-lent n (now (texts .entry)) (now (sizes .entry))) (list-lent count (now (kept .entry)) (now (extents .entry))) pending (now (gather .entry)))) ⌝ }
+{
+    if !cache_fits(places, lengths) {
+        return false;
+    }
+    if !list_fits(texts, sizes) {
+        return false;
+    }
+    if !list_fits(kept, extents) {
+        return false;
+    }
+    gather.len() == 65536
+}
+
+// A refused packet: its number, and the record as it was.
+fn refused(number: u8, pending: Pending) -> Taken
+    ensures { λ r. ⌜ r ≡ refusal number pending ⌝ }
+{
+    Taken {
+        answer: PacketAnswer::Refused(Refusal {
+            number: number,
+            place: 0,
+        }),
+        pending: pending,
+    }
+}
+
 // Takes a plain packet: the list for it, the cache.
 fn take_plain(
     utf8: bool,
@@ -455,13 +485,7 @@ fn take_start(
     ensures { λ r. ⌜ ((plain : AtomList) → Takes (memory-of (cache-of (now (places .entry)) (now (lengths .entry))) plain (list-lent (now (n .entry)) (now (texts .entry)) (now (sizes .entry))) pending (now (gather .entry))) (found (rest (coding-of utf8) (held (cache-of (now (places .entry)) (now (lengths .entry)))) pending (starting sequence fragment) (at-offset (now (packet .entry)) 18 0))) (r .answer) (memory-of (cache-of (now (places .exit)) (now (lengths .exit))) plain (list-lent (now (n .exit)) (now (texts .exit)) (now (sizes .exit))) (r .pending) (now (gather .exit)))) ⌝ }
 {
     if pending.due != 0 {
-        return Taken {
-            answer: PacketAnswer::Refused(Refusal {
-                number: 26,
-                place: 0,
-            }),
-            pending: pending,
-        };
+        return refused(26, pending);
     }
     match take_header(utf8, packet, 18, places, lengths, n, texts, sizes) {
         Headed::Refused(refusal) => Taken {
@@ -487,42 +511,18 @@ fn take_continuation(
     ensures { λ r. ⌜ ((agreed : Coding) (cache : Cache) (plain kept : AtomList) → Takes (memory-of cache plain kept pending (now (gather .entry))) (found (rest agreed (held cache) pending (continuing sequence fragment) (at-offset (now (packet .entry)) 18 0))) (r .answer) (memory-of cache plain kept (r .pending) (now (gather .exit)))) ⌝ }
 {
     if pending.due == 0 {
-        return Taken {
-            answer: PacketAnswer::Refused(Refusal {
-                number: 25,
-                place: 0,
-            }),
-            pending: pending,
-        };
+        return refused(25, pending);
     }
     if sequence != pending.sequence {
-        return Taken {
-            answer: PacketAnswer::Refused(Refusal {
-                number: 25,
-                place: 0,
-            }),
-            pending: pending,
-        };
+        return refused(25, pending);
     }
     if fragment != pending.due {
-        return Taken {
-            answer: PacketAnswer::Refused(Refusal {
-                number: 24,
-                place: 0,
-            }),
-            pending: pending,
-        };
+        return refused(24, pending);
     }
     let size = packet.len() - 18;
     let before = pending.gathered as usize;
     if 65536 - before < size {
-        return Taken {
-            answer: PacketAnswer::Refused(Refusal {
-                number: 12,
-                place: 0,
-            }),
-            pending: pending,
-        };
+        return refused(12, pending);
     }
     octets::copy(packet, 18, gather, before, size);
     let gathered = before + size;
@@ -547,59 +547,14 @@ pub fn take_packet(
     ensures { λ r. ⌜ (r ≡ taken-answer (coding-of utf8) (memory-of (cache-of (now (places .entry)) (now (lengths .entry))) (list-lent (now (n .entry)) (now (texts .entry)) (now (sizes .entry))) (list-lent (now (count .entry)) (now (kept .entry)) (now (extents .entry))) pending (now (gather .entry))) (now (packet .entry)))
         × (memory-of (cache-of (now (places .exit)) (now (lengths .exit))) (list-lent (now (n .exit)) (now (texts .exit)) (now (sizes .exit))) (list-lent (now (count .exit)) (now (kept .exit)) (now (extents .exit))) (r .pending) (now (gather .exit)) ≡ after-packet (coding-of utf8) (memory-of (cache-of (now (places .entry)) (now (lengths .entry))) (list-lent (now (n .entry)) (now (texts .entry)) (now (sizes .entry))) (list-lent (now (count .entry)) (now (kept .entry)) (now (extents .entry))) pending (now (gather .entry))) (now (packet .entry))) ⌝ }
 {
-    if !cache_fits(places, lengths) {
-        return Taken {
-            answer: PacketAnswer::Refused(Refusal {
-                number: 13,
-                place: 0,
-            }),
-            pending: pending,
-        };
-    }
-    if !list_fits(texts, sizes) {
-        return Taken {
-            answer: PacketAnswer::Refused(Refusal {
-                number: 13,
-                place: 0,
-            }),
-            pending: pending,
-        };
-    }
-    if !list_fits(kept, extents) {
-        return Taken {
-            answer: PacketAnswer::Refused(Refusal {
-                number: 13,
-                place: 0,
-            }),
-            pending: pending,
-        };
-    }
-    if gather.len() != 65536 {
-        return Taken {
-            answer: PacketAnswer::Refused(Refusal {
-                number: 13,
-                place: 0,
-            }),
-            pending: pending,
-        };
+    if !memory_fits(places, lengths, texts, sizes, kept, extents, gather) {
+        return refused(13, pending);
     }
     if 65536 < pending.gathered {
-        return Taken {
-            answer: PacketAnswer::Refused(Refusal {
-                number: 14,
-                place: 0,
-            }),
-            pending: pending,
-        };
+        return refused(14, pending);
     }
     match open_packet(packet) {
-        Kind::Refused(number) => Taken {
-            answer: PacketAnswer::Refused(Refusal {
-                number: number,
-                place: 0,
-            }),
-            pending: pending,
-        },
+        Kind::Refused(number) => refused(number, pending),
         Kind::Plain => {
             let answer = take_plain(utf8, packet, places, lengths, n, texts, sizes);
             Taken {

@@ -1,41 +1,37 @@
 -- A term after its head: one law for each way through `read_term`, `read_body`, `read_inner` and `read_parts`. Assumes nothing.
-use mathlib.Core.Path.{_≡_, refl, sym, ap, ap₂, _∙_, subst}
-use mathlib.Core.List.{List, [], _∷_, _++_}
+use mathlib.Core.Path.{_≡_, sym, ap, ap₂, _∙_}
+use mathlib.Core.List.{List, []}
 use mathlib.Core.Option.{some}
-use Prim.Native.Nat.{ℕ, zero, suc, _+_, _-_, _≤_, _<_}
+use Prim.Native.Nat.{ℕ, suc, _+_, _-_, _≤_, _<_}
 use native.Mathlib.Omega.{arith}
 use native.Mathlib.Numerals.{add-one}
-use lib.ListN.{length, set, drop, replicate}
+use lib.ListN.{length, set, drop}
 use lib.Seq.{sets}
-use Rattle.format.specs.Tree.{Forest, node, none, _▹_, _▹▹_, count, size, sizes}
+use Rattle.format.specs.Tree.{node, count, sizes}
 use Rattle.format.specs.Term.{Label}
-use Rattle.format.specs.Answer.{Answer, good, refused, Position, Reading, after, done}
-use Rattle.format.specs.Head.{Atoms, Wanted, any, Head, parts, characters, elements, pairs, Later, later}
+use Rattle.format.specs.Answer.{Answer, Position, after, done}
+use Rattle.format.specs.Head.{Atoms, Wanted, Head, parts, characters, elements, pairs, later}
 use Rattle.format.specs.AtomList.{AtomList}
-use Rattle.format.specs.Reading.{Place, tag-at, Located, each, run, entries, string, tail, one-term, opening, row, whole, body, term}
+use Rattle.format.specs.Reading.{tag-at, each, run, entries, string, tail, one-term, opening, row, whole, body, term}
 use Rattle.format.specs.Message.{Terms}
-use Rattle.format.specs.Rows.{Row, tree-rows, rows, kind-of, kind-at, offset-of, whole-code, pack, Small-fields, word, words-of}
+use Rattle.format.specs.Rows.{tree-rows, rows, kind-of, kind-at, offset-of, whole-code, pack, Small-fields, word, words-of}
 use Rattle.format.proofs.Bridge.{at-offset}
-use Rattle.format.proofs.Rows.{Each-node, Each-nodes, count-le-sizes}
-use Rattle.format.proofs.Words.{Placed, Between, kind-of-range}
+use Rattle.format.proofs.Rows.{Each-node, count-le-sizes}
+use Rattle.format.proofs.Words.{Between, kind-of-range}
 use Rattle.octets.proofs.Stores.{set-before}
 use Rattle.heads.specs.declared.Head as code
 use Rattle.heads.specs.declared.Head.the-variants as heads
-use Rattle.heads.specs.declared.Later as code-later
 use Rattle.heads.specs.declared.Opening.{Opening}
-use Rattle.heads.specs.declared.Step as later-step
-use Rattle.heads.specs.declared.Step.the-variants as fields
-use Rattle.heads.specs.declared.Wanted.the-variants.{Any}
-use Rattle.heads.specs.Code.{wanted-of, kind-later, later-of, head-at, opening-of, step-of}
+use Rattle.heads.specs.Code.{head-at, opening-of}
 use Rattle.terms.specs.declared.Step.{Step}
 use Rattle.terms.specs.declared.Step.the-variants as step
 use Rattle.terms.specs.declared.Parts.{Parts}
 use Rattle.terms.specs.declared.Parts.the-variants as found
-use Rattle.terms.specs.Code.{whole-of, asked, Room, Fits, Sound, Opens, inner, Stored, Done, TermDone, RunDone, PartsDone}
+use Rattle.terms.specs.Code.{whole-of, Room, Sound, inner, Done, TermDone, PartsDone}
 use Rattle.terms.proofs.Characters.{code-of-whole, row-free, row-none}
-use Rattle.terms.proofs.Found.{Found, step-found, step-refused, Parts-found, parts-found, parts-refused, join-parts}
+use Rattle.terms.proofs.Found.{Parts-found, parts-found, parts-refused}
 use Rattle.terms.proofs.Openings.{Opened-at, opened-refused}
-use Rattle.terms.proofs.Runs.{after-same, after-after, run-each}
+use Rattle.terms.proofs.Runs.{after-same, after-after}
 
 -- ---- `read_term`
 

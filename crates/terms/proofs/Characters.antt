@@ -1,24 +1,20 @@
 -- The characters of a 107, and their rows. Assumes nothing.
 use mathlib.Core.Path.{_≡_, refl, sym, ap, ap₂, _∙_}
-use mathlib.Core.Bool.{Bool, true, false}
 use mathlib.Core.List.{List, [], _∷_, _++_}
-use mathlib.Core.Option.{Option, some}
 use Prim.Native.Nat.{ℕ, zero, suc, _+_, _-_, _≤_, _<_}
-use native.Mathlib.Nat.{add-zero}
 use native.Mathlib.Omega.{arith}
 use native.Mathlib.Numerals.{add-one}
-use lib.Dec.{ltb}
 use lib.IntN.{pos}
-use lib.ListN.{length, set, length-append, length-set}
-use lib.Seq.{sets, length-sets}
+use lib.ListN.{length, set, length-set}
+use lib.Seq.{sets}
 use borrow.Author.Tests.{lt-ltb, le-ltb}
-use Rattle.format.specs.Tree.{Forest, node, none, _▹_, count, size, sizes}
-use Rattle.format.specs.Term.{Label, integer, list}
-use Rattle.format.specs.Answer.{Answer, good, refused, Position}
+use Rattle.format.specs.Tree.{node, none, _▹_, count, sizes}
+use Rattle.format.specs.Term.{integer}
+use Rattle.format.specs.Answer.{good, refused}
 use Rattle.format.specs.Head.{Atoms, characters}
-use Rattle.format.specs.Reading.{Place, character-at, row, string}
+use Rattle.format.specs.Reading.{character-at, row, string}
 use Rattle.format.specs.Message.{Terms}
-use Rattle.format.specs.Rows.{Row, tree-rows, rows, kind-of, kind-at, offset-of, whole-code, pack, Small-fields, word, words-of}
+use Rattle.format.specs.Rows.{rows, kind-of, kind-at, offset-of, whole-code, pack, word, words-of}
 use Rattle.format.proofs.Bridge.{at-offset}
 use Rattle.format.proofs.Opening.{by-less}
 use Rattle.format.proofs.Rows.{Each-node, Each-nodes}
@@ -27,7 +23,7 @@ use Rattle.format.proofs.Words.{Placed}
 use Rattle.octets.proofs.Stores.{sets-at}
 use Rattle.terms.specs.declared.Parts.{Parts}
 use Rattle.terms.specs.declared.Parts.the-variants.{Got, Refused}
-use Rattle.terms.specs.Code.{whole-of, character-words, inner, Stored, Done, PartsDone}
+use Rattle.terms.specs.Code.{whole-of, character-words, inner, Done, PartsDone}
 
 pub code-of-whole : (w : ℕ) → whole-code (whole-of w) ≡ w
 unfolding whole-of whole-code

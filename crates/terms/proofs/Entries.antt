@@ -1,28 +1,27 @@
 -- Keys and their values: one law for each way through `read_pairs`. Assumes nothing.
-use mathlib.Core.Path.{_≡_, refl, sym, ap, ap₂, _∙_, subst}
+use mathlib.Core.Path.{_≡_, refl, sym, ap, _∙_, subst}
 use mathlib.Core.Bool.{Bool, true, false, not}
-use mathlib.Core.List.{List, [], _∷_, _++_, append-nil}
-use Prim.Native.Nat.{ℕ, zero, suc, _+_, _-_, _*_, _≤_, _<_}
+use mathlib.Core.List.{List, [], _∷_, append-nil}
+use Prim.Native.Nat.{ℕ, suc, _+_, _-_, _*_, _≤_, _<_}
 use native.Mathlib.Omega.{arith}
 use lib.ListN.{length, getD}
 use lib.Seq.{sets, length-sets}
-use Rattle.format.specs.Tree.{Forest, none, _▹_, _▹▹_, count, size, sizes}
-use Rattle.format.specs.Term.{Label, Term, map}
+use Rattle.format.specs.Tree.{none, _▹_, _▹▹_, count, size, sizes}
+use Rattle.format.specs.Term.{Term}
 use Rattle.format.specs.Equal.{among}
-use Rattle.format.specs.Answer.{Answer, good, refused, Position, Reading, after, done, rule}
+use Rattle.format.specs.Answer.{good, Reading, after, done, rule}
 use Rattle.format.specs.Head.{Atoms, Wanted, any, pairs}
 use Rattle.format.specs.AtomList.{AtomList, of-size, atoms-of}
-use Rattle.format.specs.Reading.{Place, Located, meaning, entries, term}
+use Rattle.format.specs.Reading.{Located, meaning, entries, term}
 use Rattle.format.specs.Message.{Terms}
 use Rattle.format.specs.Rows.{Row, tree-rows, rows, kind-of, whole-code, words-of}
 use Rattle.format.proofs.Backed.{Backed, Backeds, term-backed}
 use Rattle.format.proofs.Backed as backing
 use Rattle.format.proofs.Bridge.{at-offset}
-use Rattle.format.proofs.Invariant.{In-step}
 use Rattle.format.proofs.RoundTrip.{join-none}
 use Rattle.format.proofs.Rows.{Each-node, Each-nodes, each-nodes-join, sizes-join, count-join, count-le-sizes, length-rows}
 use Rattle.format.proofs.Text.{Under}
-use Rattle.format.proofs.Words.{Placed, small-rows, Here, Rows-here, sets-here, length-words-of}
+use Rattle.format.proofs.Words.{Placed, small-rows, Here, sets-here, length-words-of}
 use Rattle.heads.specs.declared.Wanted.the-variants.{Any}
 use Rattle.heads.specs.Code.{lent, wanted-of}
 use Rattle.keys.specs.Compare.{among-rows}
@@ -35,7 +34,7 @@ use Rattle.terms.specs.declared.Parts.the-variants as found
 use Rattle.terms.specs.Code.{whole-of, Room, inner, Done, TermDone, PartsDone}
 use Rattle.terms.proofs.Characters.{code-of-whole}
 use Rattle.terms.proofs.Found.{Found, step-found, step-refused, joined-words}
-use Rattle.terms.proofs.Runs.{after-same, after-after}
+use Rattle.terms.proofs.Runs.{after-same, after-after, after-done}
 
 -- a key past pairs is compared with each key of theirs
 abbrev pub Told : List ℕ → ℕ → Atoms → List ℕ → List ℕ → ℕ → Type 0
@@ -43,7 +42,7 @@ Told m cap atoms places lengths first =
     (S : List ℕ) (us : Terms) (u : Located) (ks : List Term) → Keys-of us ks → Held-rows m cap atoms S (whole-of first) first (us ▹▹ (u ▹ none))
     → among-rows m places lengths S first (first + sizes us) ≡ among (meaning u) ks
 
-bytes-under : (m : List ℕ) → ((i : ℕ) → getD m i 0 < 256) → Under 256 m
+pub bytes-under : (m : List ℕ) → ((i : ℕ) → getD m i 0 < 256) → Under 256 m
 bytes-under [] h = tt
 bytes-under (b ∷ m) h = (h 0, bytes-under m (λ i. h (suc i)))
 
@@ -68,10 +67,6 @@ pub record Entered (atoms : Atoms) (cap deep : ℕ) (m : List ℕ) (start first 
   pub backed : Backeds m cap atoms ts
   pub placed : Each-nodes (Placed 65536) ts
   pub goes : entries (term atoms cap deep) [] all (at-offset m start first) ≡ after (entries (term atoms cap deep) earlier more (at-offset m at row)) (λ us. done (ts ▹▹ us))
-
-after-done : {A : Type 0} (o : Answer (A × Position)) → o ≡ after o (λ a. done a)
-after-done (good y) = refl
-after-done (refused k p) = refl
 
 pub entered-none : (atoms : Atoms) (cap deep : ℕ) (m : List ℕ) (start first all : ℕ) (T : List ℕ) → Entered atoms cap deep m start first all T start first all T
 unfolding rows words-of Each-node

@@ -1,25 +1,25 @@
 -- What a reader that answers `Got` has found, and what one that refuses has. Assumes nothing.
-use mathlib.Core.Path.{_≡_, refl, sym, ap, ap₂, _∙_}
-use mathlib.Core.List.{List, [], _∷_, _++_}
-use Prim.Native.Nat.{ℕ, zero, suc, _+_, _≤_, _<_}
+use mathlib.Core.Path.{_≡_, sym, ap, ap₂, _∙_}
+use mathlib.Core.List.{List}
+use Prim.Native.Nat.{ℕ, suc, _+_, _≤_}
 use native.Mathlib.Omega.{arith}
 use lib.ListN.{length}
 use lib.Seq.{sets}
-use Rattle.format.specs.Tree.{Forest, _▹_, _▹▹_, count, size, sizes}
+use Rattle.format.specs.Tree.{_▹_, _▹▹_, count, size, sizes}
 use Rattle.format.specs.Term.{Label}
 use Rattle.format.specs.Answer.{Answer, good, refused, Position, after, done}
 use Rattle.format.specs.Message.{Terms}
-use Rattle.format.specs.Reading.{Place, Located}
-use Rattle.format.specs.Rows.{Row, tree-rows, rows, kind-of, words-of}
+use Rattle.format.specs.Reading.{Located}
+use Rattle.format.specs.Rows.{tree-rows, rows, kind-of, words-of}
 use Rattle.format.proofs.Bridge.{at-offset}
-use Rattle.format.proofs.Rows.{Each-node, Each-nodes, sizes-join, count-join, count-le-sizes, length-tree-rows, length-rows, rows-join, each-nodes-join}
+use Rattle.format.proofs.Rows.{Each-node, Each-nodes, sizes-join, count-join, length-tree-rows, length-rows, rows-join, each-nodes-join}
 use Rattle.format.proofs.Words.{Placed, words-of-join, length-words-of}
 use Rattle.octets.proofs.Stores.{sets-at}
 use Rattle.terms.specs.declared.Step.{Step}
 use Rattle.terms.specs.declared.Step.the-variants as step
 use Rattle.terms.specs.declared.Parts.{Parts}
 use Rattle.terms.specs.declared.Parts.the-variants as found
-use Rattle.terms.specs.Code.{whole-of, Stored, Done, TermDone, RunDone, PartsDone}
+use Rattle.terms.specs.Code.{whole-of, Stored, Done, RunDone, PartsDone}
 
 module _ {X : Type 0} (size-of : X → ℕ) (words : X → List ℕ) (From : X → Type 0) (m : List ℕ) (cap row : ℕ) (T : List ℕ) where
   -- x is found, and its rows are stored; reading goes on at `next`, with the row `end`

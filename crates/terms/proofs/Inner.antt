@@ -1,22 +1,22 @@
 -- The parts of a term: one law for each way through `read_inner`, `read_parts`, `read_list`, `read_tail` and `read_last`. Assumes nothing.
-use mathlib.Core.Path.{_≡_, refl, sym, ap, ap₂, _∙_, subst}
-use mathlib.Core.List.{List, [], _∷_, _++_, append-nil}
-use Prim.Native.Nat.{ℕ, zero, suc, _+_, _-_, _≤_, _<_}
+use mathlib.Core.Path.{_≡_, refl, sym, ap, ap₂, _∙_}
+use mathlib.Core.List.{List, [], _∷_, append-nil}
+use Prim.Native.Nat.{ℕ, _+_, _-_, _≤_, _<_}
 use native.Mathlib.Omega.{arith}
 use lib.ListN.{length, drop, replicate, length-drop, drop-of-length-le}
 use lib.Seq.{sets}
-use Rattle.format.specs.Tree.{Forest, none, _▹_, _▹▹_, count, size, sizes}
+use Rattle.format.specs.Tree.{none, _▹_, _▹▹_, count, size, sizes}
 use Rattle.format.specs.Term.{Label, list, improper-list}
 use Rattle.format.specs.Answer.{Answer, good, refused, Position, Reading, after, done}
-use Rattle.format.specs.Head.{Atoms, Wanted, any, Head, parts, characters, elements, pairs, Later, later}
-use Rattle.format.specs.Reading.{Place, Located, each, run, string, tail, opening, body, term}
+use Rattle.format.specs.Head.{Atoms, Wanted, Head, parts, characters, elements, pairs, Later, later}
+use Rattle.format.specs.Reading.{Located, each, run, string, tail, opening, body, term}
 use Rattle.format.specs.Message.{Terms}
 use Rattle.format.specs.Rows.{Row, tree-rows, rows, kind-of, words-of}
 use Rattle.format.proofs.Bridge.{at-offset}
 use Rattle.format.proofs.Holds.{Holds}
 use Rattle.format.proofs.Invariant.{run-kept, term-kept}
 use Rattle.format.proofs.Rows.{Each-node, Each-nodes, each-nodes-join, sizes-join, count-join, count-le-sizes}
-use Rattle.format.proofs.Words.{Placed, words-of-join}
+use Rattle.format.proofs.Words.{Placed}
 use Rattle.heads.specs.declared.Head as code
 use Rattle.heads.specs.declared.Head.the-variants as heads
 use Rattle.heads.specs.declared.Later as code-later
@@ -29,8 +29,8 @@ use Rattle.terms.specs.declared.Step.{Step}
 use Rattle.terms.specs.declared.Step.the-variants as step
 use Rattle.terms.specs.declared.Parts.{Parts}
 use Rattle.terms.specs.declared.Parts.the-variants as found
-use Rattle.terms.specs.Code.{whole-of, asked, Fits, Sound, Opens, inner, last, Stored, Done, TermDone, RunDone, PartsDone}
-use Rattle.terms.proofs.Found.{Found, step-found, step-refused, join-parts, joined-words, joined-end}
+use Rattle.terms.specs.Code.{whole-of, asked, Fits, Sound, Opens, inner, last, Done, TermDone, RunDone, PartsDone}
+use Rattle.terms.proofs.Found.{Found, step-found, step-refused, join-parts, joined-words}
 use Rattle.heads.proofs.Found.{Past, past-is}
 use Rattle.heads.proofs.OpeningFacts.{later-kind}
 use Rattle.terms.proofs.Openings.{Opened-at, opened-refused, head-refused, later-past}

@@ -1,33 +1,30 @@
 -- Messages: one law for each way through `standalone_terms`, `payload_terms` and the public calls. Assumes nothing.
 use mathlib.Core.Path.{_≡_, refl, sym, ap, ap₂, _∙_}
-use mathlib.Core.Bool.{Bool, true, false, _&&_}
+use mathlib.Core.Bool.{Bool, true, false}
 use mathlib.Core.List.{List, [], _∷_, _++_, append-nil}
 use mathlib.Core.Option as option
-use Prim.Native.Nat.{ℕ, zero, suc, _+_, _-_, _≤_, _<_, min}
+use Prim.Native.Nat.{ℕ, _+_, _-_, _≤_, _<_, min}
 use native.Mathlib.Omega.{arith}
-use lib.Dec.{eqb, leb}
+use lib.Dec.{leb}
 use lib.ListN.{length, getD, drop, replicate, drop-of-length-le}
 use lib.Seq.{sets, drop-cons}
 use borrow.Author.Tests.{eq-eqb, ne-eqb, le-leb, lt-leb, leb-true}
-use Rattle.format.specs.Tree.{Forest, none, _▹_, count, size, sizes}
-use Rattle.format.specs.Term.{Label}
+use Rattle.format.specs.Tree.{none, _▹_, count, size, sizes}
 use Rattle.format.specs.Answer.{Answer, good, refused, Position, Reading, after, done}
 use Rattle.format.specs.Answers.{read-answer}
 use Rattle.format.specs.AtomList.{AtomList, of-size, atoms-of}
 use Rattle.format.specs.Head.{Atoms, any}
 use Rattle.format.specs.Message.{Framing, Terms, version, ending, standalone-term, payload-terms, terms-framed, found, first-check, read}
-use Rattle.format.specs.Reading.{Place, Located, term}
+use Rattle.format.specs.Reading.{Located, term}
 use Rattle.format.specs.Rows.{Row, tree-rows, rows, words-of, table-after}
 use Rattle.format.specs.declared.Refusal.{Refusal}
 use Rattle.format.specs.declared.ReadAnswer.{ReadAnswer}
 use Rattle.format.specs.declared.ReadAnswer.the-variants as reads
 use Rattle.format.proofs.Bridge.{at-offset}
 use Rattle.format.proofs.Rows.{Each-node, length-rows}
-use Rattle.format.proofs.Words.{Placed, length-words-of, words-of-join}
+use Rattle.format.proofs.Words.{Placed, length-words-of}
 use Rattle.octets.specs.Cleared.{cleared}
 use Rattle.octets.proofs.Cleared.{cleared-all, cleared-sets}
-use Rattle.heads.specs.declared.Wanted.the-variants.{Any}
-use Rattle.heads.specs.Code.{wanted-of}
 use Rattle.terms.specs.declared.Step.{Step}
 use Rattle.terms.specs.declared.Step.the-variants.{Got, Refused}
 use Rattle.terms.specs.Code.{whole-of, Room, Done, TermDone, MessageDone, first-number, first-refusal, rows-in}
@@ -91,21 +88,21 @@ module _ (atoms : Atoms) (cap : ℕ) (m : List ℕ) (T : List ℕ) where
   unfolding standalone-term Done
   standalone-other U e = rw (version-other m e)
 
-  module _ (some : length m ≡ 0 → ⊥) (first : getD m 0 0 ≡ 131) (r : Step) (T′ : List ℕ) (d : TermDone m cap 0 0 T (term atoms cap 64 (wanted-of Any) (at-offset m 1 0)) r T′) where
+  module _ (some : length m ≡ 0 → ⊥) (first : getD m 0 0 ≡ 131) (r : Step) (T′ : List ℕ) (d : TermDone m cap 0 0 T (term atoms cap 64 any (at-offset m 1 0)) r T′) where
     pub standalone-refused : (k p : ℕ) (U : List ℕ) → r ≡ Refused k p → Standalone-done (refusal k p) U
-    unfolding standalone-term Done wanted-of
+    unfolding standalone-term Done
     standalone-refused k p U e = rw (version-there m some first, step-refused _ _ _ m cap 0 T (term atoms cap 64 any (at-offset m 1 0)) r T′ k p e d)
 
     module _ (next end : ℕ) (e : r ≡ Got next end) where
-      abbrev only : Found size (λ t. words-of (tree-rows (whole-of 0) 0 t)) (Each-node (Placed 65536)) m cap 0 T (term atoms cap 64 (wanted-of Any) (at-offset m 1 0)) next end T′
-      only = step-found size _ _ m cap 0 T (term atoms cap 64 (wanted-of Any) (at-offset m 1 0)) r T′ next end e d
+      abbrev only : Found size (λ t. words-of (tree-rows (whole-of 0) 0 t)) (Each-node (Placed 65536)) m cap 0 T (term atoms cap 64 any (at-offset m 1 0)) next end T′
+      only = step-found size _ _ m cap 0 T (term atoms cap 64 any (at-offset m 1 0)) r T′ next end e d
 
       pub standalone-over : (U : List ℕ) → next < length m → Standalone-done (refusal 10 next) U
-      unfolding standalone-term Done wanted-of
+      unfolding standalone-term Done
       standalone-over U h = rw (version-there m some first, only .is, left-over m next end h)
 
       pub standalone-one : length m ≤ next → Standalone-done (reads.Terms 1 end) T′
-      unfolding standalone-term wanted-of
+      unfolding standalone-term
       standalone-one h =
           rw (version-there m some first, only .is, none-left m next end h)
           (one-done m cap T T′ (only .x) next end (only .table-is) (only .near) (only .rows-are) (only .room))
@@ -118,20 +115,20 @@ module _ (atoms : Atoms) (cap : ℕ) where
   rest t [] = done (t ▹ none)
   rest t (b ∷ bs) = λ s. after (term atoms cap 64 any s) (λ u. λ v. after (ending (v .left) v) (λ _. done (t ▹ u ▹ none)))
 
-module _ (atoms : Atoms) (cap : ℕ) (m : List ℕ) (T : List ℕ) (r : Step) (T′ : List ℕ) (d : TermDone m cap 0 0 T (term atoms cap 64 (wanted-of Any) (at-offset m 0 0)) r T′) where
+module _ (atoms : Atoms) (cap : ℕ) (m : List ℕ) (T : List ℕ) (r : Step) (T′ : List ℕ) (d : TermDone m cap 0 0 T (term atoms cap 64 any (at-offset m 0 0)) r T′) where
   abbrev Payload-done : ReadAnswer → List ℕ → Type 0
   Payload-done a U = MessageDone m cap T (payload-terms atoms cap (at-offset m 0 0)) a U
 
   pub payload-refused : (k p : ℕ) (U : List ℕ) → r ≡ Refused k p → Payload-done (refusal k p) U
-  unfolding payload-terms Done wanted-of
+  unfolding payload-terms Done
   payload-refused k p U e = rw (step-refused _ _ _ m cap 0 T (term atoms cap 64 any (at-offset m 0 0)) r T′ k p e d)
 
   module _ (next end : ℕ) (e : r ≡ Got next end) where
-    abbrev one : Found size (λ t. words-of (tree-rows (whole-of 0) 0 t)) (Each-node (Placed 65536)) m cap 0 T (term atoms cap 64 (wanted-of Any) (at-offset m 0 0)) next end T′
-    one = step-found size _ _ m cap 0 T (term atoms cap 64 (wanted-of Any) (at-offset m 0 0)) r T′ next end e d
+    abbrev one : Found size (λ t. words-of (tree-rows (whole-of 0) 0 t)) (Each-node (Placed 65536)) m cap 0 T (term atoms cap 64 any (at-offset m 0 0)) next end T′
+    one = step-found size _ _ m cap 0 T (term atoms cap 64 any (at-offset m 0 0)) r T′ next end e d
 
     payload-is : payload-terms atoms cap (at-offset m 0 0) ≡ rest atoms cap (one .x) (drop next m) (at-offset m next end)
-    unfolding payload-terms wanted-of
+    unfolding payload-terms
     payload-is =
         after-same (term atoms cap 64 any (at-offset m 0 0)) _ (λ t. λ s. rest atoms cap t (s .left) s) (λ t u. rest-is t (u .left) u)
         ∙ ap (λ (o : Answer (Located × Position)). after o (λ t. λ s. rest atoms cap t (s .left) s)) (one .is)
@@ -148,26 +145,26 @@ module _ (atoms : Atoms) (cap : ℕ) (m : List ℕ) (T : List ℕ) (r : Step) (T
     payload-one h =
         rw (payload-is ∙ ap (λ (l : List ℕ). rest atoms cap (one .x) l (at-offset m next end)) (drop-of-length-le m h)) (one-done m cap T T′ (one .x) next end (one .table-is) (one .near) (one .rows-are) (one .room))
 
-    module _ (more : next < length m) (r′ : Step) (T″ : List ℕ) (d′ : TermDone m cap end 0 T′ (term atoms cap 64 (wanted-of Any) (at-offset m next end)) r′ T″) where
+    module _ (more : next < length m) (r′ : Step) (T″ : List ℕ) (d′ : TermDone m cap end 0 T′ (term atoms cap 64 any (at-offset m next end)) r′ T″) where
       -- a second term is read where the first ends
       second : payload-terms atoms cap (at-offset m 0 0)
           ≡ after (term atoms cap 64 any (at-offset m next end)) (λ u. λ s. after (ending (s .left) s) (λ _. done (one .x ▹ u ▹ none)))
       second = payload-is ∙ ap (λ (l : List ℕ). rest atoms cap (one .x) l (at-offset m next end)) (drop-cons m next 0 more)
 
       pub payload-second-refused : (k p : ℕ) (U : List ℕ) → r′ ≡ Refused k p → Payload-done (refusal k p) U
-      unfolding Done wanted-of
+      unfolding Done
       payload-second-refused k p U f = rw (second, step-refused _ _ _ m cap end T′ (term atoms cap 64 any (at-offset m next end)) r′ T″ k p f d′)
 
       module _ (next′ end′ : ℕ) (f : r′ ≡ Got next′ end′) where
-        abbrev two : Found size (λ t. words-of (tree-rows (whole-of 0) end t)) (Each-node (Placed 65536)) m cap end T′ (term atoms cap 64 (wanted-of Any) (at-offset m next end)) next′ end′ T″
-        two = step-found size _ _ m cap end T′ (term atoms cap 64 (wanted-of Any) (at-offset m next end)) r′ T″ next′ end′ f d′
+        abbrev two : Found size (λ t. words-of (tree-rows (whole-of 0) end t)) (Each-node (Placed 65536)) m cap end T′ (term atoms cap 64 any (at-offset m next end)) next′ end′ T″
+        two = step-found size _ _ m cap end T′ (term atoms cap 64 any (at-offset m next end)) r′ T″ next′ end′ f d′
 
         pub payload-over : (U : List ℕ) → next′ < length m → Payload-done (refusal 10 next′) U
-        unfolding Done wanted-of
+        unfolding Done
         payload-over U h = rw (second, two .is, left-over m next′ end′ h)
 
         pub payload-two : length m ≤ next′ → Payload-done (reads.Terms 2 end′) T″
-        unfolding Done rows whole-of wanted-of
+        unfolding Done rows whole-of
         payload-two h =
             let t : Located = one .x in
             let u : Located = two .x in

@@ -1,23 +1,20 @@
 -- Terms in turn: one law for each way through `read_run` and `read_wanted`. Assumes nothing.
 use mathlib.Core.Path.{_≡_, refl, sym, ap, ap₂, _∙_}
-use mathlib.Core.Bool.{true}
 use mathlib.Core.List.{List, [], _∷_, _++_}
-use Prim.Native.Nat.{ℕ, zero, suc, _+_, _-_, _≤_, _<_, min}
+use Prim.Native.Nat.{ℕ, zero, suc, _+_, _-_, _≤_, min}
 use native.Mathlib.Omega.{arith}
 use lib.ListN.{length, replicate}
-use lib.Seq.{sets}
-use Rattle.format.specs.Tree.{Forest, none, _▹_, _▹▹_, count, size, sizes}
-use Rattle.format.specs.Term.{Label}
+use Rattle.format.specs.Tree.{_▹_, _▹▹_, count, size, sizes}
 use Rattle.format.specs.Answer.{Answer, good, refused, Position, Reading, after, done}
 use Rattle.format.specs.Head.{Wanted, any, an-atom, an-arity}
 use Rattle.format.specs.AtomList.{AtomList}
-use Rattle.format.specs.Reading.{Place, Located, each, run}
+use Rattle.format.specs.Reading.{Located, each, run}
 use Rattle.format.specs.Message.{Terms}
 use Rattle.format.specs.Rows.{tree-rows, rows, words-of}
 use Rattle.format.proofs.Bridge.{at-offset}
 use Rattle.format.proofs.Rows.{Each-node, Each-nodes}
 use Rattle.format.proofs.Words.{Placed}
-use Rattle.heads.specs.declared.Wanted.the-variants.{Any, Atom, Arity}
+use Rattle.heads.specs.declared.Wanted.the-variants.{Atom, Arity}
 use Rattle.heads.specs.Code.{wanted-of}
 use Rattle.terms.specs.declared.Step.{Step}
 use Rattle.terms.specs.declared.Step.the-variants.{Got, Refused}
@@ -58,7 +55,7 @@ pub after-after : {A B C : Type 0} (o : Answer (A × Position)) (f : A → Readi
 after-after (good y) f g = refl
 after-after (refused k p) f g = refl
 
-after-done : {A : Type 0} (o : Answer (A × Position)) → o ≡ after o (λ a. done a)
+pub after-done : {A : Type 0} (o : Answer (A × Position)) → o ≡ after o (λ a. done a)
 after-done (good y) = refl
 after-done (refused k p) = refl
 

@@ -5,14 +5,14 @@ use mathlib.Core.List.{List, [], _∷_, _++_}
 use mathlib.Core.Option.{Option, none, some}
 use Prim.Native.Nat.{ℕ, zero, suc, _+_, _-_, _≤_, _<_, min}
 use lib.Dec.{leb}
-use lib.ListN.{length, drop, replicate}
+use lib.ListN.{length, replicate}
 use lib.Seq.{sets}
 use Rattle.format.specs.Tree.{Forest, _▹_, _▹▹_, count, size, sizes}
 use Rattle.format.specs.Term.{Label, list, improper-list, map}
 use Rattle.format.specs.Answer.{Answer, good, refused, Position, Reading, _>>=_, done}
-use Rattle.format.specs.Head.{Atoms, Wanted, any, an-atom, an-arity, Head, parts, characters, elements, pairs, later}
-use Rattle.format.specs.AtomList.{AtomList, of-size, atoms-of}
-use Rattle.format.specs.Reading.{Place, Located, bytes-left, one-term, each, run, entries, string, tail, body, term}
+use Rattle.format.specs.Head.{Atoms, Wanted, an-atom, an-arity, Head, parts, characters, elements, pairs, later}
+use Rattle.format.specs.AtomList.{AtomList, of-size}
+use Rattle.format.specs.Reading.{Located, bytes-left, each, run, entries, string, tail, body, term}
 use Rattle.format.specs.Message.{Terms}
 use Rattle.format.specs.Rows.{tree-rows, rows, kind-of, pack, words-of}
 use Rattle.format.specs.declared.ReadAnswer.{ReadAnswer}

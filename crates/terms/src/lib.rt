@@ -13,7 +13,7 @@ ghost use Rattle.format.specs.Answers.{read-answer};
 ghost use Rattle.format.specs.AtomList.{atoms-of};
 ghost use Rattle.format.specs.Head as format;
 ghost use Rattle.format.specs.Head.{characters, elements, pairs, parts};
-ghost use Rattle.format.specs.Message.{standalone, payload, read, standalone-term, payload-terms};
+ghost use Rattle.format.specs.Message.{standalone, payload, read, outermost, standalone-term, payload-terms};
 ghost use Rattle.format.specs.Reading.{each, tail, body, term};
 ghost use Rattle.format.specs.Rows.{table-after};
 ghost use Rattle.format.proofs.Bridge.{at-offset};
@@ -628,6 +628,35 @@ fn read_pairs(
     }
 }
 
+// An outermost term: 64 levels are left for it, and it has no whole.
+fn read_outermost(
+    msg: &[u8],
+    n: u8,
+    places: &[u8],
+    lengths: &[u16],
+    table: &mut [u64],
+    at: usize,
+    row: usize,
+    cap: usize,
+) -> Step
+    requires { ⌜ Room (now msg) (lent n (now places) (now lengths)) (now table) cap at row 0 ⌝ }
+    ensures { λ r. ⌜ TermDone (now (msg .entry)) cap row 0 (now (table .entry)) (outermost (atoms-of (lent n (now (places .entry)) (now (lengths .entry)))) cap (at-offset (now (msg .entry)) at row)) r (now (table .exit)) ⌝ }
+{
+    read_term(
+        msg,
+        n,
+        places,
+        lengths,
+        table,
+        at,
+        row,
+        0,
+        64,
+        cap,
+        Wanted::Any,
+    )
+}
+
 // A standalone term: 131, one term, end.
 fn standalone_terms(
     msg: &[u8],
@@ -652,19 +681,7 @@ fn standalone_terms(
             place: 0,
         });
     }
-    match read_term(
-        msg,
-        n,
-        places,
-        lengths,
-        table,
-        1,
-        0,
-        0,
-        64,
-        cap,
-        Wanted::Any,
-    ) {
+    match read_outermost(msg, n, places, lengths, table, 1, 0, cap) {
         Step::Refused { number, place } => ReadAnswer::Refused(Refusal { number, place }),
         Step::Got { next, rows } => {
             if next < msg.len() {
@@ -690,37 +707,13 @@ fn payload_terms(
     requires { ⌜ Room (now msg) (lent n (now places) (now lengths)) (now table) cap 0 0 0 ⌝ }
     ensures { λ r. ⌜ MessageDone (now (msg .entry)) cap (now (table .entry)) (payload-terms (atoms-of (lent n (now (places .entry)) (now (lengths .entry)))) cap (at-offset (now (msg .entry)) 0 0)) r (now (table .exit)) ⌝ }
 {
-    match read_term(
-        msg,
-        n,
-        places,
-        lengths,
-        table,
-        0,
-        0,
-        0,
-        64,
-        cap,
-        Wanted::Any,
-    ) {
+    match read_outermost(msg, n, places, lengths, table, 0, 0, cap) {
         Step::Refused { number, place } => ReadAnswer::Refused(Refusal { number, place }),
         Step::Got { next, rows } => {
             if msg.len() <= next {
                 return ReadAnswer::Terms { terms: 1, rows };
             }
-            match read_term(
-                msg,
-                n,
-                places,
-                lengths,
-                table,
-                next,
-                rows,
-                0,
-                64,
-                cap,
-                Wanted::Any,
-            ) {
+            match read_outermost(msg, n, places, lengths, table, next, rows, cap) {
                 Step::Refused { number, place } => ReadAnswer::Refused(Refusal { number, place }),
                 Step::Got { next, rows } => {
                     if next < msg.len() {

@@ -1,3 +1,4 @@
+-- `canon::length_run` and `canon::length_term` meet their contracts. The measure is the rows from a term on, to the table's end. In the loop, the sum and what the terms left have come to the whole. Assumes nothing.
 use Rattle.canon.proofs.Terms.{Length-left, length-start, length-step, length-end, length-room, left-term, left-below, left-size, few-rows, string-length, parts-length, term-sound}
 use Rattle.canon.proofs.Strings.{term-below, parts-run}
 use Rattle.canon.specs.Held.{Held-run}
@@ -6,7 +7,7 @@ use Rattle.format.specs.Tree.{count, size}
 use lib.ListN.{length}
 use borrow.Author.Needs.{needs}
 use native.Mathlib.Omega.{arith}
-use mathlib.Core.Path.{_≡_, refl, sym, ap, _∙_}
+use mathlib.Core.Path.{_≡_, refl, sym, _∙_}
 use Prim.Native.Nat.{ℕ, _+_, _*_, _-_, _≤_, _<_}
 use borrow.Fn.Kinds.{In}
 use borrow.Fn.PlainCycle.{Measures, is, falls, and}
@@ -52,7 +53,6 @@ length-run-Inv-loop msg places lengths table row n next₀ left₀ sum₀ next l
 abbrev length-run-μ-loop : length-run-lts.MeasureT-loop
 length-run-μ-loop msg places lengths table row n next₀ left₀ sum₀ next left sum = left
 
--- src/lib.rt:112:5
 length-run-loop-holds : (t : ℕ) → length-run-lts.Need-loop-holds (
   length-term-below t,
   length-term.Post,
@@ -61,43 +61,46 @@ length-run-loop-holds : (t : ℕ) → length-run-lts.Need-loop-holds (
 ) (length-run-at t) length-run.Post length-run-Inv-loop length-run-μ-loop
 length-run-loop-holds t c = (omega arith, λ ts h e. length-start _ _ ts h e)
 
--- src/lib.rt:113:16
 length-run-length-term-requires : (t : ℕ) → length-run-lts.Need-length-term-requires (
   length-term-below t,
   length-term.Post,
   size-in-reads.Asked,
   size-in-reads.Learnt,
 ) (length-run-at t) length-run.Post length-run-Inv-loop length-run-μ-loop
-length-run-length-term-requires t c κs = let g = c .before .loop .inv .1 (c .before .before .before .before .before .before .pre .1 .terms) (c .before .before .before .before .before .before .pre .1 .held) (c .before .before .before .before .before .before .pre .1 .counted) in (omega arith, left-term (g .rest) (g .rest-held) (g .rest-count) (c .loop-test .taken))
+length-run-length-term-requires t c κs =
+    let asked = c .before .before .before .before .before .before .pre in
+    let g = c .before .loop .inv .1 (asked .1 .terms) (asked .1 .held) (asked .1 .counted) in (omega arith, left-term (g .rest) (g .rest-held) (g .rest-count) (c .loop-test .taken))
 
--- src/lib.rt:113:9
 length-run-add-sum : (t : ℕ) → length-run-lts.Need-add-sum (
   length-term-below t,
   length-term.Post,
   size-in-reads.Asked,
   size-in-reads.Learnt,
 ) (length-run-at t) length-run.Post length-run-Inv-loop length-run-μ-loop
-length-run-add-sum t c = let g = c .before .before .loop .inv .1 (c .before .before .before .before .before .before .before .pre .1 .terms) (c .before .before .before .before .before .before .before .pre .1 .held) (c .before .before .before .before .before .before .before .pre .1 .counted) in let b = length-room _ g (c .before .loop-test .taken) (c .before .before .before .before .before .before .before .pre .1 .held) (c .length-term .ensures) in omega arith
+length-run-add-sum t c =
+    let asked = c .before .before .before .before .before .before .before .pre in
+    let g = c .before .before .loop .inv .1 (asked .1 .terms) (asked .1 .held) (asked .1 .counted) in let b = length-room _ g (c .before .loop-test .taken) (asked .1 .held) (c .length-term .ensures) in omega arith
 
--- src/lib.rt:114:30
 length-run-mul-size-in : (t : ℕ) → length-run-lts.Need-mul-size-in (
   length-term-below t,
   length-term.Post,
   size-in-reads.Asked,
   size-in-reads.Learnt,
 ) (length-run-at t) length-run.Post length-run-Inv-loop length-run-μ-loop
-length-run-mul-size-in t c = let g = c .before .before .loop .inv .1 (c .before .before .before .before .before .before .before .pre .1 .terms) (c .before .before .before .before .before .before .before .pre .1 .held) (c .before .before .before .before .before .before .before .pre .1 .counted) in let b = left-size _ (g .rest) (g .rest-held) (g .rest-count) (c .before .loop-test .taken) refl in omega arith
+length-run-mul-size-in t c =
+    let asked = c .before .before .before .before .before .before .before .pre in
+    let g = c .before .before .loop .inv .1 (asked .1 .terms) (asked .1 .held) (asked .1 .counted) in let b = left-size _ (g .rest) (g .rest-held) (g .rest-count) (c .before .loop-test .taken) refl in omega arith
 
--- src/lib.rt:114:30
 length-run-shared-slice-read-size-in : (t : ℕ) → length-run-lts.Need-shared-slice-read-size-in (
   length-term-below t,
   length-term.Post,
   size-in-reads.Asked,
   size-in-reads.Learnt,
 ) (length-run-at t) length-run.Post length-run-Inv-loop length-run-μ-loop
-length-run-shared-slice-read-size-in t c = let g = c .before .before .before .loop .inv .1 (c .before .before .before .before .before .before .before .before .pre .1 .terms) (c .before .before .before .before .before .before .before .before .pre .1 .held) (c .before .before .before .before .before .before .before .before .pre .1 .counted) in left-below (g .rest) (g .rest-held) (g .rest-count) (c .before .before .loop-test .taken)
+length-run-shared-slice-read-size-in t c =
+    let asked = c .before .before .before .before .before .before .before .before .pre in
+    let g = c .before .before .before .loop .inv .1 (asked .1 .terms) (asked .1 .held) (asked .1 .counted) in left-below (g .rest) (g .rest-held) (g .rest-count) (c .before .before .loop-test .taken)
 
--- src/lib.rt:114:17
 length-run-size-in-requires : (t : ℕ) → length-run-lts.Need-size-in-requires (
   length-term-below t,
   length-term.Post,
@@ -106,16 +109,16 @@ length-run-size-in-requires : (t : ℕ) → length-run-lts.Need-size-in-requires
 ) (length-run-at t) length-run.Post length-run-Inv-loop length-run-μ-loop
 length-run-size-in-requires t c κs = search needs
 
--- src/lib.rt:114:9
 length-run-add-next : (t : ℕ) → length-run-lts.Need-add-next (
   length-term-below t,
   length-term.Post,
   size-in-reads.Asked,
   size-in-reads.Learnt,
 ) (length-run-at t) length-run.Post length-run-Inv-loop length-run-μ-loop
-length-run-add-next t c = let g = c .before .before .before .before .loop .inv .1 (c .before .before .before .before .before .before .before .before .before .pre .1 .terms) (c .before .before .before .before .before .before .before .before .before .pre .1 .held) (c .before .before .before .before .before .before .before .before .before .pre .1 .counted) in let b = left-size _ (g .rest) (g .rest-held) (g .rest-count) (c .before .before .before .loop-test .taken) (c .size-in .ensures .0) in omega arith
+length-run-add-next t c =
+    let asked = c .before .before .before .before .before .before .before .before .before .pre in
+    let g = c .before .before .before .before .loop .inv .1 (asked .1 .terms) (asked .1 .held) (asked .1 .counted) in let b = left-size _ (g .rest) (g .rest-held) (g .rest-count) (c .before .before .before .loop-test .taken) (c .size-in .ensures .0) in omega arith
 
--- src/lib.rt:115:9
 length-run-sub-left : (t : ℕ) → length-run-lts.Need-sub-left (
   length-term-below t,
   length-term.Post,
@@ -124,7 +127,6 @@ length-run-sub-left : (t : ℕ) → length-run-lts.Need-sub-left (
 ) (length-run-at t) length-run.Post length-run-Inv-loop length-run-μ-loop
 length-run-sub-left t c = omega arith
 
--- src/lib.rt:112:5
 length-run-loop-less : (t : ℕ) → length-run-lts.Need-loop-less (
   length-term-below t,
   length-term.Post,
@@ -133,7 +135,6 @@ length-run-loop-less : (t : ℕ) → length-run-lts.Need-loop-less (
 ) (length-run-at t) length-run.Post length-run-Inv-loop length-run-μ-loop
 length-run-loop-less t c = omega arith
 
--- src/lib.rt:112:5
 length-run-loop-again : (t : ℕ) → length-run-lts.Need-loop-again (
   length-term-below t,
   length-term.Post,
@@ -142,7 +143,6 @@ length-run-loop-again : (t : ℕ) → length-run-lts.Need-loop-again (
 ) (length-run-at t) length-run.Post length-run-Inv-loop length-run-μ-loop
 length-run-loop-again t c = (omega arith, λ ts h e. length-step _ _ (c .before .before .before .before .loop .inv .1 ts h e) (c .before .before .before .loop-test .taken) (c .size-in .ensures .0) (c .before .before .length-term .ensures))
 
--- src/lib.rt:105:1
 length-run-returns : (t : ℕ) → length-run-lts.Need-returns (
   length-term-below t,
   length-term.Post,
@@ -151,7 +151,6 @@ length-run-returns : (t : ℕ) → length-run-lts.Need-returns (
 ) (length-run-at t) length-run.Post length-run-Inv-loop length-run-μ-loop
 length-run-returns t c = λ ts h e. length-end (c .before .loop .inv .1 ts h e) (c .loop-test .left)
 
--- src/lib.rt:94:16
 length-term-mul-word : (t : ℕ) → length-term-lts.Need-mul-word (
   parts-in-reads.Asked,
   parts-in-reads.Learnt,
@@ -162,9 +161,10 @@ length-term-mul-word : (t : ℕ) → length-term-lts.Need-mul-word (
   length-run-below t,
   length-run.Post,
 ) (length-term-at t) length-term.Post
-length-term-mul-word t c = let b = term-below (c .before .before .before .before .pre .1 .term) (c .before .before .before .before .pre .1 .held) in let f = few-rows (c .before .before .before .before .pre .1 .term) (c .before .before .before .before .pre .1 .held) in let g : c .before .before .before .before .args .row + size (c .before .before .before .before .pre .1 .term) ≤ 8192 = c .before .before .before .before .pre .1 .held .few in omega arith
+length-term-mul-word t c =
+    let asked = c .before .before .before .before .pre in
+    let b = term-below (asked .1 .term) (asked .1 .held) in let f = few-rows (asked .1 .term) (asked .1 .held) in let g : c .before .before .before .before .args .row + size (asked .1 .term) ≤ 8192 = asked .1 .held .few in omega arith
 
--- src/lib.rt:94:16
 length-term-shared-slice-read-word : (t : ℕ) → length-term-lts.Need-shared-slice-read-word (
   parts-in-reads.Asked,
   parts-in-reads.Learnt,
@@ -175,9 +175,10 @@ length-term-shared-slice-read-word : (t : ℕ) → length-term-lts.Need-shared-s
   length-run-below t,
   length-run.Post,
 ) (length-term-at t) length-term.Post
-length-term-shared-slice-read-word t c = term-below (c .before .before .before .before .before .pre .1 .term) (c .before .before .before .before .before .pre .1 .held)
+length-term-shared-slice-read-word t c =
+    let asked = c .before .before .before .before .before .pre in
+    term-below (asked .1 .term) (asked .1 .held)
 
--- src/lib.rt:95:9
 length-term-parts-in-requires : (t : ℕ) → length-term-lts.Need-parts-in-requires (
   parts-in-reads.Asked,
   parts-in-reads.Learnt,
@@ -190,7 +191,6 @@ length-term-parts-in-requires : (t : ℕ) → length-term-lts.Need-parts-in-requ
 ) (length-term-at t) length-term.Post
 length-term-parts-in-requires t c κs = search needs
 
--- src/lib.rt:96:8
 length-term-is-string-requires : (t : ℕ) → length-term-lts.Need-is-string-requires (
   parts-in-reads.Asked,
   parts-in-reads.Learnt,
@@ -203,7 +203,6 @@ length-term-is-string-requires : (t : ℕ) → length-term-lts.Need-is-string-re
 ) (length-term-at t) length-term.Post
 length-term-is-string-requires t c κs = c .before .before .before .before .before .before .pre .1
 
--- src/lib.rt:97:16
 length-term-add-result : (t : ℕ) → length-term-lts.Need-add-result (
   parts-in-reads.Asked,
   parts-in-reads.Learnt,
@@ -216,7 +215,6 @@ length-term-add-result : (t : ℕ) → length-term-lts.Need-add-result (
 ) (length-term-at t) length-term.Post
 length-term-add-result t c = omega arith
 
--- src/lib.rt:97:9
 length-term-returns : (t : ℕ) → length-term-lts.Need-returns (
   parts-in-reads.Asked,
   parts-in-reads.Learnt,
@@ -229,7 +227,6 @@ length-term-returns : (t : ℕ) → length-term-lts.Need-returns (
 ) (length-term-at t) length-term.Post
 length-term-returns t c = λ t h. string-length _ (c .before .before .parts-in .ensures .0) t h (sym (c .before .is-string .ensures t h) ∙ c .if1 .taken)
 
--- src/lib.rt:99:9
 length-term-own-length-requires : (t : ℕ) → length-term-lts.Need-own-length-requires (
   parts-in-reads.Asked,
   parts-in-reads.Learnt,
@@ -240,9 +237,10 @@ length-term-own-length-requires : (t : ℕ) → length-term-lts.Need-own-length-
   length-run-below t,
   length-run.Post,
 ) (length-term-at t) length-term.Post
-length-term-own-length-requires t c κs = term-sound (c .before .before .before .before .before .before .before .before .pre .1 .term) (c .before .before .before .before .before .before .before .before .pre .1 .held)
+length-term-own-length-requires t c κs =
+    let asked = c .before .before .before .before .before .before .before .before .pre in
+    term-sound (asked .1 .term) (asked .1 .held)
 
--- src/lib.rt:100:57
 length-term-add-length-run : (t : ℕ) → length-term-lts.Need-add-length-run (
   parts-in-reads.Asked,
   parts-in-reads.Learnt,
@@ -253,9 +251,10 @@ length-term-add-length-run : (t : ℕ) → length-term-lts.Need-add-length-run (
   length-run-below t,
   length-run.Post,
 ) (length-term-at t) length-term.Post
-length-term-add-length-run t c = let g : c .before .before .before .before .before .before .before .before .before .args .row + size (c .before .before .before .before .before .before .before .before .before .pre .1 .term) ≤ 8192 = c .before .before .before .before .before .before .before .before .before .pre .1 .held .few in omega arith
+length-term-add-length-run t c =
+    let asked = c .before .before .before .before .before .before .before .before .before .pre in
+    let g : c .before .before .before .before .before .before .before .before .before .args .row + size (asked .1 .term) ≤ 8192 = asked .1 .held .few in omega arith
 
--- src/lib.rt:100:9
 length-term-length-run-requires : (t : ℕ) → length-term-lts.Need-length-run-requires (
   parts-in-reads.Asked,
   parts-in-reads.Learnt,
@@ -266,9 +265,10 @@ length-term-length-run-requires : (t : ℕ) → length-term-lts.Need-length-run-
   length-run-below t,
   length-run.Post,
 ) (length-term-at t) length-term.Post
-length-term-length-run-requires t c κs = let b = term-below (c .before .before .before .before .before .before .before .before .before .pre .1 .term) (c .before .before .before .before .before .before .before .before .before .pre .1 .held) in (omega arith, parts-run _ (c .before .before .before .parts-in .ensures .0) (c .before .before .before .before .before .before .before .before .before .pre .1 .term) (c .before .before .before .before .before .before .before .before .before .pre .1 .held))
+length-term-length-run-requires t c κs =
+    let asked = c .before .before .before .before .before .before .before .before .before .pre in
+    let b = term-below (asked .1 .term) (asked .1 .held) in (omega arith, parts-run _ (c .before .before .before .parts-in .ensures .0) (asked .1 .term) (asked .1 .held))
 
--- src/lib.rt:101:5
 length-term-add-result-2 : (t : ℕ) → length-term-lts.Need-add-result-2 (
   parts-in-reads.Asked,
   parts-in-reads.Learnt,
@@ -279,9 +279,10 @@ length-term-add-result-2 : (t : ℕ) → length-term-lts.Need-add-result-2 (
   length-run-below t,
   length-run.Post,
 ) (length-term-at t) length-term.Post
-length-term-add-result-2 t c = let p = parts-length _ _ _ (c .before .before .before .before .parts-in .ensures .0) (c .before .own-length .ensures .0) (c .before .own-length .ensures .1) (c .length-run .ensures) (c .before .before .before .before .before .before .before .before .before .before .pre .1 .term) (c .before .before .before .before .before .before .before .before .before .before .pre .1 .held) (sym (c .before .before .before .is-string .ensures (c .before .before .before .before .before .before .before .before .before .before .pre .1 .term) (c .before .before .before .before .before .before .before .before .before .before .pre .1 .held)) ∙ c .before .before .if1 .left) in let f = few-rows (c .before .before .before .before .before .before .before .before .before .before .pre .1 .term) (c .before .before .before .before .before .before .before .before .before .before .pre .1 .held) in omega arith
+length-term-add-result-2 t c =
+    let asked = c .before .before .before .before .before .before .before .before .before .before .pre in
+    let p = parts-length _ _ _ (c .before .before .before .before .parts-in .ensures .0) (c .before .own-length .ensures .0) (c .before .own-length .ensures .1) (c .length-run .ensures) (asked .1 .term) (asked .1 .held) (sym (c .before .before .before .is-string .ensures (asked .1 .term) (asked .1 .held)) ∙ c .before .before .if1 .left) in let f = few-rows (asked .1 .term) (asked .1 .held) in omega arith
 
--- src/lib.rt:90:1
 length-term-returns-2 : (t : ℕ) → length-term-lts.Need-returns-2 (
   parts-in-reads.Asked,
   parts-in-reads.Learnt,

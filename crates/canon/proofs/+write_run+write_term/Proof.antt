@@ -1,3 +1,4 @@
+-- `canon::write_run` and `canon::write_term` meet their contracts. The measure is the rows from a term on, to the table's end. In the loop, what is left to store comes to the whole. Assumes nothing.
 use Rattle.canon.proofs.Terms.{Put-left, put-start, put-step, put-end, put-fits, canonicals-none, canonicals-more, left-below, left-size, string-needs, string-written, parts-put, before-room, run-room, after-room, term-sound}
 use Rattle.canon.proofs.Strings.{term-below}
 use Rattle.canon.specs.Held.{Held-run}
@@ -7,7 +8,7 @@ use Rattle.format.specs.Tree.{count, size}
 use lib.ListN.{length}
 use borrow.Author.Needs.{needs}
 use native.Mathlib.Omega.{arith}
-use mathlib.Core.Path.{_≡_, refl, sym, ap, _∙_}
+use mathlib.Core.Path.{_≡_, refl, sym, _∙_}
 use Prim.Native.Nat.{ℕ, _+_, _*_, _-_, _≤_, _<_}
 use borrow.Fn.Kinds.{In}
 use borrow.Fn.PlainCycle.{Measures, is, falls, and}
@@ -55,7 +56,6 @@ write-run-Inv-loop msg places lengths table row n out₀ at next₀ left₀ end�
 abbrev write-run-μ-loop : write-run-lts.MeasureT-loop
 write-run-μ-loop msg places lengths table row n out₀ at next₀ left₀ end₀ out next left end = left
 
--- src/lib.rt:160:5
 write-run-loop-holds : (t : ℕ) → write-run-lts.Need-loop-holds (
   write-term-below t,
   write-term.Post,
@@ -64,34 +64,37 @@ write-run-loop-holds : (t : ℕ) → write-run-lts.Need-loop-holds (
 ) (write-run-at t) write-run.Post write-run-Inv-loop write-run-μ-loop
 write-run-loop-holds t c = (omega arith, refl, λ ts h e. put-start canonical canonicals canonicals-none canonicals-more _ _ _ _ ts h e)
 
--- src/lib.rt:161:9
 write-run-write-term-requires : (t : ℕ) → write-run-lts.Need-write-term-requires (
   write-term-below t,
   write-term.Post,
   size-in-reads.Asked,
   size-in-reads.Learnt,
 ) (write-run-at t) write-run.Post write-run-Inv-loop write-run-μ-loop
-write-run-write-term-requires t c κs = let g = c .before .before .loop .inv .2 (c .before .before .before .before .before .before .before .before .pre .1 .fit-terms) (c .before .before .before .before .before .before .before .before .pre .1 .fit-run) (c .before .before .before .before .before .before .before .before .pre .1 .fit-count) in (omega arith, put-fits canonical canonicals canonicals-none canonicals-more g (c .before .loop-test .taken) (c .before .before .before .before .before .before .before .before .pre .1 .fit-space) (c .before .before .loop .inv .1))
+write-run-write-term-requires t c κs =
+    let here = c .before .before .loop in
+    let asked = c .before .before .before .before .before .before .before .before .pre in
+    let g = here .inv .2 (asked .1 .fit-terms) (asked .1 .fit-run) (asked .1 .fit-count) in (omega arith, put-fits canonical canonicals canonicals-none canonicals-more g (c .before .loop-test .taken) (asked .1 .fit-space) (here .inv .1))
 
--- src/lib.rt:162:30
 write-run-mul-size-in : (t : ℕ) → write-run-lts.Need-mul-size-in (
   write-term-below t,
   write-term.Post,
   size-in-reads.Asked,
   size-in-reads.Learnt,
 ) (write-run-at t) write-run.Post write-run-Inv-loop write-run-μ-loop
-write-run-mul-size-in t c = let g = c .before .before .before .before .before .loop .inv .2 (c .before .before .before .before .before .before .before .before .before .before .before .pre .1 .fit-terms) (c .before .before .before .before .before .before .before .before .before .before .before .pre .1 .fit-run) (c .before .before .before .before .before .before .before .before .before .before .before .pre .1 .fit-count) in let b = left-size _ (g .rest) (g .rest-held) (g .rest-count) (c .before .before .before .before .loop-test .taken) refl in omega arith
+write-run-mul-size-in t c =
+    let asked = c .before .before .before .before .before .before .before .before .before .before .before .pre in
+    let g = c .before .before .before .before .before .loop .inv .2 (asked .1 .fit-terms) (asked .1 .fit-run) (asked .1 .fit-count) in let b = left-size _ (g .rest) (g .rest-held) (g .rest-count) (c .before .before .before .before .loop-test .taken) refl in omega arith
 
--- src/lib.rt:162:30
 write-run-shared-slice-read-size-in : (t : ℕ) → write-run-lts.Need-shared-slice-read-size-in (
   write-term-below t,
   write-term.Post,
   size-in-reads.Asked,
   size-in-reads.Learnt,
 ) (write-run-at t) write-run.Post write-run-Inv-loop write-run-μ-loop
-write-run-shared-slice-read-size-in t c = let g = c .before .before .before .before .before .before .loop .inv .2 (c .before .before .before .before .before .before .before .before .before .before .before .before .pre .1 .fit-terms) (c .before .before .before .before .before .before .before .before .before .before .before .before .pre .1 .fit-run) (c .before .before .before .before .before .before .before .before .before .before .before .before .pre .1 .fit-count) in left-below (g .rest) (g .rest-held) (g .rest-count) (c .before .before .before .before .before .loop-test .taken)
+write-run-shared-slice-read-size-in t c =
+    let asked = c .before .before .before .before .before .before .before .before .before .before .before .before .pre in
+    let g = c .before .before .before .before .before .before .loop .inv .2 (asked .1 .fit-terms) (asked .1 .fit-run) (asked .1 .fit-count) in left-below (g .rest) (g .rest-held) (g .rest-count) (c .before .before .before .before .before .loop-test .taken)
 
--- src/lib.rt:162:17
 write-run-size-in-requires : (t : ℕ) → write-run-lts.Need-size-in-requires (
   write-term-below t,
   write-term.Post,
@@ -100,16 +103,16 @@ write-run-size-in-requires : (t : ℕ) → write-run-lts.Need-size-in-requires (
 ) (write-run-at t) write-run.Post write-run-Inv-loop write-run-μ-loop
 write-run-size-in-requires t c κs = search needs
 
--- src/lib.rt:162:9
 write-run-add-next : (t : ℕ) → write-run-lts.Need-add-next (
   write-term-below t,
   write-term.Post,
   size-in-reads.Asked,
   size-in-reads.Learnt,
 ) (write-run-at t) write-run.Post write-run-Inv-loop write-run-μ-loop
-write-run-add-next t c = let g = c .before .before .before .before .before .before .before .loop .inv .2 (c .before .before .before .before .before .before .before .before .before .before .before .before .before .pre .1 .fit-terms) (c .before .before .before .before .before .before .before .before .before .before .before .before .before .pre .1 .fit-run) (c .before .before .before .before .before .before .before .before .before .before .before .before .before .pre .1 .fit-count) in let b = left-size _ (g .rest) (g .rest-held) (g .rest-count) (c .before .before .before .before .before .before .loop-test .taken) (c .size-in .ensures .0) in omega arith
+write-run-add-next t c =
+    let asked = c .before .before .before .before .before .before .before .before .before .before .before .before .before .pre in
+    let g = c .before .before .before .before .before .before .before .loop .inv .2 (asked .1 .fit-terms) (asked .1 .fit-run) (asked .1 .fit-count) in let b = left-size _ (g .rest) (g .rest-held) (g .rest-count) (c .before .before .before .before .before .before .loop-test .taken) (c .size-in .ensures .0) in omega arith
 
--- src/lib.rt:163:9
 write-run-sub-left : (t : ℕ) → write-run-lts.Need-sub-left (
   write-term-below t,
   write-term.Post,
@@ -118,7 +121,6 @@ write-run-sub-left : (t : ℕ) → write-run-lts.Need-sub-left (
 ) (write-run-at t) write-run.Post write-run-Inv-loop write-run-μ-loop
 write-run-sub-left t c = omega arith
 
--- src/lib.rt:160:5
 write-run-loop-less : (t : ℕ) → write-run-lts.Need-loop-less (
   write-term-below t,
   write-term.Post,
@@ -127,16 +129,16 @@ write-run-loop-less : (t : ℕ) → write-run-lts.Need-loop-less (
 ) (write-run-at t) write-run.Post write-run-Inv-loop write-run-μ-loop
 write-run-loop-less t c = omega arith
 
--- src/lib.rt:160:5
 write-run-loop-again : (t : ℕ) → write-run-lts.Need-loop-again (
   write-term-below t,
   write-term.Post,
   size-in-reads.Asked,
   size-in-reads.Learnt,
 ) (write-run-at t) write-run.Post write-run-Inv-loop write-run-μ-loop
-write-run-loop-again t c = (omega arith, c .before .before .before .before .write-term .kept .1 .1 .1 .1 .1 .0 ∙ c .before .before .before .before .before .before .before .loop .inv .1, λ ts h e. put-step canonical canonicals canonicals-none canonicals-more _ _ (c .before .before .before .before .before .before .before .loop .inv .2 ts h e) (c .before .before .before .before .before .before .loop-test .taken) (c .size-in .ensures .0) (c .before .before .before .before .write-term .ensures))
+write-run-loop-again t c =
+    let here = c .before .before .before .before .before .before .before .loop in
+    (omega arith, c .before .before .before .before .write-term .kept .1 .1 .1 .1 .1 .0 ∙ here .inv .1, λ ts h e. put-step canonical canonicals canonicals-none canonicals-more _ _ (here .inv .2 ts h e) (c .before .before .before .before .before .before .loop-test .taken) (c .size-in .ensures .0) (c .before .before .before .before .write-term .ensures))
 
--- src/lib.rt:144:1
 write-run-same-length : (t : ℕ) → write-run-lts.Need-same-length (
   write-term-below t,
   write-term.Post,
@@ -145,7 +147,6 @@ write-run-same-length : (t : ℕ) → write-run-lts.Need-same-length (
 ) (write-run-at t) write-run.Post write-run-Inv-loop write-run-μ-loop
 write-run-same-length t c = c .before .loop .inv .1
 
--- src/lib.rt:144:1
 write-run-returns : (t : ℕ) → write-run-lts.Need-returns (
   write-term-below t,
   write-term.Post,
@@ -154,7 +155,6 @@ write-run-returns : (t : ℕ) → write-run-lts.Need-returns (
 ) (write-run-at t) write-run.Post write-run-Inv-loop write-run-μ-loop
 write-run-returns t c = λ ts h e. put-end canonical canonicals canonicals-none canonicals-more (c .before .loop .inv .2 ts h e) (c .loop-test .left)
 
--- src/lib.rt:133:16
 write-term-mul-word : (t : ℕ) → write-term-lts.Need-mul-word (
   parts-in-reads.Asked,
   parts-in-reads.Learnt,
@@ -169,9 +169,10 @@ write-term-mul-word : (t : ℕ) → write-term-lts.Need-mul-word (
   put-after-reads.Asked,
   put-after-reads.Learnt,
 ) (write-term-at t) write-term.Post
-write-term-mul-word t c = let g : c .before .before .before .before .before .args .row + size (c .before .before .before .before .before .pre .1 .fit-term) ≤ 8192 = c .before .before .before .before .before .pre .1 .fit-held .few in omega arith
+write-term-mul-word t c =
+    let asked = c .before .before .before .before .before .pre in
+    let g : c .before .before .before .before .before .args .row + size (asked .1 .fit-term) ≤ 8192 = asked .1 .fit-held .few in omega arith
 
--- src/lib.rt:133:16
 write-term-shared-slice-read-word : (t : ℕ) → write-term-lts.Need-shared-slice-read-word (
   parts-in-reads.Asked,
   parts-in-reads.Learnt,
@@ -186,9 +187,10 @@ write-term-shared-slice-read-word : (t : ℕ) → write-term-lts.Need-shared-sli
   put-after-reads.Asked,
   put-after-reads.Learnt,
 ) (write-term-at t) write-term.Post
-write-term-shared-slice-read-word t c = term-below (c .before .before .before .before .before .before .pre .1 .fit-term) (c .before .before .before .before .before .before .pre .1 .fit-held)
+write-term-shared-slice-read-word t c =
+    let asked = c .before .before .before .before .before .before .pre in
+    term-below (asked .1 .fit-term) (asked .1 .fit-held)
 
--- src/lib.rt:134:9
 write-term-parts-in-requires : (t : ℕ) → write-term-lts.Need-parts-in-requires (
   parts-in-reads.Asked,
   parts-in-reads.Learnt,
@@ -205,7 +207,6 @@ write-term-parts-in-requires : (t : ℕ) → write-term-lts.Need-parts-in-requir
 ) (write-term-at t) write-term.Post
 write-term-parts-in-requires t c κs = search needs
 
--- src/lib.rt:135:8
 write-term-is-string-requires : (t : ℕ) → write-term-lts.Need-is-string-requires (
   parts-in-reads.Asked,
   parts-in-reads.Learnt,
@@ -220,9 +221,10 @@ write-term-is-string-requires : (t : ℕ) → write-term-lts.Need-is-string-requ
   put-after-reads.Asked,
   put-after-reads.Learnt,
 ) (write-term-at t) write-term.Post
-write-term-is-string-requires t c κs = record { term = c .before .before .before .before .before .before .before .pre .1 .fit-term; held = c .before .before .before .before .before .before .before .pre .1 .fit-held }
+write-term-is-string-requires t c κs =
+    let asked = c .before .before .before .before .before .before .before .pre in
+    record { term = asked .1 .fit-term; held = asked .1 .fit-held }
 
--- src/lib.rt:136:56
 write-term-add-put-string : (t : ℕ) → write-term-lts.Need-add-put-string (
   parts-in-reads.Asked,
   parts-in-reads.Learnt,
@@ -237,9 +239,10 @@ write-term-add-put-string : (t : ℕ) → write-term-lts.Need-add-put-string (
   put-after-reads.Asked,
   put-after-reads.Learnt,
 ) (write-term-at t) write-term.Post
-write-term-add-put-string t c = let g : c .before .before .before .before .before .before .before .before .before .args .row + size (c .before .before .before .before .before .before .before .before .before .pre .1 .fit-term) ≤ 8192 = c .before .before .before .before .before .before .before .before .before .pre .1 .fit-held .few in omega arith
+write-term-add-put-string t c =
+    let asked = c .before .before .before .before .before .before .before .before .before .pre in
+    let g : c .before .before .before .before .before .before .before .before .before .args .row + size (asked .1 .fit-term) ≤ 8192 = asked .1 .fit-held .few in omega arith
 
--- src/lib.rt:136:9
 write-term-put-string-requires : (t : ℕ) → write-term-lts.Need-put-string-requires (
   parts-in-reads.Asked,
   parts-in-reads.Learnt,
@@ -254,9 +257,10 @@ write-term-put-string-requires : (t : ℕ) → write-term-lts.Need-put-string-re
   put-after-reads.Asked,
   put-after-reads.Learnt,
 ) (write-term-at t) write-term.Post
-write-term-put-string-requires t c κs = string-needs _ _ _ (c .before .before .before .parts-in .ensures .0) (c .before .before .before .before .before .before .before .before .before .before .pre .1 .fit-term) (c .before .before .before .before .before .before .before .before .before .before .pre .1 .fit-held) (sym (c .before .before .is-string .ensures (c .before .before .before .before .before .before .before .before .before .before .pre .1 .fit-term) (c .before .before .before .before .before .before .before .before .before .before .pre .1 .fit-held)) ∙ c .before .if1 .taken) (c .before .before .before .before .before .before .before .before .before .before .pre .1 .fit-room)
+write-term-put-string-requires t c κs =
+    let asked = c .before .before .before .before .before .before .before .before .before .before .pre in
+    string-needs _ _ _ (c .before .before .before .parts-in .ensures .0) (asked .1 .fit-term) (asked .1 .fit-held) (sym (c .before .before .is-string .ensures (asked .1 .fit-term) (asked .1 .fit-held)) ∙ c .before .if1 .taken) (asked .1 .fit-room)
 
--- src/lib.rt:136:9
 write-term-same-length : (t : ℕ) → write-term-lts.Need-same-length (
   parts-in-reads.Asked,
   parts-in-reads.Learnt,
@@ -273,7 +277,6 @@ write-term-same-length : (t : ℕ) → write-term-lts.Need-same-length (
 ) (write-term-at t) write-term.Post
 write-term-same-length t c = c .before .before .put-string .kept .1 .1 .1 .1 .1 .1 .0
 
--- src/lib.rt:136:9
 write-term-returns : (t : ℕ) → write-term-lts.Need-returns (
   parts-in-reads.Asked,
   parts-in-reads.Learnt,
@@ -290,7 +293,6 @@ write-term-returns : (t : ℕ) → write-term-lts.Need-returns (
 ) (write-term-at t) write-term.Post
 write-term-returns t c = λ t h. string-written (c .before .before .before .before .before .before .parts-in .ensures .0) (c .before .before .put-string .ensures) t h (sym (c .before .before .before .before .before .is-string .ensures t h) ∙ c .before .before .before .before .if1 .taken)
 
--- src/lib.rt:138:9
 write-term-put-before-requires : (t : ℕ) → write-term-lts.Need-put-before-requires (
   parts-in-reads.Asked,
   parts-in-reads.Learnt,
@@ -305,9 +307,10 @@ write-term-put-before-requires : (t : ℕ) → write-term-lts.Need-put-before-re
   put-after-reads.Asked,
   put-after-reads.Learnt,
 ) (write-term-at t) write-term.Post
-write-term-put-before-requires t c κs = (term-sound (c .before .before .before .before .before .before .before .before .before .before .pre .1 .fit-term) (c .before .before .before .before .before .before .before .before .before .before .pre .1 .fit-held), before-room _ _ (c .before .before .before .before .before .before .before .before .before .before .pre .1 .fit-term) (c .before .before .before .before .before .before .before .before .before .before .pre .1 .fit-held) (sym (c .before .before .is-string .ensures (c .before .before .before .before .before .before .before .before .before .before .pre .1 .fit-term) (c .before .before .before .before .before .before .before .before .before .before .pre .1 .fit-held)) ∙ c .before .if1 .left) (c .before .before .before .before .before .before .before .before .before .before .pre .1 .fit-room))
+write-term-put-before-requires t c κs =
+    let asked = c .before .before .before .before .before .before .before .before .before .before .pre in
+    (term-sound (asked .1 .fit-term) (asked .1 .fit-held), before-room _ _ (asked .1 .fit-term) (asked .1 .fit-held) (sym (c .before .before .is-string .ensures (asked .1 .fit-term) (asked .1 .fit-held)) ∙ c .before .if1 .left) (asked .1 .fit-room))
 
--- src/lib.rt:139:54
 write-term-add-write-run : (t : ℕ) → write-term-lts.Need-add-write-run (
   parts-in-reads.Asked,
   parts-in-reads.Learnt,
@@ -322,9 +325,10 @@ write-term-add-write-run : (t : ℕ) → write-term-lts.Need-add-write-run (
   put-after-reads.Asked,
   put-after-reads.Learnt,
 ) (write-term-at t) write-term.Post
-write-term-add-write-run t c = let g : c .before .before .before .before .before .before .before .before .before .before .before .before .before .args .row + size (c .before .before .before .before .before .before .before .before .before .before .before .before .before .pre .1 .fit-term) ≤ 8192 = c .before .before .before .before .before .before .before .before .before .before .before .before .before .pre .1 .fit-held .few in omega arith
+write-term-add-write-run t c =
+    let asked = c .before .before .before .before .before .before .before .before .before .before .before .before .before .pre in
+    let g : c .before .before .before .before .before .before .before .before .before .before .before .before .before .args .row + size (asked .1 .fit-term) ≤ 8192 = asked .1 .fit-held .few in omega arith
 
--- src/lib.rt:139:9
 write-term-write-run-requires : (t : ℕ) → write-term-lts.Need-write-run-requires (
   parts-in-reads.Asked,
   parts-in-reads.Learnt,
@@ -339,9 +343,10 @@ write-term-write-run-requires : (t : ℕ) → write-term-lts.Need-write-run-requ
   put-after-reads.Asked,
   put-after-reads.Learnt,
 ) (write-term-at t) write-term.Post
-write-term-write-run-requires t c κs = let b = term-below (c .before .before .before .before .before .before .before .before .before .before .before .before .before .before .pre .1 .fit-term) (c .before .before .before .before .before .before .before .before .before .before .before .before .before .before .pre .1 .fit-held) in (omega arith, run-room _ _ _ (c .before .before .before .before .before .before .before .parts-in .ensures .0) (c .before .before .before .before .before .before .before .before .before .before .before .before .before .before .pre .1 .fit-term) (c .before .before .before .before .before .before .before .before .before .before .before .before .before .before .pre .1 .fit-held) (sym (c .before .before .before .before .before .before .is-string .ensures (c .before .before .before .before .before .before .before .before .before .before .before .before .before .before .pre .1 .fit-term) (c .before .before .before .before .before .before .before .before .before .before .before .before .before .before .pre .1 .fit-held)) ∙ c .before .before .before .before .before .if1 .left) (c .before .before .before .before .before .before .before .before .before .before .before .before .before .before .pre .1 .fit-room) (c .before .before .before .put-before .ensures))
+write-term-write-run-requires t c κs =
+    let asked = c .before .before .before .before .before .before .before .before .before .before .before .before .before .before .pre in
+    let b = term-below (asked .1 .fit-term) (asked .1 .fit-held) in (omega arith, run-room _ _ _ (c .before .before .before .before .before .before .before .parts-in .ensures .0) (asked .1 .fit-term) (asked .1 .fit-held) (sym (c .before .before .before .before .before .before .is-string .ensures (asked .1 .fit-term) (asked .1 .fit-held)) ∙ c .before .before .before .before .before .if1 .left) (asked .1 .fit-room) (c .before .before .before .put-before .ensures))
 
--- src/lib.rt:140:5
 write-term-put-after-requires : (t : ℕ) → write-term-lts.Need-put-after-requires (
   parts-in-reads.Asked,
   parts-in-reads.Learnt,
@@ -356,9 +361,10 @@ write-term-put-after-requires : (t : ℕ) → write-term-lts.Need-put-after-requ
   put-after-reads.Asked,
   put-after-reads.Learnt,
 ) (write-term-at t) write-term.Post
-write-term-put-after-requires t c κs = (term-sound (c .before .before .before .before .before .before .before .before .before .before .before .before .before .before .before .before .before .before .pre .1 .fit-term) (c .before .before .before .before .before .before .before .before .before .before .before .before .before .before .before .before .before .before .pre .1 .fit-held), after-room _ _ _ _ (c .before .before .before .before .before .before .before .before .before .before .before .parts-in .ensures .0) (c .before .before .before .before .before .before .before .before .before .before .before .before .before .before .before .before .before .before .pre .1 .fit-term) (c .before .before .before .before .before .before .before .before .before .before .before .before .before .before .before .before .before .before .pre .1 .fit-held) (sym (c .before .before .before .before .before .before .before .before .before .before .is-string .ensures (c .before .before .before .before .before .before .before .before .before .before .before .before .before .before .before .before .before .before .pre .1 .fit-term) (c .before .before .before .before .before .before .before .before .before .before .before .before .before .before .before .before .before .before .pre .1 .fit-held)) ∙ c .before .before .before .before .before .before .before .before .before .if1 .left) (c .before .before .before .before .before .before .before .before .before .before .before .before .before .before .before .before .before .before .pre .1 .fit-room) (c .before .before .before .before .before .before .before .put-before .ensures) (c .before .before .before .write-run .ensures))
+write-term-put-after-requires t c κs =
+    let asked = c .before .before .before .before .before .before .before .before .before .before .before .before .before .before .before .before .before .before .pre in
+    (term-sound (asked .1 .fit-term) (asked .1 .fit-held), after-room _ _ _ _ (c .before .before .before .before .before .before .before .before .before .before .before .parts-in .ensures .0) (asked .1 .fit-term) (asked .1 .fit-held) (sym (c .before .before .before .before .before .before .before .before .before .before .is-string .ensures (asked .1 .fit-term) (asked .1 .fit-held)) ∙ c .before .before .before .before .before .before .before .before .before .if1 .left) (asked .1 .fit-room) (c .before .before .before .before .before .before .before .put-before .ensures) (c .before .before .before .write-run .ensures))
 
--- src/lib.rt:121:1
 write-term-same-length-2 : (t : ℕ) → write-term-lts.Need-same-length-2 (
   parts-in-reads.Asked,
   parts-in-reads.Learnt,
@@ -375,7 +381,6 @@ write-term-same-length-2 : (t : ℕ) → write-term-lts.Need-same-length-2 (
 ) (write-term-at t) write-term.Post
 write-term-same-length-2 t c = c .before .before .put-after .kept .1 .1 .1 .1 .0 ∙ c .before .before .before .before .before .before .write-run .kept .1 .1 .1 .1 .1 .1 .0 ∙ c .before .before .before .before .before .before .before .before .before .before .put-before .kept .1 .1 .1 .1 .0
 
--- src/lib.rt:121:1
 write-term-returns-2 : (t : ℕ) → write-term-lts.Need-returns-2 (
   parts-in-reads.Asked,
   parts-in-reads.Learnt,

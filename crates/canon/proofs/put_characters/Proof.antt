@@ -1,20 +1,17 @@
+-- `canon::put_characters` meets its contract. What is left to store comes to all characters, by `characters-step`. Assumes nothing.
 use Rattle.canon.proofs.Strings.{Characters-left, characters-start, characters-step, characters-end, character-small, run-below, run-sound}
 use Rattle.canon.specs.Held.{Held-run}
 use Rattle.format.specs.Canonical.{all-small}
 use Rattle.format.specs.Message.{Terms, meanings}
 use Rattle.format.specs.Tree.{count}
 use lib.ListN.{length}
-use Prim.Native.Nat.{ℕ, _+_, _-_, _≤_}
+use Prim.Native.Nat.{ℕ, _-_, _≤_}
 use mathlib.Core.Option.{some}
 use mathlib.Core.List.{List}
 use native.Mathlib.Omega.{arith}
-use mathlib.Core.Path.{_≡_, refl, sym, ap, _∙_}
+use mathlib.Core.Path.{_≡_, refl, _∙_}
 use Rattle.canon.proofs.put_characters.Statement.{statement}
 use Rattle.canon.proofs.put_characters.Tie as tie
-use Rattle.canon.proofs.put_characters.Reads as reads
-use Rattle.canon.proofs.put_characters.Lts as lts
-use Rattle.fields.proofs.character_at.Reads as character-at-reads
-use Rattle.octets.proofs.put1.Reads as put1-reads
 
 abbrev Inv-loop : tie.InvT-loop
 Inv-loop msg places lengths table row n out₀ at i₀ out i = (i ≤ n) × (length out ≡ length out₀) × ((ts : Terms) (cs : List ℕ) → Held-run msg places lengths table row ts → count ts ≡ n → all-small (meanings ts) ≡ some cs → Characters-left msg places lengths table row n at cs out₀ out i)
@@ -22,55 +19,58 @@ Inv-loop msg places lengths table row n out₀ at i₀ out i = (i ≤ n) × (len
 abbrev μ-loop : tie.MeasureT-loop
 μ-loop msg places lengths table row n out₀ at i₀ out i = n - i
 
--- src/lib.rt:55:5
 loop-holds : tie.Need-loop-holds Inv-loop μ-loop
 loop-holds c = (omega arith, refl, λ ts cs h e f. characters-start _ _ _ ts cs _ h e f)
 
--- src/lib.rt:56:66
 add-character-at : tie.Need-add-character-at Inv-loop μ-loop
-add-character-at c = let s = c .before .loop .inv .2 (c .before .before .before .before .before .before .before .pre .0 .small-terms) (c .before .before .before .before .before .before .before .pre .0 .characters) (c .before .before .before .before .before .before .before .pre .0 .small-held) (c .before .before .before .before .before .before .before .pre .0 .small-counted) (c .before .before .before .before .before .before .before .pre .0 .are-small) in let k : count (s .rest) ≡ c .before .before .before .before .before .before .before .args .n - c .before .loop .i = s .rest-count in let b = run-below _ _ (s .rest-held) (omega arith) in omega arith
+add-character-at c =
+    let here = c .before .loop in
+    let asked = c .before .before .before .before .before .before .before .pre in
+    let s = here .inv .2 (asked .0 .small-terms) (asked .0 .characters) (asked .0 .small-held) (asked .0 .small-counted) (asked .0 .are-small) in let k : count (s .rest) ≡ c .before .before .before .before .before .before .before .args .n - here .i = s .rest-count in let b = run-below _ _ (s .rest-held) (omega arith) in omega arith
 
--- src/lib.rt:56:60
 mul-character-at : tie.Need-mul-character-at Inv-loop μ-loop
-mul-character-at c = let s = c .before .loop .inv .2 (c .before .before .before .before .before .before .before .pre .0 .small-terms) (c .before .before .before .before .before .before .before .pre .0 .characters) (c .before .before .before .before .before .before .before .pre .0 .small-held) (c .before .before .before .before .before .before .before .pre .0 .small-counted) (c .before .before .before .before .before .before .before .pre .0 .are-small) in let k : count (s .rest) ≡ c .before .before .before .before .before .before .before .args .n - c .before .loop .i = s .rest-count in let b = run-below _ _ (s .rest-held) (omega arith) in omega arith
+mul-character-at c =
+    let here = c .before .loop in
+    let asked = c .before .before .before .before .before .before .before .pre in
+    let s = here .inv .2 (asked .0 .small-terms) (asked .0 .characters) (asked .0 .small-held) (asked .0 .small-counted) (asked .0 .are-small) in let k : count (s .rest) ≡ c .before .before .before .before .before .before .before .args .n - here .i = s .rest-count in let b = run-below _ _ (s .rest-held) (omega arith) in omega arith
 
--- src/lib.rt:56:60
 shared-slice-read-character-at : tie.Need-shared-slice-read-character-at Inv-loop μ-loop
-shared-slice-read-character-at c = let s = c .before .before .loop .inv .2 (c .before .before .before .before .before .before .before .before .pre .0 .small-terms) (c .before .before .before .before .before .before .before .before .pre .0 .characters) (c .before .before .before .before .before .before .before .before .pre .0 .small-held) (c .before .before .before .before .before .before .before .before .pre .0 .small-counted) (c .before .before .before .before .before .before .before .before .pre .0 .are-small) in let k : count (s .rest) ≡ c .before .before .before .before .before .before .before .before .args .n - c .before .before .loop .i = s .rest-count in run-below _ _ (s .rest-held) (omega arith)
+shared-slice-read-character-at c =
+    let here = c .before .before .loop in
+    let asked = c .before .before .before .before .before .before .before .before .pre in
+    let s = here .inv .2 (asked .0 .small-terms) (asked .0 .characters) (asked .0 .small-held) (asked .0 .small-counted) (asked .0 .are-small) in let k : count (s .rest) ≡ c .before .before .before .before .before .before .before .before .args .n - here .i = s .rest-count in run-below _ _ (s .rest-held) (omega arith)
 
--- src/lib.rt:56:13
 character-at-requires : tie.Need-character-at-requires Inv-loop μ-loop
-character-at-requires c κs = let s = c .before .before .loop .inv .2 (c .before .before .before .before .before .before .before .before .pre .0 .small-terms) (c .before .before .before .before .before .before .before .before .pre .0 .characters) (c .before .before .before .before .before .before .before .before .pre .0 .small-held) (c .before .before .before .before .before .before .before .before .pre .0 .small-counted) (c .before .before .before .before .before .before .before .before .pre .0 .are-small) in let k : count (s .rest) ≡ c .before .before .before .before .before .before .before .before .args .n - c .before .before .loop .i = s .rest-count in run-sound _ _ (s .rest-held) (omega arith)
+character-at-requires c κs =
+    let here = c .before .before .loop in
+    let asked = c .before .before .before .before .before .before .before .before .pre in
+    let s = here .inv .2 (asked .0 .small-terms) (asked .0 .characters) (asked .0 .small-held) (asked .0 .small-counted) (asked .0 .are-small) in let k : count (s .rest) ≡ c .before .before .before .before .before .before .before .before .args .n - here .i = s .rest-count in run-sound _ _ (s .rest-held) (omega arith)
 
--- src/lib.rt:57:27
 add-put1 : tie.Need-add-put1 Inv-loop μ-loop
 add-put1 c = omega arith
 
--- src/lib.rt:57:9
 put1-requires : tie.Need-put1-requires Inv-loop μ-loop
-put1-requires c κs = (omega arith, character-small _ (c .before .before .before .before .loop .inv .2 (c .before .before .before .before .before .before .before .before .before .before .pre .0 .small-terms) (c .before .before .before .before .before .before .before .before .before .before .pre .0 .characters) (c .before .before .before .before .before .before .before .before .before .before .pre .0 .small-held) (c .before .before .before .before .before .before .before .before .before .before .pre .0 .small-counted) (c .before .before .before .before .before .before .before .before .before .before .pre .0 .are-small)) (c .before .before .before .loop-test .taken) (c .before .character-at .ensures .0))
+put1-requires c κs =
+    let asked = c .before .before .before .before .before .before .before .before .before .before .pre in
+    (omega arith, character-small _ (c .before .before .before .before .loop .inv .2 (asked .0 .small-terms) (asked .0 .characters) (asked .0 .small-held) (asked .0 .small-counted) (asked .0 .are-small)) (c .before .before .before .loop-test .taken) (c .before .character-at .ensures .0))
 
--- src/lib.rt:58:9
 add-i : tie.Need-add-i Inv-loop μ-loop
 add-i c = omega arith
 
--- src/lib.rt:55:5
 loop-less : tie.Need-loop-less Inv-loop μ-loop
 loop-less c = omega arith
 
--- src/lib.rt:55:5
 loop-again : tie.Need-loop-again Inv-loop μ-loop
-loop-again c = (omega arith, c .before .before .put1 .kept .0 ∙ c .before .before .before .before .before .before .before .loop .inv .1, λ ts cs h e f. characters-step _ (c .before .before .before .before .before .before .before .loop .inv .2 ts cs h e f) (c .before .before .before .before .before .before .loop-test .taken) (c .before .before .before .before .character-at .ensures .0) (c .before .before .put1 .ensures))
+loop-again c =
+    let here = c .before .before .before .before .before .before .before .loop in
+    (omega arith, c .before .before .put1 .kept .0 ∙ here .inv .1, λ ts cs h e f. characters-step _ (here .inv .2 ts cs h e f) (c .before .before .before .before .before .before .loop-test .taken) (c .before .before .before .before .character-at .ensures .0) (c .before .before .put1 .ensures))
 
--- src/lib.rt:60:5
 add-result : tie.Need-add-result Inv-loop μ-loop
 add-result c = omega arith
 
--- src/lib.rt:41:1
 same-length : tie.Need-same-length Inv-loop μ-loop
 same-length c = c .before .loop .inv .1
 
--- src/lib.rt:41:1
 returns : tie.Need-returns Inv-loop μ-loop
 returns c = λ ts cs h e f. characters-end ts (c .before .loop .inv .2 ts cs h e f) (c .loop-test .left) e f
 

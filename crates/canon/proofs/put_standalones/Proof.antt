@@ -1,3 +1,4 @@
+-- `canon::put_standalones` meets its contract. What is left to store comes to the whole, as in a run of parts. Assumes nothing.
 use Rattle.canon.proofs.Messages.{standalones-none, standalones-more}
 use Rattle.canon.proofs.Terms.{Put-left, put-start, put-step, put-end, put-fits, left-below, left-size}
 use Rattle.canon.specs.Held.{Held-run}
@@ -7,13 +8,9 @@ use Rattle.format.specs.Tree.{count}
 use lib.ListN.{length}
 use borrow.Author.Needs.{needs}
 use native.Mathlib.Omega.{arith}
-use mathlib.Core.Path.{_≡_, refl, sym, ap, _∙_}
+use mathlib.Core.Path.{_≡_, refl, _∙_}
 use Rattle.canon.proofs.put_standalones.Statement.{statement}
 use Rattle.canon.proofs.put_standalones.Tie as tie
-use Rattle.canon.proofs.put_standalones.Reads as reads
-use Rattle.canon.proofs.put_standalones.Lts as lts
-use Rattle.canon.proofs.put_standalone.Reads as put-standalone-reads
-use Rattle.row.proofs.size_in.Reads as size-in-reads
 
 abbrev Inv-loop : tie.InvT-loop
 Inv-loop msg places lengths table n out₀ next₀ left₀ end₀ out next left end =
@@ -23,47 +20,47 @@ Inv-loop msg places lengths table n out₀ next₀ left₀ end₀ out next left 
 abbrev μ-loop : tie.MeasureT-loop
 μ-loop msg places lengths table n out₀ next₀ left₀ end₀ out next left end = left
 
--- src/lib.rt:209:5
 loop-holds : tie.Need-loop-holds Inv-loop μ-loop
 loop-holds c = (refl, λ ts h e. put-start canonical-standalone standalones standalones-none standalones-more _ _ _ _ ts h e)
 
--- src/lib.rt:210:9
 put-standalone-requires : tie.Need-put-standalone-requires Inv-loop μ-loop
-put-standalone-requires c κs = let g = c .before .before .loop .inv .1 (c .before .before .before .before .before .before .before .before .pre .fit-terms) (c .before .before .before .before .before .before .before .before .pre .fit-run) (c .before .before .before .before .before .before .before .before .pre .fit-count) in put-fits canonical-standalone standalones standalones-none standalones-more g (c .before .loop-test .taken) (c .before .before .before .before .before .before .before .before .pre .fit-space) (c .before .before .loop .inv .0)
+put-standalone-requires c κs =
+    let here = c .before .before .loop in
+    let asked = c .before .before .before .before .before .before .before .before .pre in
+    let g = here .inv .1 (asked .fit-terms) (asked .fit-run) (asked .fit-count) in put-fits canonical-standalone standalones standalones-none standalones-more g (c .before .loop-test .taken) (asked .fit-space) (here .inv .0)
 
--- src/lib.rt:211:30
 mul-size-in : tie.Need-mul-size-in Inv-loop μ-loop
-mul-size-in c = let g = c .before .before .before .before .before .loop .inv .1 (c .before .before .before .before .before .before .before .before .before .before .before .pre .fit-terms) (c .before .before .before .before .before .before .before .before .before .before .before .pre .fit-run) (c .before .before .before .before .before .before .before .before .before .before .before .pre .fit-count) in let b = left-size _ (g .rest) (g .rest-held) (g .rest-count) (c .before .before .before .before .loop-test .taken) refl in omega arith
+mul-size-in c =
+    let asked = c .before .before .before .before .before .before .before .before .before .before .before .pre in
+    let g = c .before .before .before .before .before .loop .inv .1 (asked .fit-terms) (asked .fit-run) (asked .fit-count) in let b = left-size _ (g .rest) (g .rest-held) (g .rest-count) (c .before .before .before .before .loop-test .taken) refl in omega arith
 
--- src/lib.rt:211:30
 shared-slice-read-size-in : tie.Need-shared-slice-read-size-in Inv-loop μ-loop
-shared-slice-read-size-in c = let g = c .before .before .before .before .before .before .loop .inv .1 (c .before .before .before .before .before .before .before .before .before .before .before .before .pre .fit-terms) (c .before .before .before .before .before .before .before .before .before .before .before .before .pre .fit-run) (c .before .before .before .before .before .before .before .before .before .before .before .before .pre .fit-count) in left-below (g .rest) (g .rest-held) (g .rest-count) (c .before .before .before .before .before .loop-test .taken)
+shared-slice-read-size-in c =
+    let asked = c .before .before .before .before .before .before .before .before .before .before .before .before .pre in
+    let g = c .before .before .before .before .before .before .loop .inv .1 (asked .fit-terms) (asked .fit-run) (asked .fit-count) in left-below (g .rest) (g .rest-held) (g .rest-count) (c .before .before .before .before .before .loop-test .taken)
 
--- src/lib.rt:211:17
 size-in-requires : tie.Need-size-in-requires Inv-loop μ-loop
 size-in-requires c κs = search needs
 
--- src/lib.rt:211:9
 add-next : tie.Need-add-next Inv-loop μ-loop
-add-next c = let g = c .before .before .before .before .before .before .before .loop .inv .1 (c .before .before .before .before .before .before .before .before .before .before .before .before .before .pre .fit-terms) (c .before .before .before .before .before .before .before .before .before .before .before .before .before .pre .fit-run) (c .before .before .before .before .before .before .before .before .before .before .before .before .before .pre .fit-count) in let b = left-size _ (g .rest) (g .rest-held) (g .rest-count) (c .before .before .before .before .before .before .loop-test .taken) (c .size-in .ensures .0) in omega arith
+add-next c =
+    let asked = c .before .before .before .before .before .before .before .before .before .before .before .before .before .pre in
+    let g = c .before .before .before .before .before .before .before .loop .inv .1 (asked .fit-terms) (asked .fit-run) (asked .fit-count) in let b = left-size _ (g .rest) (g .rest-held) (g .rest-count) (c .before .before .before .before .before .before .loop-test .taken) (c .size-in .ensures .0) in omega arith
 
--- src/lib.rt:212:9
 sub-left : tie.Need-sub-left Inv-loop μ-loop
 sub-left c = omega arith
 
--- src/lib.rt:209:5
 loop-less : tie.Need-loop-less Inv-loop μ-loop
 loop-less c = omega arith
 
--- src/lib.rt:209:5
 loop-again : tie.Need-loop-again Inv-loop μ-loop
-loop-again c = (c .before .before .before .before .put-standalone .kept .1 .1 .1 .1 .1 .0 ∙ c .before .before .before .before .before .before .before .loop .inv .0, λ ts h e. put-step canonical-standalone standalones standalones-none standalones-more _ _ (c .before .before .before .before .before .before .before .loop .inv .1 ts h e) (c .before .before .before .before .before .before .loop-test .taken) (c .size-in .ensures .0) (c .before .before .before .before .put-standalone .ensures))
+loop-again c =
+    let here = c .before .before .before .before .before .before .before .loop in
+    (c .before .before .before .before .put-standalone .kept .1 .1 .1 .1 .1 .0 ∙ here .inv .0, λ ts h e. put-step canonical-standalone standalones standalones-none standalones-more _ _ (here .inv .1 ts h e) (c .before .before .before .before .before .before .loop-test .taken) (c .size-in .ensures .0) (c .before .before .before .before .put-standalone .ensures))
 
--- src/lib.rt:195:1
 same-length : tie.Need-same-length Inv-loop μ-loop
 same-length c = c .before .loop .inv .0
 
--- src/lib.rt:195:1
 returns : tie.Need-returns Inv-loop μ-loop
 returns c = λ ts h e. put-end canonical-standalone standalones standalones-none standalones-more (c .before .loop .inv .1 ts h e) (c .loop-test .left)
 

@@ -1,16 +1,12 @@
+-- `fields::bytes_lead` meets its contract. By `bytes-lay`. Assumes nothing.
 use Rattle.fields.proofs.Leads.{bytes-lay}
 use borrow.Author.Needs.{needs}
 use Rattle.fields.proofs.bytes_lead.Statement.{statement}
 use Rattle.fields.proofs.bytes_lead.Tie as tie
-use Rattle.fields.proofs.bytes_lead.Reads as reads
-use Rattle.fields.proofs.bytes_lead.Lts as lts
-use Rattle.fields.proofs.tagged.Reads as tagged-reads
 
--- src/lib.rt:124:5
 tagged-requires : tie.Need-tagged-requires
 tagged-requires c κs = search needs
 
--- src/lib.rt:121:1
 returns : tie.Need-returns
 returns c = λ m places i. bytes-lay m places _ _ (c .tagged .ensures) i
 

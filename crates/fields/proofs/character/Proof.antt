@@ -1,19 +1,15 @@
+-- `fields::character` meets its contract. By sign and size. Assumes nothing.
 use Rattle.fields.proofs.Leads.{not-small, large, is-small}
 use native.Mathlib.Omega.{arith}
 use Rattle.fields.proofs.character.Statement.{statement}
 use Rattle.fields.proofs.character.Tie as tie
-use Rattle.fields.proofs.character.Reads as reads
-use Rattle.fields.proofs.character.Lts as lts
 
--- src/lib.rt:400:9
 returns : tie.Need-returns
 returns c = (not-small _ _ (c .if1 .taken) (c .before .pre (c .if1 .taken)), omega arith)
 
--- src/lib.rt:403:9
 returns-2 : tie.Need-returns-2
 returns-2 c = (large _ _ (c .before .if1 .left) (c .if2 .taken), omega arith)
 
--- src/lib.rt:395:1
 returns-3 : tie.Need-returns-3
 returns-3 c = (is-small _ _ (c .before .if1 .left) (c .if2 .left), omega arith)
 

@@ -1,3 +1,4 @@
+-- `fields::lead` meets its contract. By the content: each case says the label that the content says. Assumes nothing.
 use Rattle.fields.specs.Shape.{before}
 use Rattle.layout.specs.Layout.{stretch}
 use Rattle.contents.specs.Meaning.{coded, label-of}
@@ -8,160 +9,144 @@ use Prim.Native.Nat.{ℕ}
 use mathlib.Core.List.{List, _∷_}
 use Rattle.fields.proofs.Leads.{says, only-tagged, lead-by, signed-below, signed-above, source-is, sound-whole, sound-big, sound-text, sound-bytes, sound-bits, length-words-at}
 use native.Mathlib.Omega.{arith}
-use mathlib.Core.Path.{_≡_, refl, sym, ap, _∙_}
+use mathlib.Core.Path.{refl, sym, ap}
 use borrow.Author.Needs.{needs}
 use Rattle.fields.proofs.lead.Statement.{statement}
 use Rattle.fields.proofs.lead.Tie as tie
-use Rattle.fields.proofs.lead.Reads as reads
-use Rattle.fields.proofs.lead.Lts as lts
-use Rattle.fields.proofs.bare_lead.Reads as bare-lead-reads
-use Rattle.fields.proofs.big_lead.Reads as big-lead-reads
-use Rattle.fields.proofs.bits_lead.Reads as bits-lead-reads
-use Rattle.fields.proofs.bytes_lead.Reads as bytes-lead-reads
-use Rattle.fields.proofs.negative_lead.Reads as negative-lead-reads
-use Rattle.fields.proofs.port_lead.Reads as port-lead-reads
-use Rattle.fields.proofs.positive_lead.Reads as positive-lead-reads
-use Rattle.fields.proofs.tagged.Reads as tagged-reads
-use Rattle.fields.proofs.text.Reads as text-reads
 
--- src/lib.rt:205:29
 enum-told : tie.Need-enum-told
 enum-told c = search needs
 
--- src/lib.rt:205:29
 bare-lead-requires : tie.Need-bare-lead-requires
 bare-lead-requires c κs = search needs
 
--- src/lib.rt:207:13
 enum-known-content : tie.Need-enum-known-content
 enum-known-content c = search needs
 
--- src/lib.rt:211:17
 negative-lead-requires : tie.Need-negative-lead-requires
-negative-lead-requires c κs = sound-whole (c .before .before .before .before .before .before .args .msg .now) (c .before .before .before .before .before .before .args .places .now) (c .before .before .before .before .before .before .args .content) _ _ (c .before .before .content .given .1) (c .before .before .before .before .before .before .pre .0) (c .if1 .taken)
+negative-lead-requires c κs =
+    let args = c .before .before .before .before .before .before .args in
+    sound-whole (args .msg .now) (args .places .now) (args .content) _ _ (c .before .before .content .given .1) (c .before .before .before .before .before .before .pre .0) (c .if1 .taken)
 
--- src/lib.rt:211:17
 returns : tie.Need-returns
 unfolding label-of before
-returns c = lead-by (c .before .before .before .before .before .before .before .args .msg .now) (c .before .before .before .before .before .before .before .args .places .now) (c .before .before .before .before .before .before .before .args .content) (c .before .before .before .before .before .before .before .args .kind) (c .before .before .before .before .before .before .before .args .n) _ (c .before .before .before .content .given .1) (says (ap integer-bytes (signed-below _ _ (c .before .if1 .taken) (sound-whole (c .before .before .before .before .before .before .before .args .msg .now) (c .before .before .before .before .before .before .before .args .places .now) (c .before .before .before .before .before .before .before .args .content) _ _ (c .before .before .before .content .given .1) (c .before .before .before .before .before .before .before .pre .0) (c .before .if1 .taken)))) (c .negative-lead .ensures _ _))
+returns c =
+    let args = c .before .before .before .before .before .before .before .args in
+    lead-by (args .msg .now) (args .places .now) (args .content) (args .kind) (args .n) _ (c .before .before .before .content .given .1) (says (ap integer-bytes (signed-below _ _ (c .before .if1 .taken) (sound-whole (args .msg .now) (args .places .now) (args .content) _ _ (c .before .before .before .content .given .1) (c .before .before .before .before .before .before .before .pre .0) (c .before .if1 .taken)))) (c .negative-lead .ensures _ _))
 
--- src/lib.rt:213:13
 positive-lead-requires : tie.Need-positive-lead-requires
 positive-lead-requires c κs = search needs
 
--- src/lib.rt:216:13
 enum-known-content-2 : tie.Need-enum-known-content-2
 enum-known-content-2 c = search needs
 
--- src/lib.rt:219:14
 big-lead-requires : tie.Need-big-lead-requires
 big-lead-requires c κs = search needs
 
--- src/lib.rt:220:26
 enum-known-content-3 : tie.Need-enum-known-content-3
 enum-known-content-3 c = search needs
 
--- src/lib.rt:220:36
 tagged-requires : tie.Need-tagged-requires
 tagged-requires c κs = search needs
 
--- src/lib.rt:222:13
 enum-known-content-4 : tie.Need-enum-known-content-4
 enum-known-content-4 c = search needs
 
--- src/lib.rt:226:14
 text-requires : tie.Need-text-requires
-text-requires c κs = sound-text (c .before .before .before .before .before .args .msg .now) (c .before .before .before .before .before .args .places .now) (c .before .before .before .before .before .args .content) _ _ _ _ (c .before .content4 .given .1) (c .before .before .before .before .before .pre .0)
+text-requires c κs =
+    let args = c .before .before .before .before .before .args in
+    sound-text (args .msg .now) (args .places .now) (args .content) _ _ _ _ (c .before .content4 .given .1) (c .before .before .before .before .before .pre .0)
 
--- src/lib.rt:227:26
 enum-known-content-5 : tie.Need-enum-known-content-5
 enum-known-content-5 c = search needs
 
--- src/lib.rt:227:45
 bytes-lead-requires : tie.Need-bytes-lead-requires
 bytes-lead-requires c κs = search needs
 
--- src/lib.rt:229:13
 enum-known-content-6 : tie.Need-enum-known-content-6
 enum-known-content-6 c = search needs
 
--- src/lib.rt:232:14
 bits-lead-requires : tie.Need-bits-lead-requires
 bits-lead-requires c κs = search needs
 
--- src/lib.rt:234:13
 enum-known-content-7 : tie.Need-enum-known-content-7
 enum-known-content-7 c = search needs
 
--- src/lib.rt:237:14
 tagged-requires-2 : tie.Need-tagged-requires-2
 tagged-requires-2 c κs = search needs
 
--- src/lib.rt:238:25
 enum-known-content-8 : tie.Need-enum-known-content-8
 enum-known-content-8 c = search needs
 
--- src/lib.rt:238:43
 port-lead-requires : tie.Need-port-lead-requires
 port-lead-requires c κs = search needs
 
--- src/lib.rt:240:13
 enum-known-content-9 : tie.Need-enum-known-content-9
 enum-known-content-9 c = search needs
 
--- src/lib.rt:243:14
 tagged-requires-3 : tie.Need-tagged-requires-3
 tagged-requires-3 c κs = search needs
 
--- src/lib.rt:200:1
 returns-2 : tie.Need-returns-2
 unfolding label-of before
-returns-2 c = lead-by (c .before .before .before .before .before .args .msg .now) (c .before .before .before .before .before .args .places .now) (c .before .before .before .before .before .args .content) (c .before .before .before .before .before .args .kind) (c .before .before .before .before .before .args .n) _ (c .before .enum-told .given .1) (c .bare-lead .ensures _ _)
+returns-2 c =
+    let args = c .before .before .before .before .before .args in
+    lead-by (args .msg .now) (args .places .now) (args .content) (args .kind) (args .n) _ (c .before .enum-told .given .1) (c .bare-lead .ensures _ _)
 
--- src/lib.rt:200:1
 returns-3 : tie.Need-returns-3
 unfolding label-of before
-returns-3 c = lead-by (c .before .before .before .before .before .before .before .args .msg .now) (c .before .before .before .before .before .before .before .args .places .now) (c .before .before .before .before .before .before .before .args .content) (c .before .before .before .before .before .before .before .args .kind) (c .before .before .before .before .before .before .before .args .n) _ (c .before .before .before .content .given .1) (says (ap integer-bytes (signed-above _ _ (c .before .if1 .left))) (c .positive-lead .ensures _ _))
+returns-3 c =
+    let args = c .before .before .before .before .before .before .before .args in
+    lead-by (args .msg .now) (args .places .now) (args .content) (args .kind) (args .n) _ (c .before .before .before .content .given .1) (says (ap integer-bytes (signed-above _ _ (c .before .if1 .left))) (c .positive-lead .ensures _ _))
 
--- src/lib.rt:200:1
 returns-4 : tie.Need-returns-4
 unfolding label-of before
-returns-4 c = lead-by (c .before .before .before .before .before .before .args .msg .now) (c .before .before .before .before .before .before .args .places .now) (c .before .before .before .before .before .before .args .content) (c .before .before .before .before .before .before .args .kind) (c .before .before .before .before .before .before .args .n) _ (c .before .before .content2 .given .1) (c .big-lead .ensures _ _ (sound-big (c .before .before .before .before .before .before .args .msg .now) (c .before .before .before .before .before .before .args .places .now) (c .before .before .before .before .before .before .args .content) _ _ _ (c .before .before .content2 .given .1) (c .before .before .before .before .before .before .pre .0)) (λ i. omega (arith, c .before .before .before .before .before .shared-slice-known .given i)))
+returns-4 c =
+    let args = c .before .before .before .before .before .before .args in
+    lead-by (args .msg .now) (args .places .now) (args .content) (args .kind) (args .n) _ (c .before .before .content2 .given .1) (c .big-lead .ensures _ _ (sound-big (args .msg .now) (args .places .now) (args .content) _ _ _ (c .before .before .content2 .given .1) (c .before .before .before .before .before .before .pre .0)) (λ i. omega (arith, c .before .before .before .before .before .shared-slice-known .given i)))
 
--- src/lib.rt:200:1
 returns-5 : tie.Need-returns-5
 unfolding label-of before
-returns-5 c = lead-by (c .before .before .before .before .before .before .args .msg .now) (c .before .before .before .before .before .before .args .places .now) (c .before .before .before .before .before .before .args .content) (c .before .before .before .before .before .before .args .kind) (c .before .before .before .before .before .before .args .n) _ (c .before .before .content3 .given .1) (only-tagged _ _ _ (c .tagged .ensures) refl _ _)
+returns-5 c =
+    let args = c .before .before .before .before .before .before .args in
+    lead-by (args .msg .now) (args .places .now) (args .content) (args .kind) (args .n) _ (c .before .before .content3 .given .1) (only-tagged _ _ _ (c .tagged .ensures) refl _ _)
 
--- src/lib.rt:200:1
 returns-6 : tie.Need-returns-6
 unfolding label-of before
-returns-6 c = lead-by (c .before .before .before .before .before .before .args .msg .now) (c .before .before .before .before .before .before .args .places .now) (c .before .before .before .before .before .before .args .content) (c .before .before .before .before .before .before .args .kind) (c .before .before .before .before .before .before .args .n) _ (c .before .before .content4 .given .1) (says (ap (λ (s : List ℕ). atom-bytes (encodes (coded (c .before .before .content4 .given .0 .0) (stretch s (c .before .before .content4 .given .0 .1 .1 .0) (c .before .before .content4 .given .0 .1 .1 .1 .0))))) (source-is (c .before .before .content4 .given .0 .1 .0) (c .before .before .before .before .before .before .args .msg .now) (c .before .before .before .before .before .before .args .places .now))) (c .text .ensures))
+returns-6 c =
+    let args = c .before .before .before .before .before .before .args in
+    lead-by (args .msg .now) (args .places .now) (args .content) (args .kind) (args .n) _ (c .before .before .content4 .given .1) (says (ap (λ (s : List ℕ). atom-bytes (encodes (coded (c .before .before .content4 .given .0 .0) (stretch s (c .before .before .content4 .given .0 .1 .1 .0) (c .before .before .content4 .given .0 .1 .1 .1 .0))))) (source-is (c .before .before .content4 .given .0 .1 .0) (args .msg .now) (args .places .now))) (c .text .ensures))
 
--- src/lib.rt:200:1
 returns-7 : tie.Need-returns-7
 unfolding label-of before
-returns-7 c = lead-by (c .before .before .before .before .before .before .args .msg .now) (c .before .before .before .before .before .before .args .places .now) (c .before .before .before .before .before .before .args .content) (c .before .before .before .before .before .before .args .kind) (c .before .before .before .before .before .before .args .n) _ (c .before .before .content5 .given .1) (c .bytes-lead .ensures _ _ (sound-bytes (c .before .before .before .before .before .before .args .msg .now) (c .before .before .before .before .before .before .args .places .now) (c .before .before .before .before .before .before .args .content) _ _ (c .before .before .content5 .given .1) (c .before .before .before .before .before .before .pre .0)))
+returns-7 c =
+    let args = c .before .before .before .before .before .before .args in
+    lead-by (args .msg .now) (args .places .now) (args .content) (args .kind) (args .n) _ (c .before .before .content5 .given .1) (c .bytes-lead .ensures _ _ (sound-bytes (args .msg .now) (args .places .now) (args .content) _ _ (c .before .before .content5 .given .1) (c .before .before .before .before .before .before .pre .0)))
 
--- src/lib.rt:200:1
 returns-8 : tie.Need-returns-8
 unfolding label-of before
-returns-8 c = lead-by (c .before .before .before .before .before .before .args .msg .now) (c .before .before .before .before .before .before .args .places .now) (c .before .before .before .before .before .before .args .content) (c .before .before .before .before .before .before .args .kind) (c .before .before .before .before .before .before .args .n) _ (c .before .before .content6 .given .1) (c .bits-lead .ensures _ _ (sound-bits (c .before .before .before .before .before .before .args .msg .now) (c .before .before .before .before .before .before .args .places .now) (c .before .before .before .before .before .before .args .content) _ _ _ (c .before .before .content6 .given .1) (c .before .before .before .before .before .before .pre .0) .0) (sound-bits (c .before .before .before .before .before .before .args .msg .now) (c .before .before .before .before .before .before .args .places .now) (c .before .before .before .before .before .before .args .content) _ _ _ (c .before .before .content6 .given .1) (c .before .before .before .before .before .before .pre .0) .1))
+returns-8 c =
+    let args = c .before .before .before .before .before .before .args in
+    let asked = c .before .before .before .before .before .before .pre in
+    lead-by (args .msg .now) (args .places .now) (args .content) (args .kind) (args .n) _ (c .before .before .content6 .given .1) (c .bits-lead .ensures _ _ (sound-bits (args .msg .now) (args .places .now) (args .content) _ _ _ (c .before .before .content6 .given .1) (asked .0) .0) (sound-bits (args .msg .now) (args .places .now) (args .content) _ _ _ (c .before .before .content6 .given .1) (asked .0) .1))
 
--- src/lib.rt:200:1
 returns-9 : tie.Need-returns-9
 unfolding label-of before in-bytes
-returns-9 c = lead-by (c .before .before .before .before .before .before .args .msg .now) (c .before .before .before .before .before .before .args .places .now) (c .before .before .before .before .before .before .args .content) (c .before .before .before .before .before .before .args .kind) (c .before .before .before .before .before .before .args .n) _ (c .before .before .content7 .given .1) (only-tagged _ _ _ (c .tagged2 .ensures) refl _ _)
+returns-9 c =
+    let args = c .before .before .before .before .before .before .args in
+    lead-by (args .msg .now) (args .places .now) (args .content) (args .kind) (args .n) _ (c .before .before .content7 .given .1) (only-tagged _ _ _ (c .tagged2 .ensures) refl _ _)
 
--- src/lib.rt:200:1
 returns-10 : tie.Need-returns-10
 unfolding label-of before
-returns-10 c = lead-by (c .before .before .before .before .before .before .args .msg .now) (c .before .before .before .before .before .before .args .places .now) (c .before .before .before .before .before .before .args .content) (c .before .before .before .before .before .before .args .kind) (c .before .before .before .before .before .before .args .n) _ (c .before .before .content8 .given .1) (c .port-lead .ensures _ _)
+returns-10 c =
+    let args = c .before .before .before .before .before .before .args in
+    lead-by (args .msg .now) (args .places .now) (args .content) (args .kind) (args .n) _ (c .before .before .content8 .given .1) (c .port-lead .ensures _ _)
 
--- src/lib.rt:200:1
 returns-11 : tie.Need-returns-11
 unfolding label-of before
-returns-11 c = lead-by (c .before .before .before .before .before .before .args .msg .now) (c .before .before .before .before .before .before .args .places .now) (c .before .before .before .before .before .before .args .content) (c .before .before .before .before .before .before .args .kind) (c .before .before .before .before .before .before .args .n) _ (c .before .before .content9 .given .1) (only-tagged _ _ _ (c .tagged3 .ensures) (ap (λ (k : ℕ). 90 ∷ in-bytes 2 k) (sym (length-words-at _ _ _))) _ _)
+returns-11 c =
+    let args = c .before .before .before .before .before .before .args in
+    lead-by (args .msg .now) (args .places .now) (args .content) (args .kind) (args .n) _ (c .before .before .content9 .given .1) (only-tagged _ _ _ (c .tagged3 .ensures) (ap (λ (k : ℕ). 90 ∷ in-bytes 2 k) (sym (length-words-at _ _ _))) _ _)
 
 pub lead-spec : {M : Type 1} → statement M
 lead-spec =

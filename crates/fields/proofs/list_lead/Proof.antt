@@ -1,26 +1,20 @@
+-- `fields::list_lead` meets its contract. 106 for none, else 108. Assumes nothing.
 use Rattle.format.specs.Numbers.{in-bytes}
 use Rattle.fields.proofs.Leads.{only-tagged, list-106, list-108}
 use borrow.Author.Needs.{needs}
 use Rattle.fields.proofs.list_lead.Statement.{statement}
 use Rattle.fields.proofs.list_lead.Tie as tie
-use Rattle.fields.proofs.list_lead.Reads as reads
-use Rattle.fields.proofs.list_lead.Lts as lts
-use Rattle.fields.proofs.tagged.Reads as tagged-reads
 
--- src/lib.rt:170:9
 tagged-requires : tie.Need-tagged-requires
 tagged-requires c κs = search needs
 
--- src/lib.rt:170:9
 returns : tie.Need-returns
 unfolding in-bytes
 returns c = only-tagged _ _ _ (c .tagged .ensures) (list-106 _ (c .before .if1 .taken))
 
--- src/lib.rt:172:5
 tagged-requires-2 : tie.Need-tagged-requires-2
 tagged-requires-2 c κs = search needs
 
--- src/lib.rt:166:1
 returns-2 : tie.Need-returns-2
 returns-2 c = only-tagged _ _ _ (c .tagged2 .ensures) (list-108 _ (c .before .if1 .left))
 

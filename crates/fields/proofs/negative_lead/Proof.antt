@@ -1,29 +1,21 @@
+-- `fields::negative_lead` meets its contract. The canonical form's tests are the code's. Assumes nothing.
 use Rattle.fields.proofs.Leads.{only-tagged, says, negative-98, negative-big}
 use borrow.Author.Needs.{needs}
 use Rattle.fields.proofs.negative_lead.Statement.{statement}
 use Rattle.fields.proofs.negative_lead.Tie as tie
-use Rattle.fields.proofs.negative_lead.Reads as reads
-use Rattle.fields.proofs.negative_lead.Lts as lts
-use Rattle.fields.proofs.digits_lead.Reads as digits-lead-reads
-use Rattle.fields.proofs.tagged.Reads as tagged-reads
 
--- src/lib.rt:56:30
 sub-tagged : tie.Need-sub-tagged
 sub-tagged c = search needs
 
--- src/lib.rt:56:9
 tagged-requires : tie.Need-tagged-requires
 tagged-requires c κs = search needs
 
--- src/lib.rt:56:9
 returns : tie.Need-returns
 returns c = only-tagged _ _ _ (c .tagged .ensures) (negative-98 _ (c .before .before .pre) (c .before .if1 .taken))
 
--- src/lib.rt:58:5
 digits-lead-requires : tie.Need-digits-lead-requires
 digits-lead-requires c κs = search needs
 
--- src/lib.rt:51:1
 returns-2 : tie.Need-returns-2
 returns-2 c = λ m places. says (negative-big _ (c .before .if1 .left)) (c .digits-lead .ensures m places)
 

@@ -1,33 +1,24 @@
+-- `fields::positive_lead` meets its contract. The canonical form's tests are the code's. Assumes nothing.
 use Rattle.fields.proofs.Leads.{only-tagged, says, positive-97, positive-98, positive-big}
 use borrow.Author.Needs.{needs}
 use Rattle.fields.proofs.positive_lead.Statement.{statement}
 use Rattle.fields.proofs.positive_lead.Tie as tie
-use Rattle.fields.proofs.positive_lead.Reads as reads
-use Rattle.fields.proofs.positive_lead.Lts as lts
-use Rattle.fields.proofs.digits_lead.Reads as digits-lead-reads
-use Rattle.fields.proofs.tagged.Reads as tagged-reads
 
--- src/lib.rt:42:9
 tagged-requires : tie.Need-tagged-requires
 tagged-requires c κs = search needs
 
--- src/lib.rt:42:9
 returns : tie.Need-returns
 returns c = only-tagged _ _ _ (c .tagged .ensures) (positive-97 _ (c .before .if1 .taken))
 
--- src/lib.rt:45:9
 tagged-requires-2 : tie.Need-tagged-requires-2
 tagged-requires-2 c κs = search needs
 
--- src/lib.rt:45:9
 returns-2 : tie.Need-returns-2
 returns-2 c = only-tagged _ _ _ (c .tagged2 .ensures) (positive-98 _ (c .before .before .if1 .left) (c .before .if2 .taken))
 
--- src/lib.rt:47:5
 digits-lead-requires : tie.Need-digits-lead-requires
 digits-lead-requires c κs = search needs
 
--- src/lib.rt:38:1
 returns-3 : tie.Need-returns-3
 returns-3 c = λ m places. says (positive-big _ (c .before .if2 .left)) (c .digits-lead .ensures m places)
 

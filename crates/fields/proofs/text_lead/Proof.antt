@@ -1,24 +1,18 @@
+-- `fields::text_lead` meets its contract. 119 up to 255 bytes, else 118. Assumes nothing.
 use Rattle.fields.proofs.Leads.{says, atom-119, atom-118}
 use borrow.Author.Needs.{needs}
 use Rattle.fields.proofs.text_lead.Statement.{statement}
 use Rattle.fields.proofs.text_lead.Tie as tie
-use Rattle.fields.proofs.text_lead.Reads as reads
-use Rattle.fields.proofs.text_lead.Lts as lts
-use Rattle.fields.proofs.tagged.Reads as tagged-reads
 
--- src/lib.rt:91:9
 tagged-requires : tie.Need-tagged-requires
 tagged-requires c κs = search needs
 
--- src/lib.rt:91:9
 returns : tie.Need-returns
 returns c = λ m places i e. says (atom-119 _ _ e (c .before .if1 .taken)) (c .tagged .ensures m places i)
 
--- src/lib.rt:93:5
 tagged-requires-2 : tie.Need-tagged-requires-2
 tagged-requires-2 c κs = search needs
 
--- src/lib.rt:87:1
 returns-2 : tie.Need-returns-2
 returns-2 c = λ m places i e. says (atom-118 _ _ e (c .before .if1 .left)) (c .tagged2 .ensures m places i)
 

@@ -3,30 +3,25 @@ use mathlib.Core.Bool.{true}
 use mathlib.Core.Path.{_≡_, refl, sym, _∙_}
 use borrow.Author.Tests.{not-true, not-false}
 use borrow.Author.Needs.{needs}
-use Rattle.format.specs.AtomList.{of-size}
+use Rattle.packets.proofs.Sizes.{all-sized}
 use Rattle.packets.specs.Answers.{coding-of}
-use Rattle.packets.specs.Memory.{Memory, cache-of, list-lent, memory-of, cache-of-size, memory-of-size}
+use Rattle.packets.specs.Memory.{Memory, cache-of, list-lent, memory-of, memory-of-size}
 use Rattle.link.proofs.Naming.{plain-there, start-there, more-there}
-use Rattle.link.proofs.Whole.{sizes-of, list-sizes, cache-not, plain-not, pending-not, gather-not, all-right, size-done, false-done, opening-done, plain-done, start-done, more-done}
+use Rattle.link.proofs.Whole.{list-sizes, size-done, false-done, opening-done, plain-done, start-done, more-done}
 use Rattle.link.proofs.take_packet.Statement.{statement}
 use Rattle.link.proofs.take_packet.Tie as tie
 
-cache-fits-requires : tie.Need-cache-fits-requires
-cache-fits-requires c κs = search needs
+memory-fits-requires : tie.Need-memory-fits-requires
+memory-fits-requires c κs = search needs
+
+refused-requires : tie.Need-refused-requires
+refused-requires c κs = search needs
 
 same-length : tie.Need-same-length
 same-length c = search needs
 
 same-length-2 : tie.Need-same-length-2
 same-length-2 c = search needs
-
-returns : tie.Need-returns
-returns c = let a = c .before .before .before .before .before .before .before .before .before .before .before .before .args in
-    let m : Memory = (memory-of (cache-of (a .places .now) (a .lengths .now)) (list-lent (a .n .now) (a .texts .now) (a .sizes .now)) (list-lent (a .count .now) (a .kept .now) (a .extents .now)) (a .pending) (a .gather .now)) in
-    size-done (coding-of (a .utf8)) m (a .packet .now) (cache-not m (sym (c .before .cache-fits .ensures) ∙ not-true _ (c .if1 .taken)))
-
-list-fits-requires : tie.Need-list-fits-requires
-list-fits-requires c κs = search needs
 
 same-length-3 : tie.Need-same-length-3
 same-length-3 c = search needs
@@ -40,17 +35,16 @@ same-length-5 c = search needs
 same-length-6 : tie.Need-same-length-6
 same-length-6 c = search needs
 
-returns-2 : tie.Need-returns-2
-returns-2 c = let a = c .before .before .before .before .before .before .before .before .before .before .before .before .before .before .before .before .args in
-    let m : Memory = (memory-of (cache-of (a .places .now) (a .lengths .now)) (list-lent (a .n .now) (a .texts .now) (a .sizes .now)) (list-lent (a .count .now) (a .kept .now) (a .extents .now)) (a .pending) (a .gather .now)) in
-    let h1 : cache-of-size (cache-of (a .places .now) (a .lengths .now)) ≡ true = sym (c .before .before .before .before .before .cache-fits .ensures) ∙ not-false _ (c .before .before .before .before .if1 .left) in
-    size-done (coding-of (a .utf8)) m (a .packet .now) (plain-not m h1 (sym (c .before .list-fits .ensures (a .n .now)) ∙ not-true _ (c .if2 .taken)))
-
-list-fits-requires-2 : tie.Need-list-fits-requires-2
-list-fits-requires-2 c κs = search needs
-
 same-length-7 : tie.Need-same-length-7
 same-length-7 c = search needs
+
+returns : tie.Need-returns
+returns c = let a = c .before .before .before .before .before .before .before .before .before .before .before .before .before .before .before .before .before .before .args in
+    let m : Memory = memory-of (cache-of (a .places .now) (a .lengths .now)) (list-lent (a .n .now) (a .texts .now) (a .sizes .now)) (list-lent (a .count .now) (a .kept .now) (a .extents .now)) (a .pending) (a .gather .now) in
+    rw (c .refused .ensures) (size-done (coding-of (a .utf8)) m (a .packet .now) (sym (c .before .before .memory-fits .ensures (a .n .now) (a .count .now) (a .pending)) ∙ not-true _ (c .before .if1 .taken)))
+
+refused-requires-2 : tie.Need-refused-requires-2
+refused-requires-2 c κs = search needs
 
 same-length-8 : tie.Need-same-length-8
 same-length-8 c = search needs
@@ -67,18 +61,62 @@ same-length-11 c = search needs
 same-length-12 : tie.Need-same-length-12
 same-length-12 c = search needs
 
-returns-3 : tie.Need-returns-3
-returns-3 c = let a = c .before .before .before .before .before .before .before .before .before .before .before .before .before .before .before .before .before .before .before .before .args in
-    let m : Memory = (memory-of (cache-of (a .places .now) (a .lengths .now)) (list-lent (a .n .now) (a .texts .now) (a .sizes .now)) (list-lent (a .count .now) (a .kept .now) (a .extents .now)) (a .pending) (a .gather .now)) in
-    let h1 : cache-of-size (cache-of (a .places .now) (a .lengths .now)) ≡ true = sym (c .before .before .before .before .before .before .before .before .before .cache-fits .ensures) ∙ not-false _ (c .before .before .before .before .before .before .before .before .if1 .left) in
-    let h2 : of-size (list-lent (a .n .now) (a .texts .now) (a .sizes .now)) ≡ true = sym (c .before .before .before .before .before .list-fits .ensures (a .n .now)) ∙ not-false _ (c .before .before .before .before .if2 .left) in
-    size-done (coding-of (a .utf8)) m (a .packet .now) (pending-not m h1 h2 (sym (c .before .list-fits2 .ensures (a .count .now)) ∙ not-true _ (c .if3 .taken)))
-
 same-length-13 : tie.Need-same-length-13
 same-length-13 c = search needs
 
 same-length-14 : tie.Need-same-length-14
 same-length-14 c = search needs
+
+returns-2 : tie.Need-returns-2
+returns-2 c = let a = c .before .before .before .before .before .before .before .before .before .before .before .before .before .before .before .before .before .before .before .before .args in
+    let m : Memory = memory-of (cache-of (a .places .now) (a .lengths .now)) (list-lent (a .n .now) (a .texts .now) (a .sizes .now)) (list-lent (a .count .now) (a .kept .now) (a .extents .now)) (a .pending) (a .gather .now) in
+    let right : memory-of-size m ≡ true = sym (c .before .before .before .before .memory-fits .ensures (a .n .now) (a .count .now) (a .pending)) ∙ not-false _ (c .before .before .before .if1 .left) in
+    rw (c .refused2 .ensures) (false-done (coding-of (a .utf8)) m (a .packet .now) right (c .before .if2 .taken))
+
+open-packet-requires : tie.Need-open-packet-requires
+open-packet-requires c κs = search needs
+
+enum-known-number : tie.Need-enum-known-number
+enum-known-number c = search needs
+
+refused-requires-3 : tie.Need-refused-requires-3
+refused-requires-3 c κs = search needs
+
+enum-told : tie.Need-enum-told
+enum-told c = search needs
+
+take-plain-requires : tie.Need-take-plain-requires
+take-plain-requires c κs = let a = c .before .before .before .before .before .before .before .before .before .before .before .before .before .before .before .before .before .before .before .before .before .before .before .before .before .before .before .args in
+    let m : Memory = memory-of (cache-of (a .places .now) (a .lengths .now)) (list-lent (a .n .now) (a .texts .now) (a .sizes .now)) (list-lent (a .count .now) (a .kept .now) (a .extents .now)) (a .pending) (a .gather .now) in
+    let right : memory-of-size m ≡ true = sym (c .before .before .before .before .before .before .before .before .before .before .before .memory-fits .ensures (a .n .now) (a .count .now) (a .pending)) ∙ not-false _ (c .before .before .before .before .before .before .before .before .before .before .if1 .left) in
+    let z = all-sized m right in
+    let s0 = z .cache-sized in
+    let s1 = list-sizes (a .n .now) (a .texts .now) (a .sizes .now) (z .plain-sized) in
+    (plain-there (a .packet .now) (rw (c .before .before .before .before .before .enum-told .given .1) at (c .before .before .before .before .before .before .before .open-packet .ensures)), s0 .places-are, s0 .lengths-are, s1 .0, s1 .1)
+
+enum-known-sequence : tie.Need-enum-known-sequence
+enum-known-sequence c = search needs
+
+take-start-requires : tie.Need-take-start-requires
+take-start-requires c κs = let a = c .before .before .before .before .before .before .before .before .before .before .before .before .before .before .before .before .before .before .before .before .before .before .before .before .before .before .before .before .before .args in
+    let m : Memory = memory-of (cache-of (a .places .now) (a .lengths .now)) (list-lent (a .n .now) (a .texts .now) (a .sizes .now)) (list-lent (a .count .now) (a .kept .now) (a .extents .now)) (a .pending) (a .gather .now) in
+    let right : memory-of-size m ≡ true = sym (c .before .before .before .before .before .before .before .before .before .before .before .before .before .memory-fits .ensures (a .n .now) (a .count .now) (a .pending)) ∙ not-false _ (c .before .before .before .before .before .before .before .before .before .before .before .before .if1 .left) in
+    let z = all-sized m right in
+    let s0 = z .cache-sized in
+    let s1 = list-sizes (a .count .now) (a .kept .now) (a .extents .now) (z .pending-sized) in
+    let t = start-there (a .packet .now) _ _ (rw (c .before .before .before .before .before .before .before .sequence .given .1) at (c .before .before .before .before .before .before .before .before .before .open-packet .ensures)) in
+    (t .0, s0 .places-are, s0 .lengths-are, s1 .0, s1 .1, z .gather-sized, t .1)
+
+enum-known-sequence-2 : tie.Need-enum-known-sequence-2
+enum-known-sequence-2 c = search needs
+
+take-continuation-requires : tie.Need-take-continuation-requires
+take-continuation-requires c κs = let a = c .before .before .before .before .before .before .before .before .before .before .before .before .before .before .before .before .before .before .before .before .before .before .before .before .args in
+    let m : Memory = memory-of (cache-of (a .places .now) (a .lengths .now)) (list-lent (a .n .now) (a .texts .now) (a .sizes .now)) (list-lent (a .count .now) (a .kept .now) (a .extents .now)) (a .pending) (a .gather .now) in
+    let right : memory-of-size m ≡ true = sym (c .before .before .before .before .before .before .before .before .memory-fits .ensures (a .n .now) (a .count .now) (a .pending)) ∙ not-false _ (c .before .before .before .before .before .before .before .if1 .left) in
+    let z = all-sized m right in
+    let t = more-there (a .packet .now) _ _ (rw (c .before .before .sequence2 .given .1) at (c .before .before .before .before .open-packet .ensures)) in
+    (t .0, z .gather-sized, t .1, c .before .before .before .before .before .if2 .left)
 
 same-length-15 : tie.Need-same-length-15
 same-length-15 c = search needs
@@ -92,14 +130,6 @@ same-length-17 c = search needs
 same-length-18 : tie.Need-same-length-18
 same-length-18 c = search needs
 
-returns-4 : tie.Need-returns-4
-returns-4 c = let a = c .before .before .before .before .before .before .before .before .before .before .before .before .before .before .before .before .before .before .before .before .before .args in
-    let m : Memory = (memory-of (cache-of (a .places .now) (a .lengths .now)) (list-lent (a .n .now) (a .texts .now) (a .sizes .now)) (list-lent (a .count .now) (a .kept .now) (a .extents .now)) (a .pending) (a .gather .now)) in
-    let h1 : cache-of-size (cache-of (a .places .now) (a .lengths .now)) ≡ true = sym (c .before .before .before .before .before .before .before .before .before .before .cache-fits .ensures) ∙ not-false _ (c .before .before .before .before .before .before .before .before .before .if1 .left) in
-    let h2 : of-size (list-lent (a .n .now) (a .texts .now) (a .sizes .now)) ≡ true = sym (c .before .before .before .before .before .before .list-fits .ensures (a .n .now)) ∙ not-false _ (c .before .before .before .before .before .if2 .left) in
-    let h3 : of-size (list-lent (a .count .now) (a .kept .now) (a .extents .now)) ≡ true = sym (c .before .before .list-fits2 .ensures (a .count .now)) ∙ not-false _ (c .before .if3 .left) in
-    size-done (coding-of (a .utf8)) m (a .packet .now) (gather-not m h1 h2 h3 (c .if4 .taken))
-
 same-length-19 : tie.Need-same-length-19
 same-length-19 c = search needs
 
@@ -109,6 +139,12 @@ same-length-20 c = search needs
 same-length-21 : tie.Need-same-length-21
 same-length-21 c = search needs
 
+returns-3 : tie.Need-returns-3
+returns-3 c = let a = c .before .before .before .before .before .before .before .before .before .before .before .before .before .before .before .before .before .before .before .before .before .before .before .before .args in
+    let m : Memory = memory-of (cache-of (a .places .now) (a .lengths .now)) (list-lent (a .n .now) (a .texts .now) (a .sizes .now)) (list-lent (a .count .now) (a .kept .now) (a .extents .now)) (a .pending) (a .gather .now) in
+    let right : memory-of-size m ≡ true = sym (c .before .before .before .before .before .before .before .before .memory-fits .ensures (a .n .now) (a .count .now) (a .pending)) ∙ not-false _ (c .before .before .before .before .before .before .before .if1 .left) in
+    rw (c .refused3 .ensures) (opening-done (coding-of (a .utf8)) m (a .packet .now) right (c .before .before .before .before .before .if2 .left) _ (rw (c .before .before .number .given .1) at (c .before .before .before .before .open-packet .ensures)))
+
 same-length-22 : tie.Need-same-length-22
 same-length-22 c = search needs
 
@@ -117,55 +153,6 @@ same-length-23 c = search needs
 
 same-length-24 : tie.Need-same-length-24
 same-length-24 c = search needs
-
-returns-5 : tie.Need-returns-5
-returns-5 c = let a = c .before .before .before .before .before .before .before .before .before .before .before .before .before .before .before .before .before .before .before .before .before .before .before .args in
-    let m : Memory = (memory-of (cache-of (a .places .now) (a .lengths .now)) (list-lent (a .n .now) (a .texts .now) (a .sizes .now)) (list-lent (a .count .now) (a .kept .now) (a .extents .now)) (a .pending) (a .gather .now)) in
-    let h1 : cache-of-size (cache-of (a .places .now) (a .lengths .now)) ≡ true = sym (c .before .before .before .before .before .before .before .before .before .before .before .before .cache-fits .ensures) ∙ not-false _ (c .before .before .before .before .before .before .before .before .before .before .before .if1 .left) in
-    let h2 : of-size (list-lent (a .n .now) (a .texts .now) (a .sizes .now)) ≡ true = sym (c .before .before .before .before .before .before .before .before .list-fits .ensures (a .n .now)) ∙ not-false _ (c .before .before .before .before .before .before .before .if2 .left) in
-    let h3 : of-size (list-lent (a .count .now) (a .kept .now) (a .extents .now)) ≡ true = sym (c .before .before .before .before .list-fits2 .ensures (a .count .now)) ∙ not-false _ (c .before .before .before .if3 .left) in
-    let right : memory-of-size m ≡ true = all-right m h1 h2 h3 (c .before .before .if4 .left) in
-    false-done (coding-of (a .utf8)) m (a .packet .now) right (c .if5 .taken)
-
-open-packet-requires : tie.Need-open-packet-requires
-open-packet-requires c κs = search needs
-
-enum-known-number : tie.Need-enum-known-number
-enum-known-number c = search needs
-
-enum-told : tie.Need-enum-told
-enum-told c = search needs
-
-take-plain-requires : tie.Need-take-plain-requires
-take-plain-requires c κs = let a = c .before .before .before .before .before .before .before .before .before .before .before .before .before .before .before .before .before .before .before .before .before .before .before .before .before .before .before .before .before .before .before .args in
-    let m : Memory = (memory-of (cache-of (a .places .now) (a .lengths .now)) (list-lent (a .n .now) (a .texts .now) (a .sizes .now)) (list-lent (a .count .now) (a .kept .now) (a .extents .now)) (a .pending) (a .gather .now)) in
-    let h1 : cache-of-size (cache-of (a .places .now) (a .lengths .now)) ≡ true = sym (c .before .before .before .before .before .before .before .before .before .before .before .before .before .before .before .before .before .before .before .before .cache-fits .ensures) ∙ not-false _ (c .before .before .before .before .before .before .before .before .before .before .before .before .before .before .before .before .before .before .before .if1 .left) in
-    let h2 : of-size (list-lent (a .n .now) (a .texts .now) (a .sizes .now)) ≡ true = sym (c .before .before .before .before .before .before .before .before .before .before .before .before .before .before .before .before .list-fits .ensures (a .n .now)) ∙ not-false _ (c .before .before .before .before .before .before .before .before .before .before .before .before .before .before .before .if2 .left) in
-    let s0 = sizes-of (a .places .now) (a .lengths .now) h1 in
-    let s1 = list-sizes (a .n .now) (a .texts .now) (a .sizes .now) h2 in
-    (plain-there (a .packet .now) (rw (c .before .before .before .before .before .enum-told .given .1) at (c .before .before .before .before .before .before .before .open-packet .ensures)), s0 .0, s0 .1, s1 .0, s1 .1)
-
-enum-known-sequence : tie.Need-enum-known-sequence
-enum-known-sequence c = search needs
-
-take-start-requires : tie.Need-take-start-requires
-take-start-requires c κs = let a = c .before .before .before .before .before .before .before .before .before .before .before .before .before .before .before .before .before .before .before .before .before .before .before .before .before .before .before .before .before .before .before .before .before .args in
-    let m : Memory = (memory-of (cache-of (a .places .now) (a .lengths .now)) (list-lent (a .n .now) (a .texts .now) (a .sizes .now)) (list-lent (a .count .now) (a .kept .now) (a .extents .now)) (a .pending) (a .gather .now)) in
-    let h1 : cache-of-size (cache-of (a .places .now) (a .lengths .now)) ≡ true = sym (c .before .before .before .before .before .before .before .before .before .before .before .before .before .before .before .before .before .before .before .before .before .before .cache-fits .ensures) ∙ not-false _ (c .before .before .before .before .before .before .before .before .before .before .before .before .before .before .before .before .before .before .before .before .before .if1 .left) in
-    let h3 : of-size (list-lent (a .count .now) (a .kept .now) (a .extents .now)) ≡ true = sym (c .before .before .before .before .before .before .before .before .before .before .before .before .before .before .list-fits2 .ensures (a .count .now)) ∙ not-false _ (c .before .before .before .before .before .before .before .before .before .before .before .before .before .if3 .left) in
-    let s0 = sizes-of (a .places .now) (a .lengths .now) h1 in
-    let s1 = list-sizes (a .count .now) (a .kept .now) (a .extents .now) h3 in
-    let t = start-there (a .packet .now) _ _ (rw (c .before .before .before .before .before .before .before .sequence .given .1) at (c .before .before .before .before .before .before .before .before .before .open-packet .ensures)) in
-    (t .0, s0 .0, s0 .1, s1 .0, s1 .1, c .before .before .before .before .before .before .before .before .before .before .before .before .if4 .left, t .1)
-
-enum-known-sequence-2 : tie.Need-enum-known-sequence-2
-enum-known-sequence-2 c = search needs
-
-take-continuation-requires : tie.Need-take-continuation-requires
-take-continuation-requires c κs = let a = c .before .before .before .before .before .before .before .before .before .before .before .before .before .before .before .before .before .before .before .before .before .before .before .before .before .before .before .before .args in
-    let m : Memory = (memory-of (cache-of (a .places .now) (a .lengths .now)) (list-lent (a .n .now) (a .texts .now) (a .sizes .now)) (list-lent (a .count .now) (a .kept .now) (a .extents .now)) (a .pending) (a .gather .now)) in
-    let t = more-there (a .packet .now) _ _ (rw (c .before .before .sequence2 .given .1) at (c .before .before .before .before .open-packet .ensures)) in
-    (t .0, c .before .before .before .before .before .before .before .if4 .left, t .1, c .before .before .before .before .before .if5 .left)
 
 same-length-25 : tie.Need-same-length-25
 same-length-25 c = search needs
@@ -179,20 +166,17 @@ same-length-27 c = search needs
 same-length-28 : tie.Need-same-length-28
 same-length-28 c = search needs
 
+returns-4 : tie.Need-returns-4
+returns-4 c = let a = c .before .before .before .before .before .before .before .before .before .before .before .before .before .before .before .before .before .before .before .before .before .before .before .before .before .before .before .before .before .before .before .before .before .before .before .before .args in
+    let m : Memory = memory-of (cache-of (a .places .now) (a .lengths .now)) (list-lent (a .n .now) (a .texts .now) (a .sizes .now)) (list-lent (a .count .now) (a .kept .now) (a .extents .now)) (a .pending) (a .gather .now) in
+    let right : memory-of-size m ≡ true = sym (c .before .before .before .before .before .before .before .before .before .before .before .before .before .before .before .before .before .before .before .before .memory-fits .ensures (a .n .now) (a .count .now) (a .pending)) ∙ not-false _ (c .before .before .before .before .before .before .before .before .before .before .before .before .before .before .before .before .before .before .before .if1 .left) in
+    plain-done (coding-of (a .utf8)) m (a .packet .now) right (c .before .before .before .before .before .before .before .before .before .before .before .before .before .before .before .before .before .if2 .left) (rw (c .before .before .before .before .before .before .before .before .before .before .before .before .before .before .enum-told .given .1) at (c .before .before .before .before .before .before .before .before .before .before .before .before .before .before .before .before .open-packet .ensures)) _ _ refl (c .before .before .before .before .before .before .before .before .take-plain .ensures (list-lent (a .count .now) (a .kept .now) (a .extents .now)) (a .pending) (a .gather .now))
+
 same-length-29 : tie.Need-same-length-29
 same-length-29 c = search needs
 
 same-length-30 : tie.Need-same-length-30
 same-length-30 c = search needs
-
-returns-6 : tie.Need-returns-6
-returns-6 c = let a = c .before .before .before .before .before .before .before .before .before .before .before .before .before .before .before .before .before .before .before .before .before .before .before .before .before .before .before .args in
-    let m : Memory = (memory-of (cache-of (a .places .now) (a .lengths .now)) (list-lent (a .n .now) (a .texts .now) (a .sizes .now)) (list-lent (a .count .now) (a .kept .now) (a .extents .now)) (a .pending) (a .gather .now)) in
-    let h1 : cache-of-size (cache-of (a .places .now) (a .lengths .now)) ≡ true = sym (c .before .before .before .before .before .before .before .before .before .before .before .before .before .before .before .before .cache-fits .ensures) ∙ not-false _ (c .before .before .before .before .before .before .before .before .before .before .before .before .before .before .before .if1 .left) in
-    let h2 : of-size (list-lent (a .n .now) (a .texts .now) (a .sizes .now)) ≡ true = sym (c .before .before .before .before .before .before .before .before .before .before .before .before .list-fits .ensures (a .n .now)) ∙ not-false _ (c .before .before .before .before .before .before .before .before .before .before .before .if2 .left) in
-    let h3 : of-size (list-lent (a .count .now) (a .kept .now) (a .extents .now)) ≡ true = sym (c .before .before .before .before .before .before .before .before .list-fits2 .ensures (a .count .now)) ∙ not-false _ (c .before .before .before .before .before .before .before .if3 .left) in
-    let right : memory-of-size m ≡ true = all-right m h1 h2 h3 (c .before .before .before .before .before .before .if4 .left) in
-    opening-done (coding-of (a .utf8)) m (a .packet .now) right (c .before .before .before .before .if5 .left) _ (rw (c .before .number .given .1) at (c .before .before .before .open-packet .ensures))
 
 same-length-31 : tie.Need-same-length-31
 same-length-31 c = search needs
@@ -209,17 +193,14 @@ same-length-34 c = search needs
 same-length-35 : tie.Need-same-length-35
 same-length-35 c = search needs
 
+returns-5 : tie.Need-returns-5
+returns-5 c = let a = c .before .before .before .before .before .before .before .before .before .before .before .before .before .before .before .before .before .before .before .before .before .before .before .before .before .before .before .before .before .before .before .before .before .before .before .before .before .before .before .before .args in
+    let m : Memory = memory-of (cache-of (a .places .now) (a .lengths .now)) (list-lent (a .n .now) (a .texts .now) (a .sizes .now)) (list-lent (a .count .now) (a .kept .now) (a .extents .now)) (a .pending) (a .gather .now) in
+    let right : memory-of-size m ≡ true = sym (c .before .before .before .before .before .before .before .before .before .before .before .before .before .before .before .before .before .before .before .before .before .before .before .before .memory-fits .ensures (a .n .now) (a .count .now) (a .pending)) ∙ not-false _ (c .before .before .before .before .before .before .before .before .before .before .before .before .before .before .before .before .before .before .before .before .before .before .before .if1 .left) in
+    start-done (coding-of (a .utf8)) m (a .packet .now) right (c .before .before .before .before .before .before .before .before .before .before .before .before .before .before .before .before .before .before .before .before .before .if2 .left) _ _ (rw (c .before .before .before .before .before .before .before .before .before .before .before .before .before .before .before .before .before .before .sequence .given .1) at (c .before .before .before .before .before .before .before .before .before .before .before .before .before .before .before .before .before .before .before .before .open-packet .ensures)) _ _ refl (c .before .before .before .before .before .before .before .before .before .before .take-start .ensures (list-lent (a .n .now) (a .texts .now) (a .sizes .now)))
+
 same-length-36 : tie.Need-same-length-36
 same-length-36 c = search needs
-
-returns-7 : tie.Need-returns-7
-returns-7 c = let a = c .before .before .before .before .before .before .before .before .before .before .before .before .before .before .before .before .before .before .before .before .before .before .before .before .before .before .before .before .before .before .before .before .before .before .before .before .before .before .before .before .args in
-    let m : Memory = (memory-of (cache-of (a .places .now) (a .lengths .now)) (list-lent (a .n .now) (a .texts .now) (a .sizes .now)) (list-lent (a .count .now) (a .kept .now) (a .extents .now)) (a .pending) (a .gather .now)) in
-    let h1 : cache-of-size (cache-of (a .places .now) (a .lengths .now)) ≡ true = sym (c .before .before .before .before .before .before .before .before .before .before .before .before .before .before .before .before .before .before .before .before .before .before .before .before .before .before .before .before .before .cache-fits .ensures) ∙ not-false _ (c .before .before .before .before .before .before .before .before .before .before .before .before .before .before .before .before .before .before .before .before .before .before .before .before .before .before .before .before .if1 .left) in
-    let h2 : of-size (list-lent (a .n .now) (a .texts .now) (a .sizes .now)) ≡ true = sym (c .before .before .before .before .before .before .before .before .before .before .before .before .before .before .before .before .before .before .before .before .before .before .before .before .before .list-fits .ensures (a .n .now)) ∙ not-false _ (c .before .before .before .before .before .before .before .before .before .before .before .before .before .before .before .before .before .before .before .before .before .before .before .before .if2 .left) in
-    let h3 : of-size (list-lent (a .count .now) (a .kept .now) (a .extents .now)) ≡ true = sym (c .before .before .before .before .before .before .before .before .before .before .before .before .before .before .before .before .before .before .before .before .before .list-fits2 .ensures (a .count .now)) ∙ not-false _ (c .before .before .before .before .before .before .before .before .before .before .before .before .before .before .before .before .before .before .before .before .if3 .left) in
-    let right : memory-of-size m ≡ true = all-right m h1 h2 h3 (c .before .before .before .before .before .before .before .before .before .before .before .before .before .before .before .before .before .before .before .if4 .left) in
-    plain-done (coding-of (a .utf8)) m (a .packet .now) right (c .before .before .before .before .before .before .before .before .before .before .before .before .before .before .before .before .before .if5 .left) (rw (c .before .before .before .before .before .before .before .before .before .before .before .before .before .before .enum-told .given .1) at (c .before .before .before .before .before .before .before .before .before .before .before .before .before .before .before .before .open-packet .ensures)) _ _ refl (c .before .before .before .before .before .before .before .before .take-plain .ensures (list-lent (a .count .now) (a .kept .now) (a .extents .now)) (a .pending) (a .gather .now))
 
 same-length-37 : tie.Need-same-length-37
 same-length-37 c = search needs
@@ -239,119 +220,73 @@ same-length-41 c = search needs
 same-length-42 : tie.Need-same-length-42
 same-length-42 c = search needs
 
-same-length-43 : tie.Need-same-length-43
-same-length-43 c = search needs
-
-returns-8 : tie.Need-returns-8
-returns-8 c = let a = c .before .before .before .before .before .before .before .before .before .before .before .before .before .before .before .before .before .before .before .before .before .before .before .before .before .before .before .before .before .before .before .before .before .before .before .before .before .before .before .before .before .before .before .before .args in
-    let m : Memory = (memory-of (cache-of (a .places .now) (a .lengths .now)) (list-lent (a .n .now) (a .texts .now) (a .sizes .now)) (list-lent (a .count .now) (a .kept .now) (a .extents .now)) (a .pending) (a .gather .now)) in
-    let h1 : cache-of-size (cache-of (a .places .now) (a .lengths .now)) ≡ true = sym (c .before .before .before .before .before .before .before .before .before .before .before .before .before .before .before .before .before .before .before .before .before .before .before .before .before .before .before .before .before .before .before .before .before .cache-fits .ensures) ∙ not-false _ (c .before .before .before .before .before .before .before .before .before .before .before .before .before .before .before .before .before .before .before .before .before .before .before .before .before .before .before .before .before .before .before .before .if1 .left) in
-    let h2 : of-size (list-lent (a .n .now) (a .texts .now) (a .sizes .now)) ≡ true = sym (c .before .before .before .before .before .before .before .before .before .before .before .before .before .before .before .before .before .before .before .before .before .before .before .before .before .before .before .before .before .list-fits .ensures (a .n .now)) ∙ not-false _ (c .before .before .before .before .before .before .before .before .before .before .before .before .before .before .before .before .before .before .before .before .before .before .before .before .before .before .before .before .if2 .left) in
-    let h3 : of-size (list-lent (a .count .now) (a .kept .now) (a .extents .now)) ≡ true = sym (c .before .before .before .before .before .before .before .before .before .before .before .before .before .before .before .before .before .before .before .before .before .before .before .before .before .list-fits2 .ensures (a .count .now)) ∙ not-false _ (c .before .before .before .before .before .before .before .before .before .before .before .before .before .before .before .before .before .before .before .before .before .before .before .before .if3 .left) in
-    let right : memory-of-size m ≡ true = all-right m h1 h2 h3 (c .before .before .before .before .before .before .before .before .before .before .before .before .before .before .before .before .before .before .before .before .before .before .before .if4 .left) in
-    start-done (coding-of (a .utf8)) m (a .packet .now) right (c .before .before .before .before .before .before .before .before .before .before .before .before .before .before .before .before .before .before .before .before .before .if5 .left) _ _ (rw (c .before .before .before .before .before .before .before .before .before .before .before .before .before .before .before .before .before .before .sequence .given .1) at (c .before .before .before .before .before .before .before .before .before .before .before .before .before .before .before .before .before .before .before .before .open-packet .ensures)) _ _ refl (c .before .before .before .before .before .before .before .before .before .before .take-start .ensures (list-lent (a .n .now) (a .texts .now) (a .sizes .now)))
-
-same-length-44 : tie.Need-same-length-44
-same-length-44 c = search needs
-
-same-length-45 : tie.Need-same-length-45
-same-length-45 c = search needs
-
-same-length-46 : tie.Need-same-length-46
-same-length-46 c = search needs
-
-same-length-47 : tie.Need-same-length-47
-same-length-47 c = search needs
-
-same-length-48 : tie.Need-same-length-48
-same-length-48 c = search needs
-
-same-length-49 : tie.Need-same-length-49
-same-length-49 c = search needs
-
-same-length-50 : tie.Need-same-length-50
-same-length-50 c = search needs
-
-returns-9 : tie.Need-returns-9
-returns-9 c = let a = c .before .before .before .before .before .before .before .before .before .before .before .before .before .before .before .before .before .before .before .before .before .before .before .before .before .before .before .before .before .before .before .args in
-    let m : Memory = (memory-of (cache-of (a .places .now) (a .lengths .now)) (list-lent (a .n .now) (a .texts .now) (a .sizes .now)) (list-lent (a .count .now) (a .kept .now) (a .extents .now)) (a .pending) (a .gather .now)) in
-    let h1 : cache-of-size (cache-of (a .places .now) (a .lengths .now)) ≡ true = sym (c .before .before .before .before .before .before .before .before .before .before .before .before .before .before .before .before .before .before .before .before .cache-fits .ensures) ∙ not-false _ (c .before .before .before .before .before .before .before .before .before .before .before .before .before .before .before .before .before .before .before .if1 .left) in
-    let h2 : of-size (list-lent (a .n .now) (a .texts .now) (a .sizes .now)) ≡ true = sym (c .before .before .before .before .before .before .before .before .before .before .before .before .before .before .before .before .list-fits .ensures (a .n .now)) ∙ not-false _ (c .before .before .before .before .before .before .before .before .before .before .before .before .before .before .before .if2 .left) in
-    let h3 : of-size (list-lent (a .count .now) (a .kept .now) (a .extents .now)) ≡ true = sym (c .before .before .before .before .before .before .before .before .before .before .before .before .list-fits2 .ensures (a .count .now)) ∙ not-false _ (c .before .before .before .before .before .before .before .before .before .before .before .if3 .left) in
-    let right : memory-of-size m ≡ true = all-right m h1 h2 h3 (c .before .before .before .before .before .before .before .before .before .before .if4 .left) in
-    more-done (coding-of (a .utf8)) m (a .packet .now) right (c .before .before .before .before .before .before .before .before .if5 .left) _ _ (rw (c .before .before .before .before .before .sequence2 .given .1) at (c .before .before .before .before .before .before .before .open-packet .ensures)) _ _ refl (c .before .before .take-continuation .ensures (coding-of (a .utf8)) (cache-of (a .places .now) (a .lengths .now)) (list-lent (a .n .now) (a .texts .now) (a .sizes .now)) (list-lent (a .count .now) (a .kept .now) (a .extents .now)))
+returns-6 : tie.Need-returns-6
+returns-6 c = let a = c .before .before .before .before .before .before .before .before .before .before .before .before .before .before .before .before .before .before .before .before .before .before .before .before .before .before .before .args in
+    let m : Memory = memory-of (cache-of (a .places .now) (a .lengths .now)) (list-lent (a .n .now) (a .texts .now) (a .sizes .now)) (list-lent (a .count .now) (a .kept .now) (a .extents .now)) (a .pending) (a .gather .now) in
+    let right : memory-of-size m ≡ true = sym (c .before .before .before .before .before .before .before .before .before .before .before .memory-fits .ensures (a .n .now) (a .count .now) (a .pending)) ∙ not-false _ (c .before .before .before .before .before .before .before .before .before .before .if1 .left) in
+    more-done (coding-of (a .utf8)) m (a .packet .now) right (c .before .before .before .before .before .before .before .before .if2 .left) _ _ (rw (c .before .before .before .before .before .sequence2 .given .1) at (c .before .before .before .before .before .before .before .open-packet .ensures)) _ _ refl (c .before .before .take-continuation .ensures (coding-of (a .utf8)) (cache-of (a .places .now) (a .lengths .now)) (list-lent (a .n .now) (a .texts .now) (a .sizes .now)) (list-lent (a .count .now) (a .kept .now) (a .extents .now)))
 
 pub take-packet-spec : {M : Type 1} → statement M
 take-packet-spec =
     tie.close
     (tie.spec
-    cache-fits-requires
+    memory-fits-requires
+    refused-requires
     same-length
     same-length-2
-    returns
-    list-fits-requires
     same-length-3
     same-length-4
     same-length-5
     same-length-6
-    returns-2
-    list-fits-requires-2
     same-length-7
+    returns
+    refused-requires-2
     same-length-8
     same-length-9
     same-length-10
     same-length-11
     same-length-12
-    returns-3
     same-length-13
     same-length-14
-    same-length-15
-    same-length-16
-    same-length-17
-    same-length-18
-    returns-4
-    same-length-19
-    same-length-20
-    same-length-21
-    same-length-22
-    same-length-23
-    same-length-24
-    returns-5
+    returns-2
     open-packet-requires
     enum-known-number
+    refused-requires-3
     enum-told
     take-plain-requires
     enum-known-sequence
     take-start-requires
     enum-known-sequence-2
     take-continuation-requires
+    same-length-15
+    same-length-16
+    same-length-17
+    same-length-18
+    same-length-19
+    same-length-20
+    same-length-21
+    returns-3
+    same-length-22
+    same-length-23
+    same-length-24
     same-length-25
     same-length-26
     same-length-27
     same-length-28
+    returns-4
     same-length-29
     same-length-30
-    returns-6
     same-length-31
     same-length-32
     same-length-33
     same-length-34
     same-length-35
+    returns-5
     same-length-36
-    returns-7
     same-length-37
     same-length-38
     same-length-39
     same-length-40
     same-length-41
     same-length-42
-    same-length-43
-    returns-8
-    same-length-44
-    same-length-45
-    same-length-46
-    same-length-47
-    same-length-48
-    same-length-49
-    same-length-50
-    returns-9)
+    returns-6)

@@ -7,10 +7,12 @@ use Rattle.link.proofs.Rests.{start-again, start-refused, start-good, h
 use Rattle.link.proofs.take_start.Statement.{statement}
 use Rattle.link.proofs.take_start.Tie as tie
 
+refused-requires : tie.Need-refused-requires
+refused-requires c κs = search needs
+
 returns : tie.Need-returns
-returns c = λ plain.
-    let a = c .before .before .before .before .before .before .before .before .args in
-    start-again (coding-of (a .utf8)) (cache-of (a .places .now) (a .lengths .now)) (cache-of (a .places .now) (a .lengths .now)) (list-lent (a .n .now) (a .texts .now) (a .sizes .now)) (list-lent (a .n .now) (a .texts .now) (a .sizes .now)) (a .packet .now) plain (a .pending) (a .gather .now) (a .sequence) (a .fragment) (c .if1 .taken)
+returns c = let a = c .before .before .before .before .before .before .before .before .before .args in
+    rw (c .refused .ensures) (λ plain. start-again (coding-of (a .utf8)) (cache-of (a .places .now) (a .lengths .now)) (cache-of (a .places .now) (a .lengths .now)) (list-lent (a .n .now) (a .texts .now) (a .sizes .now)) (list-lent (a .n .now) (a .texts .now) (a .sizes .now)) (a .packet .now) plain (a .pending) (a .gather .now) (a .sequence) (a .fragment) (c .before .if1 .taken))
 
 take-header-requires : tie.Need-take-header-requires
 take-header-requires c κs = search needs
@@ -69,6 +71,7 @@ pub take-start-spec : {M : Type 1} → statement M
 take-start-spec =
     tie.close
     (tie.spec
+    refused-requires
     returns
     take-header-requires
     enum-known-refusal

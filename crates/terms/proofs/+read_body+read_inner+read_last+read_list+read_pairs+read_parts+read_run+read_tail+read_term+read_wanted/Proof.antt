@@ -1,3 +1,4 @@
+-- The functions of the reader that call each other meet their contracts: each level of depth counts 8, and a function that calls another at its own level counts more. Assumes nothing.
 use Rattle.terms.proofs.Entries.{Entered, entered-none, entries-many, entries-end, key-refused, key-twice, value-refused, entered-more, keys-told}
 use Rattle.terms.proofs.Inner.{opens-near, opens-place, opens-span, inner-refused, inner-parts, inner-characters, inner-elements, inner-pairs, parts-first, parts-second, parts-later-refused, parts-got, run-many, list-first, list-then, Tailed, tailed-none, tailed-refused, tailed-last, tailed-run-refused, tailed-further, tailed-more, last-characters, last-refused, last-got}
 use Rattle.terms.proofs.Bodies.{term-refused, term-opened, body-deep, body-full, body-refused, body-got, body-small, parts-past, room-inside, room-at}
@@ -165,553 +166,193 @@ abbrev read-wanted-below : ℕ → In 4 read-wanted-kinds.ps
 read-wanted-below t =
     and 4 read-wanted-kinds.ps (falls 4 read-wanted-kinds.ps _<_ μ-read-wanted t) read-wanted.Pre
 
--- src/lib.rt:90:9
-read-body-returns : (t : ℕ) → read-body-lts.Need-returns (
-  read-inner-below t,
-  read-inner.Post,
-  pack-reads.Asked,
-  pack-reads.Learnt,
-) (read-body-at t) read-body.Post
+abbrev read-body-calls : ℕ → read-body-lts.Claims
+read-body-calls t = (read-inner-below t, read-inner.Post, pack-reads.Asked, pack-reads.Learnt)
+
+abbrev read-inner-calls : ℕ → read-inner-lts.Claims
+read-inner-calls t = (read-parts-below t, read-parts.Post, read-characters-reads.Asked, read-characters-reads.Learnt, read-list-below t, read-list.Post, read-pairs-below t, read-pairs.Post)
+
+abbrev read-last-calls : ℕ → read-last-lts.Claims
+read-last-calls t = (read-characters-reads.Asked, read-characters-reads.Learnt, read-body-below t, read-body.Post)
+
+abbrev read-list-calls : ℕ → read-list-lts.Claims
+read-list-calls t = (read-run-below t, read-run.Post, read-tail-below t, read-tail.Post)
+
+abbrev read-pairs-calls : ℕ → read-pairs-lts.Claims
+read-pairs-calls t = (read-term-below t, read-term.Post, key-among-reads.Asked, key-among-reads.Learnt)
+
+abbrev read-parts-calls : ℕ → read-parts-lts.Claims
+read-parts-calls t = (read-wanted-below t, read-wanted.Post, read-run-below t, read-run.Post, read-later-reads.Asked, read-later-reads.Learnt)
+
+abbrev read-run-calls : ℕ → read-run-lts.Claims
+read-run-calls t = (read-term-below t, read-term.Post)
+
+abbrev read-tail-calls : ℕ → read-tail-lts.Claims
+read-tail-calls t = (read-opening-reads.Asked, read-opening-reads.Learnt, read-run-below t, read-run.Post, read-last-below t, read-last.Post)
+
+abbrev read-term-calls : ℕ → read-term-lts.Claims
+read-term-calls t = (read-opening-reads.Asked, read-opening-reads.Learnt, read-body-below t, read-body.Post)
+
+abbrev read-wanted-calls : ℕ → read-wanted-lts.Claims
+read-wanted-calls t = (at-most-reads.Asked, at-most-reads.Learnt, read-run-below t, read-run.Post)
+
+read-body-returns : (t : ℕ) → read-body-lts.Need-returns (read-body-calls t) (read-body-at t) read-body.Post
 read-body-returns t c = λ h next e s. body-deep _ _ _ _ _ h next _ _ _ _ (c .if1 .taken)
 
--- src/lib.rt:93:9
-read-body-returns-2 : (t : ℕ) → read-body-lts.Need-returns-2 (
-  read-inner-below t,
-  read-inner.Post,
-  pack-reads.Asked,
-  pack-reads.Learnt,
-) (read-body-at t) read-body.Post
+read-body-returns-2 : (t : ℕ) → read-body-lts.Need-returns-2 (read-body-calls t) (read-body-at t) read-body.Post
 read-body-returns-2 t c = λ h next e s. body-full _ _ _ _ _ h next _ _ _ (c .before .if1 .left) _ (c .if2 .taken)
 
--- src/lib.rt:95:67
-read-body-add-read-inner : (t : ℕ) → read-body-lts.Need-add-read-inner (
-  read-inner-below t,
-  read-inner.Post,
-  pack-reads.Asked,
-  pack-reads.Learnt,
-) (read-body-at t) read-body.Post
+read-body-add-read-inner : (t : ℕ) → read-body-lts.Need-add-read-inner (read-body-calls t) (read-body-at t) read-body.Post
 read-body-add-read-inner t c = omega arith
 
--- src/lib.rt:95:76
-read-body-sub-read-inner : (t : ℕ) → read-body-lts.Need-sub-read-inner (
-  read-inner-below t,
-  read-inner.Post,
-  pack-reads.Asked,
-  pack-reads.Learnt,
-) (read-body-at t) read-body.Post
+read-body-sub-read-inner : (t : ℕ) → read-body-lts.Need-sub-read-inner (read-body-calls t) (read-body-at t) read-body.Post
 read-body-sub-read-inner t c = omega arith
 
--- src/lib.rt:95:11
-read-body-read-inner-requires : (t : ℕ) → read-body-lts.Need-read-inner-requires (
-  read-inner-below t,
-  read-inner.Post,
-  pack-reads.Asked,
-  pack-reads.Learnt,
-) (read-body-at t) read-body.Post
+read-body-read-inner-requires : (t : ℕ) → read-body-lts.Need-read-inner-requires (read-body-calls t) (read-body-at t) read-body.Post
 read-body-read-inner-requires t c κs = (omega (arith, c .before .before .before .before .before .before .before .pre .0, c .before .before .if1 .left), (room-inside _ _ _ _ _ _ _ (c .before .before .before .before .before .before .before .pre .1 .0) (c .before .if2 .left), c .before .before .before .before .before .before .before .pre .1 .1))
 
--- src/lib.rt:96:26
-read-body-enum-known-number : (t : ℕ) → read-body-lts.Need-enum-known-number (
-  read-inner-below t,
-  read-inner.Post,
-  pack-reads.Asked,
-  pack-reads.Learnt,
-) (read-body-at t) read-body.Post
+read-body-enum-known-number : (t : ℕ) → read-body-lts.Need-enum-known-number (read-body-calls t) (read-body-at t) read-body.Post
 read-body-enum-known-number t c = search needs
 
--- src/lib.rt:98:13
-read-body-enum-known-next : (t : ℕ) → read-body-lts.Need-enum-known-next (
-  read-inner-below t,
-  read-inner.Post,
-  pack-reads.Asked,
-  pack-reads.Learnt,
-) (read-body-at t) read-body.Post
+read-body-enum-known-next : (t : ℕ) → read-body-lts.Need-enum-known-next (read-body-calls t) (read-body-at t) read-body.Post
 read-body-enum-known-next t c = search needs
 
--- src/lib.rt:103:63
-read-body-sub-pack : (t : ℕ) → read-body-lts.Need-sub-pack (
-  read-inner-below t,
-  read-inner.Post,
-  pack-reads.Asked,
-  pack-reads.Learnt,
-) (read-body-at t) read-body.Post
+read-body-sub-pack : (t : ℕ) → read-body-lts.Need-sub-pack (read-body-calls t) (read-body-at t) read-body.Post
 read-body-sub-pack t c = let o = c .before .before .before .before .before .before .before .before .before .before .before .before .before .pre .1 .1 in let g = parts-past _ _ _ _ _ _ _ _ _ _ _ _ _ (c .before .next .given .1) (c .before .before .before .before .before .read-inner .ensures (o .h) (o .next) (o .is) (o .sound)) in omega arith
 
--- src/lib.rt:103:26
-read-body-pack-requires : (t : ℕ) → read-body-lts.Need-pack-requires (
-  read-inner-below t,
-  read-inner.Post,
-  pack-reads.Asked,
-  pack-reads.Learnt,
-) (read-body-at t) read-body.Post
+read-body-pack-requires : (t : ℕ) → read-body-lts.Need-pack-requires (read-body-calls t) (read-body-at t) read-body.Post
 read-body-pack-requires t c κs = let o = c .before .before .before .before .before .before .before .before .before .before .before .before .before .pre .1 .1 in body-small _ _ _ _ _ (o .h) (o .next) _ _ _ (c .before .before .before .before .before .before .before .before .if1 .left) (c .before .before .before .before .before .before .before .if2 .left) _ _ (c .before .before .before .before .before .read-inner .ensures (o .h) (o .next) (o .is) (o .sound)) _ _ _ _ _ _ (c .before .next .given .1) (c .before .before .before .before .before .before .before .before .before .before .before .before .before .pre .1 .0) (omega (arith, opens-place _ _ _ (c .before .before .before .before .before .before .before .before .before .before .before .before .before .pre .1 .1), c .before .before .before .before .before .before .before .before .before .before .before .before .before .pre .1 .0 .short))
 
--- src/lib.rt:103:13
-read-body-mul-table : (t : ℕ) → read-body-lts.Need-mul-table (
-  read-inner-below t,
-  read-inner.Post,
-  pack-reads.Asked,
-  pack-reads.Learnt,
-) (read-body-at t) read-body.Post
+read-body-mul-table : (t : ℕ) → read-body-lts.Need-mul-table (read-body-calls t) (read-body-at t) read-body.Post
 read-body-mul-table t c = omega arith
 
--- src/lib.rt:103:13
-read-body-slice-write-table : (t : ℕ) → read-body-lts.Need-slice-write-table (
-  read-inner-below t,
-  read-inner.Post,
-  pack-reads.Asked,
-  pack-reads.Learnt,
-) (read-body-at t) read-body.Post
+read-body-slice-write-table : (t : ℕ) → read-body-lts.Need-slice-write-table (read-body-calls t) (read-body-at t) read-body.Post
 read-body-slice-write-table t c = omega (arith, c .before .before .before .before .before .before .read-inner .kept .1 .1 .1 .1 .0)
 
--- src/lib.rt:73:1
-read-body-same-length : (t : ℕ) → read-body-lts.Need-same-length (
-  read-inner-below t,
-  read-inner.Post,
-  pack-reads.Asked,
-  pack-reads.Learnt,
-) (read-body-at t) read-body.Post
+read-body-same-length : (t : ℕ) → read-body-lts.Need-same-length (read-body-calls t) (read-body-at t) read-body.Post
 read-body-same-length t c = c .before .before .before .before .before .read-inner .kept .1 .1 .1 .1 .0
 
--- src/lib.rt:73:1
-read-body-returns-3 : (t : ℕ) → read-body-lts.Need-returns-3 (
-  read-inner-below t,
-  read-inner.Post,
-  pack-reads.Asked,
-  pack-reads.Learnt,
-) (read-body-at t) read-body.Post
+read-body-returns-3 : (t : ℕ) → read-body-lts.Need-returns-3 (read-body-calls t) (read-body-at t) read-body.Post
 read-body-returns-3 t c = λ h next e s. body-refused _ _ _ _ _ h next _ _ _ (c .before .before .before .before .before .before .before .before .if1 .left) (c .before .before .before .before .before .before .before .if2 .left) _ _ (c .before .before .before .before .before .read-inner .ensures h next e s) _ _ _ (c .before .number .given .1)
 
--- src/lib.rt:73:1
-read-body-same-length-2 : (t : ℕ) → read-body-lts.Need-same-length-2 (
-  read-inner-below t,
-  read-inner.Post,
-  pack-reads.Asked,
-  pack-reads.Learnt,
-) (read-body-at t) read-body.Post
+read-body-same-length-2 : (t : ℕ) → read-body-lts.Need-same-length-2 (read-body-calls t) (read-body-at t) read-body.Post
 read-body-same-length-2 t c = simp length-set (c .before .before .before .before .before .before .read-inner .kept .1 .1 .1 .1 .0)
 
--- src/lib.rt:73:1
-read-body-returns-4 : (t : ℕ) → read-body-lts.Need-returns-4 (
-  read-inner-below t,
-  read-inner.Post,
-  pack-reads.Asked,
-  pack-reads.Learnt,
-) (read-body-at t) read-body.Post
+read-body-returns-4 : (t : ℕ) → read-body-lts.Need-returns-4 (read-body-calls t) (read-body-at t) read-body.Post
 read-body-returns-4 t c = λ h next e s. body-got _ _ _ _ _ h next _ _ _ (c .before .before .before .before .before .before .before .before .before .if1 .left) (c .before .before .before .before .before .before .before .before .if2 .left) _ _ (c .before .before .before .before .before .before .read-inner .ensures h next e s) _ _ _ _ _ (c .before .before .next .given .1) (omega (arith, opens-place _ _ _ (c .before .before .before .before .before .before .before .before .before .before .before .before .before .before .pre .1 .1), c .before .before .before .before .before .before .before .before .before .before .before .before .before .before .pre .1 .0 .short)) (c .pack .ensures)
 
--- src/lib.rt:126:25
-read-inner-enum-known-head : (t : ℕ) → read-inner-lts.Need-enum-known-head (
-  read-parts-below t,
-  read-parts.Post,
-  read-characters-reads.Asked,
-  read-characters-reads.Learnt,
-  read-list-below t,
-  read-list.Post,
-  read-pairs-below t,
-  read-pairs.Post,
-) (read-inner-at t) read-inner.Post
+read-inner-enum-known-head : (t : ℕ) → read-inner-lts.Need-enum-known-head (read-inner-calls t) (read-inner-at t) read-inner.Post
 read-inner-enum-known-head t c = search needs
 
--- src/lib.rt:128:13
-read-inner-enum-known-head-2 : (t : ℕ) → read-inner-lts.Need-enum-known-head-2 (
-  read-parts-below t,
-  read-parts.Post,
-  read-characters-reads.Asked,
-  read-characters-reads.Learnt,
-  read-list-below t,
-  read-list.Post,
-  read-pairs-below t,
-  read-pairs.Post,
-) (read-inner-at t) read-inner.Post
+read-inner-enum-known-head-2 : (t : ℕ) → read-inner-lts.Need-enum-known-head-2 (read-inner-calls t) (read-inner-at t) read-inner.Post
 read-inner-enum-known-head-2 t c = search needs
 
--- src/lib.rt:133:14
-read-inner-read-parts-requires : (t : ℕ) → read-inner-lts.Need-read-parts-requires (
-  read-parts-below t,
-  read-parts.Post,
-  read-characters-reads.Asked,
-  read-characters-reads.Learnt,
-  read-list-below t,
-  read-list.Post,
-  read-pairs-below t,
-  read-pairs.Post,
-) (read-inner-at t) read-inner.Post
+read-inner-read-parts-requires : (t : ℕ) → read-inner-lts.Need-read-parts-requires (read-inner-calls t) (read-inner-at t) read-inner.Post
 read-inner-read-parts-requires t c κs = (omega (arith, c .before .before .before .before .before .before .before .before .pre .0), room-at _ _ _ _ _ _ _ _ (c .before .before .before .before .before .before .before .before .pre .1 .0) (opens-near _ _ _ _ (c .before .before .before .before .before .before .before .before .pre .1 .1) (c .before .before .head2 .given .1)))
 
--- src/lib.rt:136:28
-read-inner-enum-known-head-3 : (t : ℕ) → read-inner-lts.Need-enum-known-head-3 (
-  read-parts-below t,
-  read-parts.Post,
-  read-characters-reads.Asked,
-  read-characters-reads.Learnt,
-  read-list-below t,
-  read-list.Post,
-  read-pairs-below t,
-  read-pairs.Post,
-) (read-inner-at t) read-inner.Post
+read-inner-enum-known-head-3 : (t : ℕ) → read-inner-lts.Need-enum-known-head-3 (read-inner-calls t) (read-inner-at t) read-inner.Post
 read-inner-enum-known-head-3 t c = search needs
 
--- src/lib.rt:137:13
-read-inner-read-characters-requires : (t : ℕ) → read-inner-lts.Need-read-characters-requires (
-  read-parts-below t,
-  read-parts.Post,
-  read-characters-reads.Asked,
-  read-characters-reads.Learnt,
-  read-list-below t,
-  read-list.Post,
-  read-pairs-below t,
-  read-pairs.Post,
-) (read-inner-at t) read-inner.Post
+read-inner-read-characters-requires : (t : ℕ) → read-inner-lts.Need-read-characters-requires (read-inner-calls t) (read-inner-at t) read-inner.Post
 read-inner-read-characters-requires t c κs = (omega arith, omega arith, omega arith, omega arith, omega arith, opens-span _ _ _ _ _ (c .before .before .before .before .before .before .before .before .pre .1 .1) (c .before .before .head3 .given .1) (c .before .before .before .before .before .before .before .before .pre .1 .0 .short))
 
--- src/lib.rt:139:26
-read-inner-enum-known-head-4 : (t : ℕ) → read-inner-lts.Need-enum-known-head-4 (
-  read-parts-below t,
-  read-parts.Post,
-  read-characters-reads.Asked,
-  read-characters-reads.Learnt,
-  read-list-below t,
-  read-list.Post,
-  read-pairs-below t,
-  read-pairs.Post,
-) (read-inner-at t) read-inner.Post
+read-inner-enum-known-head-4 : (t : ℕ) → read-inner-lts.Need-enum-known-head-4 (read-inner-calls t) (read-inner-at t) read-inner.Post
 read-inner-enum-known-head-4 t c = search needs
 
--- src/lib.rt:140:13
-read-inner-read-list-requires : (t : ℕ) → read-inner-lts.Need-read-list-requires (
-  read-parts-below t,
-  read-parts.Post,
-  read-characters-reads.Asked,
-  read-characters-reads.Learnt,
-  read-list-below t,
-  read-list.Post,
-  read-pairs-below t,
-  read-pairs.Post,
-) (read-inner-at t) read-inner.Post
+read-inner-read-list-requires : (t : ℕ) → read-inner-lts.Need-read-list-requires (read-inner-calls t) (read-inner-at t) read-inner.Post
 read-inner-read-list-requires t c κs = (omega (arith, c .before .before .before .before .before .before .before .before .pre .0), room-at _ _ _ _ _ _ _ _ (c .before .before .before .before .before .before .before .before .pre .1 .0) (opens-near _ _ _ _ (c .before .before .before .before .before .before .before .before .pre .1 .1) (c .before .before .head4 .given .1)))
 
--- src/lib.rt:142:23
-read-inner-enum-known-head-5 : (t : ℕ) → read-inner-lts.Need-enum-known-head-5 (
-  read-parts-below t,
-  read-parts.Post,
-  read-characters-reads.Asked,
-  read-characters-reads.Learnt,
-  read-list-below t,
-  read-list.Post,
-  read-pairs-below t,
-  read-pairs.Post,
-) (read-inner-at t) read-inner.Post
+read-inner-enum-known-head-5 : (t : ℕ) → read-inner-lts.Need-enum-known-head-5 (read-inner-calls t) (read-inner-at t) read-inner.Post
 read-inner-enum-known-head-5 t c = search needs
 
--- src/lib.rt:143:13
-read-inner-read-pairs-requires : (t : ℕ) → read-inner-lts.Need-read-pairs-requires (
-  read-parts-below t,
-  read-parts.Post,
-  read-characters-reads.Asked,
-  read-characters-reads.Learnt,
-  read-list-below t,
-  read-list.Post,
-  read-pairs-below t,
-  read-pairs.Post,
-) (read-inner-at t) read-inner.Post
+read-inner-read-pairs-requires : (t : ℕ) → read-inner-lts.Need-read-pairs-requires (read-inner-calls t) (read-inner-at t) read-inner.Post
 read-inner-read-pairs-requires t c κs = (omega (arith, c .before .before .before .before .before .before .before .before .pre .0), room-at _ _ _ _ _ _ _ _ (c .before .before .before .before .before .before .before .before .pre .1 .0) (opens-near _ _ _ _ (c .before .before .before .before .before .before .before .before .pre .1 .1) (c .before .before .head5 .given .1)))
 
--- src/lib.rt:110:1
-read-inner-returns : (t : ℕ) → read-inner-lts.Need-returns (
-  read-parts-below t,
-  read-parts.Post,
-  read-characters-reads.Asked,
-  read-characters-reads.Learnt,
-  read-list-below t,
-  read-list.Post,
-  read-pairs-below t,
-  read-pairs.Post,
-) (read-inner-at t) read-inner.Post
+read-inner-returns : (t : ℕ) → read-inner-lts.Need-returns (read-inner-calls t) (read-inner-at t) read-inner.Post
 read-inner-returns t c = inner-refused _ _ _ _ _ _ _ _ _ _ _ _ (c .before .head .given .1)
 
--- src/lib.rt:110:1
-read-inner-same-length : (t : ℕ) → read-inner-lts.Need-same-length (
-  read-parts-below t,
-  read-parts.Post,
-  read-characters-reads.Asked,
-  read-characters-reads.Learnt,
-  read-list-below t,
-  read-list.Post,
-  read-pairs-below t,
-  read-pairs.Post,
-) (read-inner-at t) read-inner.Post
+read-inner-same-length : (t : ℕ) → read-inner-lts.Need-same-length (read-inner-calls t) (read-inner-at t) read-inner.Post
 read-inner-same-length t c = c .before .before .read-parts .kept .1 .1 .1 .1 .0
 
--- src/lib.rt:110:1
-read-inner-returns-2 : (t : ℕ) → read-inner-lts.Need-returns-2 (
-  read-parts-below t,
-  read-parts.Post,
-  read-characters-reads.Asked,
-  read-characters-reads.Learnt,
-  read-list-below t,
-  read-list.Post,
-  read-pairs-below t,
-  read-pairs.Post,
-) (read-inner-at t) read-inner.Post
+read-inner-returns-2 : (t : ℕ) → read-inner-lts.Need-returns-2 (read-inner-calls t) (read-inner-at t) read-inner.Post
 read-inner-returns-2 t c = inner-parts _ _ _ _ _ _ _ _ _ _ _ _ _ _ _ (c .before .before .before .before .before .head2 .given .1) (c .before .before .read-parts .ensures)
 
--- src/lib.rt:110:1
-read-inner-same-length-2 : (t : ℕ) → read-inner-lts.Need-same-length-2 (
-  read-parts-below t,
-  read-parts.Post,
-  read-characters-reads.Asked,
-  read-characters-reads.Learnt,
-  read-list-below t,
-  read-list.Post,
-  read-pairs-below t,
-  read-pairs.Post,
-) (read-inner-at t) read-inner.Post
+read-inner-same-length-2 : (t : ℕ) → read-inner-lts.Need-same-length-2 (read-inner-calls t) (read-inner-at t) read-inner.Post
 read-inner-same-length-2 t c = c .before .before .read-characters .kept .0
 
--- src/lib.rt:110:1
-read-inner-returns-3 : (t : ℕ) → read-inner-lts.Need-returns-3 (
-  read-parts-below t,
-  read-parts.Post,
-  read-characters-reads.Asked,
-  read-characters-reads.Learnt,
-  read-list-below t,
-  read-list.Post,
-  read-pairs-below t,
-  read-pairs.Post,
-) (read-inner-at t) read-inner.Post
+read-inner-returns-3 : (t : ℕ) → read-inner-lts.Need-returns-3 (read-inner-calls t) (read-inner-at t) read-inner.Post
 read-inner-returns-3 t c = inner-characters _ _ _ _ _ _ _ _ _ _ _ _ (c .before .before .before .before .before .head3 .given .1) (λ cs e near. c .before .before .read-characters .ensures _ _ cs e near)
 
--- src/lib.rt:110:1
-read-inner-same-length-3 : (t : ℕ) → read-inner-lts.Need-same-length-3 (
-  read-parts-below t,
-  read-parts.Post,
-  read-characters-reads.Asked,
-  read-characters-reads.Learnt,
-  read-list-below t,
-  read-list.Post,
-  read-pairs-below t,
-  read-pairs.Post,
-) (read-inner-at t) read-inner.Post
+read-inner-same-length-3 : (t : ℕ) → read-inner-lts.Need-same-length-3 (read-inner-calls t) (read-inner-at t) read-inner.Post
 read-inner-same-length-3 t c = c .before .before .read-list .kept .1 .1 .1 .1 .0
 
--- src/lib.rt:110:1
-read-inner-returns-4 : (t : ℕ) → read-inner-lts.Need-returns-4 (
-  read-parts-below t,
-  read-parts.Post,
-  read-characters-reads.Asked,
-  read-characters-reads.Learnt,
-  read-list-below t,
-  read-list.Post,
-  read-pairs-below t,
-  read-pairs.Post,
-) (read-inner-at t) read-inner.Post
+read-inner-returns-4 : (t : ℕ) → read-inner-lts.Need-returns-4 (read-inner-calls t) (read-inner-at t) read-inner.Post
 read-inner-returns-4 t c = inner-elements _ _ _ _ _ _ _ _ _ _ _ _ (c .before .before .before .before .before .head4 .given .1) (c .before .before .read-list .ensures _)
 
--- src/lib.rt:110:1
-read-inner-same-length-4 : (t : ℕ) → read-inner-lts.Need-same-length-4 (
-  read-parts-below t,
-  read-parts.Post,
-  read-characters-reads.Asked,
-  read-characters-reads.Learnt,
-  read-list-below t,
-  read-list.Post,
-  read-pairs-below t,
-  read-pairs.Post,
-) (read-inner-at t) read-inner.Post
+read-inner-same-length-4 : (t : ℕ) → read-inner-lts.Need-same-length-4 (read-inner-calls t) (read-inner-at t) read-inner.Post
 read-inner-same-length-4 t c = c .before .before .read-pairs .kept .1 .1 .1 .1 .0
 
--- src/lib.rt:110:1
-read-inner-returns-5 : (t : ℕ) → read-inner-lts.Need-returns-5 (
-  read-parts-below t,
-  read-parts.Post,
-  read-characters-reads.Asked,
-  read-characters-reads.Learnt,
-  read-list-below t,
-  read-list.Post,
-  read-pairs-below t,
-  read-pairs.Post,
-) (read-inner-at t) read-inner.Post
+read-inner-returns-5 : (t : ℕ) → read-inner-lts.Need-returns-5 (read-inner-calls t) (read-inner-at t) read-inner.Post
 read-inner-returns-5 t c = inner-pairs _ _ _ _ _ _ _ _ _ _ _ _ (c .before .before .before .before .before .head5 .given .1) (c .before .before .read-pairs .ensures _)
 
--- src/lib.rt:449:28
-read-last-enum-known-head : (t : ℕ) → read-last-lts.Need-enum-known-head (
-  read-characters-reads.Asked,
-  read-characters-reads.Learnt,
-  read-body-below t,
-  read-body.Post,
-) (read-last-at t) read-last.Post
+read-last-enum-known-head : (t : ℕ) → read-last-lts.Need-enum-known-head (read-last-calls t) (read-last-at t) read-last.Post
 read-last-enum-known-head t c = search needs
 
--- src/lib.rt:450:13
-read-last-read-characters-requires : (t : ℕ) → read-last-lts.Need-read-characters-requires (
-  read-characters-reads.Asked,
-  read-characters-reads.Learnt,
-  read-body-below t,
-  read-body.Post,
-) (read-last-at t) read-last.Post
+read-last-read-characters-requires : (t : ℕ) → read-last-lts.Need-read-characters-requires (read-last-calls t) (read-last-at t) read-last.Post
 read-last-read-characters-requires t c κs = (omega arith, omega arith, omega arith, omega arith, omega arith, opens-span _ _ _ _ _ (c .before .before .before .before .before .before .before .before .pre .1 .1) (c .before .before .head .given .1) (c .before .before .before .before .before .before .before .before .pre .1 .0 .short))
 
--- src/lib.rt:452:20
-read-last-read-body-requires : (t : ℕ) → read-last-lts.Need-read-body-requires (
-  read-characters-reads.Asked,
-  read-characters-reads.Learnt,
-  read-body-below t,
-  read-body.Post,
-) (read-last-at t) read-last.Post
+read-last-read-body-requires : (t : ℕ) → read-last-lts.Need-read-body-requires (read-last-calls t) (read-last-at t) read-last.Post
 read-last-read-body-requires t c κs = (omega (arith, c .before .before .before .before .before .before .pre .0), (c .before .before .before .before .before .before .pre .1 .0, c .before .before .before .before .before .before .pre .1 .1))
 
--- src/lib.rt:455:29
-read-last-enum-known-number : (t : ℕ) → read-last-lts.Need-enum-known-number (
-  read-characters-reads.Asked,
-  read-characters-reads.Learnt,
-  read-body-below t,
-  read-body.Post,
-) (read-last-at t) read-last.Post
+read-last-enum-known-number : (t : ℕ) → read-last-lts.Need-enum-known-number (read-last-calls t) (read-last-at t) read-last.Post
 read-last-enum-known-number t c = search needs
 
--- src/lib.rt:456:25
-read-last-enum-known-next : (t : ℕ) → read-last-lts.Need-enum-known-next (
-  read-characters-reads.Asked,
-  read-characters-reads.Learnt,
-  read-body-below t,
-  read-body.Post,
-) (read-last-at t) read-last.Post
+read-last-enum-known-next : (t : ℕ) → read-last-lts.Need-enum-known-next (read-last-calls t) (read-last-at t) read-last.Post
 read-last-enum-known-next t c = search needs
 
--- src/lib.rt:459:24
-read-last-add-t26 : (t : ℕ) → read-last-lts.Need-add-t26 (
-  read-characters-reads.Asked,
-  read-characters-reads.Learnt,
-  read-body-below t,
-  read-body.Post,
-) (read-last-at t) read-last.Post
+read-last-add-t26 : (t : ℕ) → read-last-lts.Need-add-t26 (read-last-calls t) (read-last-at t) read-last.Post
 read-last-add-t26 t c = omega arith
 
--- src/lib.rt:431:1
-read-last-same-length : (t : ℕ) → read-last-lts.Need-same-length (
-  read-characters-reads.Asked,
-  read-characters-reads.Learnt,
-  read-body-below t,
-  read-body.Post,
-) (read-last-at t) read-last.Post
+read-last-same-length : (t : ℕ) → read-last-lts.Need-same-length (read-last-calls t) (read-last-at t) read-last.Post
 read-last-same-length t c = c .before .before .read-characters .kept .0
 
--- src/lib.rt:431:1
-read-last-returns : (t : ℕ) → read-last-lts.Need-returns (
-  read-characters-reads.Asked,
-  read-characters-reads.Learnt,
-  read-body-below t,
-  read-body.Post,
-) (read-last-at t) read-last.Post
+read-last-returns : (t : ℕ) → read-last-lts.Need-returns (read-last-calls t) (read-last-at t) read-last.Post
 read-last-returns t c = last-characters _ _ _ _ _ _ _ _ _ _ _ _ _ _ (c .before .before .before .before .before .head .given .1) (λ cs e near. c .before .before .read-characters .ensures _ _ cs e near)
 
--- src/lib.rt:431:1
-read-last-same-length-2 : (t : ℕ) → read-last-lts.Need-same-length-2 (
-  read-characters-reads.Asked,
-  read-characters-reads.Learnt,
-  read-body-below t,
-  read-body.Post,
-) (read-last-at t) read-last.Post
+read-last-same-length-2 : (t : ℕ) → read-last-lts.Need-same-length-2 (read-last-calls t) (read-last-at t) read-last.Post
 read-last-same-length-2 t c = c .before .before .before .before .before .read-body .kept .1 .1 .1 .1 .0
 
--- src/lib.rt:431:1
-read-last-returns-2 : (t : ℕ) → read-last-lts.Need-returns-2 (
-  read-characters-reads.Asked,
-  read-characters-reads.Learnt,
-  read-body-below t,
-  read-body.Post,
-) (read-last-at t) read-last.Post
+read-last-returns-2 : (t : ℕ) → read-last-lts.Need-returns-2 (read-last-calls t) (read-last-at t) read-last.Post
 read-last-returns-2 t c = λ h next e s. last-refused _ _ _ _ _ _ _ _ _ _ (λ k p e. miss (0 ∷ 1 ∷ 3 ∷ 4 ∷ []) 2 tt (rw e at (c .before .before .before .before .before .before .before .match .keys2))) h next e _ _ _ _ _ (c .before .number .given .1) (c .before .before .before .before .before .read-body .ensures h next e s)
 
--- src/lib.rt:431:1
-read-last-same-length-3 : (t : ℕ) → read-last-lts.Need-same-length-3 (
-  read-characters-reads.Asked,
-  read-characters-reads.Learnt,
-  read-body-below t,
-  read-body.Post,
-) (read-last-at t) read-last.Post
+read-last-same-length-3 : (t : ℕ) → read-last-lts.Need-same-length-3 (read-last-calls t) (read-last-at t) read-last.Post
 read-last-same-length-3 t c = c .before .before .before .before .before .read-body .kept .1 .1 .1 .1 .0
 
--- src/lib.rt:431:1
-read-last-returns-3 : (t : ℕ) → read-last-lts.Need-returns-3 (
-  read-characters-reads.Asked,
-  read-characters-reads.Learnt,
-  read-body-below t,
-  read-body.Post,
-) (read-last-at t) read-last.Post
+read-last-returns-3 : (t : ℕ) → read-last-lts.Need-returns-3 (read-last-calls t) (read-last-at t) read-last.Post
 read-last-returns-3 t c = λ h next e s. last-got _ _ _ _ _ _ _ _ _ _ (λ k p e. miss (0 ∷ 1 ∷ 3 ∷ 4 ∷ []) 2 tt (rw e at (c .before .before .before .before .before .before .before .match .keys2))) h next e _ _ _ _ (c .before .next .given .1) (c .before .before .before .before .before .read-body .ensures h next e s)
 
--- src/lib.rt:353:11
-read-list-read-run-requires : (t : ℕ) → read-list-lts.Need-read-run-requires (
-  read-run-below t,
-  read-run.Post,
-  read-tail-below t,
-  read-tail.Post,
-) (read-list-at t) read-list.Post
+read-list-read-run-requires : (t : ℕ) → read-list-lts.Need-read-run-requires (read-list-calls t) (read-list-at t) read-list.Post
 read-list-read-run-requires t c κs = (omega (arith, c .before .before .before .before .before .pre .0), c .before .before .before .before .before .pre .1)
 
--- src/lib.rt:367:25
-read-list-enum-known-number : (t : ℕ) → read-list-lts.Need-enum-known-number (
-  read-run-below t,
-  read-run.Post,
-  read-tail-below t,
-  read-tail.Post,
-) (read-list-at t) read-list.Post
+read-list-enum-known-number : (t : ℕ) → read-list-lts.Need-enum-known-number (read-list-calls t) (read-list-at t) read-list.Post
 read-list-enum-known-number t c = search needs
 
--- src/lib.rt:368:21
-read-list-enum-known-next : (t : ℕ) → read-list-lts.Need-enum-known-next (
-  read-run-below t,
-  read-run.Post,
-  read-tail-below t,
-  read-tail.Post,
-) (read-list-at t) read-list.Post
+read-list-enum-known-next : (t : ℕ) → read-list-lts.Need-enum-known-next (read-list-calls t) (read-list-at t) read-list.Post
 read-list-enum-known-next t c = search needs
 
--- src/lib.rt:368:37
-read-list-read-tail-requires : (t : ℕ) → read-list-lts.Need-read-tail-requires (
-  read-run-below t,
-  read-run.Post,
-  read-tail-below t,
-  read-tail.Post,
-) (read-list-at t) read-list.Post
+read-list-read-tail-requires : (t : ℕ) → read-list-lts.Need-read-tail-requires (read-list-calls t) (read-list-at t) read-list.Post
 read-list-read-tail-requires t c κs = (omega (arith, c .before .before .before .before .before .before .before .before .before .before .before .before .pre .0), (room-after _ _ _ _ _ _ _ _ _ _ _ _ _ _ _ (c .before .before .before .before .before .before .before .before .before .before .before .before .pre .1) (c .before .before .before .before .before .before .read-run .ensures) (c .before .before .next .given .1) (c .before .before .before .before .before .before .read-run .kept .1 .1 .1 .1 .0), omega (arith, run-many _ _ _ _ _ _ _ _ _ _ _ (c .before .before .before .before .before .before .read-run .ensures) (c .before .before .next .given .1) .0)))
 
--- src/lib.rt:338:1
-read-list-same-length : (t : ℕ) → read-list-lts.Need-same-length (
-  read-run-below t,
-  read-run.Post,
-  read-tail-below t,
-  read-tail.Post,
-) (read-list-at t) read-list.Post
+read-list-same-length : (t : ℕ) → read-list-lts.Need-same-length (read-list-calls t) (read-list-at t) read-list.Post
 read-list-same-length t c = c .before .before .before .before .before .read-run .kept .1 .1 .1 .1 .0
 
--- src/lib.rt:338:1
-read-list-returns : (t : ℕ) → read-list-lts.Need-returns (
-  read-run-below t,
-  read-run.Post,
-  read-tail-below t,
-  read-tail.Post,
-) (read-list-at t) read-list.Post
+read-list-returns : (t : ℕ) → read-list-lts.Need-returns (read-list-calls t) (read-list-at t) read-list.Post
 read-list-returns t c = λ place. list-first _ _ _ _ place _ _ _ _ _ _ (c .before .before .before .before .before .read-run .ensures) _ _ _ (c .before .number .given .1)
 
--- src/lib.rt:338:1
-read-list-same-length-2 : (t : ℕ) → read-list-lts.Need-same-length-2 (
-  read-run-below t,
-  read-run.Post,
-  read-tail-below t,
-  read-tail.Post,
-) (read-list-at t) read-list.Post
+read-list-same-length-2 : (t : ℕ) → read-list-lts.Need-same-length-2 (read-list-calls t) (read-list-at t) read-list.Post
 read-list-same-length-2 t c = c .before .before .read-tail .kept .1 .1 .1 .1 .0 ∙ c .before .before .before .before .before .before .before .before .before .read-run .kept .1 .1 .1 .1 .0
 
--- src/lib.rt:338:1
-read-list-returns-2 : (t : ℕ) → read-list-lts.Need-returns-2 (
-  read-run-below t,
-  read-run.Post,
-  read-tail-below t,
-  read-tail.Post,
-) (read-list-at t) read-list.Post
+read-list-returns-2 : (t : ℕ) → read-list-lts.Need-returns-2 (read-list-calls t) (read-list-at t) read-list.Post
 read-list-returns-2 t c = λ place. list-then _ _ _ _ place _ _ _ _ _ _ (c .before .before .before .before .before .before .before .before .before .read-run .ensures) _ _ _ _ (c .before .before .before .before .before .next .given .1) (c .before .before .read-tail .ensures)
 
 abbrev read-pairs-Inv-loop : read-pairs-lts.InvT-loop
@@ -724,400 +365,136 @@ abbrev read-pairs-μ-loop : read-pairs-lts.MeasureT-loop
 read-pairs-μ-loop msg n places lengths table₀ at row deep cap count at-now₀ row-now₀ more₀ table at-now row-now more =
     more
 
--- src/lib.rt:485:5
-read-pairs-loop-holds : (t : ℕ) → read-pairs-lts.Need-loop-holds (
-  read-term-below t,
-  read-term.Post,
-  key-among-reads.Asked,
-  key-among-reads.Learnt,
-) (read-pairs-at t) read-pairs.Post read-pairs-Inv-loop read-pairs-μ-loop
+read-pairs-loop-holds : (t : ℕ) → read-pairs-lts.Need-loop-holds (read-pairs-calls t) (read-pairs-at t) read-pairs.Post read-pairs-Inv-loop read-pairs-μ-loop
 read-pairs-loop-holds t c = (c .before .before .before .before .pre .1, refl, entered-none _ _ _ _ _ _ _ _)
 
--- src/lib.rt:486:15
-read-pairs-read-term-requires : (t : ℕ) → read-pairs-lts.Need-read-term-requires (
-  read-term-below t,
-  read-term.Post,
-  key-among-reads.Asked,
-  key-among-reads.Learnt,
-) (read-pairs-at t) read-pairs.Post read-pairs-Inv-loop read-pairs-μ-loop
+read-pairs-read-term-requires : (t : ℕ) → read-pairs-lts.Need-read-term-requires (read-pairs-calls t) (read-pairs-at t) read-pairs.Post read-pairs-Inv-loop read-pairs-μ-loop
 read-pairs-read-term-requires t c κs = (omega (arith, c .before .before .before .before .before .before .before .pre .0), c .before .before .loop .inv .0)
 
--- src/lib.rt:499:29
-read-pairs-enum-known-number : (t : ℕ) → read-pairs-lts.Need-enum-known-number (
-  read-term-below t,
-  read-term.Post,
-  key-among-reads.Asked,
-  key-among-reads.Learnt,
-) (read-pairs-at t) read-pairs.Post read-pairs-Inv-loop read-pairs-μ-loop
+read-pairs-enum-known-number : (t : ℕ) → read-pairs-lts.Need-enum-known-number (read-pairs-calls t) (read-pairs-at t) read-pairs.Post read-pairs-Inv-loop read-pairs-μ-loop
 read-pairs-enum-known-number t c = search needs
 
--- src/lib.rt:499:48
-read-pairs-same-length : (t : ℕ) → read-pairs-lts.Need-same-length (
-  read-term-below t,
-  read-term.Post,
-  key-among-reads.Asked,
-  key-among-reads.Learnt,
-) (read-pairs-at t) read-pairs.Post read-pairs-Inv-loop read-pairs-μ-loop
+read-pairs-same-length : (t : ℕ) → read-pairs-lts.Need-same-length (read-pairs-calls t) (read-pairs-at t) read-pairs.Post read-pairs-Inv-loop read-pairs-μ-loop
 read-pairs-same-length t c = c .before .before .before .before .before .read-term .kept .1 .1 .1 .1 .0 ∙ c .before .before .before .before .before .before .before .before .loop .inv .1
 
--- src/lib.rt:499:48
-read-pairs-returns : (t : ℕ) → read-pairs-lts.Need-returns (
-  read-term-below t,
-  read-term.Post,
-  key-among-reads.Asked,
-  key-among-reads.Learnt,
-) (read-pairs-at t) read-pairs.Post read-pairs-Inv-loop read-pairs-μ-loop
+read-pairs-returns : (t : ℕ) → read-pairs-lts.Need-returns (read-pairs-calls t) (read-pairs-at t) read-pairs.Post read-pairs-Inv-loop read-pairs-μ-loop
 read-pairs-returns t c =
     let i = c .before .before .before .before .before .before .before .before .loop in
     let e : i .more ≡ 0 → ⊥ = omega arith in
     λ place. key-refused _ _ _ _ _ _ _ _ _ _ _ _ (i .inv .2) e _ _ (c .before .before .before .before .before .read-term .ensures) _ _ place _ (c .before .number .given .1)
 
--- src/lib.rt:500:25
-read-pairs-enum-known-next : (t : ℕ) → read-pairs-lts.Need-enum-known-next (
-  read-term-below t,
-  read-term.Post,
-  key-among-reads.Asked,
-  key-among-reads.Learnt,
-) (read-pairs-at t) read-pairs.Post read-pairs-Inv-loop read-pairs-μ-loop
+read-pairs-enum-known-next : (t : ℕ) → read-pairs-lts.Need-enum-known-next (read-pairs-calls t) (read-pairs-at t) read-pairs.Post read-pairs-Inv-loop read-pairs-μ-loop
 read-pairs-enum-known-next t c = search needs
 
--- src/lib.rt:501:20
-read-pairs-key-among-requires : (t : ℕ) → read-pairs-lts.Need-key-among-requires (
-  read-term-below t,
-  read-term.Post,
-  key-among-reads.Asked,
-  key-among-reads.Learnt,
-) (read-pairs-at t) read-pairs.Post read-pairs-Inv-loop read-pairs-μ-loop
+read-pairs-key-among-requires : (t : ℕ) → read-pairs-lts.Need-key-among-requires (read-pairs-calls t) (read-pairs-at t) read-pairs.Post read-pairs-Inv-loop read-pairs-μ-loop
 read-pairs-key-among-requires t c κs = search needs
 
--- src/lib.rt:502:21
-read-pairs-same-length-2 : (t : ℕ) → read-pairs-lts.Need-same-length-2 (
-  read-term-below t,
-  read-term.Post,
-  key-among-reads.Asked,
-  key-among-reads.Learnt,
-) (read-pairs-at t) read-pairs.Post read-pairs-Inv-loop read-pairs-μ-loop
+read-pairs-same-length-2 : (t : ℕ) → read-pairs-lts.Need-same-length-2 (read-pairs-calls t) (read-pairs-at t) read-pairs.Post read-pairs-Inv-loop read-pairs-μ-loop
 read-pairs-same-length-2 t c = c .before .before .before .before .before .before .before .before .read-term .kept .1 .1 .1 .1 .0 ∙ c .before .before .before .before .before .before .before .before .before .before .before .loop .inv .1
 
--- src/lib.rt:502:21
-read-pairs-returns-2 : (t : ℕ) → read-pairs-lts.Need-returns-2 (
-  read-term-below t,
-  read-term.Post,
-  key-among-reads.Asked,
-  key-among-reads.Learnt,
-) (read-pairs-at t) read-pairs.Post read-pairs-Inv-loop read-pairs-μ-loop
+read-pairs-returns-2 : (t : ℕ) → read-pairs-lts.Need-returns-2 (read-pairs-calls t) (read-pairs-at t) read-pairs.Post read-pairs-Inv-loop read-pairs-μ-loop
 read-pairs-returns-2 t c =
     let i = c .before .before .before .before .before .before .before .before .before .before .before .loop in
     let e : i .more ≡ 0 → ⊥ = omega arith in
     λ place. key-twice _ _ _ _ _ _ _ _ _ _ _ _ (i .inv .2) e _ _ (c .before .before .before .before .before .before .before .before .read-term .ensures) _ _ _ (i .inv .0) _ _ (c .before .before .before .before .next .given .1) (keys-told _ _ _ _ _ _ (i .inv .0 .sized) (omega (arith, c .before .before .before .before .before .before .before .before .before .before .before .before .before .before .before .before .fits .n)) (λ j. omega (arith, c .before .before .before .before .before .before .before .before .before .before .before .before .before .before .before .shared-slice-known .given j))) _ (c .before .key-among .ensures) place _ (c .if1 .taken)
 
--- src/lib.rt:507:23
-read-pairs-read-term-requires-2 : (t : ℕ) → read-pairs-lts.Need-read-term-requires-2 (
-  read-term-below t,
-  read-term.Post,
-  key-among-reads.Asked,
-  key-among-reads.Learnt,
-) (read-pairs-at t) read-pairs.Post read-pairs-Inv-loop read-pairs-μ-loop
+read-pairs-read-term-requires-2 : (t : ℕ) → read-pairs-lts.Need-read-term-requires-2 (read-pairs-calls t) (read-pairs-at t) read-pairs.Post read-pairs-Inv-loop read-pairs-μ-loop
 read-pairs-read-term-requires-2 t c κs = (omega (arith, c .before .before .before .before .before .before .before .before .before .before .before .before .before .before .before .before .before .pre .0), room-after _ _ _ _ _ _ _ _ _ _ _ _ _ _ _ (c .before .before .before .before .before .before .before .before .before .before .before .before .loop .inv .0) (c .before .before .before .before .before .before .before .before .before .read-term .ensures) (c .before .before .before .before .before .next .given .1) (c .before .before .before .before .before .before .before .before .before .read-term .kept .1 .1 .1 .1 .0))
 
--- src/lib.rt:520:37
-read-pairs-enum-known-number-2 : (t : ℕ) → read-pairs-lts.Need-enum-known-number-2 (
-  read-term-below t,
-  read-term.Post,
-  key-among-reads.Asked,
-  key-among-reads.Learnt,
-) (read-pairs-at t) read-pairs.Post read-pairs-Inv-loop read-pairs-μ-loop
+read-pairs-enum-known-number-2 : (t : ℕ) → read-pairs-lts.Need-enum-known-number-2 (read-pairs-calls t) (read-pairs-at t) read-pairs.Post read-pairs-Inv-loop read-pairs-μ-loop
 read-pairs-enum-known-number-2 t c = search needs
 
--- src/lib.rt:520:56
-read-pairs-same-length-3 : (t : ℕ) → read-pairs-lts.Need-same-length-3 (
-  read-term-below t,
-  read-term.Post,
-  key-among-reads.Asked,
-  key-among-reads.Learnt,
-) (read-pairs-at t) read-pairs.Post read-pairs-Inv-loop read-pairs-μ-loop
+read-pairs-same-length-3 : (t : ℕ) → read-pairs-lts.Need-same-length-3 (read-pairs-calls t) (read-pairs-at t) read-pairs.Post read-pairs-Inv-loop read-pairs-μ-loop
 read-pairs-same-length-3 t c = c .before .before .before .before .before .read-term2 .kept .1 .1 .1 .1 .0 ∙ c .before .before .before .before .before .before .before .before .before .before .before .before .before .before .before .read-term .kept .1 .1 .1 .1 .0 ∙ c .before .before .before .before .before .before .before .before .before .before .before .before .before .before .before .before .before .before .loop .inv .1
 
--- src/lib.rt:520:56
-read-pairs-returns-3 : (t : ℕ) → read-pairs-lts.Need-returns-3 (
-  read-term-below t,
-  read-term.Post,
-  key-among-reads.Asked,
-  key-among-reads.Learnt,
-) (read-pairs-at t) read-pairs.Post read-pairs-Inv-loop read-pairs-μ-loop
+read-pairs-returns-3 : (t : ℕ) → read-pairs-lts.Need-returns-3 (read-pairs-calls t) (read-pairs-at t) read-pairs.Post read-pairs-Inv-loop read-pairs-μ-loop
 read-pairs-returns-3 t c =
     let i = c .before .before .before .before .before .before .before .before .before .before .before .before .before .before .before .before .before .before .loop in
     let e : i .more ≡ 0 → ⊥ = omega arith in
     λ place. value-refused _ _ _ _ _ _ _ _ _ _ _ _ (i .inv .2) e _ _ (c .before .before .before .before .before .before .before .before .before .before .before .before .before .before .before .read-term .ensures) _ _ _ (i .inv .0) _ _ (c .before .before .before .before .before .before .before .before .before .before .before .next .given .1) (keys-told _ _ _ _ _ _ (i .inv .0 .sized) (omega (arith, c .before .before .before .before .before .before .before .before .before .before .before .before .before .before .before .before .before .before .before .before .before .before .before .fits .n)) (λ j. omega (arith, c .before .before .before .before .before .before .before .before .before .before .before .before .before .before .before .before .before .before .before .before .before .before .shared-slice-known .given j))) _ (c .before .before .before .before .before .before .before .before .key-among .ensures) (c .before .before .before .before .before .before .before .if1 .left) _ _ (c .before .before .before .before .before .read-term2 .ensures) _ _ place _ (c .before .number2 .given .1)
 
--- src/lib.rt:521:33
-read-pairs-enum-known-next-2 : (t : ℕ) → read-pairs-lts.Need-enum-known-next-2 (
-  read-term-below t,
-  read-term.Post,
-  key-among-reads.Asked,
-  key-among-reads.Learnt,
-) (read-pairs-at t) read-pairs.Post read-pairs-Inv-loop read-pairs-μ-loop
+read-pairs-enum-known-next-2 : (t : ℕ) → read-pairs-lts.Need-enum-known-next-2 (read-pairs-calls t) (read-pairs-at t) read-pairs.Post read-pairs-Inv-loop read-pairs-μ-loop
 read-pairs-enum-known-next-2 t c = search needs
 
--- src/lib.rt:528:9
-read-pairs-sub-more : (t : ℕ) → read-pairs-lts.Need-sub-more (
-  read-term-below t,
-  read-term.Post,
-  key-among-reads.Asked,
-  key-among-reads.Learnt,
-) (read-pairs-at t) read-pairs.Post read-pairs-Inv-loop read-pairs-μ-loop
+read-pairs-sub-more : (t : ℕ) → read-pairs-lts.Need-sub-more (read-pairs-calls t) (read-pairs-at t) read-pairs.Post read-pairs-Inv-loop read-pairs-μ-loop
 read-pairs-sub-more t c = omega arith
 
--- src/lib.rt:485:5
-read-pairs-loop-less : (t : ℕ) → read-pairs-lts.Need-loop-less (
-  read-term-below t,
-  read-term.Post,
-  key-among-reads.Asked,
-  key-among-reads.Learnt,
-) (read-pairs-at t) read-pairs.Post read-pairs-Inv-loop read-pairs-μ-loop
+read-pairs-loop-less : (t : ℕ) → read-pairs-lts.Need-loop-less (read-pairs-calls t) (read-pairs-at t) read-pairs.Post read-pairs-Inv-loop read-pairs-μ-loop
 read-pairs-loop-less t c = omega arith
 
--- src/lib.rt:485:5
-read-pairs-loop-again : (t : ℕ) → read-pairs-lts.Need-loop-again (
-  read-term-below t,
-  read-term.Post,
-  key-among-reads.Asked,
-  key-among-reads.Learnt,
-) (read-pairs-at t) read-pairs.Post read-pairs-Inv-loop read-pairs-μ-loop
+read-pairs-loop-again : (t : ℕ) → read-pairs-lts.Need-loop-again (read-pairs-calls t) (read-pairs-at t) read-pairs.Post read-pairs-Inv-loop read-pairs-μ-loop
 read-pairs-loop-again t c =
     let i = c .before .before .before .before .before .before .before .before .before .before .before .before .before .before .before .before .before .before .loop in
     let e : i .more ≡ 0 → ⊥ = omega arith in
     (room-after _ _ _ _ _ _ _ _ _ _ _ _ _ _ _ (room-after _ _ _ _ _ _ _ _ _ _ _ _ _ _ _ (i .inv .0) (c .before .before .before .before .before .before .before .before .before .before .before .before .before .before .before .read-term .ensures) (c .before .before .before .before .before .before .before .before .before .before .before .next .given .1) (c .before .before .before .before .before .before .before .before .before .before .before .before .before .before .before .read-term .kept .1 .1 .1 .1 .0)) (c .before .before .before .before .before .read-term2 .ensures) (c .before .next2 .given .1) (c .before .before .before .before .before .read-term2 .kept .1 .1 .1 .1 .0), c .before .before .before .before .before .read-term2 .kept .1 .1 .1 .1 .0 ∙ c .before .before .before .before .before .before .before .before .before .before .before .before .before .before .before .read-term .kept .1 .1 .1 .1 .0 ∙ i .inv .1, entered-more _ _ _ _ _ _ _ _ _ _ _ _ (i .inv .2) e _ _ (c .before .before .before .before .before .before .before .before .before .before .before .before .before .before .before .read-term .ensures) _ _ _ (i .inv .0) _ _ (c .before .before .before .before .before .before .before .before .before .before .before .next .given .1) (keys-told _ _ _ _ _ _ (i .inv .0 .sized) (omega (arith, c .before .before .before .before .before .before .before .before .before .before .before .before .before .before .before .before .before .before .before .before .before .before .before .fits .n)) (λ j. omega (arith, c .before .before .before .before .before .before .before .before .before .before .before .before .before .before .before .before .before .before .before .before .before .before .shared-slice-known .given j))) _ (c .before .before .before .before .before .before .before .before .key-among .ensures) (c .before .before .before .before .before .before .before .if1 .left) _ _ (c .before .before .before .before .before .read-term2 .ensures) _ _ (c .before .next2 .given .1))
 
--- src/lib.rt:533:16
-read-pairs-mul-t34 : (t : ℕ) → read-pairs-lts.Need-mul-t34 (
-  read-term-below t,
-  read-term.Post,
-  key-among-reads.Asked,
-  key-among-reads.Learnt,
-) (read-pairs-at t) read-pairs.Post read-pairs-Inv-loop read-pairs-μ-loop
+read-pairs-mul-t34 : (t : ℕ) → read-pairs-lts.Need-mul-t34 (read-pairs-calls t) (read-pairs-at t) read-pairs.Post read-pairs-Inv-loop read-pairs-μ-loop
 read-pairs-mul-t34 t c =
     let i = c .before .loop in
     let e : i .more ≡ 0 = omega arith in
     let a = entries-many _ _ _ _ _ _ _ _ _ _ _ _ (i .inv .2) (i .inv .0 .low) e in omega (arith, i .inv .0 .few)
 
--- src/lib.rt:467:1
-read-pairs-same-length-4 : (t : ℕ) → read-pairs-lts.Need-same-length-4 (
-  read-term-below t,
-  read-term.Post,
-  key-among-reads.Asked,
-  key-among-reads.Learnt,
-) (read-pairs-at t) read-pairs.Post read-pairs-Inv-loop read-pairs-μ-loop
+read-pairs-same-length-4 : (t : ℕ) → read-pairs-lts.Need-same-length-4 (read-pairs-calls t) (read-pairs-at t) read-pairs.Post read-pairs-Inv-loop read-pairs-μ-loop
 read-pairs-same-length-4 t c = c .before .loop .inv .1
 
--- src/lib.rt:467:1
-read-pairs-returns-4 : (t : ℕ) → read-pairs-lts.Need-returns-4 (
-  read-term-below t,
-  read-term.Post,
-  key-among-reads.Asked,
-  key-among-reads.Learnt,
-) (read-pairs-at t) read-pairs.Post read-pairs-Inv-loop read-pairs-μ-loop
+read-pairs-returns-4 : (t : ℕ) → read-pairs-lts.Need-returns-4 (read-pairs-calls t) (read-pairs-at t) read-pairs.Post read-pairs-Inv-loop read-pairs-μ-loop
 read-pairs-returns-4 t c =
     let i = c .before .loop in
     let e : i .more ≡ 0 = omega arith in
     λ place. entries-end _ _ _ _ _ _ _ _ _ _ _ _ (i .inv .2) place e (i .inv .0 .low) (i .inv .0 .near)
 
--- src/lib.rt:168:11
-read-parts-read-wanted-requires : (t : ℕ) → read-parts-lts.Need-read-wanted-requires (
-  read-wanted-below t,
-  read-wanted.Post,
-  read-run-below t,
-  read-run.Post,
-  read-later-reads.Asked,
-  read-later-reads.Learnt,
-) (read-parts-at t) read-parts.Post
+read-parts-read-wanted-requires : (t : ℕ) → read-parts-lts.Need-read-wanted-requires (read-parts-calls t) (read-parts-at t) read-parts.Post
 read-parts-read-wanted-requires t c κs = (omega (arith, c .before .before .before .before .before .pre .0), c .before .before .before .before .before .pre .1)
 
--- src/lib.rt:169:25
-read-parts-enum-known-number : (t : ℕ) → read-parts-lts.Need-enum-known-number (
-  read-wanted-below t,
-  read-wanted.Post,
-  read-run-below t,
-  read-run.Post,
-  read-later-reads.Asked,
-  read-later-reads.Learnt,
-) (read-parts-at t) read-parts.Post
+read-parts-enum-known-number : (t : ℕ) → read-parts-lts.Need-enum-known-number (read-parts-calls t) (read-parts-at t) read-parts.Post
 read-parts-enum-known-number t c = search needs
 
--- src/lib.rt:170:21
-read-parts-enum-known-next : (t : ℕ) → read-parts-lts.Need-enum-known-next (
-  read-wanted-below t,
-  read-wanted.Post,
-  read-run-below t,
-  read-run.Post,
-  read-later-reads.Asked,
-  read-later-reads.Learnt,
-) (read-parts-at t) read-parts.Post
+read-parts-enum-known-next : (t : ℕ) → read-parts-lts.Need-enum-known-next (read-parts-calls t) (read-parts-at t) read-parts.Post
 read-parts-enum-known-next t c = search needs
 
--- src/lib.rt:170:43
-read-parts-read-run-requires : (t : ℕ) → read-parts-lts.Need-read-run-requires (
-  read-wanted-below t,
-  read-wanted.Post,
-  read-run-below t,
-  read-run.Post,
-  read-later-reads.Asked,
-  read-later-reads.Learnt,
-) (read-parts-at t) read-parts.Post
+read-parts-read-run-requires : (t : ℕ) → read-parts-lts.Need-read-run-requires (read-parts-calls t) (read-parts-at t) read-parts.Post
 read-parts-read-run-requires t c κs = (omega (arith, c .before .before .before .before .before .before .before .before .before .before .before .before .pre .0), room-after _ _ _ _ _ _ _ _ _ _ _ _ _ _ _ (c .before .before .before .before .before .before .before .before .before .before .before .before .pre .1) (c .before .before .before .before .before .before .read-wanted .ensures) (c .before .before .next .given .1) (c .before .before .before .before .before .before .read-wanted .kept .1 .1 .1 .1 .0))
 
--- src/lib.rt:184:29
-read-parts-enum-known-number-2 : (t : ℕ) → read-parts-lts.Need-enum-known-number-2 (
-  read-wanted-below t,
-  read-wanted.Post,
-  read-run-below t,
-  read-run.Post,
-  read-later-reads.Asked,
-  read-later-reads.Learnt,
-) (read-parts-at t) read-parts.Post
+read-parts-enum-known-number-2 : (t : ℕ) → read-parts-lts.Need-enum-known-number-2 (read-parts-calls t) (read-parts-at t) read-parts.Post
 read-parts-enum-known-number-2 t c = search needs
 
--- src/lib.rt:185:25
-read-parts-enum-known-next-2 : (t : ℕ) → read-parts-lts.Need-enum-known-next-2 (
-  read-wanted-below t,
-  read-wanted.Post,
-  read-run-below t,
-  read-run.Post,
-  read-later-reads.Asked,
-  read-later-reads.Learnt,
-) (read-parts-at t) read-parts.Post
+read-parts-enum-known-next-2 : (t : ℕ) → read-parts-lts.Need-enum-known-next-2 (read-parts-calls t) (read-parts-at t) read-parts.Post
 read-parts-enum-known-next-2 t c = search needs
 
--- src/lib.rt:185:47
-read-parts-read-later-requires : (t : ℕ) → read-parts-lts.Need-read-later-requires (
-  read-wanted-below t,
-  read-wanted.Post,
-  read-run-below t,
-  read-run.Post,
-  read-later-reads.Asked,
-  read-later-reads.Learnt,
-) (read-parts-at t) read-parts.Post
+read-parts-read-later-requires : (t : ℕ) → read-parts-lts.Need-read-later-requires (read-parts-calls t) (read-parts-at t) read-parts.Post
 read-parts-read-later-requires t c κs = run-many _ _ _ _ _ _ _ _ _ _ _ (c .before .before .before .before .before .read-run .ensures) (c .before .next2 .given .1) .1
 
--- src/lib.rt:186:40
-read-parts-enum-known-number-3 : (t : ℕ) → read-parts-lts.Need-enum-known-number-3 (
-  read-wanted-below t,
-  read-wanted.Post,
-  read-run-below t,
-  read-run.Post,
-  read-later-reads.Asked,
-  read-later-reads.Learnt,
-) (read-parts-at t) read-parts.Post
+read-parts-enum-known-number-3 : (t : ℕ) → read-parts-lts.Need-enum-known-number-3 (read-parts-calls t) (read-parts-at t) read-parts.Post
 read-parts-enum-known-number-3 t c = search needs
 
--- src/lib.rt:187:36
-read-parts-enum-known-next-3 : (t : ℕ) → read-parts-lts.Need-enum-known-next-3 (
-  read-wanted-below t,
-  read-wanted.Post,
-  read-run-below t,
-  read-run.Post,
-  read-later-reads.Asked,
-  read-later-reads.Learnt,
-) (read-parts-at t) read-parts.Post
+read-parts-enum-known-next-3 : (t : ℕ) → read-parts-lts.Need-enum-known-next-3 (read-parts-calls t) (read-parts-at t) read-parts.Post
 read-parts-enum-known-next-3 t c = search needs
 
--- src/lib.rt:190:28
-read-parts-add-t37 : (t : ℕ) → read-parts-lts.Need-add-t37 (
-  read-wanted-below t,
-  read-wanted.Post,
-  read-run-below t,
-  read-run.Post,
-  read-later-reads.Asked,
-  read-later-reads.Learnt,
-) (read-parts-at t) read-parts.Post
+read-parts-add-t37 : (t : ℕ) → read-parts-lts.Need-add-t37 (read-parts-calls t) (read-parts-at t) read-parts.Post
 read-parts-add-t37 t c = let a = run-many _ _ _ _ _ _ _ _ _ _ _ (c .before .before .before .before .before .before .before .before .before .before .before .before .before .before .before .before .read-wanted .ensures) (c .before .before .before .before .before .before .before .before .before .before .before .before .next .given .1) in let b = run-many _ _ _ _ _ _ _ _ _ _ _ (c .before .before .before .before .before .before .before .before .before .read-run .ensures) (c .before .before .before .before .before .next2 .given .1) in omega arith
 
--- src/lib.rt:149:1
-read-parts-same-length : (t : ℕ) → read-parts-lts.Need-same-length (
-  read-wanted-below t,
-  read-wanted.Post,
-  read-run-below t,
-  read-run.Post,
-  read-later-reads.Asked,
-  read-later-reads.Learnt,
-) (read-parts-at t) read-parts.Post
+read-parts-same-length : (t : ℕ) → read-parts-lts.Need-same-length (read-parts-calls t) (read-parts-at t) read-parts.Post
 read-parts-same-length t c = c .before .before .before .before .before .read-wanted .kept .1 .1 .1 .1 .0
 
--- src/lib.rt:149:1
-read-parts-returns : (t : ℕ) → read-parts-lts.Need-returns (
-  read-wanted-below t,
-  read-wanted.Post,
-  read-run-below t,
-  read-run.Post,
-  read-later-reads.Asked,
-  read-later-reads.Learnt,
-) (read-parts-at t) read-parts.Post
+read-parts-returns : (t : ℕ) → read-parts-lts.Need-returns (read-parts-calls t) (read-parts-at t) read-parts.Post
 read-parts-returns t c = λ l kind later. parts-first _ _ _ _ _ _ _ _ _ _ l _ _ (c .before .before .before .before .before .read-wanted .ensures) _ _ _ (c .before .number .given .1)
 
--- src/lib.rt:149:1
-read-parts-same-length-2 : (t : ℕ) → read-parts-lts.Need-same-length-2 (
-  read-wanted-below t,
-  read-wanted.Post,
-  read-run-below t,
-  read-run.Post,
-  read-later-reads.Asked,
-  read-later-reads.Learnt,
-) (read-parts-at t) read-parts.Post
+read-parts-same-length-2 : (t : ℕ) → read-parts-lts.Need-same-length-2 (read-parts-calls t) (read-parts-at t) read-parts.Post
 read-parts-same-length-2 t c = c .before .before .before .before .before .read-run .kept .1 .1 .1 .1 .0 ∙ c .before .before .before .before .before .before .before .before .before .before .before .before .read-wanted .kept .1 .1 .1 .1 .0
 
--- src/lib.rt:149:1
-read-parts-returns-2 : (t : ℕ) → read-parts-lts.Need-returns-2 (
-  read-wanted-below t,
-  read-wanted.Post,
-  read-run-below t,
-  read-run.Post,
-  read-later-reads.Asked,
-  read-later-reads.Learnt,
-) (read-parts-at t) read-parts.Post
+read-parts-returns-2 : (t : ℕ) → read-parts-lts.Need-returns-2 (read-parts-calls t) (read-parts-at t) read-parts.Post
 read-parts-returns-2 t c = λ l kind later. parts-second _ _ _ _ _ _ _ _ _ _ l _ _ (c .before .before .before .before .before .before .before .before .before .before .before .before .read-wanted .ensures) _ _ (c .before .before .before .before .before .before .before .before .next .given .1) _ _ (c .before .before .before .before .before .read-run .ensures) _ _ _ (c .before .number2 .given .1)
 
--- src/lib.rt:149:1
-read-parts-same-length-3 : (t : ℕ) → read-parts-lts.Need-same-length-3 (
-  read-wanted-below t,
-  read-wanted.Post,
-  read-run-below t,
-  read-run.Post,
-  read-later-reads.Asked,
-  read-later-reads.Learnt,
-) (read-parts-at t) read-parts.Post
+read-parts-same-length-3 : (t : ℕ) → read-parts-lts.Need-same-length-3 (read-parts-calls t) (read-parts-at t) read-parts.Post
 read-parts-same-length-3 t c = c .before .before .before .before .before .before .before .before .before .read-run .kept .1 .1 .1 .1 .0 ∙ c .before .before .before .before .before .before .before .before .before .before .before .before .before .before .before .before .read-wanted .kept .1 .1 .1 .1 .0
 
--- src/lib.rt:149:1
-read-parts-returns-3 : (t : ℕ) → read-parts-lts.Need-returns-3 (
-  read-wanted-below t,
-  read-wanted.Post,
-  read-run-below t,
-  read-run.Post,
-  read-later-reads.Asked,
-  read-later-reads.Learnt,
-) (read-parts-at t) read-parts.Post
+read-parts-returns-3 : (t : ℕ) → read-parts-lts.Need-returns-3 (read-parts-calls t) (read-parts-at t) read-parts.Post
 read-parts-returns-3 t c = λ l kind later. parts-later-refused _ _ _ _ _ _ _ _ _ _ l _ _ (c .before .before .before .before .before .before .before .before .before .before .before .before .before .before .before .before .read-wanted .ensures) _ _ (c .before .before .before .before .before .before .before .before .before .before .before .before .next .given .1) _ _ (c .before .before .before .before .before .before .before .before .before .read-run .ensures) _ _ (c .before .before .before .before .before .next2 .given .1) _ (c .before .before .before .read-later .ensures l later _) _ _ _ (c .before .number3 .given .1)
 
--- src/lib.rt:149:1
-read-parts-same-length-4 : (t : ℕ) → read-parts-lts.Need-same-length-4 (
-  read-wanted-below t,
-  read-wanted.Post,
-  read-run-below t,
-  read-run.Post,
-  read-later-reads.Asked,
-  read-later-reads.Learnt,
-) (read-parts-at t) read-parts.Post
+read-parts-same-length-4 : (t : ℕ) → read-parts-lts.Need-same-length-4 (read-parts-calls t) (read-parts-at t) read-parts.Post
 read-parts-same-length-4 t c = c .before .before .before .before .before .before .before .before .before .read-run .kept .1 .1 .1 .1 .0 ∙ c .before .before .before .before .before .before .before .before .before .before .before .before .before .before .before .before .read-wanted .kept .1 .1 .1 .1 .0
 
--- src/lib.rt:149:1
-read-parts-returns-4 : (t : ℕ) → read-parts-lts.Need-returns-4 (
-  read-wanted-below t,
-  read-wanted.Post,
-  read-run-below t,
-  read-run.Post,
-  read-later-reads.Asked,
-  read-later-reads.Learnt,
-) (read-parts-at t) read-parts.Post
+read-parts-returns-4 : (t : ℕ) → read-parts-lts.Need-returns-4 (read-parts-calls t) (read-parts-at t) read-parts.Post
 read-parts-returns-4 t c = λ l kind later. parts-got _ _ _ _ _ _ _ _ _ _ l _ _ (c .before .before .before .before .before .before .before .before .before .before .before .before .before .before .before .before .read-wanted .ensures) _ _ (c .before .before .before .before .before .before .before .before .before .before .before .before .next .given .1) _ _ (c .before .before .before .before .before .before .before .before .before .read-run .ensures) _ _ (c .before .before .before .before .before .next2 .given .1) _ (c .before .before .before .read-later .ensures l later _) _ _ kind (c .before .next3 .given .1)
 
 abbrev read-run-Inv-loop : read-run-lts.InvT-loop
@@ -1132,49 +509,23 @@ abbrev read-run-μ-loop : read-run-lts.MeasureT-loop
 read-run-μ-loop msg n places lengths table₀ at row whole deep cap wanted count at-now₀ row-now₀ more₀ table at-now row-now more =
     more
 
--- src/lib.rt:269:5
-read-run-loop-holds :
-    (t : ℕ) →
-    read-run-lts.Need-loop-holds
-    (read-term-below t, read-term.Post)
-    (read-run-at t)
-    read-run.Post
+read-run-loop-holds : (t : ℕ) → read-run-lts.Need-loop-holds (read-run-calls t) (read-run-at t) read-run.Post
     read-run-Inv-loop
     read-run-μ-loop
 read-run-loop-holds t c = (c .before .before .before .before .pre .1, refl, λ s U d. d)
 
--- src/lib.rt:270:15
-read-run-read-term-requires : (t : ℕ) → read-run-lts.Need-read-term-requires (
-  read-term-below t,
-  read-term.Post,
-) (read-run-at t) read-run.Post read-run-Inv-loop read-run-μ-loop
+read-run-read-term-requires : (t : ℕ) → read-run-lts.Need-read-term-requires (read-run-calls t) (read-run-at t) read-run.Post read-run-Inv-loop read-run-μ-loop
 read-run-read-term-requires t c κs = (omega (arith, c .before .before .before .before .before .before .before .pre .0), c .before .before .loop .inv .0)
 
--- src/lib.rt:273:29
-read-run-enum-known-number : (t : ℕ) → read-run-lts.Need-enum-known-number (
-  read-term-below t,
-  read-term.Post,
-) (read-run-at t) read-run.Post read-run-Inv-loop read-run-μ-loop
+read-run-enum-known-number : (t : ℕ) → read-run-lts.Need-enum-known-number (read-run-calls t) (read-run-at t) read-run.Post read-run-Inv-loop read-run-μ-loop
 read-run-enum-known-number t c = search needs
 
--- src/lib.rt:273:48
-read-run-same-length :
-    (t : ℕ) →
-    read-run-lts.Need-same-length
-    (read-term-below t, read-term.Post)
-    (read-run-at t)
-    read-run.Post
+read-run-same-length : (t : ℕ) → read-run-lts.Need-same-length (read-run-calls t) (read-run-at t) read-run.Post
     read-run-Inv-loop
     read-run-μ-loop
 read-run-same-length t c = c .before .before .before .before .before .read-term .kept .1 .1 .1 .1 .0 ∙ c .before .before .before .before .before .before .before .before .loop .inv .1
 
--- src/lib.rt:273:48
-read-run-returns :
-    (t : ℕ) →
-    read-run-lts.Need-returns
-    (read-term-below t, read-term.Post)
-    (read-run-at t)
-    read-run.Post
+read-run-returns : (t : ℕ) → read-run-lts.Need-returns (read-run-calls t) (read-run-at t) read-run.Post
     read-run-Inv-loop
     read-run-μ-loop
 read-run-returns t c =
@@ -1182,42 +533,20 @@ read-run-returns t c =
     let e : i .more ≡ 0 → ⊥ = omega arith in
     i .inv .2 _ _ (run-refused _ _ _ _ _ _ _ _ _ e _ _ _ _ _ (c .before .number .given .1) (c .before .before .before .before .before .read-term .ensures))
 
--- src/lib.rt:274:25
-read-run-enum-known-next : (t : ℕ) → read-run-lts.Need-enum-known-next (
-  read-term-below t,
-  read-term.Post,
-) (read-run-at t) read-run.Post read-run-Inv-loop read-run-μ-loop
+read-run-enum-known-next : (t : ℕ) → read-run-lts.Need-enum-known-next (read-run-calls t) (read-run-at t) read-run.Post read-run-Inv-loop read-run-μ-loop
 read-run-enum-known-next t c = search needs
 
--- src/lib.rt:279:9
-read-run-sub-more :
-    (t : ℕ) →
-    read-run-lts.Need-sub-more
-    (read-term-below t, read-term.Post)
-    (read-run-at t)
-    read-run.Post
+read-run-sub-more : (t : ℕ) → read-run-lts.Need-sub-more (read-run-calls t) (read-run-at t) read-run.Post
     read-run-Inv-loop
     read-run-μ-loop
 read-run-sub-more t c = omega arith
 
--- src/lib.rt:269:5
-read-run-loop-less :
-    (t : ℕ) →
-    read-run-lts.Need-loop-less
-    (read-term-below t, read-term.Post)
-    (read-run-at t)
-    read-run.Post
+read-run-loop-less : (t : ℕ) → read-run-lts.Need-loop-less (read-run-calls t) (read-run-at t) read-run.Post
     read-run-Inv-loop
     read-run-μ-loop
 read-run-loop-less t c = omega arith
 
--- src/lib.rt:269:5
-read-run-loop-again :
-    (t : ℕ) →
-    read-run-lts.Need-loop-again
-    (read-term-below t, read-term.Post)
-    (read-run-at t)
-    read-run.Post
+read-run-loop-again : (t : ℕ) → read-run-lts.Need-loop-again (read-run-calls t) (read-run-at t) read-run.Post
     read-run-Inv-loop
     read-run-μ-loop
 read-run-loop-again t c =
@@ -1225,20 +554,10 @@ read-run-loop-again t c =
     let e : i .more ≡ 0 → ⊥ = omega arith in
     (room-after _ _ _ _ _ _ _ _ _ _ _ _ _ _ _ (i .inv .0) (c .before .before .before .before .before .read-term .ensures) (c .before .next .given .1) (c .before .before .before .before .before .read-term .kept .1 .1 .1 .1 .0), c .before .before .before .before .before .read-term .kept .1 .1 .1 .1 .0 ∙ i .inv .1, λ s U d. i .inv .2 s U (run-more _ _ _ _ _ _ _ _ _ e _ _ _ _ s U (c .before .next .given .1) (c .before .before .before .before .before .read-term .ensures) d))
 
--- src/lib.rt:249:1
-read-run-same-length-2 : (t : ℕ) → read-run-lts.Need-same-length-2 (
-  read-term-below t,
-  read-term.Post,
-) (read-run-at t) read-run.Post read-run-Inv-loop read-run-μ-loop
+read-run-same-length-2 : (t : ℕ) → read-run-lts.Need-same-length-2 (read-run-calls t) (read-run-at t) read-run.Post read-run-Inv-loop read-run-μ-loop
 read-run-same-length-2 t c = c .before .loop .inv .1
 
--- src/lib.rt:249:1
-read-run-returns-2 :
-    (t : ℕ) →
-    read-run-lts.Need-returns-2
-    (read-term-below t, read-term.Post)
-    (read-run-at t)
-    read-run.Post
+read-run-returns-2 : (t : ℕ) → read-run-lts.Need-returns-2 (read-run-calls t) (read-run-at t) read-run.Post
     read-run-Inv-loop
     read-run-μ-loop
 read-run-returns-2 t c =
@@ -1258,339 +577,107 @@ abbrev read-tail-μ-loop : read-tail-lts.MeasureT-loop
 read-tail-μ-loop msg n places lengths table₀ at row whole deep cap before at-now₀ row-now₀ sum₀ table at-now row-now sum =
     length msg - at-now
 
--- src/lib.rt:394:5
-read-tail-loop-holds : (t : ℕ) → read-tail-lts.Need-loop-holds (
-  read-opening-reads.Asked,
-  read-opening-reads.Learnt,
-  read-run-below t,
-  read-run.Post,
-  read-last-below t,
-  read-last.Post,
-) (read-tail-at t) read-tail.Post read-tail-Inv-loop read-tail-μ-loop
+read-tail-loop-holds : (t : ℕ) → read-tail-lts.Need-loop-holds (read-tail-calls t) (read-tail-at t) read-tail.Post read-tail-Inv-loop read-tail-μ-loop
 read-tail-loop-holds t c = (c .before .before .before .before .pre .1 .0, refl, c .before .before .before .before .pre .1 .1, tailed-none _ _ _ _ _ _ _ _ _)
 
--- src/lib.rt:395:13
-read-tail-read-opening-requires : (t : ℕ) → read-tail-lts.Need-read-opening-requires (
-  read-opening-reads.Asked,
-  read-opening-reads.Learnt,
-  read-run-below t,
-  read-run.Post,
-  read-last-below t,
-  read-last.Post,
-) (read-tail-at t) read-tail.Post read-tail-Inv-loop read-tail-μ-loop
+read-tail-read-opening-requires : (t : ℕ) → read-tail-lts.Need-read-opening-requires (read-tail-calls t) (read-tail-at t) read-tail.Post read-tail-Inv-loop read-tail-μ-loop
 read-tail-read-opening-requires t c κs = (c .loop .inv .0 .near, c .loop .inv .0 .short, c .loop .inv .0 .sized)
 
--- src/lib.rt:399:30
-read-tail-enum-known-head : (t : ℕ) → read-tail-lts.Need-enum-known-head (
-  read-opening-reads.Asked,
-  read-opening-reads.Learnt,
-  read-run-below t,
-  read-run.Post,
-  read-last-below t,
-  read-last.Post,
-) (read-tail-at t) read-tail.Post read-tail-Inv-loop read-tail-μ-loop
+read-tail-enum-known-head : (t : ℕ) → read-tail-lts.Need-enum-known-head (read-tail-calls t) (read-tail-at t) read-tail.Post read-tail-Inv-loop read-tail-μ-loop
 read-tail-enum-known-head t c = search needs
 
--- src/lib.rt:399:53
-read-tail-read-run-requires : (t : ℕ) → read-tail-lts.Need-read-run-requires (
-  read-opening-reads.Asked,
-  read-opening-reads.Learnt,
-  read-run-below t,
-  read-run.Post,
-  read-last-below t,
-  read-last.Post,
-) (read-tail-at t) read-tail.Post read-tail-Inv-loop read-tail-μ-loop
+read-tail-read-run-requires : (t : ℕ) → read-tail-lts.Need-read-run-requires (read-tail-calls t) (read-tail-at t) read-tail.Post read-tail-Inv-loop read-tail-μ-loop
 read-tail-read-run-requires t c κs = (omega (arith, c .before .before .before .before .before .before .before .before .before .before .pre .0), room-at _ _ _ _ _ _ _ _ (c .before .before .before .before .before .loop .inv .0) (opens-near _ _ _ _ (opens _ _ _ _ _ (opened _ _ _ (c .before .before .before .before .before .loop .row-now) _ _ (c .before .before .before .before .read-opening .ensures) (λ k p e. miss (3 ∷ []) 0 tt (rw e at (c .before .before .before .match .keys1))) (c .before .before .before .before .before .loop .inv .0 .near))) (c .before .before .head .given .1)))
 
--- src/lib.rt:413:33
-read-tail-enum-known-number : (t : ℕ) → read-tail-lts.Need-enum-known-number (
-  read-opening-reads.Asked,
-  read-opening-reads.Learnt,
-  read-run-below t,
-  read-run.Post,
-  read-last-below t,
-  read-last.Post,
-) (read-tail-at t) read-tail.Post read-tail-Inv-loop read-tail-μ-loop
+read-tail-enum-known-number : (t : ℕ) → read-tail-lts.Need-enum-known-number (read-tail-calls t) (read-tail-at t) read-tail.Post read-tail-Inv-loop read-tail-μ-loop
 read-tail-enum-known-number t c = search needs
 
--- src/lib.rt:413:52
-read-tail-same-length : (t : ℕ) → read-tail-lts.Need-same-length (
-  read-opening-reads.Asked,
-  read-opening-reads.Learnt,
-  read-run-below t,
-  read-run.Post,
-  read-last-below t,
-  read-last.Post,
-) (read-tail-at t) read-tail.Post read-tail-Inv-loop read-tail-μ-loop
+read-tail-same-length : (t : ℕ) → read-tail-lts.Need-same-length (read-tail-calls t) (read-tail-at t) read-tail.Post read-tail-Inv-loop read-tail-μ-loop
 read-tail-same-length t c = c .before .before .before .before .before .read-run .kept .1 .1 .1 .1 .0 ∙ c .before .before .before .before .before .before .before .before .before .before .before .loop .inv .1
 
--- src/lib.rt:413:52
-read-tail-returns : (t : ℕ) → read-tail-lts.Need-returns (
-  read-opening-reads.Asked,
-  read-opening-reads.Learnt,
-  read-run-below t,
-  read-run.Post,
-  read-last-below t,
-  read-last.Post,
-) (read-tail-at t) read-tail.Post read-tail-Inv-loop read-tail-μ-loop
+read-tail-returns : (t : ℕ) → read-tail-lts.Need-returns (read-tail-calls t) (read-tail-at t) read-tail.Post read-tail-Inv-loop read-tail-μ-loop
 read-tail-returns t c = tailed-run-refused _ _ _ _ _ _ _ _ _ _ (c .before .before .before .before .before .before .before .before .before .before .before .loop .inv .3) (opened _ _ _ (c .before .before .before .before .before .before .before .before .before .before .before .loop .row-now) _ _ (c .before .before .before .before .before .before .before .before .before .before .read-opening .ensures) (λ k p e. miss (3 ∷ []) 0 tt (rw e at (c .before .before .before .before .before .before .before .before .before .match .keys1))) (c .before .before .before .before .before .before .before .before .before .before .before .loop .inv .0 .near)) _ _ (c .before .before .before .before .before .before .before .before .head .given .1) _ _ (c .before .before .before .before .before .read-run .ensures) _ _ _ (c .before .number .given .1)
 
--- src/lib.rt:414:29
-read-tail-enum-known-next : (t : ℕ) → read-tail-lts.Need-enum-known-next (
-  read-opening-reads.Asked,
-  read-opening-reads.Learnt,
-  read-run-below t,
-  read-run.Post,
-  read-last-below t,
-  read-last.Post,
-) (read-tail-at t) read-tail.Post read-tail-Inv-loop read-tail-μ-loop
+read-tail-enum-known-next : (t : ℕ) → read-tail-lts.Need-enum-known-next (read-tail-calls t) (read-tail-at t) read-tail.Post read-tail-Inv-loop read-tail-μ-loop
 read-tail-enum-known-next t c = search needs
 
--- src/lib.rt:417:21
-read-tail-add-sum : (t : ℕ) → read-tail-lts.Need-add-sum (
-  read-opening-reads.Asked,
-  read-opening-reads.Learnt,
-  read-run-below t,
-  read-run.Post,
-  read-last-below t,
-  read-last.Post,
-) (read-tail-at t) read-tail.Post read-tail-Inv-loop read-tail-μ-loop
+read-tail-add-sum : (t : ℕ) → read-tail-lts.Need-add-sum (read-tail-calls t) (read-tail-at t) read-tail.Post read-tail-Inv-loop read-tail-μ-loop
 read-tail-add-sum t c = let a = run-many _ _ _ _ _ _ _ _ _ _ _ (c .before .before .before .before .before .read-run .ensures) (c .before .next .given .1) in let b = room-after _ _ _ _ _ _ _ _ _ _ _ _ _ _ _ (room-at _ _ _ _ _ _ _ _ (c .before .before .before .before .before .before .before .before .before .before .before .loop .inv .0) (opens-near _ _ _ _ (opens _ _ _ _ _ (opened _ _ _ (c .before .before .before .before .before .before .before .before .before .before .before .loop .row-now) _ _ (c .before .before .before .before .before .before .before .before .before .before .read-opening .ensures) (λ k p e. miss (3 ∷ []) 0 tt (rw e at (c .before .before .before .before .before .before .before .before .before .match .keys1))) (c .before .before .before .before .before .before .before .before .before .before .before .loop .inv .0 .near))) (c .before .before .before .before .before .before .before .before .head .given .1))) (c .before .before .before .before .before .read-run .ensures) (c .before .next .given .1) (c .before .before .before .before .before .read-run .kept .1 .1 .1 .1 .0) in omega arith
 
--- src/lib.rt:394:5
-read-tail-loop-less : (t : ℕ) → read-tail-lts.Need-loop-less (
-  read-opening-reads.Asked,
-  read-opening-reads.Learnt,
-  read-run-below t,
-  read-run.Post,
-  read-last-below t,
-  read-last.Post,
-) (read-tail-at t) read-tail.Post read-tail-Inv-loop read-tail-μ-loop
+read-tail-loop-less : (t : ℕ) → read-tail-lts.Need-loop-less (read-tail-calls t) (read-tail-at t) read-tail.Post read-tail-Inv-loop read-tail-μ-loop
 read-tail-loop-less t c = let a = tailed-further _ _ _ _ _ _ _ _ _ _ (c .before .before .before .before .before .before .before .before .before .before .before .loop .inv .3) (opened _ _ _ (c .before .before .before .before .before .before .before .before .before .before .before .loop .row-now) _ _ (c .before .before .before .before .before .before .before .before .before .before .read-opening .ensures) (λ k p e. miss (3 ∷ []) 0 tt (rw e at (c .before .before .before .before .before .before .before .before .before .match .keys1))) (c .before .before .before .before .before .before .before .before .before .before .before .loop .inv .0 .near)) _ _ (c .before .before .before .before .before .before .before .before .head .given .1) _ _ (c .before .before .before .before .before .read-run .ensures) _ _ (c .before .next .given .1) in omega (arith, run-many _ _ _ _ _ _ _ _ _ _ _ (c .before .before .before .before .before .read-run .ensures) (c .before .next .given .1) .1)
 
--- src/lib.rt:394:5
-read-tail-loop-again : (t : ℕ) → read-tail-lts.Need-loop-again (
-  read-opening-reads.Asked,
-  read-opening-reads.Learnt,
-  read-run-below t,
-  read-run.Post,
-  read-last-below t,
-  read-last.Post,
-) (read-tail-at t) read-tail.Post read-tail-Inv-loop read-tail-μ-loop
+read-tail-loop-again : (t : ℕ) → read-tail-lts.Need-loop-again (read-tail-calls t) (read-tail-at t) read-tail.Post read-tail-Inv-loop read-tail-μ-loop
 read-tail-loop-again t c = (room-after _ _ _ _ _ _ _ _ _ _ _ _ _ _ _ (room-at _ _ _ _ _ _ _ _ (c .before .before .before .before .before .before .before .before .before .before .before .loop .inv .0) (opens-near _ _ _ _ (opens _ _ _ _ _ (opened _ _ _ (c .before .before .before .before .before .before .before .before .before .before .before .loop .row-now) _ _ (c .before .before .before .before .before .before .before .before .before .before .read-opening .ensures) (λ k p e. miss (3 ∷ []) 0 tt (rw e at (c .before .before .before .before .before .before .before .before .before .match .keys1))) (c .before .before .before .before .before .before .before .before .before .before .before .loop .inv .0 .near))) (c .before .before .before .before .before .before .before .before .head .given .1))) (c .before .before .before .before .before .read-run .ensures) (c .before .next .given .1) (c .before .before .before .before .before .read-run .kept .1 .1 .1 .1 .0), c .before .before .before .before .before .read-run .kept .1 .1 .1 .1 .0 ∙ c .before .before .before .before .before .before .before .before .before .before .before .loop .inv .1, omega (arith, run-many _ _ _ _ _ _ _ _ _ _ _ (c .before .before .before .before .before .read-run .ensures) (c .before .next .given .1) .0), tailed-more _ _ _ _ _ _ _ _ _ _ (c .before .before .before .before .before .before .before .before .before .before .before .loop .inv .3) (opened _ _ _ (c .before .before .before .before .before .before .before .before .before .before .before .loop .row-now) _ _ (c .before .before .before .before .before .before .before .before .before .before .read-opening .ensures) (λ k p e. miss (3 ∷ []) 0 tt (rw e at (c .before .before .before .before .before .before .before .before .before .match .keys1))) (c .before .before .before .before .before .before .before .before .before .before .before .loop .inv .0 .near)) _ _ (c .before .before .before .before .before .before .before .before .head .given .1) _ _ (c .before .before .before .before .before .read-run .ensures) _ _ (c .before .next .given .1))
 
--- src/lib.rt:420:29
-read-tail-enum-known-head-2 : (t : ℕ) → read-tail-lts.Need-enum-known-head-2 (
-  read-opening-reads.Asked,
-  read-opening-reads.Learnt,
-  read-run-below t,
-  read-run.Post,
-  read-last-below t,
-  read-last.Post,
-) (read-tail-at t) read-tail.Post read-tail-Inv-loop read-tail-μ-loop
+read-tail-enum-known-head-2 : (t : ℕ) → read-tail-lts.Need-enum-known-head-2 (read-tail-calls t) (read-tail-at t) read-tail.Post read-tail-Inv-loop read-tail-μ-loop
 read-tail-enum-known-head-2 t c = search needs
 
--- src/lib.rt:420:48
-read-tail-same-length-2 : (t : ℕ) → read-tail-lts.Need-same-length-2 (
-  read-opening-reads.Asked,
-  read-opening-reads.Learnt,
-  read-run-below t,
-  read-run.Post,
-  read-last-below t,
-  read-last.Post,
-) (read-tail-at t) read-tail.Post read-tail-Inv-loop read-tail-μ-loop
+read-tail-same-length-2 : (t : ℕ) → read-tail-lts.Need-same-length-2 (read-tail-calls t) (read-tail-at t) read-tail.Post read-tail-Inv-loop read-tail-μ-loop
 read-tail-same-length-2 t c = c .before .before .before .before .loop .inv .1
 
--- src/lib.rt:420:48
-read-tail-returns-2 : (t : ℕ) → read-tail-lts.Need-returns-2 (
-  read-opening-reads.Asked,
-  read-opening-reads.Learnt,
-  read-run-below t,
-  read-run.Post,
-  read-last-below t,
-  read-last.Post,
-) (read-tail-at t) read-tail.Post read-tail-Inv-loop read-tail-μ-loop
+read-tail-returns-2 : (t : ℕ) → read-tail-lts.Need-returns-2 (read-tail-calls t) (read-tail-at t) read-tail.Post read-tail-Inv-loop read-tail-μ-loop
 read-tail-returns-2 t c = tailed-refused _ _ _ _ _ _ _ _ _ _ (c .before .before .before .before .loop .inv .3) _ _ _ _ (c .before .before .before .read-opening .ensures) (c .before .head2 .given .1)
 
--- src/lib.rt:422:17
-read-tail-read-last-requires : (t : ℕ) → read-tail-lts.Need-read-last-requires (
-  read-opening-reads.Asked,
-  read-opening-reads.Learnt,
-  read-run-below t,
-  read-run.Post,
-  read-last-below t,
-  read-last.Post,
-) (read-tail-at t) read-tail.Post read-tail-Inv-loop read-tail-μ-loop
+read-tail-read-last-requires : (t : ℕ) → read-tail-lts.Need-read-last-requires (read-tail-calls t) (read-tail-at t) read-tail.Post read-tail-Inv-loop read-tail-μ-loop
 read-tail-read-last-requires t c κs =
     let o = (opened _ _ _ (c .before .before .before .loop .row-now) _ _ (c .before .before .read-opening .ensures) (λ k p e. miss (1 ∷ 2 ∷ 4 ∷ []) 0 tt (rw e at (c .before .match .keys3))) (c .before .before .before .loop .inv .0 .near)) in
     (omega (arith, c .before .before .before .before .before .before .before .before .pre .0), (room-at _ _ _ _ _ _ _ _ (c .before .before .before .loop .inv .0) (omega (arith, o .sound .before, o .sound .end)), opens _ _ _ _ _ o, c .before .before .before .loop .inv .2))
 
--- src/lib.rt:422:17
-read-tail-same-length-3 : (t : ℕ) → read-tail-lts.Need-same-length-3 (
-  read-opening-reads.Asked,
-  read-opening-reads.Learnt,
-  read-run-below t,
-  read-run.Post,
-  read-last-below t,
-  read-last.Post,
-) (read-tail-at t) read-tail.Post read-tail-Inv-loop read-tail-μ-loop
+read-tail-same-length-3 : (t : ℕ) → read-tail-lts.Need-same-length-3 (read-tail-calls t) (read-tail-at t) read-tail.Post read-tail-Inv-loop read-tail-μ-loop
 read-tail-same-length-3 t c = c .before .before .read-last .kept .1 .1 .1 .1 .0 ∙ c .before .before .before .before .before .before .loop .inv .1
 
--- src/lib.rt:422:17
-read-tail-returns-3 : (t : ℕ) → read-tail-lts.Need-returns-3 (
-  read-opening-reads.Asked,
-  read-opening-reads.Learnt,
-  read-run-below t,
-  read-run.Post,
-  read-last-below t,
-  read-last.Post,
-) (read-tail-at t) read-tail.Post read-tail-Inv-loop read-tail-μ-loop
+read-tail-returns-3 : (t : ℕ) → read-tail-lts.Need-returns-3 (read-tail-calls t) (read-tail-at t) read-tail.Post read-tail-Inv-loop read-tail-μ-loop
 read-tail-returns-3 t c = tailed-last _ _ _ _ _ _ _ _ _ _ (c .before .before .before .before .before .before .loop .inv .3) (opened _ _ _ (c .before .before .before .before .before .before .loop .row-now) _ _ (c .before .before .before .before .before .read-opening .ensures) (λ k p e. miss (1 ∷ 2 ∷ 4 ∷ []) 0 tt (rw e at (c .before .before .before .before .match .keys3))) (c .before .before .before .before .before .before .loop .inv .0 .near)) _ _ (λ k p e. miss (1 ∷ 2 ∷ 4 ∷ []) 3 tt (rw e at (c .before .before .before .before .match .keys3))) (c .before .before .read-last .ensures)
 
--- src/lib.rt:63:9
-read-term-read-opening-requires : (t : ℕ) → read-term-lts.Need-read-opening-requires (
-  read-opening-reads.Asked,
-  read-opening-reads.Learnt,
-  read-body-below t,
-  read-body.Post,
-) (read-term-at t) read-term.Post
+read-term-read-opening-requires : (t : ℕ) → read-term-lts.Need-read-opening-requires (read-term-calls t) (read-term-at t) read-term.Post
 read-term-read-opening-requires t c κs = (c .before .before .before .before .pre .1 .near, c .before .before .before .before .pre .1 .short, c .before .before .before .before .pre .1 .sized)
 
--- src/lib.rt:67:25
-read-term-enum-known-head : (t : ℕ) → read-term-lts.Need-enum-known-head (
-  read-opening-reads.Asked,
-  read-opening-reads.Learnt,
-  read-body-below t,
-  read-body.Post,
-) (read-term-at t) read-term.Post
+read-term-enum-known-head : (t : ℕ) → read-term-lts.Need-enum-known-head (read-term-calls t) (read-term-at t) read-term.Post
 read-term-enum-known-head t c = search needs
 
--- src/lib.rt:68:14
-read-term-read-body-requires : (t : ℕ) → read-term-lts.Need-read-body-requires (
-  read-opening-reads.Asked,
-  read-opening-reads.Learnt,
-  read-body-below t,
-  read-body.Post,
-) (read-term-at t) read-term.Post
+read-term-read-body-requires : (t : ℕ) → read-term-lts.Need-read-body-requires (read-term-calls t) (read-term-at t) read-term.Post
 read-term-read-body-requires t c κs =
     let o = (opened _ _ _ (c .before .before .before .before .before .before .before .args .row) _ _ (c .before .before .read-opening .ensures) (λ k p e. miss (1 ∷ 2 ∷ 3 ∷ 4 ∷ []) 0 tt (rw e at (c .before .match .keys2))) (c .before .before .before .before .before .before .before .pre .1 .near)) in
     (omega (arith, c .before .before .before .before .before .before .before .pre .0), (room-at _ _ _ _ _ _ _ _ (c .before .before .before .before .before .before .before .pre .1) (omega (arith, o .sound .before, o .sound .end)), opens _ _ _ _ _ o))
 
--- src/lib.rt:47:1
-read-term-returns : (t : ℕ) → read-term-lts.Need-returns (
-  read-opening-reads.Asked,
-  read-opening-reads.Learnt,
-  read-body-below t,
-  read-body.Post,
-) (read-term-at t) read-term.Post
+read-term-returns : (t : ℕ) → read-term-lts.Need-returns (read-term-calls t) (read-term-at t) read-term.Post
 read-term-returns t c = term-refused _ _ _ _ _ _ _ _ _ _ _ _ _ (c .before .before .before .read-opening .ensures) (c .before .head .given .1)
 
--- src/lib.rt:47:1
-read-term-same-length : (t : ℕ) → read-term-lts.Need-same-length (
-  read-opening-reads.Asked,
-  read-opening-reads.Learnt,
-  read-body-below t,
-  read-body.Post,
-) (read-term-at t) read-term.Post
+read-term-same-length : (t : ℕ) → read-term-lts.Need-same-length (read-term-calls t) (read-term-at t) read-term.Post
 read-term-same-length t c = c .before .before .read-body .kept .1 .1 .1 .1 .0
 
--- src/lib.rt:47:1
-read-term-returns-2 : (t : ℕ) → read-term-lts.Need-returns-2 (
-  read-opening-reads.Asked,
-  read-opening-reads.Learnt,
-  read-body-below t,
-  read-body.Post,
-) (read-term-at t) read-term.Post
+read-term-returns-2 : (t : ℕ) → read-term-lts.Need-returns-2 (read-term-calls t) (read-term-at t) read-term.Post
 read-term-returns-2 t c = term-opened _ _ _ _ _ _ _ _ _ _ (opened _ _ _ (c .before .before .before .before .before .before .before .before .before .before .args .row) _ _ (c .before .before .before .before .before .read-opening .ensures) (λ k p e. miss (1 ∷ 2 ∷ 3 ∷ 4 ∷ []) 0 tt (rw e at (c .before .before .before .before .match .keys2))) (c .before .before .before .before .before .before .before .before .before .before .pre .1 .near)) _ (c .before .before .read-body .ensures)
 
--- src/lib.rt:215:9
-read-wanted-at-most-requires : (t : ℕ) → read-wanted-lts.Need-at-most-requires (
-  at-most-reads.Asked,
-  at-most-reads.Learnt,
-  read-run-below t,
-  read-run.Post,
-) (read-wanted-at t) read-wanted.Post
+read-wanted-at-most-requires : (t : ℕ) → read-wanted-lts.Need-at-most-requires (read-wanted-calls t) (read-wanted-at t) read-wanted.Post
 read-wanted-at-most-requires t c κs = search needs
 
--- src/lib.rt:216:11
-read-wanted-read-run-requires : (t : ℕ) → read-wanted-lts.Need-read-run-requires (
-  at-most-reads.Asked,
-  at-most-reads.Learnt,
-  read-run-below t,
-  read-run.Post,
-) (read-wanted-at t) read-wanted.Post
+read-wanted-read-run-requires : (t : ℕ) → read-wanted-lts.Need-read-run-requires (read-wanted-calls t) (read-wanted-at t) read-wanted.Post
 read-wanted-read-run-requires t c κs = (omega (arith, c .before .before .before .before .before .before .pre .0), c .before .before .before .before .before .before .pre .1)
 
--- src/lib.rt:230:25
-read-wanted-enum-known-number : (t : ℕ) → read-wanted-lts.Need-enum-known-number (
-  at-most-reads.Asked,
-  at-most-reads.Learnt,
-  read-run-below t,
-  read-run.Post,
-) (read-wanted-at t) read-wanted.Post
+read-wanted-enum-known-number : (t : ℕ) → read-wanted-lts.Need-enum-known-number (read-wanted-calls t) (read-wanted-at t) read-wanted.Post
 read-wanted-enum-known-number t c = search needs
 
--- src/lib.rt:231:21
-read-wanted-enum-known-next : (t : ℕ) → read-wanted-lts.Need-enum-known-next (
-  at-most-reads.Asked,
-  at-most-reads.Learnt,
-  read-run-below t,
-  read-run.Post,
-) (read-wanted-at t) read-wanted.Post
+read-wanted-enum-known-next : (t : ℕ) → read-wanted-lts.Need-enum-known-next (read-wanted-calls t) (read-wanted-at t) read-wanted.Post
 read-wanted-enum-known-next t c = search needs
 
--- src/lib.rt:243:13
-read-wanted-sub-read-run : (t : ℕ) → read-wanted-lts.Need-sub-read-run (
-  at-most-reads.Asked,
-  at-most-reads.Learnt,
-  read-run-below t,
-  read-run.Post,
-) (read-wanted-at t) read-wanted.Post
+read-wanted-sub-read-run : (t : ℕ) → read-wanted-lts.Need-sub-read-run (read-wanted-calls t) (read-wanted-at t) read-wanted.Post
 read-wanted-sub-read-run t c = omega (arith, c .before .before .before .before .before .before .before .before .at-most .ensures)
 
--- src/lib.rt:231:37
-read-wanted-read-run-requires-2 : (t : ℕ) → read-wanted-lts.Need-read-run-requires-2 (
-  at-most-reads.Asked,
-  at-most-reads.Learnt,
-  read-run-below t,
-  read-run.Post,
-) (read-wanted-at t) read-wanted.Post
+read-wanted-read-run-requires-2 : (t : ℕ) → read-wanted-lts.Need-read-run-requires-2 (read-wanted-calls t) (read-wanted-at t) read-wanted.Post
 read-wanted-read-run-requires-2 t c κs = (omega (arith, c .before .before .before .before .before .before .before .before .before .before .before .before .before .pre .0), room-after _ _ _ _ _ _ _ _ _ _ _ _ _ _ _ (c .before .before .before .before .before .before .before .before .before .before .before .before .before .pre .1) (c .before .before .before .before .before .before .read-run .ensures) (c .before .before .next .given .1) (c .before .before .before .before .before .before .read-run .kept .1 .1 .1 .1 .0))
 
--- src/lib.rt:199:1
-read-wanted-same-length : (t : ℕ) → read-wanted-lts.Need-same-length (
-  at-most-reads.Asked,
-  at-most-reads.Learnt,
-  read-run-below t,
-  read-run.Post,
-) (read-wanted-at t) read-wanted.Post
+read-wanted-same-length : (t : ℕ) → read-wanted-lts.Need-same-length (read-wanted-calls t) (read-wanted-at t) read-wanted.Post
 read-wanted-same-length t c = c .before .before .before .before .before .read-run .kept .1 .1 .1 .1 .0
 
--- src/lib.rt:199:1
-read-wanted-returns : (t : ℕ) → read-wanted-lts.Need-returns (
-  at-most-reads.Asked,
-  at-most-reads.Learnt,
-  read-run-below t,
-  read-run.Post,
-) (read-wanted-at t) read-wanted.Post
+read-wanted-returns : (t : ℕ) → read-wanted-lts.Need-returns (read-wanted-calls t) (read-wanted-at t) read-wanted.Post
 read-wanted-returns t c = wanted-refused _ _ _ _ _ _ _ _ _ (c .before .before .before .before .before .before .before .at-most .ensures) _ _ (c .before .before .before .before .before .read-run .ensures) _ _ _ (c .before .number .given .1)
 
--- src/lib.rt:199:1
-read-wanted-same-length-2 : (t : ℕ) → read-wanted-lts.Need-same-length-2 (
-  at-most-reads.Asked,
-  at-most-reads.Learnt,
-  read-run-below t,
-  read-run.Post,
-) (read-wanted-at t) read-wanted.Post
+read-wanted-same-length-2 : (t : ℕ) → read-wanted-lts.Need-same-length-2 (read-wanted-calls t) (read-wanted-at t) read-wanted.Post
 read-wanted-same-length-2 t c = c .before .before .read-run2 .kept .1 .1 .1 .1 .0 ∙ c .before .before .before .before .before .before .before .before .before .read-run .kept .1 .1 .1 .1 .0
 
--- src/lib.rt:199:1
-read-wanted-returns-2 : (t : ℕ) → read-wanted-lts.Need-returns-2 (
-  at-most-reads.Asked,
-  at-most-reads.Learnt,
-  read-run-below t,
-  read-run.Post,
-) (read-wanted-at t) read-wanted.Post
+read-wanted-returns-2 : (t : ℕ) → read-wanted-lts.Need-returns-2 (read-wanted-calls t) (read-wanted-at t) read-wanted.Post
 read-wanted-returns-2 t c = wanted-more _ _ _ _ _ _ _ _ _ (c .before .before .before .before .before .before .before .before .before .before .before .at-most .ensures) _ _ (c .before .before .before .before .before .before .before .before .before .read-run .ensures) _ _ _ _ (c .before .before .before .before .before .next .given .1) (c .before .before .read-run2 .ensures)
 
 pub +read-body+read-inner+read-last+read-list+read-pairs+read-parts+read-run+read-tail+read-term+read-wanted-spec :
@@ -1607,13 +694,7 @@ pub +read-body+read-inner+read-last+read-list+read-pairs+read-parts+read-run+rea
     μ-read-tail
     μ-read-term
     μ-read-wanted
-    (λ t. read-body-lts.spec (
-      read-inner-below t,
-      read-inner.Post,
-      pack-reads.Asked,
-      pack-reads.Learnt,
-    )
-    (read-body-at t)
+    (λ t. read-body-lts.spec (read-body-calls t) (read-body-at t)
     read-body.Post
     (read-body-returns t)
     (read-body-returns-2 t)
@@ -1630,17 +711,7 @@ pub +read-body+read-inner+read-last+read-list+read-pairs+read-parts+read-run+rea
     (read-body-returns-3 t)
     (read-body-same-length-2 t)
     (read-body-returns-4 t))
-    (λ t. read-inner-lts.spec (
-      read-parts-below t,
-      read-parts.Post,
-      read-characters-reads.Asked,
-      read-characters-reads.Learnt,
-      read-list-below t,
-      read-list.Post,
-      read-pairs-below t,
-      read-pairs.Post,
-    )
-    (read-inner-at t)
+    (λ t. read-inner-lts.spec (read-inner-calls t) (read-inner-at t)
     read-inner.Post
     (read-inner-enum-known-head t)
     (read-inner-enum-known-head-2 t)
@@ -1660,13 +731,7 @@ pub +read-body+read-inner+read-last+read-list+read-pairs+read-parts+read-run+rea
     (read-inner-returns-4 t)
     (read-inner-same-length-4 t)
     (read-inner-returns-5 t))
-    (λ t. read-last-lts.spec (
-      read-characters-reads.Asked,
-      read-characters-reads.Learnt,
-      read-body-below t,
-      read-body.Post,
-    )
-    (read-last-at t)
+    (λ t. read-last-lts.spec (read-last-calls t) (read-last-at t)
     read-last.Post
     (read-last-enum-known-head t)
     (read-last-read-characters-requires t)
@@ -1681,8 +746,7 @@ pub +read-body+read-inner+read-last+read-list+read-pairs+read-parts+read-run+rea
     (read-last-same-length-3 t)
     (read-last-returns-3 t))
     (λ t. read-list-lts.spec
-    (read-run-below t, read-run.Post, read-tail-below t, read-tail.Post)
-    (read-list-at t)
+    (read-list-calls t) (read-list-at t)
     read-list.Post
     (read-list-read-run-requires t)
     (read-list-enum-known-number t)
@@ -1692,13 +756,7 @@ pub +read-body+read-inner+read-last+read-list+read-pairs+read-parts+read-run+rea
     (read-list-returns t)
     (read-list-same-length-2 t)
     (read-list-returns-2 t))
-    (λ t. read-pairs-lts.spec (
-      read-term-below t,
-      read-term.Post,
-      key-among-reads.Asked,
-      key-among-reads.Learnt,
-    )
-    (read-pairs-at t)
+    (λ t. read-pairs-lts.spec (read-pairs-calls t) (read-pairs-at t)
     read-pairs.Post
     read-pairs-Inv-loop
     read-pairs-μ-loop
@@ -1722,15 +780,7 @@ pub +read-body+read-inner+read-last+read-list+read-pairs+read-parts+read-run+rea
     (read-pairs-mul-t34 t)
     (read-pairs-same-length-4 t)
     (read-pairs-returns-4 t))
-    (λ t. read-parts-lts.spec (
-      read-wanted-below t,
-      read-wanted.Post,
-      read-run-below t,
-      read-run.Post,
-      read-later-reads.Asked,
-      read-later-reads.Learnt,
-    )
-    (read-parts-at t)
+    (λ t. read-parts-lts.spec (read-parts-calls t) (read-parts-at t)
     read-parts.Post
     (read-parts-read-wanted-requires t)
     (read-parts-enum-known-number t)
@@ -1751,8 +801,7 @@ pub +read-body+read-inner+read-last+read-list+read-pairs+read-parts+read-run+rea
     (read-parts-same-length-4 t)
     (read-parts-returns-4 t))
     (λ t. read-run-lts.spec
-    (read-term-below t, read-term.Post)
-    (read-run-at t)
+    (read-run-calls t) (read-run-at t)
     read-run.Post
     read-run-Inv-loop
     read-run-μ-loop
@@ -1767,15 +816,7 @@ pub +read-body+read-inner+read-last+read-list+read-pairs+read-parts+read-run+rea
     (read-run-loop-again t)
     (read-run-same-length-2 t)
     (read-run-returns-2 t))
-    (λ t. read-tail-lts.spec (
-      read-opening-reads.Asked,
-      read-opening-reads.Learnt,
-      read-run-below t,
-      read-run.Post,
-      read-last-below t,
-      read-last.Post,
-    )
-    (read-tail-at t)
+    (λ t. read-tail-lts.spec (read-tail-calls t) (read-tail-at t)
     read-tail.Post
     read-tail-Inv-loop
     read-tail-μ-loop
@@ -1796,13 +837,7 @@ pub +read-body+read-inner+read-last+read-list+read-pairs+read-parts+read-run+rea
     (read-tail-read-last-requires t)
     (read-tail-same-length-3 t)
     (read-tail-returns-3 t))
-    (λ t. read-term-lts.spec (
-      read-opening-reads.Asked,
-      read-opening-reads.Learnt,
-      read-body-below t,
-      read-body.Post,
-    )
-    (read-term-at t)
+    (λ t. read-term-lts.spec (read-term-calls t) (read-term-at t)
     read-term.Post
     (read-term-read-opening-requires t)
     (read-term-enum-known-head t)
@@ -1811,8 +846,7 @@ pub +read-body+read-inner+read-last+read-list+read-pairs+read-parts+read-run+rea
     (read-term-same-length t)
     (read-term-returns-2 t))
     λ t. read-wanted-lts.spec
-    (at-most-reads.Asked, at-most-reads.Learnt, read-run-below t, read-run.Post)
-    (read-wanted-at t)
+    (read-wanted-calls t) (read-wanted-at t)
     read-wanted.Post
     (read-wanted-at-most-requires t)
     (read-wanted-read-run-requires t)

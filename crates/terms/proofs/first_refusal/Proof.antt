@@ -1,23 +1,18 @@
+-- `terms::first_refusal` meets its contract. Assumes nothing.
 use Rattle.terms.proofs.Message.{first-places, first-lengths, first-long, first-none}
 use Rattle.heads.specs.Code.{lent}
 use Rattle.terms.proofs.first_refusal.Statement.{statement}
 use Rattle.terms.proofs.first_refusal.Tie as tie
-use Rattle.terms.proofs.first_refusal.Reads as reads
-use Rattle.terms.proofs.first_refusal.Lts as lts
 
--- src/lib.rt:616:9
 returns : tie.Need-returns
 returns c = λ n. first-places (lent n _ _) _ (c .if1 .taken)
 
--- src/lib.rt:619:9
 returns-2 : tie.Need-returns-2
 returns-2 c = λ n. first-lengths (lent n _ _) _ (c .before .if1 .left) (c .if2 .taken)
 
--- src/lib.rt:622:9
 returns-3 : tie.Need-returns-3
 returns-3 c = λ n. first-long (lent n _ _) _ (c .before .before .if1 .left) (c .before .if2 .left) (c .if3 .taken)
 
--- src/lib.rt:612:1
 returns-4 : tie.Need-returns-4
 returns-4 c = λ n. first-none (lent n _ _) _ (c .before .before .if1 .left) (c .before .if2 .left) (c .if3 .left)
 

@@ -1,86 +1,68 @@
+-- `terms::payload_terms` meets its contract. Assumes nothing.
 use Rattle.terms.proofs.Message.{payload-one, payload-refused, payload-over, payload-second-refused, payload-two}
 use Rattle.terms.proofs.Runs.{room-after}
 use borrow.Author.Needs.{needs}
 use Rattle.terms.proofs.payload_terms.Statement.{statement}
 use Rattle.terms.proofs.payload_terms.Tie as tie
-use Rattle.terms.proofs.payload_terms.Reads as reads
-use Rattle.terms.proofs.payload_terms.Lts as lts
-use Rattle.terms.proofs.read_term.Reads as read-term-reads
 
--- src/lib.rt:589:11
-read-term-requires : tie.Need-read-term-requires
-read-term-requires c κs = search needs
+read-outermost-requires : tie.Need-read-outermost-requires
+read-outermost-requires c κs = search needs
 
--- src/lib.rt:590:25
 enum-known-number : tie.Need-enum-known-number
 enum-known-number c = search needs
 
--- src/lib.rt:591:21
 enum-known-next : tie.Need-enum-known-next
 enum-known-next c = search needs
 
--- src/lib.rt:593:17
 same-length : tie.Need-same-length
 same-length c = search needs
 
--- src/lib.rt:593:17
 returns : tie.Need-returns
-returns c = payload-one _ _ _ _ _ _ (c .before .before .before .before .before .before .read-term .ensures) _ _ (c .before .before .next .given .1) (c .if1 .taken)
+returns c = payload-one _ _ _ _ _ _ (c .before .before .before .before .before .before .read-outermost .ensures) _ _ (c .before .before .next .given .1) (c .if1 .taken)
 
--- src/lib.rt:595:19
-read-term-requires-2 : tie.Need-read-term-requires-2
-read-term-requires-2 c κs = room-after _ _ _ _ _ _ _ _ _ _ _ _ _ _ _ (c .before .before .before .before .before .before .before .before .before .before .before .before .before .pre) (c .before .before .before .before .before .before .before .read-term .ensures) (c .before .before .before .next .given .1) (c .before .before .before .before .before .before .before .read-term .kept .1 .1 .1 .1 .0)
+read-outermost-requires-2 : tie.Need-read-outermost-requires-2
+read-outermost-requires-2 c κs = room-after _ _ _ _ _ _ _ _ _ _ _ _ _ _ _ (c .before .before .before .before .before .before .before .before .before .before .before .before .before .pre) (c .before .before .before .before .before .before .before .read-outermost .ensures) (c .before .before .before .next .given .1) (c .before .before .before .before .before .before .before .read-outermost .kept .1 .1 .1 .1 .0)
 
--- src/lib.rt:596:33
 enum-known-number-2 : tie.Need-enum-known-number-2
 enum-known-number-2 c = search needs
 
--- src/lib.rt:597:29
 enum-known-next-2 : tie.Need-enum-known-next-2
 enum-known-next-2 c = search needs
 
--- src/lib.rt:599:25
 same-length-2 : tie.Need-same-length-2
 same-length-2 c = search needs
 
--- src/lib.rt:599:25
 returns-2 : tie.Need-returns-2
-returns-2 c = payload-over _ _ _ _ _ _ (c .before .before .before .before .before .before .before .before .before .before .before .before .before .before .read-term .ensures) _ _ (c .before .before .before .before .before .before .before .before .before .before .next .given .1) (c .before .before .before .before .before .before .before .before .if1 .left) _ _ (c .before .before .before .before .before .before .read-term2 .ensures) _ _ (c .before .before .next2 .given .1) _ (c .if2 .taken)
+returns-2 c = payload-over _ _ _ _ _ _ (c .before .before .before .before .before .before .before .before .before .before .before .before .before .before .read-outermost .ensures) _ _ (c .before .before .before .before .before .before .before .before .before .before .next .given .1) (c .before .before .before .before .before .before .before .before .if1 .left) _ _ (c .before .before .before .before .before .before .read-outermost2 .ensures) _ _ (c .before .before .next2 .given .1) _ (c .if2 .taken)
 
--- src/lib.rt:578:1
 same-length-3 : tie.Need-same-length-3
 same-length-3 c = search needs
 
--- src/lib.rt:578:1
 returns-3 : tie.Need-returns-3
-returns-3 c = payload-refused _ _ _ _ _ _ (c .before .before .before .before .before .read-term .ensures) _ _ _ (c .before .number .given .1)
+returns-3 c = payload-refused _ _ _ _ _ _ (c .before .before .before .before .before .read-outermost .ensures) _ _ _ (c .before .number .given .1)
 
--- src/lib.rt:578:1
 same-length-4 : tie.Need-same-length-4
 same-length-4 c = search needs
 
--- src/lib.rt:578:1
 returns-4 : tie.Need-returns-4
-returns-4 c = payload-second-refused _ _ _ _ _ _ (c .before .before .before .before .before .before .before .before .before .before .before .before .before .read-term .ensures) _ _ (c .before .before .before .before .before .before .before .before .before .next .given .1) (c .before .before .before .before .before .before .before .if1 .left) _ _ (c .before .before .before .before .before .read-term2 .ensures) _ _ _ (c .before .number2 .given .1)
+returns-4 c = payload-second-refused _ _ _ _ _ _ (c .before .before .before .before .before .before .before .before .before .before .before .before .before .read-outermost .ensures) _ _ (c .before .before .before .before .before .before .before .before .before .next .given .1) (c .before .before .before .before .before .before .before .if1 .left) _ _ (c .before .before .before .before .before .read-outermost2 .ensures) _ _ _ (c .before .number2 .given .1)
 
--- src/lib.rt:578:1
 same-length-5 : tie.Need-same-length-5
 same-length-5 c = search needs
 
--- src/lib.rt:578:1
 returns-5 : tie.Need-returns-5
-returns-5 c = payload-two _ _ _ _ _ _ (c .before .before .before .before .before .before .before .before .before .before .before .before .before .before .read-term .ensures) _ _ (c .before .before .before .before .before .before .before .before .before .before .next .given .1) (c .before .before .before .before .before .before .before .before .if1 .left) _ _ (c .before .before .before .before .before .before .read-term2 .ensures) _ _ (c .before .before .next2 .given .1) (c .if2 .left)
+returns-5 c = payload-two _ _ _ _ _ _ (c .before .before .before .before .before .before .before .before .before .before .before .before .before .before .read-outermost .ensures) _ _ (c .before .before .before .before .before .before .before .before .before .before .next .given .1) (c .before .before .before .before .before .before .before .before .if1 .left) _ _ (c .before .before .before .before .before .before .read-outermost2 .ensures) _ _ (c .before .before .next2 .given .1) (c .if2 .left)
 
 pub payload-terms-spec : {M : Type 1} → statement M
 payload-terms-spec =
     tie.close
     (tie.spec
-    read-term-requires
+    read-outermost-requires
     enum-known-number
     enum-known-next
     same-length
     returns
-    read-term-requires-2
+    read-outermost-requires-2
     enum-known-number-2
     enum-known-next-2
     same-length-2

@@ -1,11 +1,9 @@
+-- `terms::put_characters` meets its contract. The loop has stored the rows of the first i characters. Assumes nothing.
 use Rattle.terms.proofs.Characters.{Put, put-none, put-more, put-all}
 use native.Mathlib.Omega.{arith}
 use Prim.Native.Nat.{_-_, _≤_}
 use Rattle.terms.proofs.put_characters.Statement.{statement}
 use Rattle.terms.proofs.put_characters.Tie as tie
-use Rattle.terms.proofs.put_characters.Reads as reads
-use Rattle.terms.proofs.put_characters.Lts as lts
-use Rattle.row.proofs.pack.Reads as pack-reads
 
 abbrev Inv-loop : tie.InvT-loop
 Inv-loop table₀ at count row whole i₀ table i = (i ≤ count) × Put table₀ at row whole table i
@@ -13,47 +11,36 @@ Inv-loop table₀ at count row whole i₀ table i = (i ≤ count) × Put table�
 abbrev μ-loop : tie.MeasureT-loop
 μ-loop table₀ at count row whole i₀ table i = count - i
 
--- src/lib.rt:293:5
 loop-holds : tie.Need-loop-holds Inv-loop μ-loop
 loop-holds c = (omega arith, put-none _ _ _ _)
 
--- src/lib.rt:294:40
 add-pack : tie.Need-add-pack Inv-loop μ-loop
 add-pack c = omega arith
 
--- src/lib.rt:294:26
 pack-requires : tie.Need-pack-requires Inv-loop μ-loop
 pack-requires c κs = record { small-kind = omega arith; small-offset = omega arith; small-whole = omega arith; small-parts = omega arith; small-size = omega arith }
 
--- src/lib.rt:294:15
 add-table : tie.Need-add-table Inv-loop μ-loop
 add-table c = omega arith
 
--- src/lib.rt:294:9
 mul-table : tie.Need-mul-table Inv-loop μ-loop
 mul-table c = omega arith
 
--- src/lib.rt:294:9
 slice-write-table : tie.Need-slice-write-table Inv-loop μ-loop
 slice-write-table c = omega (arith, c .before .before .loop .inv .1 .long)
 
--- src/lib.rt:295:9
 add-i : tie.Need-add-i Inv-loop μ-loop
 add-i c = omega arith
 
--- src/lib.rt:293:5
 loop-less : tie.Need-loop-less Inv-loop μ-loop
 loop-less c = omega arith
 
--- src/lib.rt:293:5
 loop-again : tie.Need-loop-again Inv-loop μ-loop
 loop-again c = (omega arith, put-more _ _ _ _ _ _ _ (c .pack .ensures) (c .before .before .loop .inv .1))
 
--- src/lib.rt:288:1
 same-length : tie.Need-same-length Inv-loop μ-loop
 same-length c = c .before .loop .inv .1 .long
 
--- src/lib.rt:288:1
 returns : tie.Need-returns Inv-loop μ-loop
 returns c = put-all _ _ _ _ _ _ _ (c .before .loop .inv .1) (c .before .loop .inv .0) (omega arith)
 

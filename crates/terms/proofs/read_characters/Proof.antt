@@ -1,50 +1,38 @@
+-- `terms::read_characters` meets its contract. Assumes nothing.
 use Rattle.terms.proofs.Characters.{characters-none, characters-deep, characters-full, characters-got}
 use native.Mathlib.Omega.{arith}
 use mathlib.Core.Path.{refl}
 use borrow.Author.Needs.{needs}
 use Rattle.terms.proofs.read_characters.Statement.{statement}
 use Rattle.terms.proofs.read_characters.Tie as tie
-use Rattle.terms.proofs.read_characters.Reads as reads
-use Rattle.terms.proofs.read_characters.Lts as lts
-use Rattle.terms.proofs.put_characters.Reads as put-characters-reads
 
--- src/lib.rt:315:9
 returns : tie.Need-returns
 returns c = λ atoms m cs same near. characters-none atoms m cs _ _ _ _ _ _ _ _ _ _ same (c .if1 .taken) near (omega arith) refl
 
--- src/lib.rt:323:9
 returns-2 : tie.Need-returns-2
 returns-2 c = λ atoms m cs same near. characters-deep atoms m cs _ _ _ _ _ _ _ _ _ _ same (c .before .if1 .left) (c .if2 .taken)
 
--- src/lib.rt:325:8
 sub-if3 : tie.Need-sub-if3
 sub-if3 c = search needs
 
--- src/lib.rt:326:9
 returns-3 : tie.Need-returns-3
 returns-3 c = λ atoms m cs same near. characters-full atoms m cs _ _ _ _ _ _ _ _ _ _ same (c .before .if2 .left) (omega arith) (c .if3 .taken)
 
--- src/lib.rt:328:27
 add-put-characters : tie.Need-add-put-characters
 add-put-characters c = let f = c .before .before .before .before .before .pre .5 (c .before .before .before .if1 .left) in omega arith
 
--- src/lib.rt:328:5
 put-characters-requires : tie.Need-put-characters-requires
 put-characters-requires c κs = let f = c .before .before .before .before .before .pre .5 (c .before .before .before .if1 .left) in (omega arith, omega arith, omega arith, omega arith)
 
--- src/lib.rt:331:15
 add-t11 : tie.Need-add-t11
 add-t11 c = search needs
 
--- src/lib.rt:332:16
 add-t15 : tie.Need-add-t15
 add-t15 c = search needs
 
--- src/lib.rt:300:1
 same-length : tie.Need-same-length
 same-length c = search needs
 
--- src/lib.rt:300:1
 returns-4 : tie.Need-returns-4
 returns-4 c = λ atoms m cs same near. characters-got atoms m cs _ _ _ _ _ _ _ _ _ _ same (c .before .before .before .before .before .if2 .left) near (omega arith) (c .before .before .before .before .before .before .before .before .pre .5 (c .before .before .before .before .before .before .if1 .left)) (c .before .before .put-characters .ensures)
 

@@ -1,48 +1,34 @@
+-- `terms::read_payload` meets its contract. Assumes nothing.
 use Rattle.terms.proofs.Message.{refused-first, read-whole, room-first}
 use Rattle.format.specs.Message.{payload}
 use borrow.Author.Needs.{needs}
 use Rattle.terms.proofs.read_payload.Statement.{statement}
 use Rattle.terms.proofs.read_payload.Tie as tie
-use Rattle.terms.proofs.read_payload.Reads as reads
-use Rattle.terms.proofs.read_payload.Lts as lts
-use Rattle.terms.proofs.at_most.Reads as at-most-reads
-use Rattle.terms.proofs.first_refusal.Reads as first-refusal-reads
-use Rattle.terms.proofs.payload_terms.Reads as payload-terms-reads
-use Rattle.terms.proofs.settle.Reads as settle-reads
 
--- src/lib.rt:674:9
 first-refusal-requires : tie.Need-first-refusal-requires
 first-refusal-requires c κs = search needs
 
--- src/lib.rt:676:9
 settle-requires : tie.Need-settle-requires
 settle-requires c κs = search needs
 
--- src/lib.rt:676:9
 same-length : tie.Need-same-length
 same-length c = search needs
 
--- src/lib.rt:676:9
 returns : tie.Need-returns
 returns c = refused-first payload _ _ _ _ _ _ (c .before .before .before .before .before .first-refusal .ensures _) (c .before .before .before .before .if1 .taken) (c .before .before .settle .ensures)
 
--- src/lib.rt:678:9
 at-most-requires : tie.Need-at-most-requires
 at-most-requires c κs = search needs
 
--- src/lib.rt:679:9
 payload-terms-requires : tie.Need-payload-terms-requires
 payload-terms-requires c κs = room-first _ _ _ _ _ (c .before .before .before .first-refusal .ensures _) (c .before .before .if1 .left) (c .before .at-most .ensures)
 
--- src/lib.rt:680:5
 settle-requires-2 : tie.Need-settle-requires-2
 settle-requires-2 c κs = search needs
 
--- src/lib.rt:664:1
 same-length-2 : tie.Need-same-length-2
 same-length-2 c = search needs
 
--- src/lib.rt:664:1
 returns-2 : tie.Need-returns-2
 returns-2 c = read-whole payload _ _ _ _ _ _ _ _ _ (c .before .before .before .before .before .before .before .before .before .before .first-refusal .ensures _) (c .before .before .before .before .before .before .before .before .before .if1 .left) (c .before .before .before .before .before .before .before .before .at-most .ensures) (c .before .before .before .before .before .before .payload-terms .kept .1 .1 .1 .1 .0) (c .before .before .before .before .before .before .payload-terms .ensures) (c .before .before .settle2 .ensures)
 

@@ -1,41 +1,31 @@
+-- `terms::settle` meets its contract. Assumes nothing.
 use Rattle.terms.proofs.Message.{settled-terms, settled-refused}
 use mathlib.Core.Path.{sym}
 use borrow.Author.Needs.{needs}
 use Rattle.terms.proofs.settle.Statement.{statement}
 use Rattle.terms.proofs.settle.Tie as tie
-use Rattle.terms.proofs.settle.Reads as reads
-use Rattle.terms.proofs.settle.Lts as lts
-use Rattle.octets.proofs.clear_words.Reads as clear-words-reads
 
--- src/lib.rt:632:29
 enum-known-answer : tie.Need-enum-known-answer
 enum-known-answer c = search needs
 
--- src/lib.rt:633:13
 clear-words-requires : tie.Need-clear-words-requires
 clear-words-requires c κs = search needs
 
--- src/lib.rt:636:29
 enum-known-answer-2 : tie.Need-enum-known-answer-2
 enum-known-answer-2 c = search needs
 
--- src/lib.rt:637:13
 clear-words-requires-2 : tie.Need-clear-words-requires-2
 clear-words-requires-2 c κs = search needs
 
--- src/lib.rt:628:1
 same-length : tie.Need-same-length
 same-length c = search needs
 
--- src/lib.rt:628:1
 returns : tie.Need-returns
 returns c = (sym (c .before .before .before .before .before .answer .given .1), settled-terms _ _ _ _ _ (c .before .before .before .before .before .answer .given .1) (c .before .before .clear-words .ensures))
 
--- src/lib.rt:628:1
 same-length-2 : tie.Need-same-length-2
 same-length-2 c = search needs
 
--- src/lib.rt:628:1
 returns-2 : tie.Need-returns-2
 returns-2 c = (sym (c .before .before .before .before .before .answer2 .given .1), settled-refused _ _ _ _ (c .before .before .before .before .before .answer2 .given .1) (c .before .before .clear-words2 .ensures))
 

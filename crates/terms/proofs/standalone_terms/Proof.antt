@@ -1,58 +1,44 @@
+-- `terms::standalone_terms` meets its contract. Assumes nothing.
 use Rattle.terms.proofs.Message.{standalone-empty, standalone-other, standalone-refused, standalone-over, standalone-one}
 use borrow.Author.Needs.{needs}
 use Rattle.terms.proofs.standalone_terms.Statement.{statement}
 use Rattle.terms.proofs.standalone_terms.Tie as tie
-use Rattle.terms.proofs.standalone_terms.Reads as reads
-use Rattle.terms.proofs.standalone_terms.Lts as lts
-use Rattle.terms.proofs.read_term.Reads as read-term-reads
 
--- src/lib.rt:552:9
 returns : tie.Need-returns
 returns c = standalone-empty _ _ _ _ _ (c .if1 .taken)
 
--- src/lib.rt:557:8
 shared-slice-read-if2 : tie.Need-shared-slice-read-if2
 shared-slice-read-if2 c = search needs
 
--- src/lib.rt:558:9
 returns-2 : tie.Need-returns-2
 returns-2 c = standalone-other _ _ _ _ _ (c .if2 .taken)
 
--- src/lib.rt:563:11
-read-term-requires : tie.Need-read-term-requires
-read-term-requires c κs = search needs
+read-outermost-requires : tie.Need-read-outermost-requires
+read-outermost-requires c κs = search needs
 
--- src/lib.rt:564:25
 enum-known-number : tie.Need-enum-known-number
 enum-known-number c = search needs
 
--- src/lib.rt:565:21
 enum-known-next : tie.Need-enum-known-next
 enum-known-next c = search needs
 
--- src/lib.rt:567:17
 same-length : tie.Need-same-length
 same-length c = search needs
 
--- src/lib.rt:567:17
 returns-3 : tie.Need-returns-3
-returns-3 c = standalone-over _ _ _ _ (c .before .before .before .before .before .before .before .before .before .before .if1 .left) (c .before .before .before .before .before .before .before .before .if2 .left) _ _ (c .before .before .before .before .before .before .read-term .ensures) _ _ (c .before .before .next .given .1) _ (c .if3 .taken)
+returns-3 c = standalone-over _ _ _ _ (c .before .before .before .before .before .before .before .before .before .before .if1 .left) (c .before .before .before .before .before .before .before .before .if2 .left) _ _ (c .before .before .before .before .before .before .read-outermost .ensures) _ _ (c .before .before .next .given .1) _ (c .if3 .taken)
 
--- src/lib.rt:540:1
 same-length-2 : tie.Need-same-length-2
 same-length-2 c = search needs
 
--- src/lib.rt:540:1
 returns-4 : tie.Need-returns-4
-returns-4 c = standalone-refused _ _ _ _ (c .before .before .before .before .before .before .before .before .before .if1 .left) (c .before .before .before .before .before .before .before .if2 .left) _ _ (c .before .before .before .before .before .read-term .ensures) _ _ _ (c .before .number .given .1)
+returns-4 c = standalone-refused _ _ _ _ (c .before .before .before .before .before .before .before .before .before .if1 .left) (c .before .before .before .before .before .before .before .if2 .left) _ _ (c .before .before .before .before .before .read-outermost .ensures) _ _ _ (c .before .number .given .1)
 
--- src/lib.rt:540:1
 same-length-3 : tie.Need-same-length-3
 same-length-3 c = search needs
 
--- src/lib.rt:540:1
 returns-5 : tie.Need-returns-5
-returns-5 c = standalone-one _ _ _ _ (c .before .before .before .before .before .before .before .before .before .before .if1 .left) (c .before .before .before .before .before .before .before .before .if2 .left) _ _ (c .before .before .before .before .before .before .read-term .ensures) _ _ (c .before .before .next .given .1) (c .if3 .left)
+returns-5 c = standalone-one _ _ _ _ (c .before .before .before .before .before .before .before .before .before .before .if1 .left) (c .before .before .before .before .before .before .before .before .if2 .left) _ _ (c .before .before .before .before .before .before .read-outermost .ensures) _ _ (c .before .before .next .given .1) (c .if3 .left)
 
 pub standalone-terms-spec : {M : Type 1} → statement M
 standalone-terms-spec =
@@ -61,7 +47,7 @@ standalone-terms-spec =
     returns
     shared-slice-read-if2
     returns-2
-    read-term-requires
+    read-outermost-requires
     enum-known-number
     enum-known-next
     same-length

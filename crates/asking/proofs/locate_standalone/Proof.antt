@@ -1,0 +1,37 @@
+-- `asking::locate_standalone` meets its contract.
+use mathlib.Core.Path.{refl}
+use native.Mathlib.Omega.{arith}
+use borrow.Author.Needs.{needs}
+use Rattle.format.specs.Message.{standalone}
+use Rattle.heads.specs.Code.{lent}
+use Rattle.terms.proofs.Entries.{bytes-under}
+use Rattle.asking.proofs.Calls.{text-told}
+use Rattle.asking.proofs.locate_standalone.Statement.{statement}
+use Rattle.asking.proofs.locate_standalone.Tie as tie
+
+slice-aggregate-read-standalone : tie.Need-slice-aggregate-read-standalone
+slice-aggregate-read-standalone c = search needs
+
+read-standalone-requires : tie.Need-read-standalone-requires
+read-standalone-requires c κs = search needs
+
+slice-aggregate-located : tie.Need-slice-aggregate-located
+slice-aggregate-located c = search needs
+
+located-requires : tie.Need-located-requires
+located-requires c κs = search needs
+
+returns : tie.Need-returns
+returns c =
+    let a = c .before .before .before .before .before .before .before .before .args in
+    text-told standalone (lent (a .n) (a .places .now) (a .lengths .now)) (a .msg .now) (omega arith) (bytes-under (a .msg .now) (λ i. omega (arith, c .before .before .before .before .before .before .before .shared-slice-known .given i))) _ _ _ refl (c .before .before .before .read-standalone .ensures .0) (c .before .before .before .read-standalone .ensures .1) _ _ (c .located .ensures)
+
+pub locate-standalone-spec : {M : Type 1} → statement M
+locate-standalone-spec =
+    tie.close
+    (tie.spec
+    slice-aggregate-read-standalone
+    read-standalone-requires
+    slice-aggregate-located
+    located-requires
+    returns)

@@ -1,0 +1,104 @@
+#!/usr/bin/env python3
+"""Writes the stdin and the stdout of the program crates that run vectors.
+
+    make.py VECTORS FOLDER [NAME ..]
+
+VECTORS holds standalone.jsonl, payload.jsonl and rows.jsonl. FOLDER/NAME/stdin and FOLDER/NAME/stdout are written for each NAME
+(cases_reading, cases_writing, cases_asking; without a NAME, those of them that have a folder in FOLDER). The same input gives the same files.
+
+Where the answers come from (never from the code of this repository):
+- The vectors have their own answers, worked out from document 01 by an implementation of other hands.
+- standalone.jsonl says of an accepted term its canonical form and not its rows. `rows_of` (rows.py) finds the rows of bytes that are known to be
+  accepted: it only walks over them by the tag table. It is held to every table of payload.jsonl, and for standalone.jsonl to the
+  kinds and wholes of the canonical form that the vector gives.
+- The cases of boundaries.py are built so that the answer follows from how they are built; the comment beside each says by which rule of
+  document 01. A refusal is stated with its number and its place. Of an accepted case the rows are those of `rows_of`, and the number of
+  rows is stated where it is the point.
+
+A line of stdin: src/lib.rt of crate casebook. Where a program does not lend rows or output, these two fields say for cases_asking how
+many rows and how many offsets it asks for. A line of stdout:
+- cases_reading: `refused N P`, or `ok TERMS ROWS` and, up to 100 rows, ` KIND,OFFSET,WHOLE` for each; ` dirty` never.
+- cases_writing: `refused N P` or `ok HEX`. Of boundaries.py only the refused cases: the writer refuses what the reader refuses.
+- cases_asking: the numbers, the texts and the marks, all parted by spaces, each with commas where the vector has tabs.
+"""
+import json
+import os
+import sys
+
+sys.dont_write_bytecode = True
+from boundaries import boundaries
+from lines import Case
+from rows import rows_of, shown
+
+
+def vectors(folder, name):
+    with open(os.path.join(folder, name + '.jsonl')) as file:
+        return [json.loads(line) for line in file]
+
+
+def places_of(vector):
+    given = vector.get('list', {'n': 0, 'texts': [], 'lengths': []})
+    return given['n'], tuple((length, bytes.fromhex(text)) for text, length in zip(given['texts'], given['lengths']))
+
+
+def reading(folder):
+    for vector in vectors(folder, 'standalone'):
+        message, out = bytes.fromhex(vector['in']), vector['out'].split('\t')
+        if out[0] == 'refused':
+            yield Case('s', message, ' '.join(out))
+            continue
+        canonical = bytes.fromhex(out[1])
+        assert [(kind, whole) for kind, at, whole in rows_of('s', message)[1]] == [(kind, whole) for kind, at, whole in rows_of('s', canonical)[1]], vector
+        yield Case('s', message, shown('s', message))
+    for vector in vectors(folder, 'payload'):
+        message, form = bytes.fromhex(vector['in']), vector['form'][0]
+        n, places = places_of(vector)
+        if 'read' in vector:
+            answer = vector['read'].replace('\t', ' ')
+        else:
+            answer = shown(form, message)
+            terms, rows = rows_of(form, message)
+            assert (terms, len(rows), rows) == (vector['terms'], vector['rows_used'], vector.get('table', rows)), vector
+        yield Case(form, message, answer, rows=vector['rows'], room=vector['out_size'], n=n, places=places)
+    yield from boundaries()
+
+
+def writing(folder):
+    for vector in vectors(folder, 'standalone') + vectors(folder, 'payload'):
+        form, message, out = vector.get('form', 's')[0], bytes.fromhex(vector['in']), vector['out'].replace('\t', ' ')
+        n, places = places_of(vector)
+        lent = {'rows': vector.get('rows', 8192), 'n': n, 'places': places}
+        yield Case(form, message, out, room=vector.get('out_size', 65536), **lent)
+        # Room is enough where it is as long as the canonical form; a byte less is 11 at 0.
+        if out.startswith('ok'):
+            length = len(out[3:]) // 2
+            yield Case(form, message, out, room=length, **lent)
+            yield Case(form, message, 'refused 11 0', room=length - 1, **lent)
+    for case in boundaries():
+        if case.answer.startswith('refused'):
+            yield case
+
+
+def asking(folder):
+    for vector in vectors(folder, 'rows'):
+        n, places = places_of(vector)
+        assert len(vector['texts']) == len(vector['marks'])
+        answer = ' '.join(word.replace('\t', ',') for word in vector['numbers'] + vector['texts'] + vector['marks'])
+        yield Case(vector['form'][0], bytes.fromhex(vector['in']), answer, rows=len(vector['numbers']), room=len(vector['texts']), n=n, places=places)
+
+
+PROGRAMS = {'cases_reading': reading, 'cases_writing': writing, 'cases_asking': asking}
+
+
+def main():
+    source, folder, names = sys.argv[1], sys.argv[2], sys.argv[3:]
+    for name in names or [name for name in PROGRAMS if os.path.isdir(os.path.join(folder, name))]:
+        cases = list(PROGRAMS[name](source))
+        os.makedirs(os.path.join(folder, name), exist_ok=True)
+        for file, lines in (('stdin', [case.line() for case in cases]), ('stdout', [case.answer for case in cases])):
+            with open(os.path.join(folder, name, file), 'w') as out:
+                out.write(''.join(line + '\n' for line in lines))
+
+
+if __name__ == '__main__':
+    main()
