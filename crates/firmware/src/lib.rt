@@ -147,7 +147,6 @@ pub extern "C" fn ik_write_payload(
     flat_written(canon::write_payload(msg, n, places, lengths, scratch, output))
 }
 
-
 // A row's number. Kind 0, neither; 1, whole; 2, float: a number that is not answered is 0.
 #[repr(C)]
 pub struct NumberReply {

@@ -19,7 +19,8 @@ same-length-2 c = search needs
 
 returns : tie.Need-returns
 returns c =
-    (c .flat-written .ensures ∙ ap flat-written (c .before .before .before .before .before .write-payload .ensures .0), c .before .before .before .before .before .write-payload .ensures .1 .0, c .before .before .before .before .before .write-payload .ensures .1 .1)
+    let e = c .before .before .before .before .before .write-payload .ensures in
+    (c .flat-written .ensures ∙ ap flat-written (e .0), e .1)
 
 pub ik-write-payload-spec : {M : Type 1} → statement M
 ik-write-payload-spec =
