@@ -1,9 +1,7 @@
 -- The answers of the packet calls for C, as numbers: the refusal's number (0: accepted) and place, then the call's own; what is not answered is 0.
 use mathlib.Core.Bool.{Bool, not}
 use Prim.Native.Nat.{ℕ}
-use mathlib.Core.List.{List}
 use lib.Dec.{eqb}
-use lib.ListN.{getD}
 use Rattle.packets.specs.declared.PacketAnswer.{PacketAnswer}
 use Rattle.packets.specs.declared.PacketAnswer.the-variants as packets
 use Rattle.packets.specs.declared.StateAnswer.{StateAnswer}
@@ -12,7 +10,6 @@ use Rattle.packets.specs.declared.PlaceAnswer.{PlaceAnswer}
 use Rattle.packets.specs.declared.PlaceAnswer.the-variants as places
 use Rattle.packets.specs.declared.TextAnswer.{TextAnswer}
 use Rattle.packets.specs.declared.TextAnswer.the-variants as texts
-use Rattle.packets.specs.declared.Pending.{Pending}
 use Rattle.packets.specs.declared.Settled.{Settled}
 use Rattle.packets.specs.declared.Taken.{Taken}
 use Rattle.firmware.specs.declared.PacketReply.{PacketReply}
@@ -56,7 +53,3 @@ kept-by s = record { answer = flat-done (s .answer); pending = s .pending }
 -- a packet: its answer, and the record after it
 unfoldable pub received : Taken → Received
 received t = record { answer = flat-packet (t .answer); pending = t .pending }
-
--- the pending record in three words: the sequence's id, the id due, the bytes gathered
-unfoldable pub record-in : List ℕ → Pending
-record-in ws = record { sequence = getD ws 0 0; due = getD ws 1 0; gathered = getD ws 2 0 }

@@ -25,7 +25,7 @@ ghost use Rattle.packets.specs.Calls.{after-packet, cache-after-reset};
 ghost use Rattle.packets.specs.Look.{place-of-reference, text-of-place};
 ghost use Rattle.packets.specs.Memory.{cache-of, list-lent, memory-of};
 ghost use Rattle.firmware.specs.Terms.{flat-read, flat-written, flat-number, flat-text, flat-mark};
-ghost use Rattle.firmware.specs.Packets.{flag, flat-place, flat-cached, flat-done, flat-packet, kept-by, received, record-in};
+ghost use Rattle.firmware.specs.Packets.{flag, flat-place, flat-cached, flat-done, flat-packet, kept-by, received};
 
 // What reading answers: the refusal's number (0: accepted) and place, the number of terms and of rows.
 #[repr(C)]
@@ -569,36 +569,22 @@ pub fn packet_by_value(
 
 // Drops the pending sequence of the record lent.
 #[no_mangle]
-pub extern "C" fn ik_drop(p: &mut [u64; 3]) -> DoneReply
-    ensures { λ r. ⌜ (r ≡ kept-by (drop-answer (record-in (now (p .entry)))) .answer) × (record-in (now (p .exit)) ≡ kept-by (drop-answer (record-in (now (p .entry)))) .pending) ⌝ }
+pub extern "C" fn ik_drop(p: &mut Pending) -> DoneReply
+    ensures { λ r. ⌜ (r ≡ kept-by (drop-answer (now (p .entry))) .answer) × (now (p .exit) ≡ kept-by (drop-answer (now (p .entry))) .pending) ⌝ }
 {
-    let pending = Pending {
-        sequence: p[0],
-        due: p[1],
-        gathered: p[2],
-    };
-    let d = drop_by_value(pending);
-    let then = d.pending;
-    let answer = d.answer;
-    *p = [then.sequence, then.due, then.gathered];
-    answer
+    let d = drop_by_value(*p);
+    *p = d.pending;
+    d.answer
 }
 
 // Empties the cache and drops the pending sequence of the record lent, if there is one.
 #[no_mangle]
-pub extern "C" fn ik_reset(places: &mut [u8], lengths: &mut [u16], p: &mut [u64; 3]) -> DoneReply
-    ensures { λ r. ⌜ (r ≡ kept-by (reset-answer (cache-of (now (places .entry)) (now (lengths .entry))) (record-in (now (p .entry)))) .answer) × (record-in (now (p .exit)) ≡ kept-by (reset-answer (cache-of (now (places .entry)) (now (lengths .entry))) (record-in (now (p .entry)))) .pending) × (cache-of (now (places .exit)) (now (lengths .exit)) ≡ cache-after-reset (cache-of (now (places .entry)) (now (lengths .entry)))) ⌝ }
+pub extern "C" fn ik_reset(places: &mut [u8], lengths: &mut [u16], p: &mut Pending) -> DoneReply
+    ensures { λ r. ⌜ (r ≡ kept-by (reset-answer (cache-of (now (places .entry)) (now (lengths .entry))) (now (p .entry))) .answer) × (now (p .exit) ≡ kept-by (reset-answer (cache-of (now (places .entry)) (now (lengths .entry))) (now (p .entry))) .pending) × (cache-of (now (places .exit)) (now (lengths .exit)) ≡ cache-after-reset (cache-of (now (places .entry)) (now (lengths .entry)))) ⌝ }
 {
-    let pending = Pending {
-        sequence: p[0],
-        due: p[1],
-        gathered: p[2],
-    };
-    let d = reset_by_value(places, lengths, pending);
-    let then = d.pending;
-    let answer = d.answer;
-    *p = [then.sequence, then.due, then.gathered];
-    answer
+    let d = reset_by_value(places, lengths, *p);
+    *p = d.pending;
+    d.answer
 }
 
 // Takes a packet, over all lent memory.
@@ -614,17 +600,12 @@ pub extern "C" fn ik_packet(
     count: &mut u8,
     kept: &mut [u8],
     extents: &mut [u16],
-    p: &mut [u64; 3],
+    p: &mut Pending,
     gather: &mut [u8],
 ) -> PacketReply
-    ensures { λ r. ⌜ (r ≡ received (taken-answer (coding-of (flag utf8)) (memory-of (cache-of (now (places .entry)) (now (lengths .entry))) (list-lent (now (n .entry)) (now (texts .entry)) (now (sizes .entry))) (list-lent (now (count .entry)) (now (kept .entry)) (now (extents .entry))) (record-in (now (p .entry))) (now (gather .entry))) (now (packet .entry))) .answer)
-        × (memory-of (cache-of (now (places .exit)) (now (lengths .exit))) (list-lent (now (n .exit)) (now (texts .exit)) (now (sizes .exit))) (list-lent (now (count .exit)) (now (kept .exit)) (now (extents .exit))) (record-in (now (p .exit))) (now (gather .exit)) ≡ after-packet (coding-of (flag utf8)) (memory-of (cache-of (now (places .entry)) (now (lengths .entry))) (list-lent (now (n .entry)) (now (texts .entry)) (now (sizes .entry))) (list-lent (now (count .entry)) (now (kept .entry)) (now (extents .entry))) (record-in (now (p .entry))) (now (gather .entry))) (now (packet .entry))) ⌝ }
+    ensures { λ r. ⌜ (r ≡ received (taken-answer (coding-of (flag utf8)) (memory-of (cache-of (now (places .entry)) (now (lengths .entry))) (list-lent (now (n .entry)) (now (texts .entry)) (now (sizes .entry))) (list-lent (now (count .entry)) (now (kept .entry)) (now (extents .entry))) (now (p .entry)) (now (gather .entry))) (now (packet .entry))) .answer)
+        × (memory-of (cache-of (now (places .exit)) (now (lengths .exit))) (list-lent (now (n .exit)) (now (texts .exit)) (now (sizes .exit))) (list-lent (now (count .exit)) (now (kept .exit)) (now (extents .exit))) (now (p .exit)) (now (gather .exit)) ≡ after-packet (coding-of (flag utf8)) (memory-of (cache-of (now (places .entry)) (now (lengths .entry))) (list-lent (now (n .entry)) (now (texts .entry)) (now (sizes .entry))) (list-lent (now (count .entry)) (now (kept .entry)) (now (extents .entry))) (now (p .entry)) (now (gather .entry))) (now (packet .entry))) ⌝ }
 {
-    let pending = Pending {
-        sequence: p[0],
-        due: p[1],
-        gathered: p[2],
-    };
     let d = packet_by_value(
         utf8,
         packet,
@@ -636,11 +617,9 @@ pub extern "C" fn ik_packet(
         count,
         kept,
         extents,
-        pending,
+        *p,
         gather,
     );
-    let then = d.pending;
-    let answer = d.answer;
-    *p = [then.sequence, then.due, then.gathered];
-    answer
+    *p = d.pending;
+    d.answer
 }
