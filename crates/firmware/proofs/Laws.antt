@@ -1,0 +1,22 @@
+-- An answer in numbers beside the record, from the answer by value.
+use mathlib.Core.Path.{_≡_, _∙_, ap, ap₂}
+use Rattle.packets.specs.declared.Pending.{Pending}
+use Rattle.packets.specs.declared.Settled.{Settled}
+use Rattle.packets.specs.declared.Taken.{Taken}
+use Rattle.firmware.specs.declared.DoneReply.{DoneReply}
+use Rattle.firmware.specs.declared.PacketReply.{PacketReply}
+use Rattle.firmware.specs.declared.Kept.{Kept}
+use Rattle.firmware.specs.declared.Received.{Received}
+use Rattle.firmware.specs.Packets.{flat-done, flat-packet, kept-by, received}
+
+pub kept-told : {s t : Settled} {reply : DoneReply} → reply ≡ flat-done (s .answer) → s ≡ t → record { answer = reply; pending = s .pending } ≡ kept-by t
+unfolding kept-by
+kept-told e f =
+    ap₂ (λ (a : DoneReply) (p : Pending). record { answer = a; pending = p })
+    (e ∙ ap (λ (x : Settled). flat-done (x .answer)) f) (ap (λ (x : Settled). x .pending) f)
+
+pub received-told : {s t : Taken} {reply : PacketReply} → reply ≡ flat-packet (s .answer) → s ≡ t → record { answer = reply; pending = s .pending } ≡ received t
+unfolding received
+received-told e f =
+    ap₂ (λ (a : PacketReply) (p : Pending). record { answer = a; pending = p })
+    (e ∙ ap (λ (x : Taken). flat-packet (x .answer)) f) (ap (λ (x : Taken). x .pending) f)

@@ -1,0 +1,21 @@
+-- `firmware::drop_by_value` meets its contract. Assumes nothing.
+use Rattle.firmware.proofs.Laws.{kept-told}
+use borrow.Author.Needs.{needs}
+use Rattle.firmware.proofs.drop_by_value.Statement.{statement}
+use Rattle.firmware.proofs.drop_by_value.Tie as tie
+use Rattle.firmware.proofs.drop_by_value.Reads as reads
+use Rattle.firmware.proofs.drop_by_value.Lts as lts
+use Rattle.firmware.proofs.flat_done.Reads as flat-done-reads
+use Rattle.link.proofs.drop_sequence.Reads as drop-sequence-reads
+
+drop-sequence-requires : tie.Need-drop-sequence-requires
+drop-sequence-requires c κs = search needs
+
+flat-done-requires : tie.Need-flat-done-requires
+flat-done-requires c κs = search needs
+
+returns : tie.Need-returns
+returns c = kept-told (c .flat-done .ensures) (c .before .before .drop-sequence .ensures)
+
+pub drop-by-value-spec : {M : Type 1} → statement M
+drop-by-value-spec = tie.close (tie.spec drop-sequence-requires flat-done-requires returns)

@@ -1,0 +1,28 @@
+-- `firmware::reset_by_value` meets its contract. Assumes nothing.
+use Rattle.firmware.proofs.Laws.{kept-told}
+use borrow.Author.Needs.{needs}
+use Rattle.firmware.proofs.reset_by_value.Statement.{statement}
+use Rattle.firmware.proofs.reset_by_value.Tie as tie
+use Rattle.firmware.proofs.reset_by_value.Reads as reads
+use Rattle.firmware.proofs.reset_by_value.Lts as lts
+use Rattle.firmware.proofs.flat_done.Reads as flat-done-reads
+use Rattle.link.proofs.reset.Reads as reset-reads
+
+reset-requires : tie.Need-reset-requires
+reset-requires c κs = search needs
+
+flat-done-requires : tie.Need-flat-done-requires
+flat-done-requires c κs = search needs
+
+same-length : tie.Need-same-length
+same-length c = search needs
+
+same-length-2 : tie.Need-same-length-2
+same-length-2 c = search needs
+
+returns : tie.Need-returns
+returns c = (kept-told (c .flat-done .ensures) (c .before .before .before .before .before .before .reset .ensures .0), c .before .before .before .before .before .before .reset .ensures .1)
+
+pub reset-by-value-spec : {M : Type 1} → statement M
+reset-by-value-spec =
+    tie.close (tie.spec reset-requires flat-done-requires same-length same-length-2 returns)

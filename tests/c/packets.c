@@ -1,0 +1,424 @@
+/* ik_packet, ik_drop, ik_reset, ik_reference, ik_place. */
+#include "check.h"
+
+enum { CACHE, CACHE_LENGTHS, PLAIN_N, PLAIN_PLACES, PLAIN_LENGTHS, PENDING_N, PENDING_PLACES, PENDING_LENGTHS, RECORD, GATHER, BUFFERS };
+
+static const size_t stated[BUFFERS] = {IK_CACHE_BYTES, IK_CACHE_PLACES, 1, IK_LIST_BYTES, IK_LIST_PLACES, 1, IK_LIST_BYTES, IK_LIST_PLACES, 3, IK_GATHER_BYTES};
+static const size_t width[BUFFERS] = {1, 2, 1, 1, 2, 1, 1, 2, 8, 1};
+
+struct memory { void *at[BUFFERS]; size_t count[BUFFERS]; };
+
+/* All memory, every byte `fill`. */
+static struct memory lend_memory(uint8_t fill)
+{
+    struct memory m;
+    for (int i = 0; i < BUFFERS; i++) {
+        m.count[i] = stated[i];
+        m.at[i] = lend(stated[i] * width[i], fill);
+    }
+    return m;
+}
+
+static struct ik_done reset(struct memory m)
+{
+    return ik_reset(m.at[CACHE], m.count[CACHE], m.at[CACHE_LENGTHS], m.count[CACHE_LENGTHS], m.at[RECORD]);
+}
+
+/* All memory as after a reset; lists and gather buffer every byte 0xa5. */
+static struct memory ready_memory(void)
+{
+    struct memory m = lend_memory(0xa5);
+    SAME(reset(m).refusal, 0);
+    return m;
+}
+
+static struct memory copy_of(struct memory m)
+{
+    for (int i = 0; i < BUFFERS; i++)
+        m.at[i] = lend_copy(m.at[i], m.count[i] * width[i]);
+    return m;
+}
+
+/* Which buffers differ, as bits. */
+static unsigned differing(struct memory a, struct memory b)
+{
+    unsigned bits = 0;
+    for (int i = 0; i < BUFFERS; i++)
+        if (memcmp(a.at[i], b.at[i], a.count[i] * width[i]) != 0)
+            bits |= 1u << i;
+    return bits;
+}
+
+static struct ik_packet take(struct memory m, uint8_t utf8, const uint8_t *packet, size_t size)
+{
+    return ik_packet(utf8, packet, size, m.at[CACHE], m.count[CACHE], m.at[CACHE_LENGTHS], m.count[CACHE_LENGTHS],
+                     m.at[PLAIN_N], m.at[PLAIN_PLACES], m.count[PLAIN_PLACES], m.at[PLAIN_LENGTHS], m.count[PLAIN_LENGTHS],
+                     m.at[PENDING_N], m.at[PENDING_PLACES], m.count[PENDING_PLACES], m.at[PENDING_LENGTHS], m.count[PENDING_LENGTHS],
+                     m.at[RECORD], m.at[GATHER], m.count[GATHER]);
+}
+
+static uint16_t *lengths(struct memory m, int which) { return m.at[which]; }
+static uint8_t *bytes(struct memory m, int which) { return m.at[which]; }
+static struct ik_pending *record(struct memory m) { return m.at[RECORD]; }
+
+static void plain_is(struct ik_packet a, unsigned offset, unsigned length)
+{
+    SAME(a.refusal, 0);
+    SAME(a.place, 0);
+    SAME(a.kind, IK_PACKET_PLAIN);
+    SAME(a.offset, offset);
+    SAME(a.length, length);
+    SAME(a.due, 0);
+    SAME(a.gathered, 0);
+}
+
+static void pending_is(struct ik_packet a, unsigned due, unsigned gathered)
+{
+    SAME(a.refusal, 0);
+    SAME(a.place, 0);
+    SAME(a.kind, due ? IK_PACKET_PENDING : IK_PACKET_COMPLETE);
+    SAME(a.offset, 0);
+    SAME(a.length, 0);
+    SAME(a.due, due);
+    SAME(a.gathered, gathered);
+}
+
+static void record_is(struct memory m, uint64_t sequence, uint64_t due, uint64_t gathered)
+{
+    SAME(record(m)->sequence, sequence);
+    SAME(record(m)->due, due);
+    SAME(record(m)->gathered, gathered);
+}
+
+/* A place of the cache or a list: the text, then zeros. */
+static void place_is(struct memory m, int places, size_t place, const char *text)
+{
+    size_t length = strlen(text);
+    CHECK(memcmp(bytes(m, places) + 32 * place, text, length) == 0);
+    CHECK(all(bytes(m, places) + 32 * place + length, 32 - length, 0));
+    SAME(lengths(m, places + 1)[place], length);
+}
+
+/* A list: these texts, and zeros from there on. */
+static void list_is(struct memory m, int n, size_t count, const char *const *texts)
+{
+    SAME(*bytes(m, n), count);
+    for (size_t i = 0; i < count; i++)
+        place_is(m, n + 1, i, texts[i]);
+    CHECK(all(bytes(m, n + 1) + 32 * count, IK_LIST_BYTES - 32 * count, 0));
+    CHECK(all(lengths(m, n + 2) + count, 2 * (IK_LIST_PLACES - count), 0));
+}
+#define TEXTS(...) sizeof((const char *[]){__VA_ARGS__}) / sizeof(char *), (const char *const[]){__VA_ARGS__}
+
+static void refused(struct memory m, uint8_t utf8, const uint8_t *packet, size_t size, unsigned refusal, unsigned place)
+{
+    struct memory before = copy_of(m);
+    struct ik_packet a = take(m, utf8, lend_copy(packet, size), size);
+    SAME(a.refusal, refusal);
+    SAME(a.place, place);
+    SAME(a.kind, 0);
+    SAME(a.offset, 0);
+    SAME(a.length, 0);
+    SAME(a.due, 0);
+    SAME(a.gathered, 0);
+    SAME(differing(m, before), 0);
+}
+
+static void fresh_refused(uint8_t utf8, const uint8_t *packet, size_t size, unsigned refusal, unsigned place)
+{
+    refused(ready_memory(), utf8, packet, size, refusal, place);
+    CHECK(guards_stand());
+}
+
+enum { PLAIN_LIST = 1 << PLAIN_N | 1 << PLAIN_PLACES | 1 << PLAIN_LENGTHS, PENDING_LIST = 1 << PENDING_N | 1 << PENDING_PLACES | 1 << PENDING_LENGTHS,
+       WHOLE_CACHE = 1 << CACHE | 1 << CACHE_LENGTHS };
+
+static void plain_packets(void)
+{
+    struct memory m = ready_memory(), before = copy_of(m);
+    plain_is(take(m, 1, BYTES(131, 68, 0, 97, 5)), 3, 2);
+    list_is(m, PLAIN_N, 0, NULL);
+    SAME(differing(m, before), PLAIN_LIST);
+    CHECK(guards_stand());
+
+    /* two new references: places 4 * 256 + 10 and 5 */
+    m = ready_memory(), before = copy_of(m);
+    plain_is(take(m, 1, BYTES(131, 68, 2, 0x8c, 0, 10, 2, 'o', 'k', 5, 1, 'x', 82, 0, 82, 1)), 12, 4);
+    list_is(m, PLAIN_N, TEXTS("ok", "x"));
+    place_is(m, CACHE, 1034, "ok");
+    place_is(m, CACHE, 5, "x");
+    SAME(lengths(m, CACHE_LENGTHS)[6], IK_CACHE_EMPTY);
+    SAME(differing(m, before), PLAIN_LIST | WHOLE_CACHE);
+    /* then cached ones, the other way round, one of them twice */
+    before = copy_of(m);
+    plain_is(take(m, 0, BYTES(131, 68, 3, 0x40, 0x00, 5, 10, 5)), 8, 0);
+    list_is(m, PLAIN_N, TEXTS("x", "ok", "x"));
+    SAME(differing(m, before), PLAIN_LIST);
+    CHECK(guards_stand());
+
+    /* Latin-1 is stored as UTF-8; long lengths, odd and even n */
+    m = ready_memory();
+    plain_is(take(m, 0, BYTES(131, 68, 1, 0x08, 7, 1, 233)), 7, 0);
+    list_is(m, PLAIN_N, TEXTS("\xc3\xa9"));
+    place_is(m, CACHE, 7, "\xc3\xa9");
+    plain_is(take(m, 1, BYTES(131, 68, 1, 0x18, 7, 0, 2, 'a', 'b', 106)), 9, 1);
+    place_is(m, CACHE, 7, "ab");
+    plain_is(take(m, 200, BYTES(131, 68, 2, 0x88, 0xf1, 7, 0, 1, 'c', 8, 0, 0, 106)), 12, 1);
+    list_is(m, PLAIN_N, TEXTS("c", ""));
+    place_is(m, CACHE, 7, "c");
+    CHECK(guards_stand());
+}
+
+static void longest_texts(void)
+{
+    uint8_t packet[64] = {131, 68, 1, 0x08, 7, 32};
+    memset(packet + 6, 'a', 33);
+    struct memory m = ready_memory();
+    plain_is(take(m, 1, packet, 38), 38, 0);
+    place_is(m, CACHE, 7, "aaaaaaaaaaaaaaaaaaaaaaaaaaaaaaaa");
+    CHECK(guards_stand());
+    packet[5] = 33;
+    fresh_refused(1, packet, 39, 23, 0);
+    packet[5] = 17; /* 17 characters of two bytes each as UTF-8 */
+    memset(packet + 6, 233, 17);
+    fresh_refused(0, packet, 23, 23, 0);
+}
+
+static void refused_headers(void)
+{
+    struct memory m;
+    fresh_refused(1, NULL, 0, 1, 0);
+    fresh_refused(1, BYTES(130, 68, 0), 1, 0);
+    fresh_refused(1, BYTES(131), 2, 0);
+    fresh_refused(1, BYTES(131, 97, 5), 20, 0);
+    fresh_refused(1, BYTES(131, 68), 2, 0);
+    fresh_refused(1, BYTES(131, 68, 1), 2, 0);
+    fresh_refused(1, BYTES(131, 68, 1, 0x08), 2, 0);
+    fresh_refused(1, BYTES(131, 68, 2, 0x88, 0, 7, 0, 8), 2, 1);
+    fresh_refused(1, BYTES(131, 68, 2, 0x88, 0, 7, 1, 'a', 8, 2, 'b'), 2, 1);
+    fresh_refused(1, BYTES(131, 68, 2, 0x88, 0, 7, 1, 'a', 7, 1, 'b'), 22, 1);
+    fresh_refused(1, BYTES(131, 68, 2, 0x08, 0, 7, 1, 'a', 7), 22, 1);
+    fresh_refused(1, BYTES(131, 68, 1, 0x08, 7, 1, 233), 5, 0);
+    fresh_refused(1, BYTES(131, 68, 2, 0x08, 0, 7, 1, 'a', 8), 21, 1);
+    m = ready_memory();
+    lengths(m, CACHE_LENGTHS)[7] = 33;
+    refused(m, 1, BYTES(131, 68, 1, 0, 7), 14, 0);
+    lengths(m, CACHE_LENGTHS)[7] = 1, bytes(m, CACHE)[32 * 7] = 128;
+    refused(m, 1, BYTES(131, 68, 1, 0, 7), 14, 0);
+    refused(m, 1, BYTES(131, 68, 2, 0x80, 0, 7, 7, 0), 14, 0);
+    plain_is(take(m, 1, BYTES(131, 68, 1, 0x08, 7, 0)), 6, 0);
+    CHECK(guards_stand());
+}
+
+static void long_payloads(void)
+{
+    uint8_t *packet = calloc(70000, 1);
+    packet[0] = 131, packet[1] = 68;
+    struct memory m = ready_memory();
+    plain_is(take(m, 1, packet, 3 + 65536), 3, 65536);
+    refused(m, 1, packet, 3 + 65537, 12, 0);
+    CHECK(guards_stand());
+    const uint8_t start[] = {131, 69, 0, 0, 0, 0, 0, 0, 0, 9, 0, 0, 0, 0, 0, 0, 0, 2, 0};
+    memcpy(packet, start, sizeof start);
+    packet[sizeof start] = 0x11;
+    m = ready_memory();
+    refused(m, 1, packet, sizeof start + 65537, 12, 0);
+    pending_is(take(m, 1, packet, sizeof start + 65536), 1, 65536);
+    record_is(m, 9, 1, 65536);
+    SAME(*bytes(m, GATHER), 0x11);
+    CHECK(all(bytes(m, GATHER) + 1, 65535, 0));
+    refused(m, 1, BYTES(131, 70, 0, 0, 0, 0, 0, 0, 0, 9, 0, 0, 0, 0, 0, 0, 0, 1, 5), 12, 0);
+    pending_is(take(m, 1, BYTES(131, 70, 0, 0, 0, 0, 0, 0, 0, 9, 0, 0, 0, 0, 0, 0, 0, 1)), 0, 65536);
+    record_is(m, 0, 0, 0);
+    CHECK(guards_stand());
+    free(packet);
+}
+
+#define IDS(sequence, fragment) 0, 0, 0, 0, 0, 0, 0, sequence, 0, 0, 0, 0, 0, 0, 0, fragment
+
+static void fragments(void)
+{
+    struct memory m = ready_memory(), before = copy_of(m);
+    refused(m, 1, BYTES(131, 70, IDS(7, 2), 97), 25, 0);
+    refused(m, 1, BYTES(131, 70, IDS(7, 0), 97), 24, 0);
+    refused(m, 1, BYTES(131, 69, IDS(7, 0), 0), 24, 0);
+    refused(m, 1, BYTES(131, 69, 0, 0, 0), 2, 0);
+    refused(m, 1, BYTES(131, 69, IDS(7, 3)), 2, 0);
+    pending_is(take(m, 1, BYTES(131, 69, IDS(7, 3), 1, 0x08, 5, 2, 'o', 'k', 104, 2)), 2, 2);
+    record_is(m, 7, 2, 2);
+    list_is(m, PENDING_N, TEXTS("ok"));
+    place_is(m, CACHE, 5, "ok");
+    CHECK(memcmp(m.at[GATHER], (const uint8_t[]){104, 2}, 2) == 0);
+    CHECK(all(bytes(m, GATHER) + 2, 65534, 0xa5));
+    SAME(differing(m, before), PENDING_LIST | WHOLE_CACHE | 1 << RECORD | 1 << GATHER);
+    refused(m, 1, BYTES(131, 69, IDS(8, 2), 0), 26, 0);
+    refused(m, 1, BYTES(131, 70, IDS(8, 2), 82, 0), 25, 0);
+    refused(m, 1, BYTES(131, 70, IDS(7, 1), 82, 0), 24, 0);
+    refused(m, 1, BYTES(131, 70, IDS(7, 3), 82, 0), 24, 0);
+    /* a plain packet between takes the place over; the pending list keeps its text */
+    plain_is(take(m, 1, BYTES(131, 68, 1, 0x08, 5, 2, 'n', 'o', 82, 0)), 8, 2);
+    before = copy_of(m);
+    pending_is(take(m, 1, BYTES(131, 70, IDS(7, 2), 82, 0)), 1, 4);
+    record_is(m, 7, 1, 4);
+    SAME(differing(m, before), 1 << RECORD | 1 << GATHER);
+    pending_is(take(m, 0, BYTES(131, 70, IDS(7, 1), 97, 9)), 0, 6);
+    record_is(m, 0, 0, 0);
+    CHECK(memcmp(m.at[GATHER], (const uint8_t[]){104, 2, 82, 0, 97, 9}, 6) == 0);
+    list_is(m, PENDING_N, TEXTS("ok"));
+    list_is(m, PLAIN_N, TEXTS("no"));
+    uint8_t output[16];
+    uint64_t scratch[3];
+    struct ik_written w = ik_write_payload(m.at[GATHER], 6, *bytes(m, PENDING_N), m.at[PENDING_PLACES], IK_LIST_BYTES, m.at[PENDING_LENGTHS], IK_LIST_PLACES, scratch, 3, output, 16);
+    SAME(w.length, 9);
+    CHECK(memcmp(output, (const uint8_t[]){131, 104, 2, 119, 2, 'o', 'k', 97, 9}, 9) == 0);
+    refused(m, 1, BYTES(131, 70, IDS(7, 1), 97, 9), 25, 0);
+    CHECK(guards_stand());
+
+    /* a start that is whole */
+    m = ready_memory();
+    record(m)->gathered = 65536, record(m)->sequence = 3;
+    pending_is(take(m, 1, BYTES(131, 69, IDS(0, 1), 0, 106)), 0, 1);
+    record_is(m, 0, 0, 0);
+    list_is(m, PENDING_N, 0, NULL);
+    CHECK(guards_stand());
+}
+
+static void wrong_sizes(void)
+{
+    for (int i = 0; i < BUFFERS; i++) {
+        if (i == PLAIN_N || i == PENDING_N || i == RECORD)
+            continue;
+        for (int more = -1; more <= 1; more += 2) {
+            struct memory m = ready_memory();
+            m.count[i] += more;
+            m.at[i] = lend(m.count[i] * width[i], 0xa5);
+            record(m)->gathered = 70000; /* 13 comes before 14 */
+            refused(m, 1, NULL, 0, 13, 0);
+            struct memory before = copy_of(m);
+            struct ik_done a = reset(m);
+            if (i == CACHE || i == CACHE_LENGTHS) {
+                SAME(a.refusal, 13);
+                SAME(a.place, 0);
+                SAME(differing(m, before), 0);
+                struct ik_cached c = ik_place(m.at[CACHE], m.count[CACHE], m.at[CACHE_LENGTHS], m.count[CACHE_LENGTHS], 5);
+                SAME(c.refusal, 13);
+                SAME(c.place, 0);
+                SAME(c.start, 0);
+                SAME(c.length, 0);
+            } else {
+                SAME(a.refusal, 0);
+                SAME(differing(m, before), 1 << RECORD);
+            }
+            CHECK(guards_stand());
+        }
+    }
+}
+
+static void drops_and_resets(void)
+{
+    struct memory m = ready_memory();
+    struct ik_done a = ik_drop(m.at[RECORD]);
+    SAME(a.refusal, 25);
+    SAME(a.place, 0);
+    record(m)->gathered = 65537, record(m)->due = 4, record(m)->sequence = 8;
+    a = ik_drop(m.at[RECORD]);
+    SAME(a.refusal, 14);
+    SAME(a.place, 0);
+    record_is(m, 8, 4, 65537);
+    refused(m, 1, BYTES(130), 14, 0);
+    record(m)->gathered = 65536;
+    a = ik_drop(m.at[RECORD]);
+    SAME(a.refusal, 0);
+    SAME(a.place, 0);
+    record_is(m, 0, 0, 0);
+    record(m)->gathered = 65537, record(m)->due = 0;
+    SAME(ik_drop(m.at[RECORD]).refusal, 14);
+    CHECK(guards_stand());
+    m = lend_memory(0x77);
+    struct memory before = copy_of(m);
+    a = reset(m);
+    SAME(a.refusal, 0);
+    SAME(a.place, 0);
+    CHECK(all(m.at[CACHE], IK_CACHE_BYTES, 0));
+    CHECK(all(m.at[CACHE_LENGTHS], 2 * IK_CACHE_PLACES, 0xff));
+    record_is(m, 0, 0, 0);
+    SAME(differing(m, before), WHOLE_CACHE | 1 << RECORD);
+    CHECK(guards_stand());
+}
+
+static void reference_is(uint8_t utf8, const uint8_t *packet, size_t size, size_t index, unsigned refusal, unsigned place)
+{
+    struct ik_place a = ik_reference(utf8, lend_copy(packet, size), size, index);
+    SAME(a.refusal, refusal);
+    SAME(a.place, 0);
+    SAME(a.cache_place, place);
+    CHECK(guards_stand());
+}
+
+static void references(void)
+{
+    reference_is(1, BYTES(131, 68, 2, 0x0c, 0, 10, 2, 'o', 'k', 5, 106), 0, 0, 1034);
+    reference_is(1, BYTES(131, 68, 2, 0x0c, 0, 10, 2, 'o', 'k', 5, 106), 1, 0, 5);
+    reference_is(1, BYTES(131, 68, 2, 0x0c, 0, 10, 2, 'o', 'k', 5, 106), 2, 6, 0);
+    reference_is(1, BYTES(131, 68, 2, 0x0c, 0, 10, 2, 'o', 'k', 5, 106), SIZE_MAX, 6, 0);
+    reference_is(1, BYTES(131, 69, IDS(7, 3), 1, 0x07, 255), 0, 0, 2047);
+    reference_is(1, BYTES(131, 70, IDS(7, 3), 1, 0x07, 255), 0, 6, 0);
+    reference_is(1, BYTES(131, 68, 0), 0, 6, 0);
+    reference_is(1, NULL, 0, 0, 1, 0);
+    reference_is(1, BYTES(130), 0, 1, 0);
+    reference_is(1, BYTES(131), 0, 2, 0);
+    reference_is(1, BYTES(131, 67), 0, 20, 0);
+    reference_is(1, BYTES(131, 70, 0, 0), 0, 2, 0);
+    reference_is(1, BYTES(131, 70, IDS(7, 0)), 0, 24, 0);
+    reference_is(1, BYTES(131, 69, IDS(7, 0), 1), 0, 24, 0);
+    reference_is(1, BYTES(131, 68, 2, 0x00, 0, 10), 0, 2, 0);
+    reference_is(1, BYTES(131, 68, 2, 0x80, 0, 10, 10, 0), 0, 22, 0);
+    reference_is(1, BYTES(131, 68, 2, 0x80, 0, 10, 11, 1, 233), 0, 5, 0);
+    reference_is(0, BYTES(131, 68, 2, 0x80, 0, 10, 11, 1, 233), 0, 0, 10);
+    uint8_t packet[64] = {131, 68, 1, 0x08, 7, 33};
+    reference_is(1, packet, 39, 0, 23, 0);
+}
+
+static void cached(struct memory m, size_t place, unsigned refusal, unsigned start, unsigned length)
+{
+    struct memory before = copy_of(m);
+    struct ik_cached a = ik_place(m.at[CACHE], m.count[CACHE], m.at[CACHE_LENGTHS], m.count[CACHE_LENGTHS], place);
+    SAME(a.refusal, refusal);
+    SAME(a.place, 0);
+    SAME(a.start, start);
+    SAME(a.length, length);
+    SAME(differing(m, before), 0);
+    lent_count -= BUFFERS;
+    for (int i = 0; i < BUFFERS; i++)
+        free(lent_now[lent_count + i].memory);
+}
+
+static void places(void)
+{
+    struct memory m = ready_memory();
+    cached(m, 2047, 21, 0, 0);
+    cached(m, 2048, 13, 0, 0);
+    cached(m, SIZE_MAX, 13, 0, 0);
+    SAME(take(m, 1, BYTES(131, 68, 2, 0x8f, 0, 255, 2, 'o', 'k', 5, 0)).refusal, 0);
+    cached(m, 2047, 0, 2047 * 32, 2);
+    cached(m, 5, 0, 160, 0);
+    lengths(m, CACHE_LENGTHS)[6] = 33;
+    cached(m, 6, 14, 0, 0);
+    lengths(m, CACHE_LENGTHS)[6] = 1, bytes(m, CACHE)[32 * 6] = 0xff;
+    cached(m, 6, 14, 0, 0);
+    CHECK(guards_stand());
+}
+
+int main(void)
+{
+    plain_packets();
+    longest_texts();
+    refused_headers();
+    long_payloads();
+    fragments();
+    wrong_sizes();
+    drops_and_resets();
+    references();
+    places();
+    return ended("packets");
+}

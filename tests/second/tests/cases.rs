@@ -1,0 +1,740 @@
+//! The cases of document 01, and what the outside vectors do not reach: the sizes, the orders between
+//! refusals, false state, wrong sizes. Everything goes through the protocol of DRIVE.md.
+
+use second::drive::{hex, unhex, Driver};
+
+fn ask(driver: &mut Driver, line: &str) -> String {
+    driver.answer(line.as_bytes())
+}
+
+fn get(driver: &mut Driver, name: &str) -> Vec<u8> {
+    let answer = ask(driver, &format!("get {name}"));
+    unhex(answer.as_bytes()).expect("hex")
+}
+
+/// The bench's line for a standalone term (empty list, 8,192 rows, 65,536 bytes of output).
+fn bench(message: &[u8]) -> String {
+    let mut driver = Driver::new();
+    let answer = ask(&mut driver, &format!("write standalone empty {}", hex(message)));
+    match answer.strip_prefix("ok ") {
+        Some(length) => {
+            let length: usize = length.parse().expect("a number");
+            format!("ok {}", hex(&get(&mut driver, "output")[..length]))
+        }
+        None => answer,
+    }
+}
+
+fn ok(message: &[u8], canonical: &[u8]) {
+    assert_eq!(bench(message), format!("ok {}", hex(canonical)));
+}
+
+fn refused(message: &[u8], number: u8, place: usize) {
+    assert_eq!(bench(message), format!("refused {number} {place}"), "{}", &hex(message)[..40.min(2 * message.len())]);
+}
+
+/// The reader's answer with so many rows.
+fn read(form: &str, message: &[u8], rows: usize) -> String {
+    let mut driver = Driver::new();
+    ask(&mut driver, &format!("lend table {rows}"));
+    ask(&mut driver, "fill table a5");
+    let answer = ask(&mut driver, &format!("read {form} empty {}", hex(message)));
+    if answer.starts_with("refused") {
+        // "A refused reading leaves the lent table all zero"
+        assert!(get(&mut driver, "table").iter().all(|byte| *byte == 0));
+    }
+    answer
+}
+
+fn join(parts: &[&[u8]]) -> Vec<u8> {
+    parts.concat()
+}
+
+fn tuples(count: usize, inmost: &[u8]) -> Vec<u8> {
+    let mut message = vec![131];
+    for _ in 0..count {
+        message.extend_from_slice(&[104, 1]);
+    }
+    message.extend_from_slice(inmost);
+    message
+}
+
+#[test]
+fn the_cases_of_document_01() {
+    ok(&[131, 98, 0, 0, 0, 5], &[131, 97, 5]); // P1
+    ok(&[131, 110, 2, 0, 5, 0], &[131, 97, 5]); // P2
+    ok(&[131, 110, 4, 1, 0, 0, 0, 128], &[131, 98, 128, 0, 0, 0]); // P4
+    ok(&[131, 108, 0, 0, 0, 2, 97, 7, 97, 8, 106], &[131, 107, 0, 2, 7, 8]); // P6
+    ok(&[131, 77, 0, 0, 0, 1, 3, 191], &[131, 77, 0, 0, 0, 1, 3, 160]); // P8
+    ok(&[131, 100, 0, 1, 233], &[131, 119, 2, 195, 169]); // P9
+    refused(&[131, 82, 0], 6, 1); // P10
+    refused(&[131], 2, 1); // P11
+    refused(&[131, 116, 0, 0, 0, 2, 97, 1, 97, 5, 98, 0, 0, 0, 1, 97, 6], 7, 10); // P13
+    // "64 nested tuples, the inmost empty, pass; 65 is 8."
+    let deep = tuples(63, &[104, 0]);
+    ok(&deep, &deep);
+    refused(&tuples(64, &[104, 0]), 8, 129);
+}
+
+#[test]
+fn the_fragmented_example_of_001() {
+    let mut driver = Driver::new();
+    // "places 1,034 and 5 filled before"
+    let filled = [131, 68, 2, 0x8c, 0, 10, 1, b'r', 5, 1, b's'];
+    assert_eq!(ask(&mut driver, &format!("packet 1 {}", hex(&filled))), "plain 11 0");
+    assert_eq!(ask(&mut driver, "place 1034"), "text 72");
+    assert_eq!(ask(&mut driver, "place 5"), "text 73");
+    let ids = [0, 0, 2, 168, 0, 0, 5, 83, 0, 0, 0, 0, 0, 0, 0];
+    let start = join(&[
+        &[131, 69],
+        &ids,
+        &[2],
+        &[5, 4, 137, 9, 10, 5, 236, 3, 114, 101, 103, 9, 4, 99, 97, 108, 108],
+        &[238, 13, 115, 101, 116, 95, 103, 101, 116, 95, 115, 116, 97, 116, 101],
+        &[104, 4, 97, 6, 103, 82, 0, 0, 0, 0, 85, 0, 0, 0, 0, 2, 82, 1, 82, 2],
+        &[104, 3, 82, 3, 103, 82, 0, 0, 0, 0, 245, 0, 0, 0, 2, 2, 104, 2, 82, 4, 109, 0, 0, 0, 128],
+        &[0; 103],
+    ]);
+    assert_eq!(ask(&mut driver, &format!("packet 1 {}", hex(&start))), "pending 1 148");
+    // Another header in between renames place 1,034 and the last fragment still has the old text.
+    let between = [131, 68, 1, 0x0c, 10, 1, b'x'];
+    assert_eq!(ask(&mut driver, &format!("packet 1 {}", hex(&between))), "plain 7 0");
+    let last = join(&[&[131, 70], &ids, &[1], &[0; 25]]);
+    assert_eq!(ask(&mut driver, &format!("packet 1 {}", hex(&last))), "complete 173");
+    assert_eq!(ask(&mut driver, "get record"), "00".repeat(24));
+    let payload = get(&mut driver, "gather")[..173].to_vec();
+    assert_eq!(ask(&mut driver, &format!("read payload pending {}", hex(&payload))), "ok 2 13");
+    let answer = ask(&mut driver, &format!("write payload pending {}", hex(&payload)));
+    let written = get(&mut driver, "output");
+    let expected = join(&[
+        &[131, 104, 4, 97, 6, 88, 119, 1, b'r', 0, 0, 0, 85, 0, 0, 0, 0, 0, 0, 0, 2],
+        b"\x77\x01s\x77\x03reg",
+        b"\x83\x68\x03\x77\x04call",
+        &[88, 119, 1, b'r', 0, 0, 0, 245, 0, 0, 0, 2, 0, 0, 0, 2],
+        b"\x68\x02\x77\x0dset_get_state",
+        &[109, 0, 0, 0, 128],
+        &[0; 128],
+    ]);
+    assert_eq!(answer, format!("ok {}", expected.len()));
+    assert_eq!(hex(&written[..expected.len()]), hex(&expected));
+}
+
+#[test]
+fn order_before_the_first_byte() {
+    // "Order: 13, then 12 on the term bytes, then byte order." The 131 counts (OP-01).
+    let binary = |n: usize| join(&[&[131, 109, 0, (n >> 16) as u8, (n >> 8) as u8, n as u8], &vec![7; n]]);
+    assert_eq!(read("standalone", &binary(65_530), 1), "ok 1 1");
+    assert_eq!(read("standalone", &binary(65_531), 1), "refused 12 0");
+    assert_eq!(read("standalone", &vec![0; 65_537], 1), "refused 12 0");
+    assert_eq!(read("standalone", &[], 1), "refused 1 0");
+    assert_eq!(read("standalone", &[97, 1], 1), "refused 1 0");
+    assert_eq!(read("payload", &[], 1), "refused 2 0");
+    assert_eq!(read("payload", &[131, 97, 1], 1), "refused 3 0");
+    assert_eq!(read("payload", &[97], 0), "refused 2 0");
+    assert_eq!(read("payload", &[97, 1], 0), "refused 9 0");
+    // 13 stands before 12 and everything, for each of the five calls on a list.
+    for wrong in ["lend plain-texts 8159", "lend plain-texts 8161", "lend plain-lengths 254", "lend plain-lengths 256"] {
+        let mut driver = Driver::new();
+        assert_eq!(ask(&mut driver, wrong), "ok");
+        ask(&mut driver, "fill table 11");
+        ask(&mut driver, "fill output 22");
+        let long = "00".repeat(65_537);
+        assert_eq!(ask(&mut driver, &format!("read standalone plain {long}")), "refused 13 0");
+        assert!(get(&mut driver, "table").iter().all(|byte| *byte == 0));
+        ask(&mut driver, "fill table 11");
+        assert_eq!(ask(&mut driver, &format!("write standalone plain {long}")), "refused 13 0");
+        assert!(get(&mut driver, "table").iter().all(|byte| *byte == 0));
+        assert!(get(&mut driver, "output").iter().all(|byte| *byte == 0x22));
+        assert_eq!(ask(&mut driver, "number standalone plain 0 83"), "refused 13 0");
+        assert_eq!(ask(&mut driver, "mark standalone plain 0 83"), "refused 13 0");
+        assert_eq!(ask(&mut driver, "text standalone plain 1 83770161"), "empty");
+        assert_eq!(ask(&mut driver, "text standalone empty 1 83770161"), "message 3 1");
+        assert_eq!(ask(&mut driver, "read standalone empty 836a"), "ok 1 1");
+    }
+}
+
+#[test]
+fn rows_and_their_words() {
+    let mut driver = Driver::new();
+    // {[7, 8 | x], #{a => <<>>}, []} with a joined 107 in the list: [7 | "\x08" | ...] cannot be improper,
+    // so here a 108 joined to a 108 with an improper tail, each behind a 108 of length 0.
+    let message = join(&[
+        &[104, 4],
+        &[108, 0, 0, 0, 0, 108, 0, 0, 0, 1, 97, 7, 108, 0, 0, 0, 0, 108, 0, 0, 0, 1, 97, 8, 119, 1, b'x'],
+        &[116, 0, 0, 0, 1, 115, 1, b'a', 109, 0, 0, 0, 0],
+        &[107, 0, 2, 5, 6],
+        &[113, 119, 0, 119, 0, 97, 3],
+    ]);
+    assert_eq!(ask(&mut driver, &format!("read payload empty {}", hex(&message))), "ok 1 15");
+    let table = get(&mut driver, "table");
+    let word = |row: usize| table[8 * row..8 * row + 8].iter().fold(0u64, |sum, byte| sum << 8 | u64::from(*byte));
+    let expected: [(u64, u64, u64, u64, u64); 15] = [
+        // kind, offset, whole plus 1, parts, rows
+        (4, 0, 0, 4, 15),
+        (6, 7, 1, 3, 4),
+        (1, 12, 2, 0, 1),
+        (1, 24, 2, 0, 1),
+        (3, 26, 2, 0, 1),
+        (9, 29, 1, 2, 3),
+        (3, 34, 6, 0, 1),
+        (7, 37, 6, 0, 1),
+        (5, 42, 1, 2, 3),
+        (14, 45, 9, 0, 1),
+        (14, 46, 9, 0, 1),
+        (13, 47, 1, 3, 4),
+        (3, 48, 12, 0, 1),
+        (3, 50, 12, 0, 1),
+        (1, 52, 12, 0, 1),
+    ];
+    for (row, (kind, offset, whole, parts, rows)) in expected.into_iter().enumerate() {
+        assert_eq!(word(row), kind | offset << 4 | whole << 20 | parts << 34 | rows << 47, "row {row}");
+    }
+    assert_eq!(ask(&mut driver, "kind 0"), "tuple 0 -");
+    assert_eq!(ask(&mut driver, "kind 1"), "list 7 0");
+    assert_eq!(ask(&mut driver, "kind 9"), "integer 45 8");
+    assert_eq!(ask(&mut driver, "kind 15"), "- - -");
+    assert_eq!(ask(&mut driver, "kind 8192"), "- - -");
+    assert_eq!(ask(&mut driver, "kind 4294967295"), "- - -");
+}
+
+#[test]
+fn how_many_rows() {
+    // 8,191 elements and the tuple are 8,192 rows; a larger table counts as 8,192.
+    let tuple = |n: usize| join(&[&[105, 0, 0, (n >> 8) as u8, n as u8], &vec![106; n]]);
+    assert_eq!(read("payload", &tuple(8_191), 8_192), "ok 1 8192");
+    assert_eq!(read("payload", &tuple(8_192), 8_192), "refused 9 8196");
+    assert_eq!(read("payload", &tuple(8_192), 9_000), "refused 9 8196");
+    assert_eq!(read("payload", &tuple(8_191), 8_191), "refused 9 8195");
+    // The second term of a payload: no row left at its tag, after its own fields.
+    assert_eq!(read("payload", &join(&[&tuple(8_191), &[106]]), 8_192), "refused 9 8196");
+    assert_eq!(read("payload", &join(&[&tuple(8_191), &[97]]), 8_192), "refused 2 8196");
+    // What is wrong after the first term is the second term's refusal; 10 only after it (OP-14).
+    assert_eq!(read("payload", &[97, 1, 131, 97, 1], 8), "refused 3 2");
+    assert_eq!(read("payload", &[97, 1, 97, 1, 131], 8), "refused 10 4");
+    assert_eq!(read("standalone", &[131, 97, 1, 97], 8), "refused 10 3");
+    // A 107 joined on: 9 at that 107's tag; the joined list itself is never judged.
+    let joined = [108, 0, 0, 0, 1, 97, 1, 107, 0, 2, 5, 6];
+    assert_eq!(read("payload", &joined, 4), "ok 1 4");
+    assert_eq!(read("payload", &joined, 3), "refused 9 7");
+    assert_eq!(read("payload", &joined, 2), "refused 9 7");
+    assert_eq!(read("payload", &joined, 1), "refused 9 5");
+    assert_eq!(read("payload", &[108, 0, 0, 0, 1, 97, 1, 107, 0, 0], 2), "ok 1 2");
+    assert_eq!(read("payload", &[108, 0, 0, 0, 1, 97, 1, 107, 0, 2, 5], 2), "refused 2 7");
+    // 9 behind a 108 of length 0: at what stands in its place.
+    assert_eq!(read("payload", &[108, 0, 0, 0, 0, 106], 0), "refused 9 5");
+    // A count is not tested against the bytes left (OP-05).
+    assert_eq!(read("payload", &[105, 255, 255, 255, 255, 97, 1], 9), "refused 2 7");
+    assert_eq!(read("payload", &[105, 255, 255, 255, 255, 97, 1, 97, 1], 2), "refused 9 7");
+    assert_eq!(read("payload", &[109, 255, 255, 255, 255], 2), "refused 2 0");
+    assert_eq!(read("payload", &[111, 255, 255, 255, 255, 2, 7], 2), "refused 2 0");
+}
+
+#[test]
+fn joined_tails_and_wrappers_in_any_number() {
+    let wrappers: Vec<u8> = [108, 0, 0, 0, 0].repeat(13_000);
+    assert_eq!(read("payload", &join(&[&wrappers, &[106]]), 1), "ok 1 1");
+    assert_eq!(read("payload", &join(&[&wrappers, &[255]]), 1), "refused 3 65000");
+    assert_eq!(read("payload", &wrappers, 1), "refused 2 65000");
+    // [x, x, ...] as 8,191 lists of one element, each joined on.
+    let joined: Vec<u8> = [108, 0, 0, 0, 1, 106].repeat(8_191);
+    assert_eq!(read("payload", &join(&[&joined, &[106]]), 8_192), "ok 1 8192");
+    let joined = join(&[&[108, 0, 0, 0, 1, 106], &wrappers, &[106]]);
+    assert_eq!(read("payload", &joined, 2), "ok 1 2");
+    // A tail behind wrappers that is no list is a part.
+    assert_eq!(read("payload", &join(&[&[108, 0, 0, 0, 1, 106], &wrappers, &[97, 1]]), 3), "ok 1 3");
+}
+
+#[test]
+fn depth() {
+    // OP-18: a 107 at depth 64: no row left gives 9, else the character's 8, both at the 107's tag.
+    let message = tuples(63, &[107, 0, 1, 5]);
+    assert_eq!(read("standalone", &message, 63), "refused 9 127");
+    assert_eq!(read("standalone", &message, 64), "refused 8 127");
+    // 8 before 9, where both are due.
+    assert_eq!(read("standalone", &tuples(64, &[97, 5]), 64), "refused 8 129");
+    // Fields stand before 8 (OP-13).
+    refused(&tuples(64, &[97]), 2, 129);
+    refused(&tuples(64, &[255]), 3, 129);
+    refused(&tuples(64, &[70, 127, 240, 0, 0, 0, 0, 0, 0]), 4, 129);
+    refused(&tuples(64, &[119, 1, 255]), 5, 129);
+    refused(&tuples(64, &[82, 0]), 6, 129);
+    refused(&tuples(64, &[108, 0, 0, 0, 0, 108, 0, 0, 0, 0, 106]), 8, 139);
+    refused(&tuples(64, &[90, 0, 4]), 4, 129);
+    refused(&tuples(64, &[90, 0, 3]), 8, 129);
+    // OP-50: a pid at depth 64 is 8 at its node.
+    refused(&tuples(63, &[103, 119, 1, b'a', 0]), 8, 128);
+    refused(&tuples(63, &[103, 255]), 4, 128);
+    refused(&tuples(63, &[113, 119, 1, 255]), 5, 128);
+    // An improper tail is one deeper than its list.
+    refused(&tuples(63, &[108, 0, 0, 0, 1, 106, 106]), 8, 132);
+    let list = tuples(62, &[108, 0, 0, 0, 1, 106, 97, 1]);
+    ok(&list, &list);
+    // The second term of a payload starts anew.
+    let deep = tuples(63, &[104, 0]);
+    assert_eq!(read("payload", &join(&[&deep[1..], &deep[1..]]), 128), "ok 2 128");
+}
+
+#[test]
+fn parts_that_must_be_atoms() {
+    refused(&[131, 88], 2, 2);
+    refused(&[131, 88, 106], 4, 2);
+    refused(&[131, 88, 255], 4, 2);
+    refused(&[131, 88, 108, 0, 0, 0, 0, 119, 0, 0, 0, 0, 0, 0, 0, 0, 0, 0, 0, 0, 0], 4, 2);
+    refused(&[131, 88, 119, 1], 2, 2);
+    refused(&[131, 88, 119, 0, 255, 255, 255, 255, 255, 255, 255, 255, 0, 0, 0], 2, 1);
+    refused(&[131, 88, 119, 0, 0, 0, 128, 0, 0, 0, 0, 0, 0, 0, 0, 0], 4, 1);
+    refused(&[131, 113, 119, 0], 2, 4);
+    refused(&[131, 113, 119, 0, 119, 0], 2, 6);
+    refused(&[131, 113, 119, 0, 119, 0, 98, 0, 0, 0, 1], 4, 6);
+    refused(&[131, 113, 119, 0, 119, 0, 97], 2, 6);
+    refused(&[131, 90, 0, 0, 255], 4, 1);
+    refused(&[131, 101, 119, 0, 0, 4, 0, 0, 0], 4, 1);
+    refused(&[131, 102, 119, 0, 0, 0, 0, 0, 4], 4, 1);
+    ok(&[131, 101, 119, 0, 0, 3, 255, 255, 3], &[131, 90, 0, 1, 119, 0, 0, 0, 0, 3, 0, 3, 255, 255]);
+    ok(&[131, 120, 119, 0, 0, 0, 0, 0, 15, 255, 255, 255, 0, 0, 0, 9], &[131, 89, 119, 0, 15, 255, 255, 255, 0, 0, 0, 9]);
+    let big = [131, 120, 119, 0, 0, 0, 0, 0, 16, 0, 0, 0, 0, 0, 0, 9];
+    ok(&big, &big);
+    // 114: only the first word is bounded.
+    ok(
+        &[131, 114, 0, 2, 119, 0, 1, 0, 0, 0, 1, 255, 255, 255, 255],
+        &[131, 90, 0, 2, 119, 0, 0, 0, 0, 1, 0, 0, 0, 1, 255, 255, 255, 255],
+    );
+}
+
+#[test]
+fn equal_keys() {
+    let twice = |first: &[u8], second: &[u8]| {
+        bench(&join(&[&[131, 116, 0, 0, 0, 2], first, &[106], second, &[106]]))
+    };
+    let equal = |first: &[u8], second: &[u8]| {
+        assert_eq!(twice(first, second), format!("refused 7 {}", 7 + first.len()));
+        assert_eq!(twice(second, first), format!("refused 7 {}", 7 + second.len()));
+    };
+    let different = |first: &[u8], second: &[u8]| assert!(twice(first, second).starts_with("ok"));
+    equal(&[97, 0], &[110, 2, 1, 0, 0]);
+    equal(&[107, 0, 1, 7], &[108, 0, 0, 0, 1, 98, 0, 0, 0, 7, 107, 0, 0]);
+    equal(&[109, 0, 0, 0, 1, 5], &[77, 0, 0, 0, 1, 8, 5]);
+    equal(&[109, 0, 0, 0, 0], &[77, 0, 0, 0, 0, 0]);
+    equal(&[77, 0, 0, 0, 1, 1, 128], &[77, 0, 0, 0, 1, 1, 255]);
+    equal(&[115, 1, 233], &[118, 0, 2, 195, 169]);
+    equal(&[102, 119, 0, 0, 0, 0, 1, 2], &[120, 119, 0, 0, 0, 0, 0, 0, 0, 0, 1, 0, 0, 0, 2]);
+    equal(&[103, 119, 0, 0, 0, 0, 1, 0, 0, 0, 2, 2], &[88, 119, 0, 0, 0, 0, 1, 0, 0, 0, 2, 0, 0, 0, 2]);
+    equal(&[106], &[108, 0, 0, 0, 0, 107, 0, 0]); // OP-04: at the wrapper
+    equal(&[104, 1, 97, 1], &[105, 0, 0, 0, 1, 110, 1, 0, 1]);
+    equal(&[116, 0, 0, 0, 1, 97, 1, 97, 2], &[116, 0, 0, 0, 1, 98, 0, 0, 0, 1, 97, 2]);
+    different(&[97, 1], &[70, 63, 240, 0, 0, 0, 0, 0, 0]);
+    different(&[70, 0, 0, 0, 0, 0, 0, 0, 0], &[70, 128, 0, 0, 0, 0, 0, 0, 0]);
+    different(&[116, 0, 0, 0, 2, 97, 1, 106, 97, 2, 106], &[116, 0, 0, 0, 2, 97, 2, 106, 97, 1, 106]);
+    different(&[90, 0, 1, 119, 0, 0, 0, 0, 0, 0, 0, 0, 7], &[90, 0, 2, 119, 0, 0, 0, 0, 0, 0, 0, 0, 7, 0, 0, 0, 0]); // OP-46
+    different(&[77, 0, 0, 0, 1, 1, 128], &[77, 0, 0, 0, 1, 2, 128]);
+    different(&[108, 0, 0, 0, 1, 97, 1, 97, 2], &[107, 0, 2, 1, 2]);
+    different(&[106], &[109, 0, 0, 0, 0]);
+    different(&[119, 1, b'a'], &[107, 0, 1, b'a']);
+    // Judged before the value is read.
+    refused(&[131, 116, 0, 0, 0, 2, 106, 106, 106], 7, 8);
+    refused(&[131, 116, 0, 0, 0, 2, 106, 106, 97, 1], 2, 10);
+}
+
+#[test]
+fn bits_and_floats() {
+    refused(&[131, 77, 0, 0, 0, 0], 2, 1);
+    refused(&[131, 77, 0, 0, 0, 0, 1], 4, 1);
+    refused(&[131, 77, 0, 0, 0, 0, 8], 4, 1);
+    refused(&[131, 77, 0, 0, 0, 1, 0], 2, 1);
+    refused(&[131, 77, 0, 0, 0, 1, 0, 5], 4, 1);
+    refused(&[131, 77, 0, 0, 0, 1, 9, 5], 4, 1);
+    ok(&[131, 77, 0, 0, 0, 2, 7, 255, 255], &[131, 77, 0, 0, 0, 2, 7, 255, 254]);
+    refused(&[131, 110, 1, 2], 2, 1);
+    refused(&[131, 110, 1, 2, 0], 4, 1);
+    refused(&[131, 70, 255, 255, 0, 0, 0, 0, 0], 2, 1);
+    refused(&[131, 70, 255, 240, 0, 0, 0, 0, 0, 0], 4, 1);
+    ok(&[131, 70, 255, 239, 255, 255, 255, 255, 255, 255], &[131, 70, 255, 239, 255, 255, 255, 255, 255, 255]);
+}
+
+#[test]
+fn texts_of_255_characters() {
+    let atom = |character: &str, count: usize| {
+        let text = character.repeat(count);
+        join(&[&[131, 118, (text.len() >> 8) as u8, text.len() as u8], text.as_bytes()])
+    };
+    ok(&atom("\u{10000}", 255), &atom("\u{10000}", 255));
+    refused(&atom("\u{10000}", 256), 5, 1);
+    refused(&join(&[&[131, 100, 1, 0], &[b'a'; 256]]), 5, 1);
+    refused(&join(&[&[131, 100, 1, 0], &[b'a'; 255]]), 2, 1);
+    ok(&join(&[&[131, 100, 0, 255], &[b'a'; 255]]), &join(&[&[131, 119, 255], &[b'a'; 255]]));
+    ok(&join(&[&[131, 115, 255], &[233; 255]]), &atom("\u{e9}", 255));
+}
+
+#[test]
+fn writing_and_room() {
+    let mut driver = Driver::new();
+    ask(&mut driver, "lend output 5");
+    ask(&mut driver, "fill output ee");
+    ask(&mut driver, "fill table 77");
+    assert_eq!(ask(&mut driver, "write payload empty 6e0100056e010006"), "refused 11 0");
+    assert_eq!(ask(&mut driver, "get output"), "eeeeeeeeee");
+    assert!(get(&mut driver, "table").iter().all(|byte| *byte == 0));
+    // 10 stands before 11.
+    assert_eq!(ask(&mut driver, "write payload empty 6e0100056e01000661"), "refused 10 8");
+    assert_eq!(ask(&mut driver, "write payload empty 6e010005"), "ok 3");
+    assert_eq!(ask(&mut driver, "get output"), "836105eeee");
+    ask(&mut driver, "lend output 6");
+    assert_eq!(ask(&mut driver, "write payload empty 6e0100056e010006"), "ok 6");
+    assert_eq!(ask(&mut driver, "get output"), "836105836106");
+    ask(&mut driver, "lend table 1");
+    assert_eq!(ask(&mut driver, "write payload empty 6e0100056e010006"), "refused 9 4");
+    // OP-53: canonical forms longer than 65,536 bytes exist, and then the bench says 11 at 0.
+    let atom = join(&[&[115, 255], &[233; 255]]);
+    let message = join(&[&[131, 104, 250], &atom.repeat(250)]);
+    refused(&message, 11, 0);
+    // Integers to 255 digits are 110, then 111.
+    let digits = |tag: &[u8], n: usize| join(&[&[131], tag, &[1], &vec![1; n]]);
+    ok(&digits(&[111, 0, 0, 0, 255], 255), &digits(&[110, 255], 255));
+    ok(&digits(&[111, 0, 0, 1, 0], 256), &digits(&[111, 0, 0, 1, 0], 256));
+    ok(&[131, 110, 5, 1, 0, 0, 0, 128, 0], &[131, 98, 128, 0, 0, 0]);
+    ok(&[131, 110, 4, 1, 1, 0, 0, 128], &[131, 110, 4, 1, 1, 0, 0, 128]);
+    ok(&[131, 110, 4, 0, 0, 0, 0, 128], &[131, 110, 4, 0, 0, 0, 0, 128]);
+    ok(&[131, 98, 255, 255, 255, 255], &[131, 98, 255, 255, 255, 255]);
+    // OP-59
+    ok(&[131, 107, 0, 0], &[131, 106]);
+    ok(
+        &[131, 108, 0, 0, 0, 1, 106, 107, 0, 2, 1, 2],
+        &[131, 108, 0, 0, 0, 3, 106, 97, 1, 97, 2, 106],
+    );
+    ok(&[131, 108, 0, 0, 0, 2, 97, 1, 97, 2, 97, 3], &[131, 108, 0, 0, 0, 2, 97, 1, 97, 2, 97, 3]);
+    let tuple = |tag: &[u8], n: usize| join(&[&[131], tag, &vec![106; n]]);
+    ok(&tuple(&[105, 0, 0, 0, 255], 255), &tuple(&[104, 255], 255));
+    ok(&tuple(&[105, 0, 0, 1, 0], 256), &tuple(&[105, 0, 0, 1, 0], 256));
+}
+
+#[test]
+fn numbers_asked_for() {
+    let mut driver = Driver::new();
+    let cases = [
+        ("836e0800ffffffffffffff7f", "whole 9223372036854775807"),
+        ("836e080000000000000000 80", "neither"),
+        ("836e08010000000000000080", "whole -9223372036854775808"),
+        ("836e08010100000000000080", "neither"),
+        ("836e09010000000000000080 00", "whole -9223372036854775808"),
+        ("836e0901000000000000008001", "neither"),
+        ("83468000000000000000", "float 9223372036854775808"),
+        ("836a", "neither"),
+        ("83", "refused 2 1"),
+    ];
+    for (message, answer) in cases {
+        let message = message.replace(' ', "");
+        assert_eq!(ask(&mut driver, &format!("number standalone empty 0 {message}")), answer, "{message}");
+    }
+    assert_eq!(ask(&mut driver, "number standalone empty 1 836b00010a"), "whole 10");
+    assert_eq!(ask(&mut driver, "number standalone empty 4294967295 836b00010a"), "neither");
+    assert_eq!(ask(&mut driver, "number standalone empty 3 8371770077006109"), "whole 9");
+    let many = join(&[&[131, 105, 0, 0, 31, 255], &[106; 8_190], &[97, 5]]);
+    assert_eq!(ask(&mut driver, &format!("number standalone empty 8191 {}", hex(&many))), "whole 5");
+    let more = join(&[&[131, 105, 0, 0, 32, 0], &[106; 8_192]]);
+    assert_eq!(ask(&mut driver, &format!("number standalone empty 0 {}", hex(&more))), "refused 9 8197");
+    // The message is judged with 8,192 rows whatever table is lent.
+    ask(&mut driver, "lend table 0");
+    assert_eq!(ask(&mut driver, "number standalone empty 0 836105"), "whole 5");
+    assert_eq!(ask(&mut driver, "mark standalone empty 1 83770161"), "utf8");
+}
+
+#[test]
+fn atoms_asked_for() {
+    let mut driver = Driver::new();
+    ask(&mut driver, "set plain-count 0 ff");
+    ask(&mut driver, "set plain-texts 8128 c3a9");
+    ask(&mut driver, "set plain-lengths 508 0002");
+    assert_eq!(ask(&mut driver, "text payload plain 0 52fe"), "list 8128 2");
+    assert_eq!(ask(&mut driver, "mark payload plain 0 52fe"), "utf8");
+    assert_eq!(ask(&mut driver, "mark payload plain 0 52ff"), "refused 6 0");
+    assert_eq!(ask(&mut driver, "write payload plain 52fe"), "ok 5");
+    assert_eq!(ask(&mut driver, "text payload plain 0 5200"), "empty");
+    assert_eq!(ask(&mut driver, "mark payload plain 0 5200"), "utf8");
+    assert_eq!(ask(&mut driver, "mark payload plain 4294967295 5200"), "refused 4 4294967295");
+    // A byte in a binary that looks like an atom's tag is no atom; a node is one.
+    assert_eq!(ask(&mut driver, "mark payload plain 5 6d00000002520061"), "refused 2 7");
+    assert_eq!(ask(&mut driver, "mark payload plain 5 6d000000025200"), "refused 4 5");
+    assert_eq!(ask(&mut driver, "text payload plain 1 597301610000000100000000"), "message 3 1");
+    assert_eq!(ask(&mut driver, "mark payload plain 1 597301610000000100000000"), "latin1");
+    // 14 at 0: a length over 32 (65,535 too, OP-22), a text not UTF-8. Only where asked for.
+    for length in ["0021", "ffff", "0001"] {
+        ask(&mut driver, &format!("set plain-lengths 508 {length}"));
+        assert_eq!(ask(&mut driver, "read payload plain 680252fe61"), "refused 14 0");
+        assert_eq!(ask(&mut driver, "mark payload plain 2 680252fe61"), "refused 14 0");
+        assert_eq!(ask(&mut driver, "read payload plain 5200"), "ok 1 1");
+    }
+    ask(&mut driver, "set plain-count 0 fe");
+    assert_eq!(ask(&mut driver, "read payload plain 680252fe61"), "refused 6 2");
+    assert_eq!(ask(&mut driver, "read payload plain 680252"), "refused 2 2");
+}
+
+/// A driver with place 7 holding "a", place 8 "bc".
+fn filled() -> Driver {
+    let mut driver = Driver::new();
+    assert_eq!(ask(&mut driver, "packet 1 834402880007016108026263"), "plain 12 0");
+    driver
+}
+
+#[test]
+fn packet_sizes_and_false_state() {
+    for wrong in ["cache 65535", "lengths 2049", "plain-texts 0", "plain-lengths 254", "pending-texts 8161",
+        "pending-lengths 256", "gather 65535"]
+    {
+        let mut driver = Driver::new();
+        ask(&mut driver, &format!("lend {wrong}"));
+        ask(&mut driver, "fill record ff");
+        ask(&mut driver, "same");
+        assert_eq!(ask(&mut driver, "packet 1 -"), "refused 13 0");
+        assert_eq!(ask(&mut driver, "packet 1 834400"), "refused 13 0");
+        assert_eq!(ask(&mut driver, "changed"), "-");
+        let resets = if wrong.starts_with("cache") || wrong.starts_with("lengths") { "refused 13 0" } else { "ok" };
+        assert_eq!(ask(&mut driver, "place 0"), if resets == "ok" { "refused 21 0" } else { "refused 13 0" });
+        assert_eq!(ask(&mut driver, "reset"), resets);
+        assert_eq!(ask(&mut driver, "reference 0 1 83440108000161"), "place 0");
+    }
+    // 14 on the record, whatever id is due (OP-23), before 1; a drop's before 25; a reset has none.
+    for due in ["00", "01"] {
+        let mut driver = Driver::new();
+        ask(&mut driver, &format!("set record 15 {due}0000000000010001"));
+        ask(&mut driver, "same");
+        assert_eq!(ask(&mut driver, "packet 1 -"), "refused 14 0");
+        assert_eq!(ask(&mut driver, "packet 1 834400"), "refused 14 0");
+        assert_eq!(ask(&mut driver, "drop"), "refused 14 0");
+        assert_eq!(ask(&mut driver, "changed"), "-");
+        assert_eq!(ask(&mut driver, "reset"), "ok");
+        assert_eq!(ask(&mut driver, "changed"), "record");
+        assert_eq!(ask(&mut driver, "get record"), "00".repeat(24));
+        ask(&mut driver, &format!("set record 15 {due}0000000000010000"));
+        assert_eq!(ask(&mut driver, "packet 1 834400"), "plain 3 0");
+        assert_eq!(ask(&mut driver, "drop"), if due == "00" { "refused 25 0" } else { "ok" });
+    }
+    // A cached place: 21, then 14; at the reference.
+    let mut driver = filled();
+    // each reference in turn: the first one's 21 before the second one's 2
+    assert_eq!(ask(&mut driver, "packet 1 834402000009"), "refused 21 0");
+    assert_eq!(ask(&mut driver, "packet 1 834402000007"), "refused 2 1");
+    assert_eq!(ask(&mut driver, "packet 1 83440200000709"), "refused 21 1");
+    ask(&mut driver, "set lengths 18 0021");
+    assert_eq!(ask(&mut driver, "packet 1 83440200000709"), "refused 14 1");
+    assert_eq!(ask(&mut driver, "place 9"), "refused 14 0");
+    ask(&mut driver, "set lengths 18 fffe");
+    assert_eq!(ask(&mut driver, "packet 1 83440200000709"), "refused 14 1");
+    ask(&mut driver, "set cache 288 ff");
+    ask(&mut driver, "set lengths 18 0001");
+    assert_eq!(ask(&mut driver, "packet 1 83440200000709"), "refused 14 1");
+    assert_eq!(ask(&mut driver, "place 9"), "refused 14 0");
+    // OP-40: bytes after a cached text are not judged, the list's copy has zeros there.
+    ask(&mut driver, "set lengths 18 0000");
+    assert_eq!(ask(&mut driver, "packet 1 83440200000709"), "plain 7 0");
+    assert_eq!(ask(&mut driver, "place 9"), "text -");
+    assert_eq!(get(&mut driver, "plain-texts")[32], 0);
+    // OP-41: a place to be filled new may hold any length before.
+    ask(&mut driver, "set lengths 18 0030");
+    assert_eq!(ask(&mut driver, "packet 1 834401080900"), "plain 6 0");
+    assert_eq!(ask(&mut driver, "place 9"), "text -");
+    assert_eq!(get(&mut driver, "cache")[288], 0);
+    assert_eq!(ask(&mut driver, "place 2047"), "refused 21 0");
+    assert_eq!(ask(&mut driver, "place 2048"), "refused 13 0");
+    assert_eq!(ask(&mut driver, "place 4294967295"), "refused 13 0");
+}
+
+#[test]
+fn headers() {
+    let mut driver = filled();
+    ask(&mut driver, "fill plain-texts ee");
+    ask(&mut driver, "fill plain-lengths ee");
+    ask(&mut driver, "same");
+    let mut refusals = vec![
+        ("-", "refused 1 0"),
+        ("82", "refused 1 0"),
+        ("83", "refused 2 0"),
+        ("8343", "refused 20 0"),
+        ("8347", "refused 20 0"),
+        ("8344", "refused 2 0"),
+        ("834401", "refused 2 0"),
+        ("83440288", "refused 2 0"),
+        ("83440108", "refused 2 0"),
+        ("8344010809", "refused 2 0"),
+        ("834401080901", "refused 2 0"),
+        ("8344010809 01ff", "refused 5 0"),
+        // the second reference's: 2 before 22 (OP-28)
+        ("83440288000901610902", "refused 2 1"),
+        ("8344028800090161090162", "refused 22 1"), // new, new
+        ("8344020800 09016109", "refused 22 1"),    // new, cached, though empty before (OP-27)
+        ("8344028000 07070162", "refused 22 1"),    // cached, new
+        ("8344028800 09016109 01ff", "refused 22 1"),
+        ("8344020000 0709", "refused 21 1"),
+        ("8344020700 0707", "refused 21 0"),
+    ];
+    // 5 stands before 23: 256 characters.
+    let long_latin = format!("8344 0118 09 0100 {}", "61".repeat(256));
+    let long = format!("8344 0118 09 0021 {}", "61".repeat(33));
+    let bad = format!("8344 0118 09 0100 {}", "ff".repeat(256));
+    refusals.push((&long_latin, "refused 5 0"));
+    refusals.push((&bad, "refused 5 0"));
+    refusals.push((&long, "refused 23 0"));
+    for (packet, answer) in &refusals {
+        let packet = packet.replace(' ', "");
+        assert_eq!(ask(&mut driver, &format!("packet 1 {packet}")), *answer, "{packet}");
+        assert_eq!(ask(&mut driver, "changed"), "-");
+        // The look-up judges the same but for 21, 14; "In a look-up, 0".
+        let looked = match answer.split(' ').nth(1) {
+            Some("21") => "place".to_string(),
+            Some(number) => format!("refused {number} 0"),
+            None => String::new(),
+        };
+        assert!(ask(&mut driver, &format!("reference 0 1 {packet}")).starts_with(&looked), "{packet}");
+        assert_eq!(ask(&mut driver, "changed"), "-");
+    }
+    // Cached after cached is fine.
+    assert_eq!(ask(&mut driver, "packet 1 83440200000707"), "plain 7 0");
+    assert_eq!(ask(&mut driver, "changed"), "plain-texts plain-lengths");
+    // "list places from n on have length 0", and zero bytes (OP-39).
+    let mut texts = vec![0; 8_160];
+    (texts[0], texts[32]) = (b'a', b'a');
+    assert_eq!(get(&mut driver, "plain-texts"), texts);
+    let mut lengths = vec![0; 510];
+    (lengths[1], lengths[3]) = (1, 1);
+    assert_eq!(get(&mut driver, "plain-lengths"), lengths);
+    // Latin-1: 16 characters of two bytes are 32; 17 are 23.
+    let new = |count: usize| format!("8344 01 08 0a {count:02x} {}", "e9".repeat(count)).replace(' ', "");
+    assert_eq!(ask(&mut driver, &format!("packet 0 {}", new(16))), "plain 22 0");
+    assert_eq!(ask(&mut driver, "place 10"), format!("text {}", "c3a9".repeat(16)));
+    assert_eq!(ask(&mut driver, &format!("packet 0 {}", new(17))), "refused 23 0");
+    assert_eq!(ask(&mut driver, &format!("packet 1 {}", new(16))), "refused 5 0");
+    // LongAtoms: odd n in the high half of the last flag byte, even n in the low half of the last.
+    assert_eq!(ask(&mut driver, "packet 1 834401180a000161"), "plain 8 0");
+    assert_eq!(ask(&mut driver, "packet 1 83440288010a0001610b000162"), "plain 13 0");
+    assert_eq!(ask(&mut driver, "packet 1 834402880e0a01610b0162"), "plain 11 0");
+    assert_eq!(ask(&mut driver, "packet 1 83440288f00a01610b0162"), "plain 11 0");
+    assert_eq!(ask(&mut driver, "packet 1 834401e80a0161"), "plain 7 0");
+    // n = 255, and an 82 of 254 and 255.
+    let mut packet = vec![131, 68, 255];
+    packet.extend(vec![0x88; 127]);
+    packet.push(0x08);
+    for i in 0..255u8 {
+        packet.extend([i, 1, b'a' + i % 26]);
+    }
+    packet.extend([104, 1, 82, 254]);
+    assert_eq!(ask(&mut driver, &format!("packet 1 {}", hex(&packet))), "plain 896 4");
+    assert_eq!(ask(&mut driver, "write payload plain 680152fe"), "ok 6");
+    assert_eq!(ask(&mut driver, "write payload plain 680152ff"), "refused 6 2");
+    assert_eq!(ask(&mut driver, &format!("reference 254 1 {}", hex(&packet))), "place 254");
+    assert_eq!(ask(&mut driver, &format!("reference 255 1 {}", hex(&packet))), "refused 6 0");
+    assert_eq!(ask(&mut driver, &format!("reference 4294967295 1 {}", hex(&packet))), "refused 6 0");
+    // The payload, not the packet, is at most 65,536 bytes.
+    packet.truncate(packet.len() - 4);
+    packet.extend(vec![0; 65_536]);
+    assert_eq!(ask(&mut driver, &format!("packet 1 {}", hex(&packet))), "plain 896 65536");
+    packet.push(0);
+    ask(&mut driver, "same");
+    assert_eq!(ask(&mut driver, &format!("packet 1 {}", hex(&packet))), "refused 12 0");
+    assert_eq!(ask(&mut driver, "changed"), "-");
+    assert_eq!(ask(&mut driver, &format!("reference 1 1 {}", hex(&packet))), "place 1");
+}
+
+fn fragment(kind: u8, sequence: u64, id: u64, rest: &[u8]) -> String {
+    hex(&join(&[&[131, kind], &sequence.to_be_bytes(), &id.to_be_bytes(), rest]))
+}
+
+#[test]
+fn fragments() {
+    let mut driver = filled();
+    let mut packet = |line: String| {
+        let before = get(&mut driver, "gather");
+        ask(&mut driver, "same");
+        let answer = ask(&mut driver, &format!("packet 1 {line}"));
+        if answer.starts_with("refused") {
+            assert_eq!(ask(&mut driver, "changed"), "-");
+            assert_eq!(get(&mut driver, "gather"), before);
+        }
+        answer
+    };
+    let mut check = |line: String, answer: &str| assert_eq!(packet(line.clone()), answer, "{line:.80}");
+    check("8345".to_string() + &"00".repeat(15), "refused 2 0");
+    check("8346".to_string() + &"00".repeat(15), "refused 2 0");
+    check(fragment(69, 1, 0, &[]), "refused 24 0");
+    check(fragment(70, 1, 0, &[]), "refused 24 0");
+    check(fragment(70, 1, 1, &[]), "refused 25 0");
+    check(fragment(70, 0, 1, &[]), "refused 25 0");
+    check(fragment(69, 1, 5, &[]), "refused 2 0");
+    check(fragment(69, 0, u64::MAX, &[0, 9, 9]), "pending 18446744073709551614 2");
+    check(fragment(69, 1, 0, &[]), "refused 24 0");
+    check(fragment(69, 1, 5, &[]), "refused 26 0");
+    check(fragment(70, 1, u64::MAX - 1, &[]), "refused 25 0");
+    check(fragment(70, 0, u64::MAX, &[]), "refused 24 0");
+    check(fragment(70, 0, u64::MAX - 1, &[]), "pending 18446744073709551613 2");
+    check(fragment(70, 0, u64::MAX - 2, &[8; 65_534]), "pending 18446744073709551612 65536");
+    check(fragment(70, 0, u64::MAX - 3, &[8]), "refused 12 0");
+    check(fragment(70, 0, u64::MAX - 3, &[]), "pending 18446744073709551611 65536");
+    check("834400".to_string(), "plain 3 0");
+    assert_eq!(ask(&mut driver, "drop"), "ok");
+    assert_eq!(ask(&mut driver, "drop"), "refused 25 0");
+    assert_eq!(ask(&mut driver, "get record"), "00".repeat(24));
+    // A start that is the whole sequence, with leftovers in the record; gather bytes past it stay.
+    ask(&mut driver, "set record 0 0000000000000005000000000000000000000000000000ff");
+    ask(&mut driver, "fill gather 33");
+    ask(&mut driver, "same");
+    let whole = fragment(69, 9, 1, &[1, 0, 7, 106, 106]);
+    assert_eq!(ask(&mut driver, &format!("packet 1 {whole}")), "complete 2");
+    assert_eq!(ask(&mut driver, "changed"), "pending-count pending-texts pending-lengths record gather");
+    assert_eq!(ask(&mut driver, "get record"), "00".repeat(24));
+    assert_eq!(get(&mut driver, "gather")[..4], [106, 106, 0x33, 0x33]);
+    assert_eq!(ask(&mut driver, &format!("packet 1 {}", fragment(70, 9, 1, &[]))), "refused 25 0");
+    // A start's payload: 65,536 pass, one more is 12 and takes no entry.
+    let start = |count: usize| fragment(69, 9, 1, &join(&[&[1, 8, 99, 1, b'z'], &vec![5; count]]));
+    ask(&mut driver, "same");
+    assert_eq!(ask(&mut driver, &format!("packet 1 {}", start(65_537))), "refused 12 0");
+    assert_eq!(ask(&mut driver, "changed"), "-");
+    assert_eq!(ask(&mut driver, &format!("packet 1 {}", start(65_536))), "complete 65536");
+    assert_eq!(ask(&mut driver, "place 99"), "text 7a");
+    // The look-up on ids: no state, so no 25, 26 and no wrong id.
+    assert_eq!(ask(&mut driver, &format!("reference 0 1 {}", start(65_537))), "place 99");
+    assert_eq!(ask(&mut driver, &format!("reference 0 1 {}", fragment(70, 9, 1, &[]))), "refused 6 0");
+    assert_eq!(ask(&mut driver, &format!("reference 0 1 {}", fragment(70, 9, 0, &[]))), "refused 24 0");
+    assert_eq!(ask(&mut driver, &format!("reference 0 1 {}", &fragment(70, 9, 0, &[])[..34])), "refused 2 0");
+    // A reset touches cache and record only.
+    ask(&mut driver, "same");
+    assert_eq!(ask(&mut driver, "reset"), "ok");
+    assert_eq!(ask(&mut driver, "changed"), "cache lengths");
+    assert!(get(&mut driver, "lengths").iter().all(|byte| *byte == 255));
+    assert!(get(&mut driver, "cache").iter().all(|byte| *byte == 0));
+}
+
+#[test]
+fn lines_that_are_no_commands() {
+    let mut driver = filled();
+    ask(&mut driver, "same");
+    for line in [
+        "", " ", "nothing", "set", "set cache", "set cache 0", "set cache 0 0", "set cache 0 0G", "set cache 0 AB",
+        "set cache 65536 00", "set cache 65535 0000", "set cache -1 00", "set cache +1 00", "set nothing 0 00",
+        "set cache 0 00 00", "set  cache 0 00", "fill cache", "fill cache 0000", "fill cache -", "lend record 24",
+        "lend plain-count 1", "lend cache", "lend cache x", "get", "get cache ", "same x", "changed x",
+        "read standalone", "read both empty 83", "read standalone none 83", "read standalone empty",
+        "read standalone empty 8", "kind", "kind x", "kind 4294967296", "write standalone empty 83 83",
+        "number standalone empty 83", "text standalone empty x 83", "mark standalone empty 0", "packet 2 83",
+        "packet 1", "drop 1", "reset 1", "reference 1 83", "reference 1 2 83", "place", "place -", "place ", "read\tx",
+    ] {
+        assert!(ask(&mut driver, line).starts_with("? "), "{line}");
+        assert_eq!(ask(&mut driver, "changed"), "-");
+    }
+    assert!(driver.answer(&[0xff, 0x20, 0xfe]).starts_with("? "));
+    assert_eq!(ask(&mut driver, "set cache 65536 -"), "ok");
+    assert_eq!(ask(&mut driver, "read payload empty -"), "refused 2 0");
+    ask(&mut driver, "lend output 0");
+    assert_eq!(ask(&mut driver, "get output"), "-");
+    // "Elements that stay keep what they held, new ones are zero."
+    ask(&mut driver, "lend output 2");
+    ask(&mut driver, "fill output 77");
+    ask(&mut driver, "lend output 1");
+    ask(&mut driver, "lend output 3");
+    assert_eq!(ask(&mut driver, "get output"), "770000");
+    ask(&mut driver, "lend plain-lengths 1");
+    ask(&mut driver, "set plain-lengths 0 1234");
+    ask(&mut driver, "lend plain-lengths 2");
+    assert_eq!(ask(&mut driver, "get plain-lengths"), "12340000");
+    ask(&mut driver, "lend table 1");
+    ask(&mut driver, "set table 6 0123");
+    assert_eq!(ask(&mut driver, "get table"), "0000000000000123");
+    assert_eq!(ask(&mut driver, "kind 0"), "atom 18 -");
+}

@@ -1,0 +1,371 @@
+//! Damaged and made-up input in quantity: nothing panics, and what document 01 says of every answer
+//! holds (a refused reading leaves the table zero, the canonical form is its own canonical form, rows
+//! fit together, refusals of packets change nothing).
+
+use second::drive::{hex, unhex, Driver};
+
+struct Random(u64);
+
+impl Random {
+    fn next(&mut self) -> u64 {
+        self.0 ^= self.0 << 13;
+        self.0 ^= self.0 >> 7;
+        self.0 ^= self.0 << 17;
+        self.0
+    }
+    fn below(&mut self, n: u64) -> u64 {
+        (self.next() >> 11) % n.max(1)
+    }
+    fn byte(&mut self) -> u8 {
+        match self.below(4) {
+            0 => self.below(4) as u8,
+            1 => [255, 128, 127, 131, 68, 69, 70, 107, 108, 106][self.below(10) as usize],
+            _ => self.next() as u8,
+        }
+    }
+}
+
+fn ask(driver: &mut Driver, line: &str) -> String {
+    driver.answer(line.as_bytes())
+}
+
+fn get(driver: &mut Driver, name: &str) -> Vec<u8> {
+    unhex(ask(driver, &format!("get {name}")).as_bytes()).expect("hex")
+}
+
+fn text(r: &mut Random, out: &mut Vec<u8>) {
+    let count = r.below(4);
+    for _ in 0..count {
+        let character = ["a", "\u{e9}", "\u{20ac}", "\u{1f600}"][r.below(4) as usize];
+        out.extend_from_slice(character.as_bytes());
+    }
+}
+
+fn atom(r: &mut Random, out: &mut Vec<u8>) {
+    let mut t = Vec::new();
+    text(r, &mut t);
+    match r.below(5) {
+        0 => return out.extend([82, r.below(5) as u8]),
+        1 => out.extend([100, 0, t.len() as u8]),
+        2 => out.extend([115, t.len() as u8]),
+        3 => out.extend([118, 0, t.len() as u8]),
+        _ => out.extend([119, t.len() as u8]),
+    }
+    out.extend(t);
+}
+
+fn bytes(r: &mut Random, out: &mut Vec<u8>, count: u64) {
+    for _ in 0..count {
+        let byte = r.byte();
+        out.push(byte);
+    }
+}
+
+/// A term, mostly a good one.
+fn term(r: &mut Random, out: &mut Vec<u8>, depth: u32) {
+    let kinds = if depth == 0 { 12 } else { 20 };
+    match r.below(kinds) {
+        0 => out.extend([97, r.below(3) as u8]),
+        1 => out.extend([98, 0, 0, 0, r.below(3) as u8]),
+        2 => {
+            let n = r.below(11) as u8;
+            out.extend([110, n, r.below(2) as u8]);
+            bytes(r, out, u64::from(n));
+        }
+        3 => {
+            out.push(70);
+            bytes(r, out, 8);
+        }
+        4 => atom(r, out),
+        5 => out.push(106),
+        6 => {
+            let n = r.below(4) as u8;
+            out.extend([107, 0, n]);
+            bytes(r, out, u64::from(n));
+        }
+        7 => {
+            let n = r.below(3) as u8;
+            out.extend([109, 0, 0, 0, n]);
+            bytes(r, out, u64::from(n));
+        }
+        8 => {
+            let n = r.below(3) as u8;
+            out.extend([77, 0, 0, 0, n, if n == 0 { 0 } else { 1 + r.below(8) as u8 }]);
+            bytes(r, out, u64::from(n));
+        }
+        9 => {
+            let new = r.below(2) == 0;
+            out.push(if new { 88 } else { 103 });
+            atom(r, out);
+            out.extend([0, 0, r.below(128) as u8, 1, 0, 0, r.below(32) as u8, 1]);
+            out.extend(if new { &[0, 0, 0, 2][..] } else { &[2] });
+        }
+        10 => {
+            let tag = [89, 102, 120][r.below(3) as usize];
+            out.push(tag);
+            atom(r, out);
+            if tag == 120 {
+                out.extend([0, 0, 0, 0]);
+            }
+            out.extend([r.below(16) as u8, 0, 0, 1]);
+            out.extend(if tag == 102 { &[2][..] } else { &[0, 0, 0, 2] });
+        }
+        11 => {
+            let tag = [90, 114, 101][r.below(3) as usize];
+            let words = if tag == 101 { 1 } else { 1 + r.below(3) };
+            out.push(tag);
+            if tag != 101 {
+                out.extend([0, words as u8]);
+            }
+            atom(r, out);
+            match tag {
+                90 => out.extend([0, 0, 0, 1]),
+                114 => out.push(1),
+                _ => {}
+            }
+            for _ in 0..words {
+                out.extend([0, r.below(4) as u8, 0, 1]);
+            }
+            if tag == 101 {
+                out.push(1);
+            }
+        }
+        12 => {
+            out.push(113);
+            atom(r, out);
+            atom(r, out);
+            out.extend([97, 3]);
+        }
+        13 | 14 => {
+            let n = r.below(4) as u8;
+            out.extend([104, n]);
+            for _ in 0..n {
+                term(r, out, depth - 1);
+            }
+        }
+        15 => {
+            let n = r.below(4) as u8;
+            out.extend([116, 0, 0, 0, n]);
+            for _ in 0..2 * n {
+                term(r, out, depth - 1);
+            }
+        }
+        _ => {
+            let n = r.below(4) as u8;
+            out.extend([108, 0, 0, 0, n]);
+            for _ in 0..n {
+                term(r, out, depth - 1);
+            }
+            if r.below(2) == 0 {
+                out.push(106);
+            } else {
+                term(r, out, depth - 1);
+            }
+        }
+    }
+}
+
+fn damage(r: &mut Random, message: &mut Vec<u8>) {
+    for _ in 0..r.below(3) {
+        let at = r.below(message.len() as u64) as usize;
+        match r.below(4) {
+            0 => message.truncate(at),
+            1 => message.insert(at, r.byte()),
+            2 if at < message.len() => {
+                message.remove(at);
+            }
+            _ => {
+                if let Some(byte) = message.get_mut(at) {
+                    *byte = r.byte();
+                }
+            }
+        }
+    }
+}
+
+/// kind, offset, whole plus 1, parts, rows
+fn fields(word: u64) -> [usize; 5] {
+    [word & 15, word >> 4 & 0xffff, word >> 20 & 0x3fff, word >> 34 & 0x1fff, word >> 47].map(|f| f as usize)
+}
+
+fn rows_fit_together(table: &[u8], used: usize) {
+    let words: Vec<[usize; 5]> =
+        table.chunks(8).map(|b| fields(b.iter().fold(0, |sum, byte| sum << 8 | u64::from(*byte)))).collect();
+    assert!(words.iter().skip(used).all(|w| *w == [0; 5]));
+    let mut parts = vec![0; used];
+    let mut rows = vec![1; used];
+    for (i, [kind, offset, whole, _, _]) in words.iter().take(used).enumerate().rev() {
+        assert!((1..=14).contains(kind));
+        if *whole > 0 {
+            assert!(*whole <= i && words[*whole - 1][1] < *offset);
+            parts[*whole - 1] += 1;
+            rows[*whole - 1] += rows[i];
+        }
+    }
+    for (i, word) in words.iter().take(used).enumerate() {
+        assert_eq!([word[3], word[4]], [parts[i], rows[i]]);
+    }
+}
+
+#[test]
+fn made_up_messages() {
+    let mut r = Random(0x9e37_79b9_7f4a_7c15);
+    let mut driver = Driver::new();
+    ask(&mut driver, "set plain-count 0 04");
+    ask(&mut driver, "set plain-texts 0 61");
+    ask(&mut driver, "set plain-texts 32 c3a9");
+    ask(&mut driver, "set plain-texts 64 ff");
+    ask(&mut driver, "set plain-lengths 0 0001000200010000");
+    ask(&mut driver, "lend table 40");
+    ask(&mut driver, "lend output 300");
+    let (mut accepted, mut refused) = (0, 0);
+    for round in 0..40_000 {
+        let mut message = Vec::new();
+        let form = if r.below(2) == 0 { "standalone" } else { "payload" };
+        if form == "standalone" {
+            message.push(131);
+        }
+        term(&mut r, &mut message, 5);
+        if form == "payload" && r.below(2) == 0 {
+            term(&mut r, &mut message, 3);
+        }
+        if round % 2 == 0 {
+            damage(&mut r, &mut message);
+        }
+        let word = hex(&message);
+        ask(&mut driver, "fill table 5a");
+        ask(&mut driver, "same");
+        let answer = ask(&mut driver, &format!("read {form} plain {word}"));
+        assert!(["table", "-"].contains(&ask(&mut driver, "changed").as_str()));
+        let table = get(&mut driver, "table");
+        let counts: Vec<usize> = answer.split(' ').skip(1).map(|n| n.parse().expect("numbers")).collect();
+        ask(&mut driver, "fill output 5a");
+        ask(&mut driver, "fill table 5a");
+        let written = ask(&mut driver, &format!("write {form} plain {word}"));
+        assert!(get(&mut driver, "table").iter().all(|byte| *byte == 0));
+        let output = get(&mut driver, "output");
+        let length = if written.starts_with("ok") { written[3..].parse().expect("a number") } else { 0 };
+        assert!(output[length..].iter().all(|byte| *byte == 0x5a));
+        if answer.starts_with("refused") {
+            refused += 1;
+            assert_eq!(written, answer);
+            assert!(table.iter().all(|byte| *byte == 0));
+            // 10 and 14 aside, a refusal's place is an offset of the message, or its end.
+            assert!(counts[1] <= message.len());
+            if counts[0] != 9 {
+                assert_eq!(ask(&mut driver, &format!("number {form} plain 0 {word}")), answer);
+                assert_eq!(ask(&mut driver, &format!("mark {form} plain 0 {word}")), answer);
+                assert_eq!(ask(&mut driver, &format!("text {form} plain 0 {word}")), "empty");
+            }
+            continue;
+        }
+        accepted += 1;
+        rows_fit_together(&table, counts[1]);
+        if length == 0 {
+            assert_eq!(written, "refused 11 0");
+            continue;
+        }
+        // The canonical form of each term has the same rows and is its own canonical form.
+        let canonical = output[..length].to_vec();
+        if counts[0] == 1 {
+            let again = hex(&canonical);
+            assert_eq!(ask(&mut driver, &format!("read standalone empty {again}")), answer);
+            assert_eq!(ask(&mut driver, &format!("write standalone empty {again}")), written);
+            assert_eq!(get(&mut driver, "output")[..length], canonical);
+            for row in 0..counts[1].min(6) {
+                assert_eq!(
+                    ask(&mut driver, &format!("number {form} plain {row} {word}")),
+                    ask(&mut driver, &format!("number standalone empty {row} {again}"))
+                );
+            }
+        }
+        // Each atom's text and mark, asked for by its row's offset.
+        for row in 0..counts[1].min(8) {
+            let [kind, offset, ..] =
+                fields(table[8 * row..8 * row + 8].iter().fold(0, |sum, byte| sum << 8 | u64::from(*byte)));
+            let mark = ask(&mut driver, &format!("mark {form} plain {offset} {word}"));
+            assert_eq!(mark.starts_with("refused"), kind != 3);
+        }
+    }
+    assert!(accepted > 10_000 && refused > 5_000, "{accepted} {refused}");
+}
+
+#[test]
+fn made_up_packets() {
+    let mut r = Random(0x1234_5678_9abc_def1);
+    let mut driver = Driver::new();
+    let mut counts = std::collections::BTreeMap::new();
+    for _ in 0..15_000 {
+        let mut packet = vec![131, [68, 69, 70][r.below(3) as usize]];
+        if packet[1] != 68 {
+            packet.extend((r.below(2)).to_be_bytes());
+            packet.extend((r.below(4)).to_be_bytes());
+        }
+        if packet[1] != 70 {
+            let n = r.below(5) as usize;
+            packet.push(n as u8);
+            let halves: Vec<u8> = (0..2 * (n / 2 + 1)).map(|_| (r.below(2) * 8 + r.below(2)) as u8).collect();
+            if n > 0 {
+                packet.extend(halves.chunks(2).map(|h| h[0] | h[1] << 4));
+            }
+            for half in halves.iter().take(n) {
+                packet.push(r.below(6) as u8);
+                if half & 8 != 0 {
+                    let mut t = Vec::new();
+                    text(&mut r, &mut t);
+                    if r.below(20) == 0 {
+                        t = vec![b'x'; 32 + r.below(2) as usize];
+                    }
+                    if halves[n] & 1 == 1 {
+                        packet.push(0);
+                    }
+                    packet.push(t.len() as u8);
+                    packet.extend(t);
+                }
+            }
+        }
+        term(&mut r, &mut packet, 1);
+        if r.below(3) == 0 {
+            damage(&mut r, &mut packet);
+        }
+        if r.below(40) == 0 {
+            let (place, length) = (r.below(6) * 2, 31 + r.below(3));
+            ask(&mut driver, &format!("set lengths {place} {}", hex(&(length as u16).to_be_bytes())));
+        }
+        let command = match r.below(30) {
+            0 => "drop".to_string(),
+            1 if r.below(5) == 0 => "reset".to_string(),
+            2 => format!("place {}", r.below(7)),
+            _ => format!("packet {} {}", r.below(2), hex(&packet)),
+        };
+        ask(&mut driver, "same");
+        let answer = ask(&mut driver, &command);
+        assert!(!answer.starts_with('?'));
+        if answer.starts_with("refused") || answer.starts_with("text") {
+            assert_eq!(ask(&mut driver, "changed"), "-", "{command}");
+        }
+        let key = answer.split(' ').take(if answer.starts_with("refused") { 2 } else { 1 }).collect::<Vec<_>>().join(" ");
+        *counts.entry(key).or_insert(0) += 1;
+        let i = r.below(5);
+        ask(&mut driver, &format!("reference {i} 1 {}", hex(&packet)));
+    }
+    for number in [1, 2, 5, 14, 20, 21, 22, 23, 24, 25, 26] {
+        assert!(counts.get(&format!("refused {number}")).is_some(), "{number} in {counts:?}");
+    }
+}
+
+#[test]
+fn made_up_lines() {
+    let mut r = Random(77);
+    let mut driver = Driver::new();
+    let words = [
+        "set", "fill", "lend", "get", "same", "changed", "read", "kind", "write", "number", "text", "mark", "packet",
+        "drop", "reset", "reference", "place", "cache", "lengths", "plain-count", "record", "table", "standalone",
+        "payload", "empty", "plain", "0", "1", "7", "4294967295", "4294967296", "-", "83", "8361", "ff", "f", "", "x",
+    ];
+    for _ in 0..60_000 {
+        let count = 1 + r.below(5) as usize;
+        let line: Vec<&str> = (0..count).map(|_| words[r.below(words.len() as u64) as usize]).collect();
+        ask(&mut driver, &line.join(" "));
+    }
+}
