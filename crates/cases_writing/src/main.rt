@@ -3,7 +3,6 @@
 // the output is 165 and the table has ones in every bit.
 use format::WriteAnswer;
 use libc::STDOUT_FILENO;
-ghost use lib.ListN.{length};
 ghost use Rattle.io.specs.Counts.{Counts};
 
 // Whether every byte from `from` on is 165.
