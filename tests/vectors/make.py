@@ -18,7 +18,8 @@ Where the answers come from (never from the code of this repository):
 A line of stdin: src/lib.rt of crate casebook. Where a program does not lend rows or output, these two fields say for cases_asking how
 many rows and how many offsets it asks for. A line of stdout:
 - cases_reading: `refused N P`, or `ok TERMS ROWS` and, up to 100 rows, ` KIND,OFFSET,WHOLE` for each; ` dirty` never.
-- cases_writing: `refused N P` or `ok HEX`. Of boundaries.py only the refused cases: the writer refuses what the reader refuses.
+- cases_writing: `refused N P` or `ok HEX`. Of boundaries.py only the refused cases: the writer refuses what the reader refuses; the ends of the
+  rules of the canonical form stand in canonical.py.
 - cases_asking: the numbers, the texts and the marks, all parted by spaces, each with commas where the vector has tabs.
 """
 import json
@@ -27,6 +28,7 @@ import sys
 
 sys.dont_write_bytecode = True
 from boundaries import boundaries
+from canonical import canonical
 from lines import Case
 from rows import rows_of, shown
 
@@ -77,6 +79,7 @@ def writing(folder):
     for case in boundaries():
         if case.answer.startswith('refused'):
             yield case
+    yield from canonical()
 
 
 def asking(folder):

@@ -1,0 +1,10 @@
+// Reads one standalone term from standard input and prints the bench's line of it. A longer input than 65,536 bytes is never cut to that.
+use libc::STDOUT_FILENO;
+
+fn main() {
+    let mut input = [0u8; 65540];
+    let n = io::read_full(0, &mut input);
+    let mut line = [0u8; 131122];
+    let m = benchline::line(&input[..n], &mut line);
+    io::write_all(STDOUT_FILENO, &line[..m]);
+}
