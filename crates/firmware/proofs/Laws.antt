@@ -5,8 +5,6 @@ use Rattle.packets.specs.declared.Settled.{Settled}
 use Rattle.packets.specs.declared.Taken.{Taken}
 use Rattle.firmware.specs.declared.DoneReply.{DoneReply}
 use Rattle.firmware.specs.declared.PacketReply.{PacketReply}
-use Rattle.firmware.specs.declared.Kept.{Kept}
-use Rattle.firmware.specs.declared.Received.{Received}
 use Rattle.firmware.specs.Packets.{flat-done, flat-packet, kept-by, received}
 
 pub kept-told : {s t : Settled} {reply : DoneReply} → reply ≡ flat-done (s .answer) → s ≡ t → record { answer = reply; pending = s .pending } ≡ kept-by t

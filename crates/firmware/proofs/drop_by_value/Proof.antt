@@ -3,10 +3,6 @@ use Rattle.firmware.proofs.Laws.{kept-told}
 use borrow.Author.Needs.{needs}
 use Rattle.firmware.proofs.drop_by_value.Statement.{statement}
 use Rattle.firmware.proofs.drop_by_value.Tie as tie
-use Rattle.firmware.proofs.drop_by_value.Reads as reads
-use Rattle.firmware.proofs.drop_by_value.Lts as lts
-use Rattle.firmware.proofs.flat_done.Reads as flat-done-reads
-use Rattle.link.proofs.drop_sequence.Reads as drop-sequence-reads
 
 drop-sequence-requires : tie.Need-drop-sequence-requires
 drop-sequence-requires c κs = search needs

@@ -4,10 +4,6 @@ use Rattle.firmware.specs.Packets.{flat-cached}
 use borrow.Author.Needs.{needs}
 use Rattle.firmware.proofs.ik_place.Statement.{statement}
 use Rattle.firmware.proofs.ik_place.Tie as tie
-use Rattle.firmware.proofs.ik_place.Reads as reads
-use Rattle.firmware.proofs.ik_place.Lts as lts
-use Rattle.firmware.proofs.flat_cached.Reads as flat-cached-reads
-use Rattle.link.proofs.text_of_place.Reads as text-of-place-reads
 
 text-of-place-requires : tie.Need-text-of-place-requires
 text-of-place-requires c κs = search needs

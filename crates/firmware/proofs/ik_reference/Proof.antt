@@ -4,10 +4,6 @@ use Rattle.firmware.specs.Packets.{flag, flat-place}
 use borrow.Author.Needs.{needs}
 use Rattle.firmware.proofs.ik_reference.Statement.{statement}
 use Rattle.firmware.proofs.ik_reference.Tie as tie
-use Rattle.firmware.proofs.ik_reference.Reads as reads
-use Rattle.firmware.proofs.ik_reference.Lts as lts
-use Rattle.firmware.proofs.flat_place.Reads as flat-place-reads
-use Rattle.link.proofs.place_of_reference.Reads as place-of-reference-reads
 
 place-of-reference-requires : tie.Need-place-of-reference-requires
 place-of-reference-requires c κs = search needs

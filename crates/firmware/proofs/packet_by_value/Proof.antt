@@ -4,10 +4,6 @@ use Rattle.firmware.specs.Packets.{flag}
 use borrow.Author.Needs.{needs}
 use Rattle.firmware.proofs.packet_by_value.Statement.{statement}
 use Rattle.firmware.proofs.packet_by_value.Tie as tie
-use Rattle.firmware.proofs.packet_by_value.Reads as reads
-use Rattle.firmware.proofs.packet_by_value.Lts as lts
-use Rattle.firmware.proofs.flat_packet.Reads as flat-packet-reads
-use Rattle.link.proofs.take_packet.Reads as take-packet-reads
 
 take-packet-requires : tie.Need-take-packet-requires
 take-packet-requires c κs = search needs

@@ -3,10 +3,6 @@ use Rattle.firmware.proofs.Laws.{kept-told}
 use borrow.Author.Needs.{needs}
 use Rattle.firmware.proofs.reset_by_value.Statement.{statement}
 use Rattle.firmware.proofs.reset_by_value.Tie as tie
-use Rattle.firmware.proofs.reset_by_value.Reads as reads
-use Rattle.firmware.proofs.reset_by_value.Lts as lts
-use Rattle.firmware.proofs.flat_done.Reads as flat-done-reads
-use Rattle.link.proofs.reset.Reads as reset-reads
 
 reset-requires : tie.Need-reset-requires
 reset-requires c κs = search needs
