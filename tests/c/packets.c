@@ -409,8 +409,48 @@ static void places(void)
     CHECK(guards_stand());
 }
 
+/* The most references a header has, spare bits set, and the largest FragmentId. */
+static void extremes(void)
+{
+    uint8_t packet[3 + 128 + 255 * 3 + 1] = {131, 68, 255};
+    struct memory m = ready_memory();
+    /* 127 flag bytes of two new references; in the last one the high half is spare: all its bits set but LongAtoms */
+    memset(packet + 3, 0x88, 127);
+    packet[130] = 0xe8;
+    for (unsigned i = 0; i < 255; i++) {
+        packet[131 + 3 * i] = i;
+        packet[131 + 3 * i + 1] = 1;
+        packet[131 + 3 * i + 2] = 'a' + i % 26;
+    }
+    packet[131 + 255 * 3] = 106;
+    plain_is(take(m, 1, packet, sizeof packet), 896, 1);
+    SAME(*bytes(m, PLAIN_N), 255);
+    for (unsigned i = 0; i < 255; i++) {
+        const char text[2] = {'a' + i % 26, 0};
+        place_is(m, CACHE, i, text);
+        place_is(m, PLAIN_PLACES, i, text);
+    }
+    SAME(lengths(m, CACHE_LENGTHS)[255], IK_CACHE_EMPTY);
+    /* the same place named again by the last: 22 there, and nothing changes */
+    packet[131 + 3 * 254] = 0;
+    refused(m, 1, packet, sizeof packet, 22, 254);
+
+    /* FragmentId 2^64 - 1: then 2^64 - 2 is due; an empty fragment; a single fragment is complete at once */
+    m = ready_memory();
+    SAME(take(m, 1, BYTES(131, 69, 0, 0, 0, 0, 0, 0, 0, 9, 255, 255, 255, 255, 255, 255, 255, 255, 0)).due, UINT64_MAX - 1);
+    record_is(m, 9, UINT64_MAX - 1, 0);
+    SAME(take(m, 1, BYTES(131, 70, 0, 0, 0, 0, 0, 0, 0, 9, 255, 255, 255, 255, 255, 255, 255, 254, 7)).due, UINT64_MAX - 2);
+    record_is(m, 9, UINT64_MAX - 2, 1);
+    m = ready_memory();
+    SAME(take(m, 1, BYTES(131, 69, IDS(9, 1), 0, 97, 5)).kind, IK_PACKET_COMPLETE);
+    record_is(m, 0, 0, 0);
+    CHECK(bytes(m, GATHER)[0] == 97 && bytes(m, GATHER)[1] == 5);
+    CHECK(guards_stand());
+}
+
 int main(void)
 {
+    extremes();
     plain_packets();
     longest_texts();
     refused_headers();
