@@ -3,7 +3,7 @@
 //!     run_vectors [DIRECTORY] [PROGRAM]
 //!
 //! DIRECTORY holds standalone.jsonl, payload.jsonl, rows.jsonl and packets.jsonl (default
-//! /work/shared/vectors). Without PROGRAM the commands go to this crate's own driver, in this process;
+//! tests/vectors/data). Without PROGRAM the commands go to this crate's own driver, in this process;
 //! with it, to that program's standard input. Prints the number of agreements and every disagreement;
 //! exit status 1 if there is one.
 
@@ -305,7 +305,7 @@ fn word(vector: &Json, key: &str) -> String {
 
 fn main() {
     let mut arguments = std::env::args().skip(1);
-    let directory = arguments.next().unwrap_or_else(|| "/work/shared/vectors".to_string());
+    let directory = arguments.next().unwrap_or_else(|| "tests/vectors/data".to_string());
     let target = match arguments.next() {
         None => Target::Here(Box::new(Driver::new())),
         Some(program) => {
