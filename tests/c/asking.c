@@ -3,7 +3,9 @@
 
 static struct ik_number number_of(enum form form, const uint8_t *bytes, size_t size, size_t row)
 {
-    return (form == STANDALONE ? ik_number_standalone : ik_number_payload)(lend_copy(bytes, size), size, LIST(three_texts()), row);
+    struct ik_number a = (form == STANDALONE ? ik_number_standalone : ik_number_payload)(lend_copy(bytes, size), size, LIST(three_texts()), row);
+    met[form] |= bit(a.refusal);
+    return a;
 }
 
 static void whole(enum form form, const uint8_t *bytes, size_t size, size_t row, int64_t expected)
@@ -102,6 +104,7 @@ static void empty_texts(void)
 static void refused_at(enum form form, const uint8_t *bytes, size_t size, struct list l, size_t at, unsigned refusal, unsigned place)
 {
     struct ik_number n = (form == STANDALONE ? ik_number_standalone : ik_number_payload)(bytes, size, LIST(l), at);
+    met[form] |= bit(n.refusal);
     SAME(n.refusal, refusal);
     SAME(n.place, place);
     SAME(n.kind, 0);
@@ -132,6 +135,18 @@ static void no_atom(enum form form, const uint8_t *bytes, size_t size, size_t of
     CHECK(guards_stand());
 }
 
+static void refused_messages(void)
+{
+    for (int i = 0; i < MESSAGES; i++) {
+        const struct message *m = &messages[i];
+        if (!m->refusal)
+            continue;
+        refused_at(m->form, lend_copy(m->bytes, m->size), m->size, three_texts(), 1, m->refusal, m->place);
+        if (also_payload(m))
+            refused_at(PAYLOAD, lend_copy(m->bytes + 1, m->size - 1), m->size - 1, three_texts(), 1, m->refusal, m->place - 1);
+    }
+}
+
 int main(void)
 {
     uint8_t *bytes = malloc(70000);
@@ -144,20 +159,24 @@ int main(void)
     no_atom(STANDALONE, BYTES(131, 82, 0), 2);
     no_atom(STANDALONE, BYTES(131, 82, 0), SIZE_MAX);
     no_atom(PAYLOAD, BYTES(97, 5), 0);
-    for (int i = 0; i < MESSAGES; i++)
-        if (messages[i].refusal)
-            refused_at(messages[i].form, lend_copy(messages[i].bytes, messages[i].size), messages[i].size, three_texts(), 1, messages[i].refusal, messages[i].place);
+    refused_messages();
     for (int i = 0; i < 4; i++) {
         refused_at(STANDALONE, BYTES(131, 97, 5), list_of_wrong_size(i), 0, 13, 0);
         refused_at(PAYLOAD, BYTES(97, 5), list_of_wrong_size(i), 0, 13, 0);
     }
     l = three_texts(), l.lengths[0] = 33;
     refused_at(STANDALONE, BYTES(131, 82, 0), l, 1, 14, 0);
+    l = three_texts(), l.lengths[0] = 33;
+    refused_at(PAYLOAD, BYTES(82, 0), l, 1, 14, 0);
     size_t size = nested_tuples(bytes, 65);
     refused_at(STANDALONE, lend_copy(bytes, size), size, empty_list(), 0, 8, 129);
+    refused_at(PAYLOAD, lend_copy(bytes + 1, size - 1), size - 1, empty_list(), 0, 8, 128);
     size = wide_tuple(bytes, 8192);
     refused_at(STANDALONE, lend_copy(bytes, size), size, empty_list(), 0, 9, 6 + 8191);
+    refused_at(PAYLOAD, lend_copy(bytes + 1, size - 1), size - 1, empty_list(), 0, 9, 5 + 8191);
     refused_at(STANDALONE, lend_copy(bytes, 65537), 65537, empty_list(), 0, 12, 0);
+    refused_at(PAYLOAD, lend_copy(bytes, 65537), 65537, empty_list(), 0, 12, 0);
     free(bytes);
+    all_met(0);
     return ended("asking");
 }

@@ -123,6 +123,18 @@ static inline struct list list_of_wrong_size(int which)
     }
 }
 
+/* Which refusals a call has answered, as bits; 0 is the bit of an accepted message. */
+static inline uint64_t bit(uint64_t refusal) { return refusal < 64 ? (uint64_t)1 << refusal : 0; }
+
+/* The bits of these refusals. */
+static inline uint64_t bits_of(const uint8_t *refusals, size_t count)
+{
+    uint64_t bits = 0;
+    for (size_t i = 0; i < count; i++)
+        bits |= bit(refusals[i]);
+    return bits;
+}
+
 static inline int ended(const char *name)
 {
     printf("%s: %lu passed, %lu failed\n", name, passed, failed);

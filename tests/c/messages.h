@@ -55,6 +55,23 @@ static const struct message messages[] = {
 };
 enum { MESSAGES = sizeof messages / sizeof *messages };
 
+/* Whether a standalone term without its 131 is a payload with the same answer, one byte earlier. */
+static inline int also_payload(const struct message *m)
+{
+    return m->form == STANDALONE && m->size > 0 && m->refusal != IK_NO_VERSION && m->refusal != IK_LEFT_OVER;
+}
+
+/* The refusals of reading; 1 is a standalone term's alone. */
+#define READING IK_CUT, IK_TAG, IK_FIELD, IK_TEXT, IK_INDEX, IK_KEY, IK_DEPTH, IK_ROWS, IK_LEFT_OVER, IK_LONG, IK_SIZE, IK_STATE
+static uint64_t met[2];
+
+/* Every refusal of reading, and `others`, was met in both forms. */
+static inline void all_met(uint64_t others)
+{
+    SAME(met[PAYLOAD], bits_of(BYTES(IK_ACCEPTED, READING)) | others);
+    SAME(met[STANDALONE], bits_of(BYTES(IK_ACCEPTED, IK_NO_VERSION, READING)) | others);
+}
+
 /* 131, then `depth` tuples, each in the one before; the inmost is empty. */
 static inline size_t nested_tuples(uint8_t *to, size_t depth)
 {

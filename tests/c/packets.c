@@ -8,6 +8,9 @@ static const size_t width[BUFFERS] = {1, 2, 1, 1, 2, 1, 1, 2, 8, 1};
 
 struct memory { void *at[BUFFERS]; size_t count[BUFFERS]; };
 
+/* The refusals that each call has answered, as bits. */
+static uint64_t packet_met, drop_met, reset_met, reference_met, place_met;
+
 /* All memory, every byte `fill`. */
 static struct memory lend_memory(uint8_t fill)
 {
@@ -21,7 +24,9 @@ static struct memory lend_memory(uint8_t fill)
 
 static struct ik_done reset(struct memory m)
 {
-    return ik_reset(m.at[CACHE], m.count[CACHE], m.at[CACHE_LENGTHS], m.count[CACHE_LENGTHS], m.at[RECORD]);
+    struct ik_done a = ik_reset(m.at[CACHE], m.count[CACHE], m.at[CACHE_LENGTHS], m.count[CACHE_LENGTHS], m.at[RECORD]);
+    reset_met |= bit(a.refusal);
+    return a;
 }
 
 /* All memory as after a reset; lists and gather buffer every byte 0xa5. */
@@ -51,10 +56,26 @@ static unsigned differing(struct memory a, struct memory b)
 
 static struct ik_packet take(struct memory m, uint8_t utf8, const uint8_t *packet, size_t size)
 {
-    return ik_packet(utf8, packet, size, m.at[CACHE], m.count[CACHE], m.at[CACHE_LENGTHS], m.count[CACHE_LENGTHS],
-                     m.at[PLAIN_N], m.at[PLAIN_PLACES], m.count[PLAIN_PLACES], m.at[PLAIN_LENGTHS], m.count[PLAIN_LENGTHS],
-                     m.at[PENDING_N], m.at[PENDING_PLACES], m.count[PENDING_PLACES], m.at[PENDING_LENGTHS], m.count[PENDING_LENGTHS],
-                     m.at[RECORD], m.at[GATHER], m.count[GATHER]);
+    struct ik_packet a = ik_packet(utf8, packet, size, m.at[CACHE], m.count[CACHE], m.at[CACHE_LENGTHS], m.count[CACHE_LENGTHS],
+                                   m.at[PLAIN_N], m.at[PLAIN_PLACES], m.count[PLAIN_PLACES], m.at[PLAIN_LENGTHS], m.count[PLAIN_LENGTHS],
+                                   m.at[PENDING_N], m.at[PENDING_PLACES], m.count[PENDING_PLACES], m.at[PENDING_LENGTHS], m.count[PENDING_LENGTHS],
+                                   m.at[RECORD], m.at[GATHER], m.count[GATHER]);
+    packet_met |= bit(a.refusal);
+    return a;
+}
+
+static struct ik_done drop(struct memory m)
+{
+    struct ik_done a = ik_drop(m.at[RECORD]);
+    drop_met |= bit(a.refusal);
+    return a;
+}
+
+static struct ik_cached text_at(struct memory m, size_t place)
+{
+    struct ik_cached a = ik_place(m.at[CACHE], m.count[CACHE], m.at[CACHE_LENGTHS], m.count[CACHE_LENGTHS], place);
+    place_met |= bit(a.refusal);
+    return a;
 }
 
 static uint16_t *lengths(struct memory m, int which) { return m.at[which]; }
@@ -300,7 +321,7 @@ static void wrong_sizes(void)
                 SAME(a.refusal, 13);
                 SAME(a.place, 0);
                 SAME(differing(m, before), 0);
-                struct ik_cached c = ik_place(m.at[CACHE], m.count[CACHE], m.at[CACHE_LENGTHS], m.count[CACHE_LENGTHS], 5);
+                struct ik_cached c = text_at(m, 5);
                 SAME(c.refusal, 13);
                 SAME(c.place, 0);
                 SAME(c.start, 0);
@@ -317,22 +338,22 @@ static void wrong_sizes(void)
 static void drops_and_resets(void)
 {
     struct memory m = ready_memory();
-    struct ik_done a = ik_drop(m.at[RECORD]);
+    struct ik_done a = drop(m);
     SAME(a.refusal, 25);
     SAME(a.place, 0);
     record(m)->gathered = 65537, record(m)->due = 4, record(m)->sequence = 8;
-    a = ik_drop(m.at[RECORD]);
+    a = drop(m);
     SAME(a.refusal, 14);
     SAME(a.place, 0);
     record_is(m, 8, 4, 65537);
     refused(m, 1, BYTES(130), 14, 0);
     record(m)->gathered = 65536;
-    a = ik_drop(m.at[RECORD]);
+    a = drop(m);
     SAME(a.refusal, 0);
     SAME(a.place, 0);
     record_is(m, 0, 0, 0);
     record(m)->gathered = 65537, record(m)->due = 0;
-    SAME(ik_drop(m.at[RECORD]).refusal, 14);
+    SAME(drop(m).refusal, 14);
     CHECK(guards_stand());
     m = lend_memory(0x77);
     struct memory before = copy_of(m);
@@ -349,6 +370,7 @@ static void drops_and_resets(void)
 static void reference_is(uint8_t utf8, const uint8_t *packet, size_t size, size_t index, unsigned refusal, unsigned place)
 {
     struct ik_place a = ik_reference(utf8, lend_copy(packet, size), size, index);
+    reference_met |= bit(a.refusal);
     SAME(a.refusal, refusal);
     SAME(a.place, 0);
     SAME(a.cache_place, place);
@@ -382,7 +404,7 @@ static void references(void)
 static void cached(struct memory m, size_t place, unsigned refusal, unsigned start, unsigned length)
 {
     struct memory before = copy_of(m);
-    struct ik_cached a = ik_place(m.at[CACHE], m.count[CACHE], m.at[CACHE_LENGTHS], m.count[CACHE_LENGTHS], place);
+    struct ik_cached a = text_at(m, place);
     SAME(a.refusal, refusal);
     SAME(a.place, 0);
     SAME(a.start, start);
@@ -460,5 +482,10 @@ int main(void)
     drops_and_resets();
     references();
     places();
+    SAME(packet_met, bits_of(BYTES(IK_ACCEPTED, IK_NO_VERSION, IK_CUT, IK_TEXT, IK_LONG, IK_SIZE, IK_STATE, IK_PACKET, IK_EMPTY_PLACE, IK_NAMED_AGAIN, IK_LONG_TEXT, IK_FRAGMENT, IK_SEQUENCE, IK_PENDING)));
+    SAME(drop_met, bits_of(BYTES(IK_ACCEPTED, IK_STATE, IK_SEQUENCE)));
+    SAME(reset_met, bits_of(BYTES(IK_ACCEPTED, IK_SIZE)));
+    SAME(reference_met, bits_of(BYTES(IK_ACCEPTED, IK_NO_VERSION, IK_CUT, IK_TEXT, IK_INDEX, IK_PACKET, IK_NAMED_AGAIN, IK_LONG_TEXT, IK_FRAGMENT)));
+    SAME(place_met, bits_of(BYTES(IK_ACCEPTED, IK_SIZE, IK_STATE, IK_EMPTY_PLACE)));
     return ended("packets");
 }

@@ -3,27 +3,35 @@
 
 static struct ik_read read_into(enum form form, const uint8_t *bytes, size_t size, struct list l, uint64_t *table, size_t rows)
 {
-    return (form == STANDALONE ? ik_read_standalone : ik_read_payload)(bytes, size, LIST(l), table, rows);
+    struct ik_read a = (form == STANDALONE ? ik_read_standalone : ik_read_payload)(bytes, size, LIST(l), table, rows);
+    met[form] |= bit(a.refusal);
+    return a;
+}
+
+/* A message from its byte `skip` on. */
+static void reads(const struct message *m, enum form form, size_t skip)
+{
+    unsigned long before = failed;
+    uint64_t *table = lend(8 * 100, 0xa5);
+    struct ik_read a = read_into(form, lend_copy(m->bytes + skip, m->size - skip), m->size - skip, three_texts(), table, 100);
+    SAME(a.refusal, m->refusal);
+    SAME(a.place, m->refusal ? m->place - skip : 0);
+    SAME(a.terms, m->terms);
+    SAME(a.rows, m->rows);
+    for (unsigned k = 0; k < m->rows; k++)
+        CHECK(ik_row_kind(table[k]) != IK_KIND_NONE);
+    CHECK(all(table + m->rows, 8 * (100 - m->rows), 0));
+    CHECK(guards_stand());
+    if (failed != before)
+        printf("  in: %s\n", m->name);
 }
 
 static void each_message(void)
 {
     for (int i = 0; i < MESSAGES; i++) {
-        const struct message *m = &messages[i];
-        unsigned long before = failed;
-        struct list l = three_texts();
-        uint64_t *table = lend(8 * 100, 0xa5);
-        struct ik_read a = read_into(m->form, lend_copy(m->bytes, m->size), m->size, l, table, 100);
-        SAME(a.refusal, m->refusal);
-        SAME(a.place, m->place);
-        SAME(a.terms, m->terms);
-        SAME(a.rows, m->rows);
-        for (unsigned k = 0; k < m->rows; k++)
-            CHECK(ik_row_kind(table[k]) != IK_KIND_NONE);
-        CHECK(all(table + m->rows, 8 * (100 - m->rows), 0));
-        CHECK(guards_stand());
-        if (failed != before)
-            printf("  in: %s\n", m->name);
+        reads(&messages[i], messages[i].form, 0);
+        if (also_payload(&messages[i]))
+            reads(&messages[i], PAYLOAD, 1);
     }
 }
 
@@ -94,7 +102,9 @@ static void limits(void)
     CHECK(guards_stand());
     size = nested_tuples(bytes, 65);
     refused_at(STANDALONE, lend_copy(bytes, size), size, empty_list(), 8192, 8, 129);
+    refused_at(PAYLOAD, lend_copy(bytes + 1, size - 1), size - 1, empty_list(), 8192, 8, 128);
     refused_at(STANDALONE, lend_copy(bytes, size), size, empty_list(), 63, 9, 127);
+    refused_at(PAYLOAD, lend_copy(bytes + 1, size - 1), size - 1, empty_list(), 63, 9, 126);
     refused_at(STANDALONE, lend_copy(bytes, size), size, empty_list(), 0, 9, 1);
     size = wide_tuple(bytes, 8191);
     table = lend(8 * 9000, 0xa5);
@@ -151,5 +161,6 @@ int main(void)
     rows_of_each_kind();
     limits();
     lists();
+    all_met(0);
     return ended("reading");
 }

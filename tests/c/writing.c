@@ -3,7 +3,9 @@
 
 static struct ik_written write_to(enum form form, const uint8_t *bytes, size_t size, struct list l, uint64_t *scratch, size_t rows, uint8_t *output, size_t room)
 {
-    return (form == STANDALONE ? ik_write_standalone : ik_write_payload)(bytes, size, LIST(l), scratch, rows, output, room);
+    struct ik_written a = (form == STANDALONE ? ik_write_standalone : ik_write_payload)(bytes, size, LIST(l), scratch, rows, output, room);
+    met[form] |= bit(a.refusal);
+    return a;
 }
 
 /* The output with exactly enough room, with more, and with one byte less. */
@@ -79,26 +81,42 @@ static void refused_at(enum form form, const uint8_t *bytes, size_t size, struct
     CHECK(guards_stand());
 }
 
+static void refused_messages(void)
+{
+    for (int i = 0; i < MESSAGES; i++) {
+        const struct message *m = &messages[i];
+        if (!m->refusal)
+            continue;
+        refused_at(m->form, lend_copy(m->bytes, m->size), m->size, three_texts(), 100, m->refusal, m->place);
+        if (also_payload(m))
+            refused_at(PAYLOAD, lend_copy(m->bytes + 1, m->size - 1), m->size - 1, three_texts(), 100, m->refusal, m->place - 1);
+    }
+}
+
 int main(void)
 {
     uint8_t *bytes = malloc(70000);
     canonical_forms();
-    for (int i = 0; i < MESSAGES; i++)
-        if (messages[i].refusal)
-            refused_at(messages[i].form, lend_copy(messages[i].bytes, messages[i].size), messages[i].size, three_texts(), 100, messages[i].refusal, messages[i].place);
+    refused_messages();
     for (int i = 0; i < 4; i++) {
         refused_at(STANDALONE, BYTES(131, 97, 5), list_of_wrong_size(i), 10, 13, 0);
         refused_at(PAYLOAD, BYTES(97, 5), list_of_wrong_size(i), 10, 13, 0);
     }
     size_t size = nested_tuples(bytes, 65);
     refused_at(STANDALONE, lend_copy(bytes, size), size, empty_list(), 8192, 8, 129);
+    refused_at(PAYLOAD, lend_copy(bytes + 1, size - 1), size - 1, empty_list(), 8192, 8, 128);
     refused_at(STANDALONE, lend_copy(bytes, size), size, empty_list(), 2, 9, 5);
+    refused_at(PAYLOAD, lend_copy(bytes + 1, size - 1), size - 1, empty_list(), 2, 9, 4);
     refused_at(STANDALONE, BYTES(131, 97, 5), empty_list(), 0, 9, 1);
     struct list l = three_texts();
     l.lengths[0] = 33;
     refused_at(STANDALONE, BYTES(131, 82, 0), l, 10, 14, 0);
+    l = three_texts();
+    l.lengths[0] = 33;
+    refused_at(PAYLOAD, BYTES(82, 0), l, 10, 14, 0);
     memset(bytes, 0, 70000);
     refused_at(STANDALONE, lend_copy(bytes, 65537), 65537, empty_list(), 10, 12, 0);
+    refused_at(PAYLOAD, lend_copy(bytes, 65537), 65537, empty_list(), 10, 12, 0);
     /* 10 comes before 11 */
     struct ik_written a = write_to(STANDALONE, BYTES(131, 97, 5, 0), three_texts(), lend(8, 0), 1, lend(0, 0), 0);
     SAME(a.refusal, 10);
@@ -114,5 +132,6 @@ int main(void)
     CHECK(memcmp(output, bytes, 65536) == 0);
     CHECK(guards_stand());
     free(bytes);
+    all_met(bit(IK_OUTPUT));
     return ended("writing");
 }
