@@ -132,7 +132,9 @@ impl Encoder<'_> {
 
     /// By reference where the list has the text; else in one of the four tags.
     fn atom(&mut self, text: &str) {
-        let index = self.texts.iter().position(|listed| listed == text);
+        let first = self.r.below(self.texts.len().max(1));
+        let mut indices = (first..self.texts.len()).chain(0..first);
+        let index = indices.find(|index| self.texts[*index] == text);
         if let (Some(index), true) = (index, !self.r.one_in(4)) {
             self.out.tag(82);
             return self.out.number(Role::Index, index as u64, 1);

@@ -17,7 +17,34 @@ mod twin;
 mod values;
 
 use random::Random;
+use std::ffi::c_int;
+use std::sync::atomic::{AtomicU64, Ordering};
 use tally::Tally;
+
+extern "C" {
+    fn signal(number: c_int, handler: usize) -> usize;
+    fn write(file: c_int, bytes: *const u8, count: usize) -> isize;
+}
+
+const SIGSEGV: c_int = 11;
+const SIG_DFL: usize = 0;
+/// The case that is running.
+static CASE: AtomicU64 = AtomicU64::new(0);
+
+/// Tells the case in which memory outside was touched; the touch, made again, then ends the program.
+extern "C" fn touched_outside(number: c_int) {
+    let mut text = *b"memory that is not lent was touched in case                     \n";
+    let (mut case, mut at) = (CASE.load(Ordering::Relaxed), text.len() - 2);
+    while case > 0 || at == text.len() - 2 {
+        text[at] = b'0' + (case % 10) as u8;
+        (case, at) = (case / 10, at - 1);
+    }
+    // SAFETY: both calls may be made in a handler, and the text is this function's own.
+    unsafe {
+        write(1, text.as_ptr(), text.len());
+        signal(number, SIG_DFL);
+    }
+}
 
 const CASES: u64 = 1_000_000;
 const SEED: u64 = 20_260_101;
@@ -39,8 +66,11 @@ fn main() {
     let mut messages = messages::Messages::new(seed);
     let mut sessions = packets::Sessions::new();
     let mut session_count = 0u64;
+    // SAFETY: the handler does only what a handler may.
+    unsafe { signal(SIGSEGV, touched_outside as extern "C" fn(c_int) as usize) };
     for case in first..first + cases {
         let r = &mut Random::new(seed, case);
+        CASE.store(case, Ordering::Relaxed);
         tally.begin(case);
         if r.one_in(SESSION_SHARE) {
             session_count += 1;

@@ -206,7 +206,8 @@ impl Memory {
         tally.met(Call::Place, expected.refusal);
         let held = |cache: &Twin<u8>| hex(cache.other().get(32 * (place & 2_047)..).map_or(&[], |held| &held[..held.len().min(32)]));
         tally.check(Call::Place, got == expected, || format!("place {place}: {got:?}, not {expected:?}; {}", held(&self.cache)));
-        self.compare(Call::Place, tally, &|| format!("after place {place}"));
+        let kept = self.cache.same() && self.cache_lengths.same();
+        tally.check(Call::Place, kept, || format!("the cache changed after place {place}"));
     }
 }
 

@@ -18,6 +18,7 @@ const LISTS: usize = 64;
 /// A valid term with the texts of a list: small mostly.
 fn term(r: &mut Random, texts: &[String], before: usize) -> Encoded {
     match r.below(4000) {
+        0 if r.one_in(12) => shapes::most_keys(r),
         0 => shapes::many_keys(r),
         1..=12 => shapes::many_rows(r),
         13..=40 => shapes::many_bytes(r, before),
@@ -25,6 +26,7 @@ fn term(r: &mut Random, texts: &[String], before: usize) -> Encoded {
         121..=140 => shapes::wide(r, texts),
         141..=180 => shapes::long_atom(r),
         181..=210 => shapes::some_keys(r, texts),
+        211..=216 => shapes::growing(r, texts),
         _ => {
             let size = r.pick(&[1, 2, 4, 8, 12, 30]);
             let value = values::value(r, texts, size);
@@ -121,7 +123,7 @@ impl Messages {
         }
         let form = r.pick(&[Form::Standalone, Form::Payload]);
         self.message.hold(&message(r, form, texts));
-        if r.one_in(12) {
+        if r.one_in(8) {
             falsify(r, &mut n, &mut self.places, &mut self.lengths);
         }
         if r.one_in(40) {
@@ -139,16 +141,15 @@ impl Messages {
     }
 }
 
-/// False state: a count that no header left, lengths over 32, texts that are none.
+/// False state among the first places: a count that no header left, lengths over 32, texts that are none.
 pub fn falsify(r: &mut Random, n: &mut u8, places: &mut Twin<u8>, lengths: &mut Twin<u16>) {
-    let changed = 1 + usize::from(*n).min(8) / 2;
-    for _ in 0..changed {
-        let at = r.below(usize::from(*n).clamp(1, LIST_PLACES));
+    for _ in 0..r.between(1, 4) {
+        let at = r.below(usize::from(*n).clamp(1, 4));
         let length = r.pick(&[33, 34, 255, 256, 65_535, 32, 31, 1]);
         let byte = r.pick(&[255, 128, 0xc3, 0xed]);
         match r.below(3) {
-            0 => *n = r.byte(),
-            1 => lengths.edit(|lent| lent[at] = length),
+            0 if r.one_in(2) => *n = r.byte(),
+            0 | 1 => lengths.edit(|lent| lent[at] = length),
             _ => places.edit(|lent| lent[32 * at] = byte),
         }
     }

@@ -2,6 +2,7 @@
 
 use crate::generate::{Encoded, Mark, Role};
 use crate::random::Random;
+use crate::{shapes, values};
 
 /// Every tag of the format, those that are refused among them.
 const TAGS: [u8; 36] = [
@@ -108,10 +109,15 @@ fn set(r: &mut Random, bytes: &mut [u8]) {
     }
 }
 
-/// A piece of the message put elsewhere, in place of another or between.
+/// A piece of the message, or of another, put in place of some bytes or between them.
 fn splice(r: &mut Random, bytes: &mut Vec<u8>) {
-    let from = position(r, bytes);
-    let piece: Vec<u8> = bytes[from..].iter().take(r.below(20)).copied().collect();
+    let mut donor = bytes.clone();
+    if r.one_in(2) {
+        let value = values::value(r, &[], 4);
+        donor = shapes::encoded(r, &[], &value).bytes;
+    }
+    let from = position(r, &donor);
+    let piece: Vec<u8> = donor[from..].iter().take(r.below(20)).copied().collect();
     let to = position(r, bytes);
     let replaced = if r.one_in(2) { (to + piece.len()).min(bytes.len()) } else { to };
     bytes.splice(to..replaced, piece);

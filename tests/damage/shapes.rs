@@ -72,25 +72,37 @@ fn joined(r: &mut Random, count: usize) -> Encoded {
     out
 }
 
-/// As many pairs as there may be rows for, or one more, or an equal key among the last, in another encoding.
+/// As many pairs as there may be rows for, or some more.
+pub fn most_keys(r: &mut Random) -> Encoded {
+    let most = about(r, ROWS_MOST / 2 - 1);
+    let count = r.pick(&[most, most, ROWS_MOST]);
+    keys(r, count)
+}
+
+/// Some hundreds of pairs.
 pub fn many_keys(r: &mut Random) -> Encoded {
-    let count = about(r, ROWS_MOST / 2 - 1);
+    let count = r.between(100, 600);
+    keys(r, count)
+}
+
+/// Pairs with integers as keys; often one of the last equals another, in another encoding.
+fn keys(r: &mut Random, count: usize) -> Encoded {
     let mut out = counted(116, count);
     let equal = if r.one_in(2) { count - 1 - r.below(3) } else { count };
     for i in 0..count {
         let key = if i == equal { i / 2 } else { i } as u64;
-        let wide = i == equal || r.one_in(2);
-        out.bytes.push(if wide { 111 } else { 98 });
-        match wide {
-            true => out.bytes.extend([0, 0, 0, 3, 0, key as u8, (key >> 8) as u8, 0]),
-            false => out.bytes.extend((key as u32).to_be_bytes()),
+        if i == equal || r.one_in(8) {
+            out.bytes.extend([111, 0, 0, 0, 3, 0, key as u8, (key >> 8) as u8, 0]);
+        } else {
+            out.bytes.push(98);
+            out.bytes.extend((key as u32).to_be_bytes());
         }
         out.bytes.push(106);
     }
     out
 }
 
-/// Many keys, though few enough to be frequent.
+/// Some tens of pairs with tuples as keys, in all encodings.
 pub fn some_keys(r: &mut Random, texts: &[String]) -> Encoded {
     let count = r.between(10, 60);
     let equal = if r.one_in(2) { r.between(1, count - 1) } else { count };
@@ -106,7 +118,7 @@ pub fn some_keys(r: &mut Random, texts: &[String]) -> Encoded {
 
 /// About 65,536 bytes, `before` of them before the term: a binary, a bit string, a number, lists of length 0, a text cut off.
 pub fn many_bytes(r: &mut Random, before: usize) -> Encoded {
-    let size = about(r, MESSAGE_MOST) - before;
+    let size = about(r, MESSAGE_MOST).saturating_sub(before).max(20);
     match r.below(5) {
         0 => filled(109, size - 5, &[]),
         1 => filled(77, size - 6, &[r.between(1, 8) as u8]),
@@ -155,4 +167,17 @@ pub fn wide(r: &mut Random, texts: &[String]) -> Encoded {
     let elements = vec![element; count];
     let value = if r.one_in(2) { Value::Tuple(elements) } else { Value::List(elements, None) };
     encoded(r, texts, &value)
+}
+
+/// Atoms that are longer in the canonical form, so that it may be longer than a message can be.
+pub fn growing(r: &mut Random, texts: &[String]) -> Encoded {
+    let mut atom = [vec![115, 255], vec![0xe9; 255]].concat();
+    let mut count = r.between(200, 254);
+    if !texts.is_empty() && r.one_in(2) {
+        atom = vec![82, r.below(texts.len()) as u8];
+        count = r.between(1_000, ROWS_MOST);
+    }
+    let mut out = counted(105, count);
+    out.bytes.extend(atom.repeat(count));
+    out
 }

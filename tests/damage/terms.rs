@@ -12,7 +12,9 @@ use second::{canon, terms, Refusal};
 const ROWS_MOST: usize = 8_192;
 /// Most words of a lent table, and most bytes of a lent output.
 const TABLE_MOST: usize = 10_000;
-const OUTPUT_MOST: usize = 140_000;
+const OUTPUT_MOST: usize = 300_000;
+/// A longer refused message is not searched for the rows that it needs.
+const SEARCHED_MOST: usize = 2_000;
 
 /// A message and an atom list, as each implementation is lent them.
 pub struct Input<'a> {
@@ -89,10 +91,32 @@ fn output_length(r: &mut Random, needed: usize) -> usize {
     }
 }
 
+/// The fewest rows with which a message gives its answer: those of its terms, or those before its refusal.
+fn rows_needed(input: &Input, reading: &Result<Reading, Refusal>) -> usize {
+    let refused = match reading {
+        Ok(reading) => return reading.rows.len(),
+        Err(refused) => refused,
+    };
+    let (mut fewest, mut enough) = (0, input.message.other().len().min(ROWS_MOST));
+    if enough > SEARCHED_MOST {
+        return enough;
+    }
+    while fewest < enough {
+        let rows = (fewest + enough) / 2;
+        let answer = terms::read(input.other_form(), input.message.other(), &input.other_list(), rows);
+        if answer.is_err_and(|other| other == *refused) {
+            enough = rows;
+        } else {
+            fewest = rows + 1;
+        }
+    }
+    fewest
+}
+
 /// Compares every call on the input.
 pub fn compare(r: &mut Random, input: &Input, room: &mut Room, tally: &mut Tally) {
     let reading = terms::read(input.other_form(), input.message.other(), &input.other_list(), ROWS_MOST);
-    let rows = reading.as_ref().map_or(r.below(20), |reading| reading.rows.len());
+    let rows = rows_needed(input, &reading);
     let table = table_length(r, rows);
     read(r, input, table, room, tally);
     let scratch = if r.one_in(4) { table_length(r, rows) } else { rows + r.below(3) };
