@@ -246,14 +246,12 @@ impl Sessions {
         if answer.refusal != 0 {
             return;
         }
-        let (offset, length) = (answer.offset as usize, answer.length as usize);
         let (payload, list) = match answer.kind {
-            1 => (step.packet.bytes[offset..offset + length].to_vec(), &self.memory.plain),
-            3 => (self.memory.gather.other()[..answer.gathered as usize].to_vec(), &self.memory.pending),
-            _ => (Vec::new(), &self.memory.pending),
+            1 => (step.packet.bytes.get(answer.offset as usize..), &self.memory.plain),
+            _ => (self.memory.gather.other().get(..answer.gathered as usize), &self.memory.pending),
         };
-        if answer.kind != 2 {
-            messages.payload(r, &payload, list.n(), &list.places, &list.lengths, tally);
+        if let (1 | 3, Some(payload)) = (answer.kind, payload) {
+            messages.payload(r, payload, list.n(), &list.places, &list.lengths, tally);
         }
         sender.accepted(step, answer.kind);
     }

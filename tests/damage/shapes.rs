@@ -118,7 +118,7 @@ pub fn some_keys(r: &mut Random, texts: &[String]) -> Encoded {
 
 /// About 65,536 bytes, `before` of them before the term: a binary, a bit string, a number, lists of length 0, a text cut off.
 pub fn many_bytes(r: &mut Random, before: usize) -> Encoded {
-    let size = about(r, MESSAGE_MOST).saturating_sub(before).max(20);
+    let size = about(r, MESSAGE_MOST).saturating_sub(before).max(40);
     match r.below(5) {
         0 => filled(109, size - 5, &[]),
         1 => filled(77, size - 6, &[r.between(1, 8) as u8]),
