@@ -153,10 +153,26 @@ on_a_message! {
 
 extern "C" {
     fn ik_packet(
-        utf8: u8, packet: *const u8, packet_len: usize, cache: *mut u8, cache_len: usize, cache_lengths: *mut u16,
-        cache_lengths_len: usize, plain_n: *mut u8, plain_places: *mut u8, plain_places_len: usize, plain_lengths: *mut u16,
-        plain_lengths_len: usize, pending_n: *mut u8, pending_places: *mut u8, pending_places_len: usize,
-        pending_lengths: *mut u16, pending_lengths_len: usize, record: *mut Pending, gather: *mut u8, gather_len: usize,
+        utf8: u8,
+        packet: *const u8,
+        packet_len: usize,
+        cache: *mut u8,
+        cache_len: usize,
+        cache_lengths: *mut u16,
+        cache_lengths_len: usize,
+        plain_n: *mut u8,
+        plain_places: *mut u8,
+        plain_places_len: usize,
+        plain_lengths: *mut u16,
+        plain_lengths_len: usize,
+        pending_n: *mut u8,
+        pending_places: *mut u8,
+        pending_places_len: usize,
+        pending_lengths: *mut u16,
+        pending_lengths_len: usize,
+        record: *mut Pending,
+        gather: *mut u8,
+        gather_len: usize,
     ) -> Packet;
     fn ik_drop(record: *mut Pending) -> Done;
     fn ik_reset(cache: *mut u8, cache_len: usize, cache_lengths: *mut u16, cache_lengths_len: usize, record: *mut Pending) -> Done;
@@ -206,10 +222,26 @@ pub fn packet(utf8: u8, packet: &[u8], lent: &mut Lent) -> Packet {
     // SAFETY: each pointer goes with its slice's length, and what is written is lent by `&mut`.
     unsafe {
         ik_packet(
-            utf8, packet.as_ptr(), packet.len(), cache.as_mut_ptr(), cache.len(), cache_lengths.as_mut_ptr(),
-            cache_lengths.len(), plain.n, plain.places.as_mut_ptr(), plain.places.len(), plain.lengths.as_mut_ptr(),
-            plain.lengths.len(), pending.n, pending.places.as_mut_ptr(), pending.places.len(),
-            pending.lengths.as_mut_ptr(), pending.lengths.len(), *record, gather.as_mut_ptr(), gather.len(),
+            utf8,
+            packet.as_ptr(),
+            packet.len(),
+            cache.as_mut_ptr(),
+            cache.len(),
+            cache_lengths.as_mut_ptr(),
+            cache_lengths.len(),
+            plain.n,
+            plain.places.as_mut_ptr(),
+            plain.places.len(),
+            plain.lengths.as_mut_ptr(),
+            plain.lengths.len(),
+            pending.n,
+            pending.places.as_mut_ptr(),
+            pending.places.len(),
+            pending.lengths.as_mut_ptr(),
+            pending.lengths.len(),
+            *record,
+            gather.as_mut_ptr(),
+            gather.len(),
         )
     }
 }

@@ -211,7 +211,7 @@ impl Encoder<'_> {
         self.out.number(Role::Length, length, 4);
         self.out.number(Role::Field, if bytes.is_empty() { 0 } else { kept.into() }, 1);
         self.out.bytes.extend_from_slice(bytes);
-        let low = self.r.byte() as u32 & (1 << (8 - kept)) - 1;
+        let low = u32::from(self.r.byte()) & ((1 << (8 - kept)) - 1);
         if let (Some(last), false) = (self.out.bytes.last_mut(), bytes.is_empty()) {
             *last |= low as u8;
         }

@@ -80,7 +80,7 @@ fn encoded(r: &mut Random, references: &[Reference], utf8: bool, long: bool) -> 
     }
     // The spare half has LongAtoms; its other bits, and the half after it, carry nothing.
     if let Some(last) = flags.last_mut() {
-        let spare = r.below(8) as u8 * 2 | u8::from(long);
+        let spare = (r.below(8) as u8 * 2) | u8::from(long);
         *last |= if n % 2 == 1 { spare << 4 } else { spare | (r.below(16) as u8) << 4 };
     }
     flags.iter().for_each(|flag| out.number(Role::Field, (*flag).into(), 1));

@@ -15,9 +15,15 @@ const LIST_PLACES: usize = 255;
 /// How many lists of texts there are to choose from.
 const LISTS: usize = 64;
 
-/// A valid term with the texts of a list: small mostly.
-fn term(r: &mut Random, texts: &[String], before: usize) -> Encoded {
-    match r.below(4000) {
+/// A message, and how many rows it has where it was made to be accepted.
+pub struct Message {
+    pub bytes: Vec<u8>,
+    rows: Option<usize>,
+}
+
+/// A valid term with the texts of a list, small mostly, and its rows where it is one of few parts and surely accepted.
+fn term(r: &mut Random, texts: &[String], before: usize) -> (Encoded, Option<usize>) {
+    let large = match r.below(4000) {
         0 if r.one_in(12) => shapes::most_keys(r),
         0 => shapes::many_keys(r),
         1..=12 => shapes::many_rows(r),
@@ -30,26 +36,30 @@ fn term(r: &mut Random, texts: &[String], before: usize) -> Encoded {
         _ => {
             let size = r.pick(&[1, 2, 4, 8, 12, 30]);
             let value = values::value(r, texts, size);
-            shapes::encoded(r, texts, &value)
+            return (shapes::encoded(r, texts, &value), value.keys_differ().then(|| value.rows()));
         }
-    }
+    };
+    (large, None)
 }
 
 /// A message of that form: 131 and a term, or one or two terms; damaged as often as not.
-pub fn message(r: &mut Random, form: Form, texts: &[String]) -> Vec<u8> {
+pub fn message(r: &mut Random, form: Form, texts: &[String]) -> Message {
     let mut out = Encoded::default();
     if form == Form::Standalone {
         out.tag(131);
     }
+    let mut rows = Some(0);
     let terms = if form == Form::Payload && r.one_in(2) { 2 } else { 1 };
     for _ in 0..terms {
-        let before = out.bytes.len();
-        out.append(&term(r, texts, before));
+        let (term, more) = term(r, texts, out.bytes.len());
+        out.append(&term);
+        rows = rows.zip(more).map(|(rows, more)| rows + more);
     }
     if r.below(5) > 1 {
         mutate::damage(r, &mut out);
+        rows = None;
     }
-    out.bytes
+    Message { bytes: out.bytes, rows }
 }
 
 /// An atom list as a header left it, and its texts.
@@ -122,21 +132,24 @@ impl Messages {
             (n, texts) = (0, &[]);
         }
         let form = r.pick(&[Form::Standalone, Form::Payload]);
-        self.message.hold(&message(r, form, texts));
+        let mut made = message(r, form, texts);
+        self.message.hold(&made.bytes);
         if r.one_in(8) {
+            made.rows = None;
             falsify(r, &mut n, &mut self.places, &mut self.lengths);
         }
         if r.one_in(40) {
+            made.rows = None;
             missize(r, &mut self.places, &mut self.lengths);
         }
         let Messages { message, places, lengths, room, .. } = self;
-        terms::compare(r, &Input { form, message, n, places, lengths }, room, tally);
+        terms::compare(r, &Input { form, message, n, places, lengths, rows: made.rows }, room, tally);
     }
 
     /// An accepted payload with the list that goes with it.
     pub fn payload(&mut self, r: &mut Random, payload: &[u8], n: u8, places: &Twin<u8>, lengths: &Twin<u16>, tally: &mut Tally) {
         self.message.hold(payload);
-        let input = Input { form: Form::Payload, message: &self.message, n, places, lengths };
+        let input = Input { form: Form::Payload, message: &self.message, n, places, lengths, rows: None };
         terms::compare(r, &input, &mut self.room, tally);
     }
 }

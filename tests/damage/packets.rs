@@ -54,7 +54,7 @@ fn payload(r: &mut Random, texts: &[String]) -> Vec<u8> {
     match r.below(300) {
         0 => shapes::many_bytes(r, 0).bytes,
         1..=10 => Vec::new(),
-        _ => messages::message(r, Form::Payload, texts),
+        _ => messages::message(r, Form::Payload, texts).bytes,
     }
 }
 

@@ -15,18 +15,8 @@ pub enum Call {
     Place,
 }
 
-const CALLS: [Call; 10] = [
-    Call::Read,
-    Call::Write,
-    Call::Number,
-    Call::Text,
-    Call::Mark,
-    Call::Packet,
-    Call::Drop,
-    Call::Reset,
-    Call::Reference,
-    Call::Place,
-];
+const CALLS: [Call; 10] =
+    [Call::Read, Call::Write, Call::Number, Call::Text, Call::Mark, Call::Packet, Call::Drop, Call::Reset, Call::Reference, Call::Place];
 
 /// One over the highest refusal number.
 const NUMBERS: usize = 27;

@@ -23,6 +23,8 @@ pub struct Input<'a> {
     pub n: u8,
     pub places: &'a Twin<u8>,
     pub lengths: &'a Twin<u16>,
+    /// how many rows it has, where it was made to be accepted
+    pub rows: Option<usize>,
 }
 
 impl Input<'_> {
@@ -49,7 +51,12 @@ impl Input<'_> {
         let told_lengths = &lengths[..usize::from(self.n).min(lengths.len())];
         format!(
             "{:?} message {} n {} places ({}) {} lengths ({}) {told_lengths:?}",
-            self.form, hex(self.message.other()), self.n, places.len(), hex(&places[..used]), lengths.len(),
+            self.form,
+            hex(self.message.other()),
+            self.n,
+            places.len(),
+            hex(&places[..used]),
+            lengths.len(),
         )
     }
 }
@@ -117,6 +124,8 @@ fn rows_needed(input: &Input, reading: &Result<Reading, Refusal>) -> usize {
 pub fn compare(r: &mut Random, input: &Input, room: &mut Room, tally: &mut Tally) {
     let reading = terms::read(input.other_form(), input.message.other(), &input.other_list(), ROWS_MOST);
     let rows = rows_needed(input, &reading);
+    let as_made = input.rows.is_none() || reading.is_ok() && input.rows == Some(rows);
+    tally.check(Call::Read, as_made, || format!("made to be accepted with {:?} rows; {}", input.rows, input.told()));
     let table = table_length(r, rows);
     read(r, input, table, room, tally);
     let scratch = if r.one_in(4) { table_length(r, rows) } else { rows + r.below(3) };

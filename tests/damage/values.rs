@@ -5,7 +5,10 @@ use crate::random::Random;
 #[derive(Clone, Debug, PartialEq)]
 pub enum Value {
     /// digits least first, none of them a high zero
-    Integer { negative: bool, digits: Vec<u8> },
+    Integer {
+        negative: bool,
+        digits: Vec<u8>,
+    },
     Float(u64),
     Atom(String),
     Tuple(Vec<Value>),
@@ -14,10 +17,57 @@ pub enum Value {
     /// bytes, and how many bits of the last one count (8: a binary, also for no bytes)
     Bits(Vec<u8>, u8),
     Map(Vec<(Value, Value)>),
-    Pid { node: String, id: u32, serial: u32, creation: u32 },
-    Port { node: String, id: u64, creation: u32 },
-    Reference { node: String, creation: u32, words: Vec<u32> },
-    Export { module: String, function: String, arity: u8 },
+    Pid {
+        node: String,
+        id: u32,
+        serial: u32,
+        creation: u32,
+    },
+    Port {
+        node: String,
+        id: u64,
+        creation: u32,
+    },
+    Reference {
+        node: String,
+        creation: u32,
+        words: Vec<u32>,
+    },
+    Export {
+        module: String,
+        function: String,
+        arity: u8,
+    },
+}
+
+impl Value {
+    fn parts(&self) -> Vec<&Value> {
+        match self {
+            Value::Tuple(elements) => elements.iter().collect(),
+            Value::List(elements, tail) => elements.iter().chain(tail.as_deref()).collect(),
+            Value::Map(pairs) => pairs.iter().flat_map(|(key, value)| [key, value]).collect(),
+            _ => Vec::new(),
+        }
+    }
+
+    /// How many terms it has: itself, its parts, nodes, and an export's three.
+    pub fn rows(&self) -> usize {
+        let own = match self {
+            Value::Pid { .. } | Value::Port { .. } | Value::Reference { .. } => 2,
+            Value::Export { .. } => 4,
+            _ => 1,
+        };
+        own + self.parts().iter().map(|part| part.rows()).sum::<usize>()
+    }
+
+    /// Whether no map in it has two equal keys.
+    pub fn keys_differ(&self) -> bool {
+        let own = match self {
+            Value::Map(pairs) => pairs.iter().enumerate().all(|(i, (key, _))| pairs[..i].iter().all(|(earlier, _)| earlier != key)),
+            _ => true,
+        };
+        own && self.parts().iter().all(|part| part.keys_differ())
+    }
 }
 
 /// A whole number as a value.
