@@ -16,7 +16,7 @@ need_archive() {
 # A C program over the archive: source, program.
 c() { gcc -O2 -Wall -Wextra -I include "$1" "$archive" -o "$2"; }
 # Anything in Rust, without packages.
-rust() { rustc --edition 2021 -O -D warnings -L "$out" "$@"; }
+rust() { rustc --edition 2021 -O -L "$out" "$@"; }
 # A Rust library: name, source, more.
 library() { rust --crate-type rlib --crate-name "$1" "${@:2}" -o "$out/lib$1.rlib"; }
 
