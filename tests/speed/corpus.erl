@@ -8,16 +8,16 @@
 -define(ROWS_MOST, 8192).
 -define(EACH, 256).
 
+%% Writes all files; prints their names, the sizes of a kind upward.
 make(Dir) ->
     [write(Dir, ["small-", Name], [message(F, I) || I <- lists:seq(1, ?EACH)]) || {Name, F} <- small()],
-    [write(Dir, ["large-", Name], [sized(Kind, ?BYTES_MOST)]) || {Name, Kind} <- kinds()],
-    [write(Dir, io_lib:format("size-~s-~2..0b", [Name, KB]), [sized(Kind, 1024 * KB)])
-        || {Name, Kind} <- kinds(), KB <- sizes(Kind)],
+    [write(Dir, io_lib:format("size-~s-~b", [Name, KB]), [sized(Kind, 1024 * KB)]) || {Name, Kind} <- kinds(), KB <- sizes(Kind)],
     [write(Dir, ["packet-", Name], packets(N, Flag)) || {Name, N, Flag} <- headers()],
     ok.
 
 write(Dir, Name, Messages) ->
-    ok = file:write_file(filename:join(Dir, Name), [[<<(byte_size(M)):32>>, M] || M <- Messages]).
+    ok = file:write_file(filename:join(Dir, Name), [[<<(byte_size(M)):32>>, M] || M <- Messages]),
+    io:format("~s~n", [Name]).
 
 message(F, I) -> term_to_binary(F(I), [{minor_version, 2}]).
 
@@ -44,7 +44,8 @@ zone(I) -> lists:nth(1 + I rem 3, [north, south, cold]).
 pid(I) -> binary_to_term(<<131, (pid_bytes(I))/binary>>).
 reference(I) -> binary_to_term(<<131, (reference_bytes(I))/binary>>).
 
-%% ---- one message of a kind: {bytes before the elements, element I, bytes after, rows of an element, bytes of the number field}
+%% ---- kinds of one message: a run of elements {run, tag, width of the number field, element I, what ends it, rows of an element}, a map of
+%% keys {map, key I of N}, or bytes {filled, tag, fields after the length, byte}
 
 kinds() ->
     [{"small-integers", list(1, fun(I) -> <<97, I>> end)},
@@ -81,7 +82,7 @@ small_map(I) -> [<<116, 4:32>>, [[atom_bytes(K), <<98, (I * K):32>>] || K <- [1,
 
 %% The largest message of the kind with at most so many bytes and at most 8,192 rows.
 sized({filled, Tag, Fixed, Byte}, Bytes) ->
-    N = Bytes - 5 - byte_size(Tag) + 0 - byte_size(Fixed),
+    N = Bytes - 5 - byte_size(Tag) - byte_size(Fixed),
     <<131, Tag/binary, N:32, Fixed/binary, (binary:copy(<<Byte>>, N))/binary>>;
 sized({string, Tag}, Bytes) ->
     N = min(Bytes - 4, ?ROWS_MOST - 1),
@@ -95,10 +96,10 @@ sized({run, Tag, Width, Element, Last, Rows}, Bytes) ->
     N = min(Room div byte_size(Element(1)), (?ROWS_MOST - 1) div Rows),
     iolist_to_binary([131, Tag, <<N:(8 * Width)>>, [Element(I) || I <- lists:seq(1, N)], Last]).
 
-%% The sizes in KB up to the first at which the rows are full.
+%% The sizes in KB up to the first at which the rows are full (the message is then smaller than its name says).
 sizes(Kind) ->
     Most = byte_size(sized(Kind, ?BYTES_MOST)),
-    [KB || KB <- [1, 2, 4, 8, 16, 32, 64], KB =:= 1 orelse 512 * KB < Most].
+    [KB || KB <- [1, 2, 4, 8, 16, 32, 64], KB =:= 1 orelse 600 * KB < Most].
 
 %% ---- plain packets: a header of N references, all new or, after a first packet, all cached; a control message and a message
 

@@ -177,15 +177,15 @@ static int decode_element(struct decoder *d, const char *msg, int *at, long *par
     }
 }
 
-/* Every element of one term. The elements stand in reading order, so counting those still to come replaces recursion. */
+/* Every element of one term: the recursive walk that a program over libei makes. */
 static int decode_term(struct decoder *d, const char *msg, int *at)
 {
-    long due = 1, parts;
-    while (due > 0) {
-        if (decode_element(d, msg, at, &parts) != 0)
+    long parts;
+    if (decode_element(d, msg, at, &parts) != 0)
+        return -1;
+    for (; parts > 0; parts--)
+        if (decode_term(d, msg, at) != 0)
             return -1;
-        due += parts - 1;
-    }
     return 0;
 }
 

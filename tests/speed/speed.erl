@@ -7,9 +7,9 @@
 -define(LEAST_NS, 1000000).
 -define(HEAP_WORDS, 8 * 1024 * 1024).
 
-%% One line for each name: nanoseconds a message of reading and of writing.
-measure(Corpus, Names) ->
-    in_large_heap(fun() -> [measure_one(Corpus, Name) || Name <- Names] end).
+%% One line for each name that the file has: nanoseconds a message of reading and of writing.
+measure(Corpus, File) ->
+    in_large_heap(fun() -> [measure_one(Corpus, Name) || Name <- names(File)] end).
 
 in_large_heap(Work) ->
     {Pid, Monitor} = spawn_opt(Work, [monitor, {min_heap_size, ?HEAP_WORDS}, {priority, high}]),
@@ -47,8 +47,8 @@ repeat(_, _, 0, Last) -> Last;
 repeat(Run, List, N, Last) -> repeat(Run, List, N - 1, Run(List, Last)).
 
 %% Whether all that was written means what the messages mean. The last line says how many also are term_to_binary's bytes.
-judge(Corpus, Written, Names) ->
-    Answers = [judge_one(Corpus, Written, Name, Side) || Name <- Names, Side <- ["ours", "libei"]],
+judge(Corpus, Written, File) ->
+    Answers = [judge_one(Corpus, Written, Name, Side) || Name <- names(File), Side <- ["ours", "libei"]],
     Wrong = lists:sum([W || {_, W, _} <- Answers]),
     Total = lists:sum([N || {N, _, _} <- Answers]),
     Equal = lists:sum([E || {_, _, E} <- Answers]),
@@ -69,6 +69,10 @@ same(Message, Output) ->
     end.
 
 again(Output) -> term_to_binary(binary_to_term(Output), [{minor_version, 2}]).
+
+names(File) ->
+    {ok, Text} = file:read_file(File),
+    string:lexemes(binary_to_list(Text), "\n").
 
 load(Path) ->
     {ok, Bytes} = file:read_file(Path),
