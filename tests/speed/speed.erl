@@ -60,7 +60,8 @@ judge_one(Corpus, Written, Name, Side) ->
     Outputs = load(filename:join(Written, Name ++ "." ++ Side)),
     Wrong = [I || {I, M, O} <- lists:zip3(lists:seq(1, length(Messages)), Messages, Outputs), not same(M, O)],
     [io:format("wrong: ~s, message ~b, ~s~n", [Name, I, Side]) || I <- Wrong],
-    {length(Messages), length(Wrong), length([O || O <- Outputs, O =:= again(O)])}.
+    Equal = [O || {M, O} <- lists:zip(Messages, Outputs), O =:= written_by_erlang(M)],
+    {length(Messages), length(Wrong), length(Equal)}.
 
 same(Message, Output) ->
     try binary_to_term(Output, [used]) of
@@ -68,7 +69,7 @@ same(Message, Output) ->
     catch error:badarg -> false
     end.
 
-again(Output) -> term_to_binary(binary_to_term(Output), [{minor_version, 2}]).
+written_by_erlang(Message) -> term_to_binary(binary_to_term(Message), [{minor_version, 2}]).
 
 names(File) ->
     {ok, Text} = file:read_file(File),
