@@ -3,8 +3,8 @@
 -module(speed).
 -export([measure/2, judge/3]).
 
--define(ROUNDS, 15).
--define(LEAST_NS, 1000000).
+-define(ROUNDS, 60).
+-define(LEAST_NS, 300000). % short, so that on a busy machine some rounds run undisturbed
 -define(HEAP_WORDS, 8 * 1024 * 1024).
 
 %% One line for each name that the file has: nanoseconds a message of reading and of writing.
