@@ -1,45 +1,46 @@
--- `fields::put_before` meets its contract. The layout of what stands before the parts. Assumes nothing.
-use Rattle.fields.proofs.Leads.{word-sound, word-parts, lead-is, lay-room, lay-put}
+-- `fields::put_before` meets its contract. Bytes that stand as they are written are copied. Assumes nothing.
+use Rattle.fields.proofs.Stands.{stands-inside, stands-room, stands-put}
 use borrow.Author.Needs.{needs}
 use Rattle.fields.proofs.put_before.Statement.{statement}
 use Rattle.fields.proofs.put_before.Tie as tie
 
-content-requires : tie.Need-content-requires
-content-requires c κs = search needs
+as-it-stands-requires : tie.Need-as-it-stands-requires
+as-it-stands-requires c κs = search needs
 
-kind-in-requires : tie.Need-kind-in-requires
-kind-in-requires c κs = search needs
+offset-in-requires : tie.Need-offset-in-requires
+offset-in-requires c κs = search needs
 
-parts-in-requires : tie.Need-parts-in-requires
-parts-in-requires c κs = search needs
+copy-requires : tie.Need-copy-requires
+copy-requires c κs = (stands-inside (c .before .before .before .before .before .before .before .before .args .msg .now) (c .before .before .before .before .before .before .before .before .args .places .now) (c .before .before .before .before .before .before .before .before .args .lengths .now) (c .before .before .before .before .before .before .before .before .args .word) _ (c .before .before .before .as-it-stands .ensures (c .before .before .before .before .before .before .before .before .args .places .now) (c .before .before .before .before .before .before .before .before .args .lengths .now) (c .before .before .before .before .before .before .before .before .pre .0) (c .before .before .if1 .taken)) _ (c .before .offset-in .ensures .0), stands-room (c .before .before .before .before .before .before .before .before .args .msg .now) (c .before .before .before .before .before .before .before .before .args .places .now) (c .before .before .before .before .before .before .before .before .args .lengths .now) (c .before .before .before .before .before .before .before .before .args .word) _ (c .before .before .before .as-it-stands .ensures (c .before .before .before .before .before .before .before .before .args .places .now) (c .before .before .before .before .before .before .before .before .args .lengths .now) (c .before .before .before .before .before .before .before .before .pre .0) (c .before .before .if1 .taken)) _ _ (c .before .before .before .before .before .before .before .before .pre .1))
 
-lead-requires : tie.Need-lead-requires
-lead-requires c κs =
-    let args = c .before .before .before .before .before .before .before .args in
-    let asked = c .before .before .before .before .before .before .before .pre in
-    (word-sound (args .msg .now) (args .places .now) (args .lengths .now) (args .word) _ _ _ (c .before .before .content .ensures) (c .before .kind-in .ensures .0) (c .parts-in .ensures .0) (asked .0), word-parts (args .msg .now) (args .places .now) (args .lengths .now) (args .word) _ _ _ (c .before .before .content .ensures) (c .before .kind-in .ensures .0) (c .parts-in .ensures .0) (asked .0))
-
-put-layout-requires : tie.Need-put-layout-requires
-put-layout-requires c κs =
-    let args = c .before .before .before .before .before .before .before .before .before .args in
-    (c .before .lead .ensures .can-be, lay-room _ _ (lead-is (args .msg .now) (args .places .now) (args .lengths .now) (args .word) _ _ _ (c .before .before .before .before .content .ensures) (c .before .before .before .kind-in .ensures .0) (c .before .before .parts-in .ensures .0) (c .before .lead .ensures)) (c .before .before .before .before .before .before .before .before .before .pre .1))
+add-result : tie.Need-add-result
+add-result c = let r = stands-room (c .before .before .before .before .before .before .before .before .before .before .before .args .msg .now) (c .before .before .before .before .before .before .before .before .before .before .before .args .places .now) (c .before .before .before .before .before .before .before .before .before .before .before .args .lengths .now) (c .before .before .before .before .before .before .before .before .before .before .before .args .word) _ (c .before .before .before .before .before .before .as-it-stands .ensures (c .before .before .before .before .before .before .before .before .before .before .before .args .places .now) (c .before .before .before .before .before .before .before .before .before .before .before .args .lengths .now) (c .before .before .before .before .before .before .before .before .before .before .before .pre .0) (c .before .before .before .before .before .if1 .taken)) (c .before .before .before .before .before .before .before .before .before .before .before .args .at) _ (c .before .before .before .before .before .before .before .before .before .before .before .pre .1) in search needs
 
 same-length : tie.Need-same-length
 same-length c = search needs
 
 returns : tie.Need-returns
-returns c =
-    let args = c .before .before .before .before .before .before .before .before .before .before .before .before .args in
-    lay-put (lead-is (args .msg .now) (args .places .now) (args .lengths .now) (args .word) _ _ _ (c .before .before .before .before .before .before .before .content .ensures) (c .before .before .before .before .before .before .kind-in .ensures .0) (c .before .before .before .before .before .parts-in .ensures .0) (c .before .before .before .before .lead .ensures)) (c .before .before .put-layout .ensures)
+returns c = stands-put (c .before .before .before .before .before .before .before .before .before .before .before .args .msg .now) (c .before .before .before .before .before .before .before .before .before .before .before .args .places .now) (c .before .before .before .before .before .before .before .before .before .before .before .args .lengths .now) (c .before .before .before .before .before .before .before .before .before .before .before .args .word) _ (c .before .before .before .before .before .before .as-it-stands .ensures (c .before .before .before .before .before .before .before .before .before .before .before .args .places .now) (c .before .before .before .before .before .before .before .before .before .before .before .args .lengths .now) (c .before .before .before .before .before .before .before .before .before .before .before .pre .0) (c .before .before .before .before .before .if1 .taken)) (c .before .before .before .before .offset-in .ensures .0) (c .before .before .copy .ensures)
+
+put-lead-requires : tie.Need-put-lead-requires
+put-lead-requires c κs = search needs
+
+same-length-2 : tie.Need-same-length-2
+same-length-2 c = search needs
+
+returns-2 : tie.Need-returns-2
+returns-2 c = search needs
 
 pub put-before-spec : {M : Type 1} → statement M
 put-before-spec =
     tie.close
     (tie.spec
-    content-requires
-    kind-in-requires
-    parts-in-requires
-    lead-requires
-    put-layout-requires
+    as-it-stands-requires
+    offset-in-requires
+    copy-requires
+    add-result
     same-length
-    returns)
+    returns
+    put-lead-requires
+    same-length-2
+    returns-2)
