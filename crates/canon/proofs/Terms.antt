@@ -19,7 +19,7 @@ use Rattle.format.proofs.Rows.{count-le-sizes}
 use Rattle.octets.proofs.Numbers.{bytes-one}
 use Rattle.octets.proofs.Stores.{sets-at}
 use Rattle.layout.specs.Layout.{Put}
-use Rattle.layout.proofs.Puts.{put-then, put-same, put-length}
+use Rattle.layout.proofs.Puts.{put-then, put-same, put-none, put-length}
 use Rattle.fields.specs.Shape.{before, after}
 use Rattle.fields.specs.Sound.{label-in, before-in, after-in, Sound-word}
 use Rattle.fields.proofs.Shape.{canonical-parts, canonical-string}
@@ -336,3 +336,21 @@ canonicals-none = refl
 pub canonicals-more : (t : Term) (ts : Forest Label) → canonicals (t ▹ ts) ≡ canonical t ++ canonicals ts
 unfolding canonicals
 canonicals-more t ts = refl
+
+-- ---- no parts
+
+module _ {m places lengths T : List ℕ} {row : ℕ} (n : ℕ) (z : n ≡ 0) where
+  no-parts-length : Run-length m places lengths T row canonicals n 0
+  no-parts-length ts h c = let e : ts ≡ Forest.none = no-terms ts n c (omega arith) in (rw e (sym nothing-there), omega arith)
+
+  pub no-parts-put : (at : ℕ) (P : List ℕ) → Run-put m places lengths T row canonicals n P at at P
+  no-parts-put at P ts h c =
+      let e : ts ≡ Forest.none = no-terms ts n c (omega arith) in
+      let f : canonicals (meanings ts) ≡ [] = ap (λ (x : Terms). canonicals (meanings x)) e ∙ canonicals-none in
+      put-same (sym f) (put-none P at)
+
+module _ {m places lengths T : List ℕ} {row : ℕ} where
+  pub leaf-length : (n own : ℕ) → n ≡ parts-in (getD T row 0) → n ≡ 0
+      → own ≡ length (before-in m places lengths (getD T row 0)) + length (after-in m places lengths (getD T row 0)) → own ≤ 262192
+      → (t : Located) → Held m places lengths T row t → string-term t ≡ false → (own ≡ length (canonical (meaning t))) × (own ≤ 524288 * size t)
+  leaf-length n own e z o b t h s = let p = parts-length n own 0 e o b (no-parts-length n z) t h s in (omega (arith, p .0), omega (arith, p .1))

@@ -104,6 +104,9 @@ fn length_term(msg: &[u8], places: &[u8], lengths: &[u16], table: &[u64], row: u
         return n + 3;
     }
     let own = fields::own_length(msg, places, lengths, word);
+    if n == 0 {
+        return own;
+    }
     let inner = length_run(msg, places, lengths, table, row + 1, n);
     own + inner
 }
@@ -150,6 +153,9 @@ fn write_term(
         return put_string(msg, places, lengths, table, row + 1, n, out, at);
     }
     let first = fields::put_before(msg, places, lengths, word, out, at);
+    if n == 0 {
+        return fields::put_after(msg, places, lengths, word, out, first);
+    }
     let end = write_run(msg, places, lengths, table, row + 1, n, out, first);
     fields::put_after(msg, places, lengths, word, out, end)
 }

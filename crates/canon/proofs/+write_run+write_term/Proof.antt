@@ -1,5 +1,5 @@
 -- `canon::write_run` and `canon::write_term` meet their contracts. The measure is the rows from a term on, to the table's end. In the loop, what is left to store comes to the whole. Assumes nothing.
-use Rattle.canon.proofs.Terms.{Put-left, put-start, put-step, put-end, put-fits, canonicals-none, canonicals-more, left-below, left-size, string-needs, string-written, parts-put, before-room, run-room, after-room, term-sound}
+use Rattle.canon.proofs.Terms.{Put-left, put-start, put-step, put-end, put-fits, canonicals-none, canonicals-more, left-below, left-size, string-needs, string-written, parts-put, no-parts-put, before-room, run-room, after-room, term-sound}
 use Rattle.canon.proofs.Strings.{term-below}
 use Rattle.canon.specs.Held.{Held-run}
 use Rattle.format.specs.Canonical.{canonical, canonicals}
@@ -164,10 +164,10 @@ write-term-mul-word : (t : ℕ) → write-term-lts.Need-mul-word (
   put-string-reads.Learnt,
   put-before-reads.Asked,
   put-before-reads.Learnt,
-  write-run-below t,
-  write-run.Post,
   put-after-reads.Asked,
   put-after-reads.Learnt,
+  write-run-below t,
+  write-run.Post,
 ) (write-term-at t) write-term.Post
 write-term-mul-word t c =
     let asked = c .before .before .before .before .before .pre in
@@ -182,10 +182,10 @@ write-term-shared-slice-read-word : (t : ℕ) → write-term-lts.Need-shared-sli
   put-string-reads.Learnt,
   put-before-reads.Asked,
   put-before-reads.Learnt,
-  write-run-below t,
-  write-run.Post,
   put-after-reads.Asked,
   put-after-reads.Learnt,
+  write-run-below t,
+  write-run.Post,
 ) (write-term-at t) write-term.Post
 write-term-shared-slice-read-word t c =
     let asked = c .before .before .before .before .before .before .pre in
@@ -200,10 +200,10 @@ write-term-parts-in-requires : (t : ℕ) → write-term-lts.Need-parts-in-requir
   put-string-reads.Learnt,
   put-before-reads.Asked,
   put-before-reads.Learnt,
-  write-run-below t,
-  write-run.Post,
   put-after-reads.Asked,
   put-after-reads.Learnt,
+  write-run-below t,
+  write-run.Post,
 ) (write-term-at t) write-term.Post
 write-term-parts-in-requires t c κs = search needs
 
@@ -216,10 +216,10 @@ write-term-is-string-requires : (t : ℕ) → write-term-lts.Need-is-string-requ
   put-string-reads.Learnt,
   put-before-reads.Asked,
   put-before-reads.Learnt,
-  write-run-below t,
-  write-run.Post,
   put-after-reads.Asked,
   put-after-reads.Learnt,
+  write-run-below t,
+  write-run.Post,
 ) (write-term-at t) write-term.Post
 write-term-is-string-requires t c κs =
     let asked = c .before .before .before .before .before .before .before .pre in
@@ -234,10 +234,10 @@ write-term-add-put-string : (t : ℕ) → write-term-lts.Need-add-put-string (
   put-string-reads.Learnt,
   put-before-reads.Asked,
   put-before-reads.Learnt,
-  write-run-below t,
-  write-run.Post,
   put-after-reads.Asked,
   put-after-reads.Learnt,
+  write-run-below t,
+  write-run.Post,
 ) (write-term-at t) write-term.Post
 write-term-add-put-string t c =
     let asked = c .before .before .before .before .before .before .before .before .before .pre in
@@ -252,10 +252,10 @@ write-term-put-string-requires : (t : ℕ) → write-term-lts.Need-put-string-re
   put-string-reads.Learnt,
   put-before-reads.Asked,
   put-before-reads.Learnt,
-  write-run-below t,
-  write-run.Post,
   put-after-reads.Asked,
   put-after-reads.Learnt,
+  write-run-below t,
+  write-run.Post,
 ) (write-term-at t) write-term.Post
 write-term-put-string-requires t c κs =
     let asked = c .before .before .before .before .before .before .before .before .before .before .pre in
@@ -270,10 +270,10 @@ write-term-same-length : (t : ℕ) → write-term-lts.Need-same-length (
   put-string-reads.Learnt,
   put-before-reads.Asked,
   put-before-reads.Learnt,
-  write-run-below t,
-  write-run.Post,
   put-after-reads.Asked,
   put-after-reads.Learnt,
+  write-run-below t,
+  write-run.Post,
 ) (write-term-at t) write-term.Post
 write-term-same-length t c = c .before .before .put-string .kept .1 .1 .1 .1 .1 .1 .0
 
@@ -286,10 +286,10 @@ write-term-returns : (t : ℕ) → write-term-lts.Need-returns (
   put-string-reads.Learnt,
   put-before-reads.Asked,
   put-before-reads.Learnt,
-  write-run-below t,
-  write-run.Post,
   put-after-reads.Asked,
   put-after-reads.Learnt,
+  write-run-below t,
+  write-run.Post,
 ) (write-term-at t) write-term.Post
 write-term-returns t c = λ t h. string-written (c .before .before .before .before .before .before .parts-in .ensures .0) (c .before .before .put-string .ensures) t h (sym (c .before .before .before .before .before .is-string .ensures t h) ∙ c .before .before .before .before .if1 .taken)
 
@@ -302,50 +302,14 @@ write-term-put-before-requires : (t : ℕ) → write-term-lts.Need-put-before-re
   put-string-reads.Learnt,
   put-before-reads.Asked,
   put-before-reads.Learnt,
-  write-run-below t,
-  write-run.Post,
   put-after-reads.Asked,
   put-after-reads.Learnt,
+  write-run-below t,
+  write-run.Post,
 ) (write-term-at t) write-term.Post
 write-term-put-before-requires t c κs =
     let asked = c .before .before .before .before .before .before .before .before .before .before .pre in
     (term-sound (asked .1 .fit-term) (asked .1 .fit-held), before-room _ _ (asked .1 .fit-term) (asked .1 .fit-held) (sym (c .before .before .is-string .ensures (asked .1 .fit-term) (asked .1 .fit-held)) ∙ c .before .if1 .left) (asked .1 .fit-room))
-
-write-term-add-write-run : (t : ℕ) → write-term-lts.Need-add-write-run (
-  parts-in-reads.Asked,
-  parts-in-reads.Learnt,
-  is-string-reads.Asked,
-  is-string-reads.Learnt,
-  put-string-reads.Asked,
-  put-string-reads.Learnt,
-  put-before-reads.Asked,
-  put-before-reads.Learnt,
-  write-run-below t,
-  write-run.Post,
-  put-after-reads.Asked,
-  put-after-reads.Learnt,
-) (write-term-at t) write-term.Post
-write-term-add-write-run t c =
-    let asked = c .before .before .before .before .before .before .before .before .before .before .before .before .before .pre in
-    let g : c .before .before .before .before .before .before .before .before .before .before .before .before .before .args .row + size (asked .1 .fit-term) ≤ 8192 = asked .1 .fit-held .few in omega arith
-
-write-term-write-run-requires : (t : ℕ) → write-term-lts.Need-write-run-requires (
-  parts-in-reads.Asked,
-  parts-in-reads.Learnt,
-  is-string-reads.Asked,
-  is-string-reads.Learnt,
-  put-string-reads.Asked,
-  put-string-reads.Learnt,
-  put-before-reads.Asked,
-  put-before-reads.Learnt,
-  write-run-below t,
-  write-run.Post,
-  put-after-reads.Asked,
-  put-after-reads.Learnt,
-) (write-term-at t) write-term.Post
-write-term-write-run-requires t c κs =
-    let asked = c .before .before .before .before .before .before .before .before .before .before .before .before .before .before .pre in
-    let b = term-below (asked .1 .fit-term) (asked .1 .fit-held) in (omega arith, run-room _ _ _ (c .before .before .before .before .before .before .before .parts-in .ensures .0) (asked .1 .fit-term) (asked .1 .fit-held) (sym (c .before .before .before .before .before .before .is-string .ensures (asked .1 .fit-term) (asked .1 .fit-held)) ∙ c .before .before .before .before .before .if1 .left) (asked .1 .fit-room) (c .before .before .before .put-before .ensures))
 
 write-term-put-after-requires : (t : ℕ) → write-term-lts.Need-put-after-requires (
   parts-in-reads.Asked,
@@ -356,14 +320,14 @@ write-term-put-after-requires : (t : ℕ) → write-term-lts.Need-put-after-requ
   put-string-reads.Learnt,
   put-before-reads.Asked,
   put-before-reads.Learnt,
-  write-run-below t,
-  write-run.Post,
   put-after-reads.Asked,
   put-after-reads.Learnt,
+  write-run-below t,
+  write-run.Post,
 ) (write-term-at t) write-term.Post
 write-term-put-after-requires t c κs =
-    let asked = c .before .before .before .before .before .before .before .before .before .before .before .before .before .before .before .before .before .before .pre in
-    (term-sound (asked .1 .fit-term) (asked .1 .fit-held), after-room _ _ _ _ (c .before .before .before .before .before .before .before .before .before .before .before .parts-in .ensures .0) (asked .1 .fit-term) (asked .1 .fit-held) (sym (c .before .before .before .before .before .before .before .before .before .before .is-string .ensures (asked .1 .fit-term) (asked .1 .fit-held)) ∙ c .before .before .before .before .before .before .before .before .before .if1 .left) (asked .1 .fit-room) (c .before .before .before .before .before .before .before .put-before .ensures) (c .before .before .before .write-run .ensures))
+    let asked = c .before .before .before .before .before .before .before .before .before .before .before .before .before .before .before .pre in
+    (term-sound (asked .1 .fit-term) (asked .1 .fit-held), after-room _ _ _ _ (c .before .before .before .before .before .before .before .before .parts-in .ensures .0) (asked .1 .fit-term) (asked .1 .fit-held) (sym (c .before .before .before .before .before .before .before .is-string .ensures (asked .1 .fit-term) (asked .1 .fit-held)) ∙ c .before .before .before .before .before .before .if1 .left) (asked .1 .fit-room) (c .before .before .before .before .put-before .ensures) (no-parts-put _ (c .before .if2 .taken) _ _))
 
 write-term-same-length-2 : (t : ℕ) → write-term-lts.Need-same-length-2 (
   parts-in-reads.Asked,
@@ -374,12 +338,12 @@ write-term-same-length-2 : (t : ℕ) → write-term-lts.Need-same-length-2 (
   put-string-reads.Learnt,
   put-before-reads.Asked,
   put-before-reads.Learnt,
-  write-run-below t,
-  write-run.Post,
   put-after-reads.Asked,
   put-after-reads.Learnt,
+  write-run-below t,
+  write-run.Post,
 ) (write-term-at t) write-term.Post
-write-term-same-length-2 t c = c .before .before .put-after .kept .1 .1 .1 .1 .0 ∙ c .before .before .before .before .before .before .write-run .kept .1 .1 .1 .1 .1 .1 .0 ∙ c .before .before .before .before .before .before .before .before .before .before .put-before .kept .1 .1 .1 .1 .0
+write-term-same-length-2 t c = c .before .before .put-after .kept .1 .1 .1 .1 .0 ∙ c .before .before .before .before .before .before .before .put-before .kept .1 .1 .1 .1 .0
 
 write-term-returns-2 : (t : ℕ) → write-term-lts.Need-returns-2 (
   parts-in-reads.Asked,
@@ -390,12 +354,98 @@ write-term-returns-2 : (t : ℕ) → write-term-lts.Need-returns-2 (
   put-string-reads.Learnt,
   put-before-reads.Asked,
   put-before-reads.Learnt,
-  write-run-below t,
-  write-run.Post,
   put-after-reads.Asked,
   put-after-reads.Learnt,
+  write-run-below t,
+  write-run.Post,
 ) (write-term-at t) write-term.Post
-write-term-returns-2 t c = λ t h. parts-put (c .before .before .before .before .before .before .before .before .before .before .before .before .before .before .parts-in .ensures .0) (c .before .before .before .before .before .before .before .before .before .before .put-before .ensures) (c .before .before .before .before .before .before .write-run .ensures) (c .before .before .put-after .ensures) t h (sym (c .before .before .before .before .before .before .before .before .before .before .before .before .before .is-string .ensures t h) ∙ c .before .before .before .before .before .before .before .before .before .before .before .before .if1 .left)
+write-term-returns-2 t c = λ t h. parts-put (c .before .before .before .before .before .before .before .before .before .before .before .parts-in .ensures .0) (c .before .before .before .before .before .before .before .put-before .ensures) (no-parts-put _ (c .before .before .before .before .if2 .taken) _ _) (c .before .before .put-after .ensures) t h (sym (c .before .before .before .before .before .before .before .before .before .before .is-string .ensures t h) ∙ c .before .before .before .before .before .before .before .before .before .if1 .left)
+
+write-term-add-write-run : (t : ℕ) → write-term-lts.Need-add-write-run (
+  parts-in-reads.Asked,
+  parts-in-reads.Learnt,
+  is-string-reads.Asked,
+  is-string-reads.Learnt,
+  put-string-reads.Asked,
+  put-string-reads.Learnt,
+  put-before-reads.Asked,
+  put-before-reads.Learnt,
+  put-after-reads.Asked,
+  put-after-reads.Learnt,
+  write-run-below t,
+  write-run.Post,
+) (write-term-at t) write-term.Post
+write-term-add-write-run t c =
+    let asked = c .before .before .before .before .before .before .before .before .before .before .before .before .before .before .pre in
+    let g : c .before .before .before .before .before .before .before .before .before .before .before .before .before .before .args .row + size (asked .1 .fit-term) ≤ 8192 = asked .1 .fit-held .few in omega arith
+
+write-term-write-run-requires : (t : ℕ) → write-term-lts.Need-write-run-requires (
+  parts-in-reads.Asked,
+  parts-in-reads.Learnt,
+  is-string-reads.Asked,
+  is-string-reads.Learnt,
+  put-string-reads.Asked,
+  put-string-reads.Learnt,
+  put-before-reads.Asked,
+  put-before-reads.Learnt,
+  put-after-reads.Asked,
+  put-after-reads.Learnt,
+  write-run-below t,
+  write-run.Post,
+) (write-term-at t) write-term.Post
+write-term-write-run-requires t c κs =
+    let asked = c .before .before .before .before .before .before .before .before .before .before .before .before .before .before .before .pre in
+    let b = term-below (asked .1 .fit-term) (asked .1 .fit-held) in (omega arith, run-room _ _ _ (c .before .before .before .before .before .before .before .before .parts-in .ensures .0) (asked .1 .fit-term) (asked .1 .fit-held) (sym (c .before .before .before .before .before .before .before .is-string .ensures (asked .1 .fit-term) (asked .1 .fit-held)) ∙ c .before .before .before .before .before .before .if1 .left) (asked .1 .fit-room) (c .before .before .before .before .put-before .ensures))
+
+write-term-put-after-requires-2 : (t : ℕ) → write-term-lts.Need-put-after-requires-2 (
+  parts-in-reads.Asked,
+  parts-in-reads.Learnt,
+  is-string-reads.Asked,
+  is-string-reads.Learnt,
+  put-string-reads.Asked,
+  put-string-reads.Learnt,
+  put-before-reads.Asked,
+  put-before-reads.Learnt,
+  put-after-reads.Asked,
+  put-after-reads.Learnt,
+  write-run-below t,
+  write-run.Post,
+) (write-term-at t) write-term.Post
+write-term-put-after-requires-2 t c κs =
+    let asked = c .before .before .before .before .before .before .before .before .before .before .before .before .before .before .before .before .before .before .before .pre in
+    (term-sound (asked .1 .fit-term) (asked .1 .fit-held), after-room _ _ _ _ (c .before .before .before .before .before .before .before .before .before .before .before .before .parts-in .ensures .0) (asked .1 .fit-term) (asked .1 .fit-held) (sym (c .before .before .before .before .before .before .before .before .before .before .before .is-string .ensures (asked .1 .fit-term) (asked .1 .fit-held)) ∙ c .before .before .before .before .before .before .before .before .before .before .if1 .left) (asked .1 .fit-room) (c .before .before .before .before .before .before .before .before .put-before .ensures) (c .before .before .before .write-run .ensures))
+
+write-term-same-length-3 : (t : ℕ) → write-term-lts.Need-same-length-3 (
+  parts-in-reads.Asked,
+  parts-in-reads.Learnt,
+  is-string-reads.Asked,
+  is-string-reads.Learnt,
+  put-string-reads.Asked,
+  put-string-reads.Learnt,
+  put-before-reads.Asked,
+  put-before-reads.Learnt,
+  put-after-reads.Asked,
+  put-after-reads.Learnt,
+  write-run-below t,
+  write-run.Post,
+) (write-term-at t) write-term.Post
+write-term-same-length-3 t c = c .before .before .put-after2 .kept .1 .1 .1 .1 .0 ∙ c .before .before .before .before .before .before .write-run .kept .1 .1 .1 .1 .1 .1 .0 ∙ c .before .before .before .before .before .before .before .before .before .before .before .put-before .kept .1 .1 .1 .1 .0
+
+write-term-returns-3 : (t : ℕ) → write-term-lts.Need-returns-3 (
+  parts-in-reads.Asked,
+  parts-in-reads.Learnt,
+  is-string-reads.Asked,
+  is-string-reads.Learnt,
+  put-string-reads.Asked,
+  put-string-reads.Learnt,
+  put-before-reads.Asked,
+  put-before-reads.Learnt,
+  put-after-reads.Asked,
+  put-after-reads.Learnt,
+  write-run-below t,
+  write-run.Post,
+) (write-term-at t) write-term.Post
+write-term-returns-3 t c = λ t h. parts-put (c .before .before .before .before .before .before .before .before .before .before .before .before .before .before .before .parts-in .ensures .0) (c .before .before .before .before .before .before .before .before .before .before .before .put-before .ensures) (c .before .before .before .before .before .before .write-run .ensures) (c .before .before .put-after2 .ensures) t h (sym (c .before .before .before .before .before .before .before .before .before .before .before .before .before .before .is-string .ensures t h) ∙ c .before .before .before .before .before .before .before .before .before .before .before .before .before .if1 .left)
 
 pub +write-run+write-term-spec : {M : Type 1} → statement M
 +write-run+write-term-spec = close μ-write-run μ-write-term (λ t. write-run-lts.spec (
@@ -428,10 +478,10 @@ pub +write-run+write-term-spec : {M : Type 1} → statement M
       put-string-reads.Learnt,
       put-before-reads.Asked,
       put-before-reads.Learnt,
-      write-run-below t,
-      write-run.Post,
       put-after-reads.Asked,
       put-after-reads.Learnt,
+      write-run-below t,
+      write-run.Post,
     )
     (write-term-at t)
     write-term.Post
@@ -444,8 +494,11 @@ pub +write-run+write-term-spec : {M : Type 1} → statement M
     (write-term-same-length t)
     (write-term-returns t)
     (write-term-put-before-requires t)
-    (write-term-add-write-run t)
-    (write-term-write-run-requires t)
     (write-term-put-after-requires t)
     (write-term-same-length-2 t)
     (write-term-returns-2 t)
+    (write-term-add-write-run t)
+    (write-term-write-run-requires t)
+    (write-term-put-after-requires-2 t)
+    (write-term-same-length-3 t)
+    (write-term-returns-3 t)
