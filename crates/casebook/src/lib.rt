@@ -2,7 +2,6 @@
 // or COUNT*HEX for a repetition, all parted by single spaces. The bytes that the words stand for: form (1 byte), rows lent (2), output room (3), n of the atom list (1), number of places given (1), for each of them its length (2), a
 // count (1) and that many bytes of text, then the message. Forms: 's' standalone, 'p' payload; 'S', 'P' the same with the places lent a
 // byte short, 't', 'q' with a length too many. No function has a `requires`: what is missing counts as 0, what has no room is left out.
-ghost use mathlib.Core.Path.{_≡_};
 ghost use Prim.Native.Nat.{_≤_, _<_, min};
 ghost use lib.ListN.{length};
 ghost use Rattle.io.specs.Counts.{Counts};
@@ -51,7 +50,7 @@ pub fn put_decimal(dst: &mut [u8], at: usize, n: u64) -> usize
 }
 
 // A space, and n in decimal.
-pub fn put_number(dst: &mut [u8], at: usize, n: usize) -> usize
+fn put_number(dst: &mut [u8], at: usize, n: usize) -> usize
     ensures { λ r. ⌜ Counts r (now (dst .exit)) ⌝ }
 {
     let next = put_byte(dst, at, 32);
@@ -175,7 +174,7 @@ fn put_rows(dst: &mut [u8], at: usize, table: &[u64], n: usize) -> usize
 }
 
 // Whether all words from `from` on are 0.
-pub fn clean(table: &[u64], from: usize) -> bool {
+fn clean(table: &[u64], from: usize) -> bool {
     let mut i = from;
     while i < table.len() {
         if table[i] != 0 {
@@ -375,7 +374,7 @@ pub fn decode_line(dst: &mut [u8], line: &[u8]) -> usize
 }
 
 // The byte of a case at `at`.
-pub fn number1(case: &[u8], at: usize) -> usize
+fn number1(case: &[u8], at: usize) -> usize
     ensures { λ r. ⌜ r < 256 ⌝ }
 {
     if case.len() <= at {

@@ -11,6 +11,7 @@ fn read(case: &[u8], msg: &[u8], places: &[u8], lengths: &[u16], table: &mut [u6
     terms::read_standalone(msg, n, places, lengths, table)
 }
 
+// The line, where the table is as lent.
 fn put_lent(
     dst: &mut [u8],
     case: &[u8],

@@ -59,6 +59,7 @@ fn write(
     canon::write_standalone(msg, n, places, lengths, scratch, output)
 }
 
+// The line, where scratch table and output are as lent.
 fn put_lent(
     dst: &mut [u8],
     case: &[u8],
