@@ -1,9 +1,9 @@
--- `cases_writing::run_all` meets its contract. Each line ends past its start. Assumes nothing.
+-- `cases::run_all` meets its contract. Each line ends past its start. Assumes nothing.
 use Prim.Native.Nat.{_+_, _-_, _≤_}
 use borrow.Author.Needs.{needs}
 use lib.ListN.{length}
-use Rattle.cases_writing.proofs.run_all.Statement.{statement}
-use Rattle.cases_writing.proofs.run_all.Tie as tie
+use Rattle.cases.proofs.run_all.Statement.{statement}
+use Rattle.cases.proofs.run_all.Tie as tie
 
 abbrev Inv-loop : tie.InvT-loop
 Inv-loop src i₀ i = i ≤ length src + 1

@@ -1,9 +1,9 @@
--- `cases_writing::untouched` meets its contract. It ends: the index rises. Assumes nothing.
+-- `cases::write::untouched` meets its contract. It ends: the index rises. Assumes nothing.
 use Prim.Native.Nat.{_-_, _≤_}
 use borrow.Author.Needs.{needs}
 use lib.ListN.{length}
-use Rattle.cases_writing.proofs.untouched.Statement.{statement}
-use Rattle.cases_writing.proofs.untouched.Tie as tie
+use Rattle.cases.proofs.write.untouched.Statement.{statement}
+use Rattle.cases.proofs.write.untouched.Tie as tie
 
 abbrev Inv-loop : tie.InvT-loop
 Inv-loop output from i₀ i = from ≤ i

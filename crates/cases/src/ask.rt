@@ -1,6 +1,6 @@
-// Reads each case of standard input (crate casebook): its rows lent say how many rows, its output room how many offsets it asks for. Writes as a
-// line each row's number (`whole,N`, `float,BITS`, `neither`), each offset's text (`message,START,LENGTH`, `list,START,LENGTH`, `empty`, with
-// ` differs` if the text itself has another length), then each offset's mark (`latin1`, `utf8`); `refused,N,P` where a question is refused.
+// A case that is asked about: its rows lent say how many rows, its output room how many offsets are asked for. First each row's number
+// (`whole,N`, `float,BITS`, `neither`), then each offset's text (`message,START,LENGTH`, `list,START,LENGTH`, `empty`, with ` differs` if the
+// text itself has another length), then each offset's mark (`latin1`, `utf8`); `refused,N,P` where a question is refused.
 ghost use Rattle.io.specs.Counts.{Counts};
 use asking::TextAt;
 use casebook::put_byte;
@@ -9,7 +9,6 @@ use casebook::put_word;
 use format::MarkAnswer;
 use format::NumberAnswer;
 use format::Refusal;
-use libc::STDOUT_FILENO;
 
 fn number(case: &[u8], msg: &[u8], places: &[u8], lengths: &[u16], row: usize) -> NumberAnswer {
     let n = casebook::list_count(case);
@@ -214,43 +213,19 @@ fn put_answers<'a>(
     next
 }
 
-fn show<'a>(case: &[u8], msg: &'a [u8], places: &'a [u8], lengths: &[u16]) {
-    let mut out = [0u8; 8000];
+pub fn put_line<'a>(
+    dst: &mut [u8],
+    case: &[u8],
+    msg: &'a [u8],
+    places: &'a [u8],
+    lengths: &[u16],
+) -> usize
+    ensures { λ r. ⌜ Counts r (now (dst .exit)) ⌝ }
+{
     let rows = casebook::number2(case, 1);
     let offsets = casebook::number3(case, 3);
-    let a = put_answers(&mut out, 0, 0, case, msg, places, lengths, rows);
-    let b = put_answers(&mut out, a, 1, case, msg, places, lengths, offsets);
-    let c = put_answers(&mut out, b, 2, case, msg, places, lengths, offsets);
-    let d = put_byte(&mut out, c, 10);
-    io::write_all(STDOUT_FILENO, &out[..d]);
-}
-
-fn run(case: &[u8]) {
-    let mut places = [0u8; 8161];
-    let mut lengths = [0u16; 256];
-    let start = casebook::fill_list(case, &mut places, &mut lengths);
-    let p = casebook::places_lent(case, &places);
-    let l = casebook::lengths_lent(case, &lengths);
-    show(case, &case[start..], &places[..p], &lengths[..l]);
-}
-
-fn run_line(line: &[u8]) {
-    let mut case = [0u8; 80000];
-    let n = casebook::decode_line(&mut case, line);
-    run(&case[..n]);
-}
-
-fn run_all(src: &[u8]) {
-    let mut i = 0usize;
-    while i < src.len() {
-        let end = casebook::line_end(src, i);
-        run_line(&src[i..end]);
-        i = end + 1;
-    }
-}
-
-fn main() {
-    let mut book = [0u8; 600000];
-    let n = io::read_full(0, &mut book);
-    run_all(&book[..n]);
+    let a = put_answers(dst, 0, 0, case, msg, places, lengths, rows);
+    let b = put_answers(dst, a, 1, case, msg, places, lengths, offsets);
+    let c = put_answers(dst, b, 2, case, msg, places, lengths, offsets);
+    put_byte(dst, c, 10)
 }

@@ -1,8 +1,8 @@
--- `cases_writing::inside` meets its contract. The answer is no more than there is. Assumes nothing.
+-- `casebook::inside` meets its contract. The answer is no more than there is. Assumes nothing.
 use native.Mathlib.Omega.{arith}
 use Rattle.io.proofs.Counting.{counts}
-use Rattle.cases_writing.proofs.inside.Statement.{statement}
-use Rattle.cases_writing.proofs.inside.Tie as tie
+use Rattle.casebook.proofs.inside.Statement.{statement}
+use Rattle.casebook.proofs.inside.Tie as tie
 
 returns : tie.Need-returns
 returns c = counts _ _ (omega arith)

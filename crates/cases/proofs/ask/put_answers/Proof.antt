@@ -1,12 +1,12 @@
--- `cases_asking::put_answers` meets its contract. What is put stays inside dst. Assumes nothing.
+-- `cases::ask::put_answers` meets its contract. What is put stays inside dst. Assumes nothing.
 use Prim.Native.Nat.{_-_, _≤_}
 use mathlib.Core.Path.{_≡_}
 use native.Mathlib.Omega.{arith}
 use borrow.Author.Needs.{needs}
 use lib.ListN.{length}
 use Rattle.io.proofs.Counting.{counts}
-use Rattle.cases_asking.proofs.put_answers.Statement.{statement}
-use Rattle.cases_asking.proofs.put_answers.Tie as tie
+use Rattle.cases.proofs.ask.put_answers.Statement.{statement}
+use Rattle.cases.proofs.ask.put_answers.Tie as tie
 
 abbrev Inv-loop : tie.InvT-loop
 Inv-loop dst₀ at question case msg places lengths n next₀ i₀ dst next i = (i ≤ n) × (next ≤ length dst) × (length dst ≡ length dst₀)

@@ -1,10 +1,10 @@
--- `cases_asking::magnitude` meets its contract. Each step to the magnitude of an `i64`, the least one's too, is defined. Assumes nothing.
+-- `cases::ask::magnitude` meets its contract. Each step to the magnitude of an `i64`, the least one's too, is defined. Assumes nothing.
 use borrow.Author.Needs.{needs}
 use lib.Dec.{lit≤}
 use mir.Syntax.{w64}
 use Rattle.std.proofs.num.Nearest.{Plain, Turned, plain, turn}
-use Rattle.cases_asking.proofs.magnitude.Statement.{statement}
-use Rattle.cases_asking.proofs.magnitude.Tie as tie
+use Rattle.cases.proofs.ask.magnitude.Statement.{statement}
+use Rattle.cases.proofs.ask.magnitude.Tie as tie
 
 upper : (c : tie.Then1) → Plain w64 (c .before .args .x)
 upper c = plain w64 (c .before .args .x) (lit≤ tt) (c .before .fits .x) (c .if1 .taken)

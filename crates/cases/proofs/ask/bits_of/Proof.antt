@@ -1,11 +1,11 @@
--- `cases_asking::bits_of` meets its contract. What equals itself is not `nan`. Assumes nothing.
+-- `cases::ask::bits_of` meets its contract. What equals itself is not `nan`. Assumes nothing.
 use mathlib.Core.Path.{_≡_}
 use mathlib.Core.Bool.{true, not, false≢true}
 use borrow.Author.Needs.{needs}
 use lib.Dec.{T}
 use lib.Ieee.{Float, nan, inf, fin, eq, isNan}
-use Rattle.cases_asking.proofs.bits_of.Statement.{statement}
-use Rattle.cases_asking.proofs.bits_of.Tie as tie
+use Rattle.cases.proofs.ask.bits_of.Statement.{statement}
+use Rattle.cases.proofs.ask.bits_of.Tie as tie
 
 no-nan : (x : Float) → eq x x ≡ true → T (not (isNan x))
 unfolding eq isNan
