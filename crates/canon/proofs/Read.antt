@@ -11,7 +11,7 @@ use borrow.Author.Tests.{leb-true, eqb-true}
 use Rattle.format.specs.Tree.{Forest, node, _▹_, size, sizes}
 use Rattle.format.specs.Text.{Checked, valid, encodes}
 use Rattle.format.specs.Term.{Label, list, bitstring}
-use Rattle.format.specs.Answer.{Answer, good, refused, Position, Reading, after, done}
+use Rattle.format.specs.Answer.{Answer, good, refused, Position, at-offset, Reading, after, done}
 use Rattle.format.specs.Head.{Atoms, Head, any, bits-rule, bits-meaning, clear-low, head}
 use Rattle.format.specs.Reading.{Place, tag-at, character-at, Located, meaning, term}
 use Rattle.format.specs.AtomList.{AtomList, of-size, atoms-of}
@@ -23,7 +23,6 @@ use Rattle.format.proofs.Valid.{Fits, Valid, Valids}
 use Rattle.format.proofs.Holds.{Holds, Fine, bind, done-holds, next, version-holds, ending-holds}
 use Rattle.format.proofs.Heads.{True-atoms, for-any}
 use Rattle.format.proofs.Accepted.{Found, term-holds}
-use Rattle.format.proofs.Bridge.{at-offset}
 use Rattle.format.proofs.Invariant.{In-step, on-byte}
 use Rattle.format.proofs.Backed.{Head-at, Label-at, Backed, Backeds, term-backed}
 use Rattle.format.proofs.Rows.{Each-node, Each-nodes, size-meaning}

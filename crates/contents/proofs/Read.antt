@@ -8,10 +8,10 @@ use native.Mathlib.Omega.{arith}
 use lib.Dec.{eqb}
 use lib.ListN.{length, getD, take, drop}
 use borrow.Author.Tests.{eqb-true}
-use Rattle.format.specs.Answer.{Position, bytes, number}
+use Rattle.format.specs.Answer.{Position, at-offset, bytes, number}
 use Rattle.format.specs.Head.{Atoms, Wanted, Form, form-in, forms, fields, Head, head, words}
 use Rattle.format.proofs.Steps.{spot}
-use Rattle.format.proofs.Bridge.{at-offset, byte-at, byte-end, bytes-at, bytes-end, number-at, number-end}
+use Rattle.format.proofs.Bridge.{byte-at, byte-end, bytes-at, bytes-end, number-at, number-end}
 use Rattle.format.proofs.Holds.{Holds, bind, next, done-holds, refused-holds}
 use Rattle.format.proofs.Opening.{by-less}
 use Rattle.format.proofs.Backed.{Allowed, form-found}
