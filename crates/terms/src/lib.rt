@@ -16,7 +16,7 @@ ghost use Rattle.format.specs.Head.{characters, elements, pairs, parts};
 ghost use Rattle.format.specs.Message.{standalone, payload, read, outermost, standalone-term, payload-terms};
 ghost use Rattle.format.specs.Reading.{each, tail, body, term};
 ghost use Rattle.format.specs.Rows.{table-after};
-ghost use Rattle.format.proofs.Bridge.{at-offset};
+ghost use Rattle.format.specs.Answer.{at-offset};
 ghost use Rattle.octets.specs.Cleared.{cleared};
 ghost use Rattle.heads.specs.Code.{lent, wanted-of, later-of, kind-later, head-at};
 ghost use Rattle.terms.specs.Code.{first-refusal, rows-in, asked, character-words, Room, Sound, Opens, inner, last, TermDone, RunDone, PartsDone, MessageDone};

@@ -7,7 +7,7 @@ use Rattle.terms.proofs.Openings.{opened, opens}
 use Rattle.terms.specs.Code.{Room, RunDone, PartsDone}
 use Rattle.terms.specs.declared.Step.{Step}
 use Rattle.heads.specs.Code.{lent, wanted-of}
-use Rattle.format.proofs.Bridge.{at-offset}
+use Rattle.format.specs.Answer.{at-offset}
 use Rattle.format.specs.Reading.{each, tail, body, term}
 use Rattle.format.specs.AtomList.{atoms-of}
 use types.Run.{miss}
