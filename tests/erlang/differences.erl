@@ -5,10 +5,11 @@
 %% Name, what differs, the clause of document 01.
 list() ->
     [{tag_outside, "the node reads tags 80, 99, 112", "Outside: tags 67, 78, 80, 99, 112 and 117 (refused, 3)"},
+     {atom_index, "the node reads an index of its own atom table, tags 73 and 75, as an atom", "3: tag not in the table; any other tag there is 4"},
      {sign, "the node takes any Sign but 0 as minus", "110, 111: Sign 0 or 1"},
      {pid_limits, "the node reads pids of 32 bits each", "88, 103: ID under 2^15, Serial under 2^13"},
      {port_limit, "the node reads ports of 32 bits", "89, 102: ID under 2^28"},
-     {word_count, "the node reads references of 0 to 5 words", "90, 114: 2-byte word count 1..3"},
+     {word_count, "the node reads references of 4 and 5 words", "90, 114: 2-byte word count 1..3"},
      {arity_tag, "the node reads an arity with any integer's tag", "another than 97 for an arity, known or not, is 4"},
      {depth, "the node has no such depth", "Depth at most 64"},
      {rows, "the node has no rows", "Rows at most 8,192"},
@@ -24,7 +25,7 @@ list() ->
 %% The node reads these bytes as Term, of which it used so many; we refuse them. The reason's name, or none.
 node_only({refused, Number, Place}, Bytes, Term, Used) ->
     case Number of
-        3 -> named(lists:member(binary:at(Bytes, Place), [67, 78, 80, 99, 112, 117]), tag_outside);
+        3 -> tag(binary:at(Bytes, Place));
         4 -> field(binary:part(Bytes, Place, byte_size(Bytes) - Place), Bytes, Place);
         8 -> named(measure:depth(Term) > 64, depth);
         9 -> named(measure:rows(Term) > 8192, rows);
@@ -37,7 +38,11 @@ node_only({refused, Number, Place}, Bytes, Term, Used) ->
 named(true, Name) -> Name;
 named(false, _) -> none.
 
-%% The field that breaks its rule, of the term that begins here.
+tag(Tag) when Tag =:= 73; Tag =:= 75 -> named(is_atom(binary_to_term(<<131, Tag, 0:24>>)), atom_index);
+tag(Tag) -> named(lists:member(Tag, [67, 78, 80, 99, 112, 117]), tag_outside).
+
+%% The field that breaks its rule, of the term that begins here, or the part's tag.
+field(<<Tag, _/binary>>, _, _) when Tag =:= 73; Tag =:= 75 -> tag(Tag);
 field(<<110, _, Sign, _/binary>>, _, _) when Sign > 1 -> sign;
 field(<<111, _:32, Sign, _/binary>>, _, _) when Sign > 1 -> sign;
 field(<<Tag, Rest/binary>>, _, _) when Tag =:= 88; Tag =:= 103 ->
@@ -46,7 +51,7 @@ field(<<Tag, Rest/binary>>, _, _) when Tag =:= 88; Tag =:= 103 ->
 field(<<Tag, Rest/binary>>, _, _) when Tag =:= 89; Tag =:= 102 ->
     <<Id:32, _/binary>> = after_atom(Rest),
     named(Id >= 1 bsl 28, port_limit);
-field(<<Tag, Count:16, _/binary>>, _, _) when Tag =:= 90; Tag =:= 114 -> named(Count =:= 0 orelse Count > 3, word_count);
+field(<<Tag, Count:16, _/binary>>, _, _) when Tag =:= 90; Tag =:= 114 -> named(Count > 3, word_count);
 field(_, Bytes, Place) -> named(lists:any(fun(At) -> arity_at(Bytes, At) =:= Place end, lists:seq(0, Place - 1)), arity_tag).
 
 %% Where the arity of the external fun at this offset stands, if one stands there.

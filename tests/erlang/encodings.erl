@@ -39,7 +39,8 @@ float() ->
         Bits -> {float, Bits}
     end.
 
-text() -> pick:text(pick:weighted([{8, fun() -> pick:range(0, 12) end}, {1, fun() -> pick:range(60, 66) end}, {1, fun() -> pick:range(250, 255) end}])).
+text() ->
+    pick:text(pick:weighted([{8, fun() -> pick:range(0, 12) end}, {1, fun() -> pick:range(60, 66) end}, {1, fun() -> pick:range(250, 255) end}])).
 bit_string() -> Size = pick:one_of([0, 8, 16, pick:range(0, 80), pick:range(500, 600)]), {bits, <<(pick:bits(Size + 1)):Size>>}.
 string() -> {list, [{int, Byte} || <<Byte>> <= pick:bytes(pick:range(1, 30))], nil}.
 
@@ -48,7 +49,9 @@ identifier() -> pick:weighted([{1, fun pid/0}, {1, fun port/0}, {1, fun referenc
 creation() -> pick:one_of([0, pick:range(0, 3), pick:range(0, 3), pick:bits(32)]).
 pid() -> {pid, node_name(), pick:bits(pick:range(1, 15)), pick:bits(pick:range(1, 13)), creation()}.
 port() -> {port, node_name(), pick:bits(pick:one_of([8, 28, 28, 29, 64])), creation()}.
-reference() -> {ref, node_name(), [pick:bits(pick:one_of([18, 18, 19, 32])) | pick:some(pick:range(0, 2), fun() -> pick:one_of([0, pick:bits(32)]) end)], creation()}.
+reference() ->
+    More = pick:some(pick:range(0, 2), fun() -> pick:one_of([0, pick:bits(32)]) end),
+    {ref, node_name(), [pick:bits(pick:one_of([18, 18, 19, 32])) | More], creation()}.
 export() -> {export, text(), text(), pick:range(0, 255)}.
 
 standalone(Value) -> iolist_to_binary([131, encode(Value)]).

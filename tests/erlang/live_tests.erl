@@ -52,6 +52,7 @@ recut(Run, Packets, Log) ->
     Cut = cut(Packets, []),
     {Outputs, Model} = feed(Run, ?RECUT, Cut, Log, keep),
     all_met(?RECUT, Outputs, Log),
+    [met(?RECUT, What) || What <- [plain, plain_between, pending, complete]],
     same_cache(Run, ?RECUT, Model),
     say(?RECUT, Cut).
 
@@ -100,7 +101,8 @@ funs(Run) ->
 
 %% Canonical messages, of the node's own and of generated values, reach a process of the node as they are.
 back(Run = #run{drive = Drive}, Outputs) ->
-    Made = [drive_port:write(Drive, "standalone", "empty", encodings:standalone(encodings:value(pick:range(0, 3)))) || _ <- lists:seq(1, 1500)],
+    Values = pick:some(1500, fun() -> encodings:value(pick:range(0, 3)) end),
+    Made = [drive_port:write(Drive, "standalone", "empty", encodings:standalone(Value)) || Value <- Values],
     Sent = Outputs ++ [Output || {ok, Output} <- Made, readable(Output)],
     {Link, Name} = join(Run),
     [dist_link:register_send(Link, "receiver", Output) || Output <- Sent],
@@ -108,10 +110,13 @@ back(Run = #run{drive = Drive}, Outputs) ->
     Marker = pick:bytes(16),
     dist_link:register_send(Link, "receiver", term_to_binary({keep, File, Name, Marker})),
     collect(Link, Marker),
-    Received = node_side:read_log(File),
-    tally:check(?BACK, length(Received) =:= length(Sent), {received, length(Received), sent, length(Sent)}),
-    [tally:check(?BACK, same(binary_to_term(Output), Term), {Output, Term}) || {Output, Term} <- lists:zip(Sent, lists:sublist(Received ++ Sent, length(Sent)))],
+    as_sent(Sent, node_side:read_log(File)),
     tally:say(?BACK, "each is =:= to what the node received").
+
+as_sent([Output | Sent], [Term | Received]) ->
+    tally:check(?BACK, same(binary_to_term(Output), Term), {Output, Term}),
+    as_sent(Sent, Received);
+as_sent(Sent, Received) -> tally:check(?BACK, Sent =:= [] andalso Received =:= [], {left_over, Sent, Received}).
 
 readable(Output) ->
     try binary_to_term(Output) of
@@ -121,7 +126,7 @@ readable(Output) ->
 
 %% One line with the kinds of answers.
 say(Part, Packets) ->
-    Kinds = [plain, pending, complete, fun_refused | [{refused, Number} || Number <- [12, 21, 23, 24, 25, 26]]],
+    Kinds = [plain, plain_between, pending, complete, fun_refused | [{refused, Number} || Number <- [12, 21, 23, 24, 25, 26]]],
     Met = [io_lib:format(", ~b ~tp", [Count, Kind]) || Kind <- Kinds, Count <- [tally:count({note, {Part, Kind}})], Count > 0],
     tally:say(Part, [io_lib:format("~b packets", [length(Packets)]), Met]).
 
@@ -164,12 +169,14 @@ step(#run{drive = Drive}, Part, Packet, Log, Policy, Model) ->
     Answer = drive_port:packet(Drive, Packet),
     {Expected, Payload, Next} = packet_model:take(Packet, Model),
     tally:check(Part, Answer =:= Expected, {packet, Packet, ours, Answer, expected, Expected}),
-    tally:note({Part, kind(Answer)}, 1),
+    tally:note({Part, kind(Answer, packet_model:pending(Model))}, 1),
     Outputs = [Output || Answer =:= Expected, Payload =/= none, Output <- payload(Drive, Part, Answer, Packet, Payload, Log)],
     {Outputs, after_answer(Drive, Part, Answer, Policy, Next)}.
 
-kind({refused, Number, _}) -> {refused, Number};
-kind(Answer) -> element(1, Answer).
+%% The kind of an answer, by the record before it.
+kind({refused, Number, _}, _) -> {refused, Number};
+kind({plain, _, _}, {_, Due, _}) when Due > 0 -> plain_between;
+kind(Answer, _) -> element(1, Answer).
 
 after_answer(Drive, Part, {refused, 12, 0}, drop, Model) ->
     Pending = packet_model:pending(Model),
@@ -183,8 +190,10 @@ after_answer(_, _, _, _, Model) -> Model.
 record(Drive) -> [Record] = drive_port:ask(Drive, ["get record"]), binary:decode_hex(Record).
 
 %% The payload as the driver points to it, read, written and compared.
-payload(Drive, Part, {plain, Offset, Length}, Packet, Payload, Log) -> message(Drive, Part, "plain", binary:part(Packet, Offset, Length), Payload, Log);
-payload(Drive, Part, {complete, Gathered}, _, Payload, Log) -> message(Drive, Part, "pending", drive_port:gathered(Drive, Gathered), Payload, Log).
+payload(Drive, Part, {plain, Offset, Length}, Packet, Payload, Log) ->
+    message(Drive, Part, "plain", binary:part(Packet, Offset, Length), Payload, Log);
+payload(Drive, Part, {complete, Gathered}, _, Payload, Log) ->
+    message(Drive, Part, "pending", drive_port:gathered(Drive, Gathered), Payload, Log).
 
 message(Drive, Part, List, Bytes, Payload, Log) ->
     tally:check(Part, Bytes =:= Payload, {payload, Bytes, Payload}),

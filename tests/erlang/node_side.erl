@@ -66,8 +66,9 @@ all_few() -> [one, two, three, four, five, 'f\x{fc}nf', '\x{516d}', seven].
 few_atoms() -> pick:one_of(all_few()).
 
 %% Texts of 25 to 253 characters of one to four bytes.
-wide_atom(Number) -> list_to_atom([pick_wide(Number rem 4) | lists:duplicate(20 + 4 * (Number rem 58), pick_wide(Number rem 4))] ++ integer_to_list(1000 + Number)).
-pick_wide(Width) -> element(Width + 1, {$a, 16#e9, 16#4e00, 16#1f600}).
+wide_atom(Number) ->
+    Character = element(1 + Number rem 4, {$a, 16#e9, 16#4e00, 16#1f600}),
+    list_to_atom(lists:duplicate(21 + 4 * (Number rem 58), Character) ++ integer_to_list(1000 + Number)).
 
 %% Half of the atoms are from a small part of a store of 4,000.
 atom() -> atom(pick:range(1, pick:one_of([60, 4000]))).

@@ -21,7 +21,7 @@ term(Depth, NewAtom) when Depth =< 0 -> leaf(NewAtom);
 term(Depth, NewAtom) -> pick:weighted([{1, fun() -> leaf(NewAtom) end}, {2, fun() -> inner(Depth - 1, NewAtom) end}]).
 
 leaf(NewAtom) ->
-    pick:weighted([{4, fun integer/0}, {2, fun float/0}, {4, NewAtom}, {2, fun bit_string/0}, {1, fun() -> [] end}, {1, fun() -> {} end}, {1, fun() -> #{} end},
+    pick:weighted([{4, fun integer/0}, {2, fun float/0}, {4, NewAtom}, {2, fun bit_string/0}, {3, fun() -> pick:one_of([[], {}, #{}]) end},
                    {1, fun() -> binary_to_list(pick:bytes(pick:range(1, 40))) end}, {2, fun own_identifier/0}, {2, fun foreign_identifier/0},
                    {1, fun() -> erlang:make_fun(NewAtom(), NewAtom(), pick:range(0, 255)) end}]).
 

@@ -72,7 +72,8 @@ fill(References, State = #state{cache = Cache, lost = Lost}) ->
     New = maps:from_list([{Place, Text} || {new, Place, Text} <- References]),
     State#state{cache = maps:merge(Cache, New), lost = maps:without(maps:keys(New), Lost)}.
 
-sound(References, #state{lost = Lost}) -> not lists:any(fun(Reference) -> element(1, Reference) =:= cached andalso is_map_key(element(2, Reference), Lost) end, References).
+%% No cached reference names a place whose latest text was refused.
+sound(References, #state{lost = Lost}) -> not lists:any(fun(Place) -> is_map_key(Place, Lost) end, [Place || {cached, Place} <- References]).
 
 %% The references of a header, from its count on, and the bytes after it.
 header(<<0, Payload/binary>>) -> {[], Payload};

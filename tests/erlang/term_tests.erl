@@ -44,11 +44,15 @@ one(Drive, Part, Bytes) ->
     Read = drive_port:read(Drive, "standalone", "empty", Bytes),
     case {Written, on_node(Bytes)} of
         {{ok, Output}, {ok, Term, _}} -> both(Drive, Part, Bytes, Output, Term, Read);
-        {{refused, 11, 0}, {ok, Term, Used}} -> listed(Part, Read =:= {ok, 1, measure:rows(Term)}, differences:node_only(Written, Bytes, Term, Used), Bytes, Written);
-        {_, {ok, Term, Used}} -> listed(Part, Read =:= Written, differences:node_only(Written, Bytes, Term, Used), Bytes, Written);
-        {{ok, Output}, refused} -> listed(Part, element(1, Read) =:= ok, differences:ours_only(Output), Bytes, Written);
-        {_, refused} -> tally:note({neither, Part}, 1), tally:check(Part, Read =:= Written, {Bytes, Read, Written})
+        {_, {ok, Term, Used}} -> listed(Part, agree(Read, Written), differences:node_only(Written, Bytes, Term, Used), Bytes, Written);
+        {{ok, Output}, refused} -> listed(Part, agree(Read, Written), differences:ours_only(Output), Bytes, Written);
+        {_, refused} -> tally:note({neither, Part}, 1), tally:check(Part, agree(Read, Written), {Bytes, Read, Written})
     end.
+
+%% Reader and writer: both accept, or refuse alike; 11 is the writer's alone.
+agree({ok, 1, _}, {ok, _}) -> true;
+agree({ok, 1, _}, {refused, 11, 0}) -> true;
+agree(Read, Written) -> Read =:= Written.
 
 on_node(Bytes) ->
     try binary_to_term(Bytes, [used]) of
@@ -91,7 +95,7 @@ differs_for(Name) -> tally:difference(Name).
 pick_pair() ->
     Value = encodings:value(pick:range(0, 3)),
     First = encodings:standalone(Value),
-    {Value, First, pick:one_of([encodings:standalone(Value), encodings:standalone(values:altered(Value)), inputs:changed(First)])}.
+    {Value, First, pick:one_of([encodings:standalone(Value), encodings:standalone(values:altered(Value)), inputs:changed_bytes(First)])}.
 
 pair(Drive, {Value, First, Second}) ->
     value_kept(drive_port:write(Drive, "standalone", "empty", First), Value, First),
@@ -106,7 +110,8 @@ pair(Drive, {Value, First, Second}) ->
 value_kept({ok, Output}, Value, Bytes) -> tally:check(?VALUES, canonical:value(Output) =:= Value, {Bytes, Output, Value});
 value_kept(Refused, _, Bytes) -> tally:failed(?VALUES, {Bytes, Refused}).
 
-alike(Output, Another, First, Second) -> tally:check(?PAIRS, differs_for(differences:same_on_node(Output, Another)), {same_term, First, Second, Output, Another}).
+alike(Output, Another, First, Second) ->
+    tally:check(?PAIRS, differs_for(differences:same_on_node(Output, Another)), {same_term, First, Second, Output, Another}).
 
 %% The node's term and our output, where both accept.
 canonical(Drive, Bytes) ->

@@ -11,12 +11,14 @@ altered({int, N}) -> pick:one_of([{int, N + 1}, {int, -N}, {int, N bxor (1 bsl p
 altered({float, Bits}) -> {float, Bits bxor pick:one_of([1, 1 bsl 63])};
 altered({atom, Text}) -> {atom, tl(Text ++ "x")};
 altered({bits, Bits}) -> {bits, <<Bits/bitstring, 0:1>>};
-altered({pid, Node, Id, Serial, Creation}) -> pick:one_of([{pid, Node, Id bxor 1, Serial, Creation}, {pid, Node, Id, Serial bxor 1, Creation}, {pid, Node, Id, Serial, Creation bxor 1}]);
-altered({port, Node, Id, Creation}) -> pick:one_of([{port, Node, Id bxor 1, Creation}, {port, Node, Id, Creation bxor 1}, {port, "x" ++ Node, Id, Creation}]);
+altered(Pid = {pid, _, _, _, _}) -> other_field(Pid, pick:range(3, 5));
+altered({port, Node, Id, Creation}) -> pick:one_of([{port, "x" ++ Node, Id, Creation}, other_field({port, Node, Id, Creation}, pick:range(3, 4))]);
 altered({ref, Node, [Word], Creation}) -> {ref, Node, [Word, pick:one_of([0, 1])], Creation};
 altered({ref, Node, Words, Creation}) -> {ref, Node, lists:droplast(Words), Creation};
 altered({export, Module, Function, Arity}) -> pick:one_of([{export, Function, Module, Arity}, {export, Module, Function, Arity bxor 1}]);
 altered(_) -> {int, 7}.
+
+other_field(Value, Field) -> setelement(Field, Value, element(Field, Value) bxor 1).
 
 %% One element altered.
 in_one(List) ->
