@@ -31,7 +31,7 @@ no_list(Depth) ->
 
 distinct(Pairs) -> [Pair || {Number, Pair = {Key, _}} <- lists:enumerate(Pairs), not lists:keymember(Key, 1, lists:sublist(Pairs, Number - 1))].
 
-integer() -> {int, pick:one_of([1, -1]) * pick:bits(pick:bit_size(2100)) + pick:one_of([0, 0, 1, -1])}.
+integer() -> {int, pick:one_of([1, -1]) * pick:bits(pick:width(2100)) + pick:one_of([0, 0, 1, -1])}.
 
 float() ->
     case pick:one_of([0, 1 bsl 63, pick:bits(64), pick:bits(52), 16#3ff0000000000000]) of

@@ -25,7 +25,7 @@ leaf(NewAtom) ->
                    {1, fun() -> binary_to_list(pick:bytes(pick:range(1, 40))) end}, {2, fun own_identifier/0}, {2, fun foreign_identifier/0},
                    {1, fun() -> erlang:make_fun(NewAtom(), NewAtom(), pick:range(0, 255)) end}]).
 
-integer() -> pick:one_of([1, -1]) * pick:bits(pick:bit_size(3000)) + pick:one_of([0, 0, 1, -1]).
+integer() -> pick:one_of([1, -1]) * pick:bits(pick:width(3000)) + pick:one_of([0, 0, 1, -1]).
 
 float() ->
     case <<(pick:bits(64)):64>> of

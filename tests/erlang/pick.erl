@@ -1,6 +1,6 @@
 %% Random choices from the process's seeded generator.
 -module(pick).
--export([seed/1, range/2, one_of/1, chance/1, weighted/1, some/2, bytes/1, bits/1, bit_size/1, text/1, text_in/2, shuffle/1]).
+-export([seed/1, range/2, one_of/1, chance/1, weighted/1, some/2, bytes/1, bits/1, width/1, text/1, text_in/2, shuffle/1]).
 
 seed(Seed) -> rand:seed(exsss, {Seed, Seed, Seed}), ok.
 
@@ -21,7 +21,7 @@ bytes(Count) -> rand:bytes(Count).
 %% A number of so many bits at most.
 bits(Count) -> rand:uniform(1 bsl Count) - 1.
 %% A width in bits up to Most; the ends of the integer encodings are met often.
-bit_size(Most) -> min(Most, one_of([1, 7, 8, 9, 15, 16, 17, 27, 28, 31, 32, 33, 59, 60, 63, 64, 65, range(1, 300), range(2000, 2100)])).
+width(Most) -> min(Most, one_of([1, 7, 8, 9, 15, 16, 17, 27, 28, 31, 32, 33, 59, 60, 63, 64, 65, range(1, 300), range(2000, 2100)])).
 
 %% Text of so many characters, from one alphabet: ASCII, Latin-1, or any of Unicode.
 text(Count) -> text_in(one_of([ascii, ascii, latin1, unicode]), Count).
