@@ -86,7 +86,8 @@ parts(Fun, {list, Values, Tail}) -> {list, lists:map(Fun, Values), Fun(Tail)};
 parts(Fun, {map, Pairs}) -> {map, [{Fun(Key), Fun(Value)} || {Key, Value} <- Pairs]};
 parts(_, Value) -> Value.
 
-%% The one reason, or all of them together, that makes two values alike; none where they stay different.
+%% The one reason, or all of them together, that makes two different values alike; none where they stay different, or never were.
+why_same(Value, Value) -> none;
 why_same(A, B) ->
     Tries = [{zero_sign, [zero_sign]}, {zero_words, [zero_words]}, {map_order, [map_order]}, {several, [zero_sign, zero_words, map_order]}],
     case [Name || {Name, Reasons} <- Tries, alike(Reasons, A) =:= alike(Reasons, B)] of

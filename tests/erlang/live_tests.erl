@@ -215,6 +215,7 @@ compared(Drive, Part, Read, Output, Log) ->
     {SentControl, SentMessage} = maps:get({Sender, Number}, Log),
     Found = [{control, same(Control, SentControl)},
              {message, same(Message, SentMessage)},
+             {own_bytes, term_tests:own_bytes(First, SentControl) andalso term_tests:own_bytes(Second, SentMessage)},
              {rows, Read =:= {ok, 2, measure:rows(SentControl) + measure:rows(SentMessage)}},
              {fixed, fixed(Drive, First) andalso fixed(Drive, Second)}],
     Wrong = [What || {What, false} <- Found],

@@ -1,6 +1,6 @@
 %% Random choices from the process's seeded generator.
 -module(pick).
--export([seed/1, range/2, one_of/1, chance/1, weighted/1, some/2, bytes/1, bits/1, width/1, text/1, text_in/2, shuffle/1]).
+-export([seed/1, range/2, one_of/1, chance/1, weighted/1, some/2, bytes/1, bits/1, width/1, text/1, shuffle/1]).
 
 seed(Seed) -> rand:seed(exsss, {Seed, Seed, Seed}), ok.
 

@@ -1,6 +1,6 @@
 %% Standalone terms through the writer and the reader, against the node's own binary_to_term and term_to_binary.
 -module(term_tests).
--export([run/1, parts/0]).
+-export([run/1, parts/0, own_bytes/2]).
 
 -define(OWN, "terms of the node's term_to_binary").
 -define(OURS, "terms of our generator").
