@@ -6,6 +6,7 @@
 
 main([Program, Node, Cookie, Folder]) ->
     tally:new(),
+    ok = io:setopts([{encoding, unicode}]),
     io:format("Erlang/OTP ~s; the listed differences are those of OTP 25~n", [erlang:system_info(otp_release)]),
     to_its_end(fun() -> term_tests:run(Program) end),
     to_its_end(fun() -> live_tests:run(Program, Node, Cookie, Folder) end),

@@ -56,16 +56,17 @@ term(near, _) -> {pick:some(6000, fun few_atoms/0), pick:bytes(pick:range(50000,
 %% long: payloads above 65,536 bytes, from two to six fragments, with small ones between.
 term(long, Number) when Number rem 2 =:= 0 -> {few_atoms(), Number};
 term(long, _) -> {few_atoms(), pick:bytes(pick:range(65536, 350000))};
-%% edge: payloads from just below to just above 65,536 bytes.
-term(edge, Number) -> {few_atoms(), pick:bytes(65440 + 2 * Number)};
+%% edge: payloads of each size from just below to just above 65,536 bytes.
+term(edge, Number) -> {one, pick:bytes(65460 + Number)};
 %% long_texts: atoms of up to 255 characters, up to 1,020 bytes, beside short ones.
-term(long_texts, _) -> pick:some(pick:range(1, 4), fun() -> pick:one_of([few_atoms(), few_atoms(), wide_atom(pick:range(1, 60))]) end);
+term(long_texts, _) -> pick:some(pick:range(1, 4), fun() -> pick:one_of([few_atoms(), few_atoms(), wide_atom(pick:range(1, 90))]) end);
 term(funs, Number) -> pick:one_of([fun() -> Number end, {few_atoms(), fun(X) -> X + Number end}]).
 
 all_few() -> [one, two, three, four, five, 'f\x{fc}nf', '\x{516d}', seven].
 few_atoms() -> pick:one_of(all_few()).
 
-%% Texts of 25 to 253 characters of one to four bytes.
+%% Texts of 26 to 35 bytes, and of 25 to 253 characters of one to four bytes.
+wide_atom(Number) when Number =< 30 -> list_to_atom(lists:duplicate(22 + Number rem 10, $x) ++ integer_to_list(1000 + Number));
 wide_atom(Number) ->
     Character = element(1 + Number rem 4, {$a, 16#e9, 16#4e00, 16#1f600}),
     list_to_atom(lists:duplicate(21 + 4 * (Number rem 58), Character) ++ integer_to_list(1000 + Number)).
