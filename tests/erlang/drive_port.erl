@@ -15,8 +15,8 @@ ask(Port, Commands) ->
 answer(Port) ->
     receive
         {Port, {data, {eol, Line}}} -> Line;
-        {Port, {exit_status, Status}} -> error({driver_ended, Status})
-    after 60000 -> error(driver_silent)
+        {Port, {exit_status, Status}} -> exit({driver_ended, Status})
+    after 60000 -> exit(driver_silent)
     end.
 
 %% {ok, Terms, Rows} or {refused, Number, Place}.

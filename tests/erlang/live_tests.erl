@@ -199,7 +199,7 @@ message(Drive, Part, List, Bytes, Payload, Log) ->
     tally:check(Part, Bytes =:= Payload, {payload, Bytes, Payload}),
     Read = drive_port:read(Drive, "payload", List, Bytes),
     case drive_port:write(Drive, "payload", List, Bytes, ?ROOM) of
-        {ok, Output} -> compared(Drive, Part, Read, Output, Log);
+        {ok, Output} -> tally:guard(Part, Output, [], fun() -> compared(Drive, Part, Read, Output, Log) end);
         Refused -> refused(Part, Refused, Read, Bytes), []
     end.
 

@@ -1,6 +1,6 @@
 %% Counts of what passed and failed, and of the listed differences that were met.
 -module(tally).
--export([new/0, passed/1, failed/2, difference/1, check/3, say/2, count/1, note/2, end_run/1]).
+-export([new/0, passed/1, failed/2, difference/1, check/3, guard/4, say/2, count/1, note/2, end_run/1]).
 
 %% Failures shown of a part, and characters of each.
 -define(SHOWN, 5).
@@ -21,6 +21,12 @@ failed(Part, What) ->
 
 check(Part, true, _) -> passed(Part);
 check(Part, false, What) -> failed(Part, What).
+
+%% What the function answers; an error in it is a failure of this input, and Otherwise is answered.
+guard(Part, Input, Otherwise, Fun) ->
+    try Fun()
+    catch error:Reason -> failed(Part, {Input, Reason}), Otherwise
+    end.
 
 difference(Name) -> add({difference, Name}, 1), true.
 %% Counts something worth saying.

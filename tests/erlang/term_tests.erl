@@ -38,8 +38,10 @@ say_difference(Name, What, Clause, Count) ->
     io:format("  ~b times: ~ts (~ts)~n", [Count, What, Clause]),
     tally:check(?LISTED, Count > 0, {never_met, Name}).
 
+one(Drive, Part, Bytes) -> tally:guard(Part, Bytes, false, fun() -> judged(Drive, Part, Bytes) end).
+
 %% One message: who accepts it, and do both find the same.
-one(Drive, Part, Bytes) ->
+judged(Drive, Part, Bytes) ->
     Written = drive_port:write(Drive, "standalone", "empty", Bytes),
     Read = drive_port:read(Drive, "standalone", "empty", Bytes),
     case {Written, on_node(Bytes)} of
@@ -97,7 +99,9 @@ pick_pair() ->
     First = encodings:standalone(Value),
     {Value, First, pick:one_of([encodings:standalone(Value), encodings:standalone(values:altered(Value)), inputs:changed_bytes(First)])}.
 
-pair(Drive, {Value, First, Second}) ->
+pair(Drive, Pair = {_, First, Second}) -> tally:guard(?PAIRS, {First, Second}, false, fun() -> compared(Drive, Pair) end).
+
+compared(Drive, {Value, First, Second}) ->
     value_kept(drive_port:write(Drive, "standalone", "empty", First), Value, First),
     case {canonical(Drive, First), canonical(Drive, Second)} of
         {{Term, Output}, {Other, Output}} -> tally:note(same, 1), tally:check(?PAIRS, Term =:= Other, {equal_outputs, First, Second, Output});
