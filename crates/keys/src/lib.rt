@@ -1,9 +1,10 @@
 // Terms compared by their rows: whether they mean the same, whatever their encoding.
 ghost use mathlib.Core.Path.{_≡_};
-ghost use Prim.Native.Nat.{_+_, _<_};
-ghost use lib.ListN.{getD};
+ghost use Prim.Native.Nat.{_+_, _<_, _≤_};
+ghost use lib.ListN.{length, getD};
 ghost use Rattle.contents.specs.Meaning.{term-kind};
 ghost use Rattle.keys.specs.Compare.{same-fields, same-row, same-rows, pair-size, same-terms-raw, among-rows};
+ghost use Rattle.keys.specs.Seen.{Keeps};
 use contents::content_at;
 use contents::same_content;
 use row::kind_in;
@@ -156,4 +157,21 @@ pub fn key_among(
         at += step;
     }
     false
+}
+
+// Whether the key at the row `key` means the same as a key of the pairs from the row `first` on; if not, it is remembered.
+pub fn repeats(
+    msg: &[u8],
+    places: &[u8],
+    lengths: &[u16],
+    table: &[u64],
+    seen: &mut [u16],
+    first: usize,
+    key: usize,
+) -> bool
+    requires { ⌜ (0 < length (now seen)) × (length (now seen) ≤ 65536) × (key < 8192) ⌝ }
+    ensures { λ _. ⌜ Keeps (now (seen .entry)) (now (seen .exit)) ⌝ }
+    ensures { λ r. ⌜ r ≡ among-rows (now (msg .entry)) (now (places .entry)) (now (lengths .entry)) (now (table .entry)) first key ⌝ }
+{
+    key_among(msg, places, lengths, table, first, key)
 }

@@ -9,7 +9,7 @@ use lib.Seq.{sets, length-sets}
 use Rattle.format.specs.Tree.{none, _▹_, _▹▹_, count, size, sizes}
 use Rattle.format.specs.Term.{Term}
 use Rattle.format.specs.Equal.{among}
-use Rattle.format.specs.Answer.{good, Reading, after, done, rule}
+use Rattle.format.specs.Answer.{Answer, good, Position, Reading, after, done, rule}
 use Rattle.format.specs.Head.{Atoms, Wanted, any, pairs}
 use Rattle.format.specs.AtomList.{AtomList, of-size, atoms-of}
 use Rattle.format.specs.Reading.{Located, meaning, entries, term}
@@ -19,7 +19,7 @@ use Rattle.format.proofs.Backed.{Backed, Backeds, term-backed}
 use Rattle.format.proofs.Backed as backing
 use Rattle.format.proofs.Bridge.{at-offset}
 use Rattle.format.proofs.RoundTrip.{join-none}
-use Rattle.format.proofs.Rows.{Each-node, Each-nodes, each-nodes-join, sizes-join, count-join, count-le-sizes, length-rows}
+use Rattle.format.proofs.Rows.{Each-node, Each-nodes, size-positive, each-nodes-join, sizes-join, count-join, count-le-sizes, length-rows}
 use Rattle.format.proofs.Text.{Under}
 use Rattle.format.proofs.Words.{Placed, small-rows, Here, sets-here, length-words-of}
 use Rattle.heads.specs.declared.Wanted.the-variants.{Any}
@@ -50,6 +50,13 @@ pub keys-told : (n : ℕ) (places lengths m : List ℕ) (cap first : ℕ) → of
     → Told m cap (atoms-of (lent n places lengths)) places lengths first
 keys-told n places lengths m cap first sized few under S us u ks k h =
     last-among (lent n places lengths) m (record { sized = sized; few = omega arith; under = bytes-under m under }) cap S us u k h
+
+-- a term that was read has a row
+pub term-inside : (m : List ℕ) (cap row whole : ℕ) (T : List ℕ) (o : Answer (Located × Position)) (r : Step) (T′ : List ℕ) (next end : ℕ) → r ≡ step.Got next end
+    → TermDone m cap row whole T o r T′ → row < cap
+term-inside m cap row whole T o r T′ next end e d =
+    let f = step-found size (λ t. words-of (tree-rows (whole-of whole) row t)) (Each-node (Placed 65536)) m cap row T o r T′ next end e d in
+    omega (arith, f .rows-are, f .room, size-positive (f .x))
 
 -- ts ▹▹ the two, and then the others
 two-more : (ts us : Terms) (k v : Located) → ts ▹▹ (k ▹ v ▹ us) ≡ (ts ▹▹ (k ▹ v ▹ none)) ▹▹ us

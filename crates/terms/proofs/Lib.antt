@@ -1,3 +1,4 @@
+pub mod Slots
 pub mod Characters
 pub mod Found
 pub mod Openings

@@ -1,11 +1,14 @@
 -- The functions of the reader that call each other meet their contracts: each level of depth counts 8, and a function that calls another at its own level counts more. Assumes nothing.
-use Rattle.terms.proofs.Entries.{Entered, entered-none, entries-many, entries-end, key-refused, key-twice, value-refused, entered-more, keys-told}
+use Rattle.terms.proofs.Entries.{Entered, entered-none, entries-many, entries-end, key-refused, key-twice, value-refused, entered-more, keys-told, term-inside}
 use Rattle.terms.proofs.Inner.{opens-near, opens-place, opens-span, inner-refused, inner-parts, inner-characters, inner-elements, inner-pairs, parts-first, parts-second, parts-later-refused, parts-got, run-many, list-first, list-then, Tailed, tailed-none, tailed-refused, tailed-last, tailed-run-refused, tailed-further, tailed-more, last-characters, last-refused, last-got}
 use Rattle.terms.proofs.Bodies.{term-refused, term-opened, body-deep, body-full, body-refused, body-got, body-small, parts-past, room-inside, room-at}
 use Rattle.terms.proofs.Runs.{room-after, run-none, run-refused, run-more, wanted-refused, wanted-more}
+use Rattle.terms.proofs.Slots.{slots-after, keeps-length}
 use Rattle.terms.proofs.Openings.{opened, opens}
 use Rattle.terms.specs.Code.{Room, RunDone, PartsDone}
 use Rattle.terms.specs.declared.Step.{Step}
+use Rattle.keys.specs.Seen.{Keeps}
+use Rattle.keys.proofs.Seen.{keeps-refl, keeps-trans}
 use Rattle.heads.specs.Code.{lent, wanted-of}
 use Rattle.format.proofs.Bridge.{at-offset}
 use Rattle.format.specs.Reading.{each, tail, body, term}
@@ -51,7 +54,7 @@ use Rattle.terms.proofs.read_wanted.Kinds as read-wanted-kinds
 use Rattle.terms.proofs.+read_body+read_inner+read_last+read_list+read_pairs+read_parts+read_run+read_tail+read_term+read_wanted.Lts-read_wanted as read-wanted-lts
 use Rattle.heads.proofs.read_later.Reads as read-later-reads
 use Rattle.heads.proofs.read_opening.Reads as read-opening-reads
-use Rattle.keys.proofs.key_among.Reads as key-among-reads
+use Rattle.keys.proofs.repeats.Reads as repeats-reads
 use Rattle.row.proofs.pack.Reads as pack-reads
 use Rattle.terms.proofs.at_most.Reads as at-most-reads
 use Rattle.terms.proofs.read_characters.Reads as read-characters-reads
@@ -62,109 +65,109 @@ use Rattle.terms.proofs.+read_body+read_inner+read_last+read_list+read_
   close,
 }
 
-abbrev μ-read-body : Measures 4 read-body-kinds.ps ℕ
-μ-read-body κs a = a .1 .1 .1 .1 .1 .1 .1 .1 .1 .0 * 8 + 0
+abbrev μ-read-body : Measures 5 read-body-kinds.ps ℕ
+μ-read-body κs a = a .1 .1 .1 .1 .1 .1 .1 .1 .1 .1 .0 * 8 + 0
 
-abbrev μ-read-inner : Measures 4 read-inner-kinds.ps ℕ
-μ-read-inner κs a = a .1 .1 .1 .1 .1 .1 .1 .1 .0 * 8 + 5
+abbrev μ-read-inner : Measures 5 read-inner-kinds.ps ℕ
+μ-read-inner κs a = a .1 .1 .1 .1 .1 .1 .1 .1 .1 .0 * 8 + 5
 
-abbrev μ-read-last : Measures 4 read-last-kinds.ps ℕ
-μ-read-last κs a = a .1 .1 .1 .1 .1 .1 .1 .1 .1 .0 * 8 + 1
+abbrev μ-read-last : Measures 5 read-last-kinds.ps ℕ
+μ-read-last κs a = a .1 .1 .1 .1 .1 .1 .1 .1 .1 .1 .0 * 8 + 1
 
-abbrev μ-read-list : Measures 4 read-list-kinds.ps ℕ
-μ-read-list κs a = a .1 .1 .1 .1 .1 .1 .1 .0 * 8 + 4
+abbrev μ-read-list : Measures 5 read-list-kinds.ps ℕ
+μ-read-list κs a = a .1 .1 .1 .1 .1 .1 .1 .1 .0 * 8 + 4
 
-abbrev μ-read-pairs : Measures 4 read-pairs-kinds.ps ℕ
-μ-read-pairs κs a = a .1 .1 .1 .1 .1 .1 .1 .0 * 8 + 2
+abbrev μ-read-pairs : Measures 5 read-pairs-kinds.ps ℕ
+μ-read-pairs κs a = a .1 .1 .1 .1 .1 .1 .1 .1 .0 * 8 + 2
 
-abbrev μ-read-parts : Measures 4 read-parts-kinds.ps ℕ
-μ-read-parts κs a = a .1 .1 .1 .1 .1 .1 .1 .1 .0 * 8 + 4
+abbrev μ-read-parts : Measures 5 read-parts-kinds.ps ℕ
+μ-read-parts κs a = a .1 .1 .1 .1 .1 .1 .1 .1 .1 .0 * 8 + 4
 
-abbrev μ-read-run : Measures 4 read-run-kinds.ps ℕ
-μ-read-run κs a = a .1 .1 .1 .1 .1 .1 .1 .1 .0 * 8 + 2
+abbrev μ-read-run : Measures 5 read-run-kinds.ps ℕ
+μ-read-run κs a = a .1 .1 .1 .1 .1 .1 .1 .1 .1 .0 * 8 + 2
 
-abbrev μ-read-tail : Measures 4 read-tail-kinds.ps ℕ
-μ-read-tail κs a = a .1 .1 .1 .1 .1 .1 .1 .1 .0 * 8 + 3
+abbrev μ-read-tail : Measures 5 read-tail-kinds.ps ℕ
+μ-read-tail κs a = a .1 .1 .1 .1 .1 .1 .1 .1 .1 .0 * 8 + 3
 
-abbrev μ-read-term : Measures 4 read-term-kinds.ps ℕ
-μ-read-term κs a = a .1 .1 .1 .1 .1 .1 .1 .1 .0 * 8 + 1
+abbrev μ-read-term : Measures 5 read-term-kinds.ps ℕ
+μ-read-term κs a = a .1 .1 .1 .1 .1 .1 .1 .1 .1 .0 * 8 + 1
 
-abbrev μ-read-wanted : Measures 4 read-wanted-kinds.ps ℕ
-μ-read-wanted κs a = a .1 .1 .1 .1 .1 .1 .1 .1 .0 * 8 + 3
+abbrev μ-read-wanted : Measures 5 read-wanted-kinds.ps ℕ
+μ-read-wanted κs a = a .1 .1 .1 .1 .1 .1 .1 .1 .1 .0 * 8 + 3
 
-abbrev read-body-at : ℕ → In 4 read-body-kinds.ps
-read-body-at t = and 4 read-body-kinds.ps (is 4 read-body-kinds.ps μ-read-body t) read-body.Pre
+abbrev read-body-at : ℕ → In 5 read-body-kinds.ps
+read-body-at t = and 5 read-body-kinds.ps (is 5 read-body-kinds.ps μ-read-body t) read-body.Pre
 
-abbrev read-body-below : ℕ → In 4 read-body-kinds.ps
+abbrev read-body-below : ℕ → In 5 read-body-kinds.ps
 read-body-below t =
-    and 4 read-body-kinds.ps (falls 4 read-body-kinds.ps _<_ μ-read-body t) read-body.Pre
+    and 5 read-body-kinds.ps (falls 5 read-body-kinds.ps _<_ μ-read-body t) read-body.Pre
 
-abbrev read-inner-at : ℕ → In 4 read-inner-kinds.ps
+abbrev read-inner-at : ℕ → In 5 read-inner-kinds.ps
 read-inner-at t =
-    and 4 read-inner-kinds.ps (is 4 read-inner-kinds.ps μ-read-inner t) read-inner.Pre
+    and 5 read-inner-kinds.ps (is 5 read-inner-kinds.ps μ-read-inner t) read-inner.Pre
 
-abbrev read-inner-below : ℕ → In 4 read-inner-kinds.ps
+abbrev read-inner-below : ℕ → In 5 read-inner-kinds.ps
 read-inner-below t =
-    and 4 read-inner-kinds.ps (falls 4 read-inner-kinds.ps _<_ μ-read-inner t) read-inner.Pre
+    and 5 read-inner-kinds.ps (falls 5 read-inner-kinds.ps _<_ μ-read-inner t) read-inner.Pre
 
-abbrev read-last-at : ℕ → In 4 read-last-kinds.ps
-read-last-at t = and 4 read-last-kinds.ps (is 4 read-last-kinds.ps μ-read-last t) read-last.Pre
+abbrev read-last-at : ℕ → In 5 read-last-kinds.ps
+read-last-at t = and 5 read-last-kinds.ps (is 5 read-last-kinds.ps μ-read-last t) read-last.Pre
 
-abbrev read-last-below : ℕ → In 4 read-last-kinds.ps
+abbrev read-last-below : ℕ → In 5 read-last-kinds.ps
 read-last-below t =
-    and 4 read-last-kinds.ps (falls 4 read-last-kinds.ps _<_ μ-read-last t) read-last.Pre
+    and 5 read-last-kinds.ps (falls 5 read-last-kinds.ps _<_ μ-read-last t) read-last.Pre
 
-abbrev read-list-at : ℕ → In 4 read-list-kinds.ps
-read-list-at t = and 4 read-list-kinds.ps (is 4 read-list-kinds.ps μ-read-list t) read-list.Pre
+abbrev read-list-at : ℕ → In 5 read-list-kinds.ps
+read-list-at t = and 5 read-list-kinds.ps (is 5 read-list-kinds.ps μ-read-list t) read-list.Pre
 
-abbrev read-list-below : ℕ → In 4 read-list-kinds.ps
+abbrev read-list-below : ℕ → In 5 read-list-kinds.ps
 read-list-below t =
-    and 4 read-list-kinds.ps (falls 4 read-list-kinds.ps _<_ μ-read-list t) read-list.Pre
+    and 5 read-list-kinds.ps (falls 5 read-list-kinds.ps _<_ μ-read-list t) read-list.Pre
 
-abbrev read-pairs-at : ℕ → In 4 read-pairs-kinds.ps
+abbrev read-pairs-at : ℕ → In 5 read-pairs-kinds.ps
 read-pairs-at t =
-    and 4 read-pairs-kinds.ps (is 4 read-pairs-kinds.ps μ-read-pairs t) read-pairs.Pre
+    and 5 read-pairs-kinds.ps (is 5 read-pairs-kinds.ps μ-read-pairs t) read-pairs.Pre
 
-abbrev read-pairs-below : ℕ → In 4 read-pairs-kinds.ps
+abbrev read-pairs-below : ℕ → In 5 read-pairs-kinds.ps
 read-pairs-below t =
-    and 4 read-pairs-kinds.ps (falls 4 read-pairs-kinds.ps _<_ μ-read-pairs t) read-pairs.Pre
+    and 5 read-pairs-kinds.ps (falls 5 read-pairs-kinds.ps _<_ μ-read-pairs t) read-pairs.Pre
 
-abbrev read-parts-at : ℕ → In 4 read-parts-kinds.ps
+abbrev read-parts-at : ℕ → In 5 read-parts-kinds.ps
 read-parts-at t =
-    and 4 read-parts-kinds.ps (is 4 read-parts-kinds.ps μ-read-parts t) read-parts.Pre
+    and 5 read-parts-kinds.ps (is 5 read-parts-kinds.ps μ-read-parts t) read-parts.Pre
 
-abbrev read-parts-below : ℕ → In 4 read-parts-kinds.ps
+abbrev read-parts-below : ℕ → In 5 read-parts-kinds.ps
 read-parts-below t =
-    and 4 read-parts-kinds.ps (falls 4 read-parts-kinds.ps _<_ μ-read-parts t) read-parts.Pre
+    and 5 read-parts-kinds.ps (falls 5 read-parts-kinds.ps _<_ μ-read-parts t) read-parts.Pre
 
-abbrev read-run-at : ℕ → In 4 read-run-kinds.ps
-read-run-at t = and 4 read-run-kinds.ps (is 4 read-run-kinds.ps μ-read-run t) read-run.Pre
+abbrev read-run-at : ℕ → In 5 read-run-kinds.ps
+read-run-at t = and 5 read-run-kinds.ps (is 5 read-run-kinds.ps μ-read-run t) read-run.Pre
 
-abbrev read-run-below : ℕ → In 4 read-run-kinds.ps
+abbrev read-run-below : ℕ → In 5 read-run-kinds.ps
 read-run-below t =
-    and 4 read-run-kinds.ps (falls 4 read-run-kinds.ps _<_ μ-read-run t) read-run.Pre
+    and 5 read-run-kinds.ps (falls 5 read-run-kinds.ps _<_ μ-read-run t) read-run.Pre
 
-abbrev read-tail-at : ℕ → In 4 read-tail-kinds.ps
-read-tail-at t = and 4 read-tail-kinds.ps (is 4 read-tail-kinds.ps μ-read-tail t) read-tail.Pre
+abbrev read-tail-at : ℕ → In 5 read-tail-kinds.ps
+read-tail-at t = and 5 read-tail-kinds.ps (is 5 read-tail-kinds.ps μ-read-tail t) read-tail.Pre
 
-abbrev read-tail-below : ℕ → In 4 read-tail-kinds.ps
+abbrev read-tail-below : ℕ → In 5 read-tail-kinds.ps
 read-tail-below t =
-    and 4 read-tail-kinds.ps (falls 4 read-tail-kinds.ps _<_ μ-read-tail t) read-tail.Pre
+    and 5 read-tail-kinds.ps (falls 5 read-tail-kinds.ps _<_ μ-read-tail t) read-tail.Pre
 
-abbrev read-term-at : ℕ → In 4 read-term-kinds.ps
-read-term-at t = and 4 read-term-kinds.ps (is 4 read-term-kinds.ps μ-read-term t) read-term.Pre
+abbrev read-term-at : ℕ → In 5 read-term-kinds.ps
+read-term-at t = and 5 read-term-kinds.ps (is 5 read-term-kinds.ps μ-read-term t) read-term.Pre
 
-abbrev read-term-below : ℕ → In 4 read-term-kinds.ps
+abbrev read-term-below : ℕ → In 5 read-term-kinds.ps
 read-term-below t =
-    and 4 read-term-kinds.ps (falls 4 read-term-kinds.ps _<_ μ-read-term t) read-term.Pre
+    and 5 read-term-kinds.ps (falls 5 read-term-kinds.ps _<_ μ-read-term t) read-term.Pre
 
-abbrev read-wanted-at : ℕ → In 4 read-wanted-kinds.ps
+abbrev read-wanted-at : ℕ → In 5 read-wanted-kinds.ps
 read-wanted-at t =
-    and 4 read-wanted-kinds.ps (is 4 read-wanted-kinds.ps μ-read-wanted t) read-wanted.Pre
+    and 5 read-wanted-kinds.ps (is 5 read-wanted-kinds.ps μ-read-wanted t) read-wanted.Pre
 
-abbrev read-wanted-below : ℕ → In 4 read-wanted-kinds.ps
+abbrev read-wanted-below : ℕ → In 5 read-wanted-kinds.ps
 read-wanted-below t =
-    and 4 read-wanted-kinds.ps (falls 4 read-wanted-kinds.ps _<_ μ-read-wanted t) read-wanted.Pre
+    and 5 read-wanted-kinds.ps (falls 5 read-wanted-kinds.ps _<_ μ-read-wanted t) read-wanted.Pre
 
 abbrev read-body-calls : ℕ → read-body-lts.Claims
 read-body-calls t = (read-inner-below t, read-inner.Post, pack-reads.Asked, pack-reads.Learnt)
@@ -179,7 +182,7 @@ abbrev read-list-calls : ℕ → read-list-lts.Claims
 read-list-calls t = (read-run-below t, read-run.Post, read-tail-below t, read-tail.Post)
 
 abbrev read-pairs-calls : ℕ → read-pairs-lts.Claims
-read-pairs-calls t = (read-term-below t, read-term.Post, key-among-reads.Asked, key-among-reads.Learnt)
+read-pairs-calls t = (read-term-below t, read-term.Post, repeats-reads.Asked, repeats-reads.Learnt)
 
 abbrev read-parts-calls : ℕ → read-parts-lts.Claims
 read-parts-calls t = (read-wanted-below t, read-wanted.Post, read-run-below t, read-run.Post, read-later-reads.Asked, read-later-reads.Learnt)
@@ -197,10 +200,10 @@ abbrev read-wanted-calls : ℕ → read-wanted-lts.Claims
 read-wanted-calls t = (at-most-reads.Asked, at-most-reads.Learnt, read-run-below t, read-run.Post)
 
 read-body-returns : (t : ℕ) → read-body-lts.Need-returns (read-body-calls t) (read-body-at t) read-body.Post
-read-body-returns t c = λ h next e s. body-deep _ _ _ _ _ h next _ _ _ _ (c .if1 .taken)
+read-body-returns t c = (λ h next e s. body-deep _ _ _ _ _ h next _ _ _ _ (c .if1 .taken), keeps-refl _)
 
 read-body-returns-2 : (t : ℕ) → read-body-lts.Need-returns-2 (read-body-calls t) (read-body-at t) read-body.Post
-read-body-returns-2 t c = λ h next e s. body-full _ _ _ _ _ h next _ _ _ (c .before .if1 .left) _ (c .if2 .taken)
+read-body-returns-2 t c = (λ h next e s. body-full _ _ _ _ _ h next _ _ _ (c .before .if1 .left) _ (c .if2 .taken), keeps-refl _)
 
 read-body-add-read-inner : (t : ℕ) → read-body-lts.Need-add-read-inner (read-body-calls t) (read-body-at t) read-body.Post
 read-body-add-read-inner t c = omega arith
@@ -209,7 +212,7 @@ read-body-sub-read-inner : (t : ℕ) → read-body-lts.Need-sub-read-inner (read
 read-body-sub-read-inner t c = omega arith
 
 read-body-read-inner-requires : (t : ℕ) → read-body-lts.Need-read-inner-requires (read-body-calls t) (read-body-at t) read-body.Post
-read-body-read-inner-requires t c κs = (omega (arith, c .before .before .before .before .before .before .before .pre .0, c .before .before .if1 .left), (room-inside _ _ _ _ _ _ _ (c .before .before .before .before .before .before .before .pre .1 .0) (c .before .if2 .left), c .before .before .before .before .before .before .before .pre .1 .1))
+read-body-read-inner-requires t c κs = (omega (arith, c .before .before .before .before .before .before .before .before .before .pre .0, c .before .before .before .if1 .left), ((room-inside _ _ _ _ _ _ _ (c .before .before .before .before .before .before .before .before .before .pre .1 .0 .0) (c .before .before .if2 .left), c .before .before .before .before .before .before .before .before .before .pre .1 .0 .1), c .before .before .before .before .before .before .before .before .before .pre .1 .1))
 
 read-body-enum-known-number : (t : ℕ) → read-body-lts.Need-enum-known-number (read-body-calls t) (read-body-at t) read-body.Post
 read-body-enum-known-number t c = search needs
@@ -218,28 +221,34 @@ read-body-enum-known-next : (t : ℕ) → read-body-lts.Need-enum-known-next (re
 read-body-enum-known-next t c = search needs
 
 read-body-sub-pack : (t : ℕ) → read-body-lts.Need-sub-pack (read-body-calls t) (read-body-at t) read-body.Post
-read-body-sub-pack t c = let o = c .before .before .before .before .before .before .before .before .before .before .before .before .before .pre .1 .1 in let g = parts-past _ _ _ _ _ _ _ _ _ _ _ _ _ (c .before .next .given .1) (c .before .before .before .before .before .read-inner .ensures (o .h) (o .next) (o .is) (o .sound)) in omega arith
+read-body-sub-pack t c = let o = c .before .before .before .before .before .before .before .before .before .before .before .before .before .before .before .before .before .pre .1 .0 .1 in let g = parts-past _ _ _ _ _ _ _ _ _ _ _ _ _ (c .before .next .given .1) (c .before .before .before .before .before .before .before .read-inner .ensures .0 (o .h) (o .next) (o .is) (o .sound)) in omega arith
 
 read-body-pack-requires : (t : ℕ) → read-body-lts.Need-pack-requires (read-body-calls t) (read-body-at t) read-body.Post
-read-body-pack-requires t c κs = let o = c .before .before .before .before .before .before .before .before .before .before .before .before .before .pre .1 .1 in body-small _ _ _ _ _ (o .h) (o .next) _ _ _ (c .before .before .before .before .before .before .before .before .if1 .left) (c .before .before .before .before .before .before .before .if2 .left) _ _ (c .before .before .before .before .before .read-inner .ensures (o .h) (o .next) (o .is) (o .sound)) _ _ _ _ _ _ (c .before .next .given .1) (c .before .before .before .before .before .before .before .before .before .before .before .before .before .pre .1 .0) (omega (arith, opens-place _ _ _ (c .before .before .before .before .before .before .before .before .before .before .before .before .before .pre .1 .1), c .before .before .before .before .before .before .before .before .before .before .before .before .before .pre .1 .0 .short))
+read-body-pack-requires t c κs = let o = c .before .before .before .before .before .before .before .before .before .before .before .before .before .before .before .before .before .pre .1 .0 .1 in body-small _ _ _ _ _ (o .h) (o .next) _ _ _ (c .before .before .before .before .before .before .before .before .before .before .before .if1 .left) (c .before .before .before .before .before .before .before .before .before .before .if2 .left) _ _ (c .before .before .before .before .before .before .before .read-inner .ensures .0 (o .h) (o .next) (o .is) (o .sound)) _ _ _ _ _ _ (c .before .next .given .1) (c .before .before .before .before .before .before .before .before .before .before .before .before .before .before .before .before .before .pre .1 .0 .0) (omega (arith, opens-place _ _ _ (c .before .before .before .before .before .before .before .before .before .before .before .before .before .before .before .before .before .pre .1 .0 .1), c .before .before .before .before .before .before .before .before .before .before .before .before .before .before .before .before .before .pre .1 .0 .0 .short))
 
 read-body-mul-table : (t : ℕ) → read-body-lts.Need-mul-table (read-body-calls t) (read-body-at t) read-body.Post
 read-body-mul-table t c = omega arith
 
 read-body-slice-write-table : (t : ℕ) → read-body-lts.Need-slice-write-table (read-body-calls t) (read-body-at t) read-body.Post
-read-body-slice-write-table t c = omega (arith, c .before .before .before .before .before .before .read-inner .kept .1 .1 .1 .1 .0)
+read-body-slice-write-table t c = omega (arith, c .before .before .before .before .before .before .before .before .read-inner .kept .1 .1 .1 .1 .0)
 
 read-body-same-length : (t : ℕ) → read-body-lts.Need-same-length (read-body-calls t) (read-body-at t) read-body.Post
-read-body-same-length t c = c .before .before .before .before .before .read-inner .kept .1 .1 .1 .1 .0
-
-read-body-returns-3 : (t : ℕ) → read-body-lts.Need-returns-3 (read-body-calls t) (read-body-at t) read-body.Post
-read-body-returns-3 t c = λ h next e s. body-refused _ _ _ _ _ h next _ _ _ (c .before .before .before .before .before .before .before .before .if1 .left) (c .before .before .before .before .before .before .before .if2 .left) _ _ (c .before .before .before .before .before .read-inner .ensures h next e s) _ _ _ (c .before .number .given .1)
+read-body-same-length t c = c .before .before .before .before .before .before .before .read-inner .kept .1 .1 .1 .1 .0
 
 read-body-same-length-2 : (t : ℕ) → read-body-lts.Need-same-length-2 (read-body-calls t) (read-body-at t) read-body.Post
-read-body-same-length-2 t c = simp length-set (c .before .before .before .before .before .before .read-inner .kept .1 .1 .1 .1 .0)
+read-body-same-length-2 t c = c .before .before .before .before .before .before .before .read-inner .kept .1 .1 .1 .1 .1 .0
+
+read-body-returns-3 : (t : ℕ) → read-body-lts.Need-returns-3 (read-body-calls t) (read-body-at t) read-body.Post
+read-body-returns-3 t c = (λ h next e s. body-refused _ _ _ _ _ h next _ _ _ (c .before .before .before .before .before .before .before .before .before .before .before .if1 .left) (c .before .before .before .before .before .before .before .before .before .before .if2 .left) _ _ (c .before .before .before .before .before .before .before .read-inner .ensures .0 h next e s) _ _ _ (c .before .number .given .1), c .before .before .before .before .before .before .before .read-inner .ensures .1)
+
+read-body-same-length-3 : (t : ℕ) → read-body-lts.Need-same-length-3 (read-body-calls t) (read-body-at t) read-body.Post
+read-body-same-length-3 t c = simp length-set (c .before .before .before .before .before .before .before .before .read-inner .kept .1 .1 .1 .1 .0)
+
+read-body-same-length-4 : (t : ℕ) → read-body-lts.Need-same-length-4 (read-body-calls t) (read-body-at t) read-body.Post
+read-body-same-length-4 t c = c .before .before .before .before .before .before .before .before .read-inner .kept .1 .1 .1 .1 .1 .0
 
 read-body-returns-4 : (t : ℕ) → read-body-lts.Need-returns-4 (read-body-calls t) (read-body-at t) read-body.Post
-read-body-returns-4 t c = λ h next e s. body-got _ _ _ _ _ h next _ _ _ (c .before .before .before .before .before .before .before .before .before .if1 .left) (c .before .before .before .before .before .before .before .before .if2 .left) _ _ (c .before .before .before .before .before .before .read-inner .ensures h next e s) _ _ _ _ _ (c .before .before .next .given .1) (omega (arith, opens-place _ _ _ (c .before .before .before .before .before .before .before .before .before .before .before .before .before .before .pre .1 .1), c .before .before .before .before .before .before .before .before .before .before .before .before .before .before .pre .1 .0 .short)) (c .pack .ensures)
+read-body-returns-4 t c = (λ h next e s. body-got _ _ _ _ _ h next _ _ _ (c .before .before .before .before .before .before .before .before .before .before .before .before .if1 .left) (c .before .before .before .before .before .before .before .before .before .before .before .if2 .left) _ _ (c .before .before .before .before .before .before .before .before .read-inner .ensures .0 h next e s) _ _ _ _ _ (c .before .before .next .given .1) (omega (arith, opens-place _ _ _ (c .before .before .before .before .before .before .before .before .before .before .before .before .before .before .before .before .before .before .pre .1 .0 .1), c .before .before .before .before .before .before .before .before .before .before .before .before .before .before .before .before .before .before .pre .1 .0 .0 .short)) (c .pack .ensures), c .before .before .before .before .before .before .before .before .read-inner .ensures .1)
 
 read-inner-enum-known-head : (t : ℕ) → read-inner-lts.Need-enum-known-head (read-inner-calls t) (read-inner-at t) read-inner.Post
 read-inner-enum-known-head t c = search needs
@@ -248,61 +257,70 @@ read-inner-enum-known-head-2 : (t : ℕ) → read-inner-lts.Need-enum-known-head
 read-inner-enum-known-head-2 t c = search needs
 
 read-inner-read-parts-requires : (t : ℕ) → read-inner-lts.Need-read-parts-requires (read-inner-calls t) (read-inner-at t) read-inner.Post
-read-inner-read-parts-requires t c κs = (omega (arith, c .before .before .before .before .before .before .before .before .pre .0), room-at _ _ _ _ _ _ _ _ (c .before .before .before .before .before .before .before .before .pre .1 .0) (opens-near _ _ _ _ (c .before .before .before .before .before .before .before .before .pre .1 .1) (c .before .before .head2 .given .1)))
+read-inner-read-parts-requires t c κs = (omega (arith, c .before .before .before .before .before .before .before .before .before .before .pre .0), (room-at _ _ _ _ _ _ _ _ (c .before .before .before .before .before .before .before .before .before .before .pre .1 .0 .0) (opens-near _ _ _ _ (c .before .before .before .before .before .before .before .before .before .before .pre .1 .0 .1) (c .before .before .before .head2 .given .1)), c .before .before .before .before .before .before .before .before .before .before .pre .1 .1))
 
 read-inner-enum-known-head-3 : (t : ℕ) → read-inner-lts.Need-enum-known-head-3 (read-inner-calls t) (read-inner-at t) read-inner.Post
 read-inner-enum-known-head-3 t c = search needs
 
 read-inner-read-characters-requires : (t : ℕ) → read-inner-lts.Need-read-characters-requires (read-inner-calls t) (read-inner-at t) read-inner.Post
-read-inner-read-characters-requires t c κs = (omega arith, omega arith, omega arith, omega arith, omega arith, opens-span _ _ _ _ _ (c .before .before .before .before .before .before .before .before .pre .1 .1) (c .before .before .head3 .given .1) (c .before .before .before .before .before .before .before .before .pre .1 .0 .short))
+read-inner-read-characters-requires t c κs = (omega arith, omega arith, omega arith, omega arith, omega arith, opens-span _ _ _ _ _ (c .before .before .before .before .before .before .before .before .before .pre .1 .0 .1) (c .before .before .head3 .given .1) (c .before .before .before .before .before .before .before .before .before .pre .1 .0 .0 .short))
 
 read-inner-enum-known-head-4 : (t : ℕ) → read-inner-lts.Need-enum-known-head-4 (read-inner-calls t) (read-inner-at t) read-inner.Post
 read-inner-enum-known-head-4 t c = search needs
 
 read-inner-read-list-requires : (t : ℕ) → read-inner-lts.Need-read-list-requires (read-inner-calls t) (read-inner-at t) read-inner.Post
-read-inner-read-list-requires t c κs = (omega (arith, c .before .before .before .before .before .before .before .before .pre .0), room-at _ _ _ _ _ _ _ _ (c .before .before .before .before .before .before .before .before .pre .1 .0) (opens-near _ _ _ _ (c .before .before .before .before .before .before .before .before .pre .1 .1) (c .before .before .head4 .given .1)))
+read-inner-read-list-requires t c κs = (omega (arith, c .before .before .before .before .before .before .before .before .before .before .pre .0), (room-at _ _ _ _ _ _ _ _ (c .before .before .before .before .before .before .before .before .before .before .pre .1 .0 .0) (opens-near _ _ _ _ (c .before .before .before .before .before .before .before .before .before .before .pre .1 .0 .1) (c .before .before .before .head4 .given .1)), c .before .before .before .before .before .before .before .before .before .before .pre .1 .1))
 
 read-inner-enum-known-head-5 : (t : ℕ) → read-inner-lts.Need-enum-known-head-5 (read-inner-calls t) (read-inner-at t) read-inner.Post
 read-inner-enum-known-head-5 t c = search needs
 
 read-inner-read-pairs-requires : (t : ℕ) → read-inner-lts.Need-read-pairs-requires (read-inner-calls t) (read-inner-at t) read-inner.Post
-read-inner-read-pairs-requires t c κs = (omega (arith, c .before .before .before .before .before .before .before .before .pre .0), room-at _ _ _ _ _ _ _ _ (c .before .before .before .before .before .before .before .before .pre .1 .0) (opens-near _ _ _ _ (c .before .before .before .before .before .before .before .before .pre .1 .1) (c .before .before .head5 .given .1)))
+read-inner-read-pairs-requires t c κs = (omega (arith, c .before .before .before .before .before .before .before .before .before .before .pre .0), (room-at _ _ _ _ _ _ _ _ (c .before .before .before .before .before .before .before .before .before .before .pre .1 .0 .0) (opens-near _ _ _ _ (c .before .before .before .before .before .before .before .before .before .before .pre .1 .0 .1) (c .before .before .before .head5 .given .1)), c .before .before .before .before .before .before .before .before .before .before .pre .1 .1))
 
 read-inner-returns : (t : ℕ) → read-inner-lts.Need-returns (read-inner-calls t) (read-inner-at t) read-inner.Post
-read-inner-returns t c = inner-refused _ _ _ _ _ _ _ _ _ _ _ _ (c .before .head .given .1)
+read-inner-returns t c = (inner-refused _ _ _ _ _ _ _ _ _ _ _ _ (c .before .head .given .1), keeps-refl _)
 
 read-inner-same-length : (t : ℕ) → read-inner-lts.Need-same-length (read-inner-calls t) (read-inner-at t) read-inner.Post
-read-inner-same-length t c = c .before .before .read-parts .kept .1 .1 .1 .1 .0
-
-read-inner-returns-2 : (t : ℕ) → read-inner-lts.Need-returns-2 (read-inner-calls t) (read-inner-at t) read-inner.Post
-read-inner-returns-2 t c = inner-parts _ _ _ _ _ _ _ _ _ _ _ _ _ _ _ (c .before .before .before .before .before .head2 .given .1) (c .before .before .read-parts .ensures)
+read-inner-same-length t c = c .before .before .before .before .read-parts .kept .1 .1 .1 .1 .0
 
 read-inner-same-length-2 : (t : ℕ) → read-inner-lts.Need-same-length-2 (read-inner-calls t) (read-inner-at t) read-inner.Post
-read-inner-same-length-2 t c = c .before .before .read-characters .kept .0
+read-inner-same-length-2 t c = c .before .before .before .before .read-parts .kept .1 .1 .1 .1 .1 .0
 
-read-inner-returns-3 : (t : ℕ) → read-inner-lts.Need-returns-3 (read-inner-calls t) (read-inner-at t) read-inner.Post
-read-inner-returns-3 t c = inner-characters _ _ _ _ _ _ _ _ _ _ _ _ (c .before .before .before .before .before .head3 .given .1) (λ cs e near. c .before .before .read-characters .ensures _ _ cs e near)
+read-inner-returns-2 : (t : ℕ) → read-inner-lts.Need-returns-2 (read-inner-calls t) (read-inner-at t) read-inner.Post
+read-inner-returns-2 t c = (inner-parts _ _ _ _ _ _ _ _ _ _ _ _ _ _ _ (c .before .before .before .before .before .before .before .before .head2 .given .1) (c .before .before .before .before .read-parts .ensures .0), c .before .before .before .before .read-parts .ensures .1)
 
 read-inner-same-length-3 : (t : ℕ) → read-inner-lts.Need-same-length-3 (read-inner-calls t) (read-inner-at t) read-inner.Post
-read-inner-same-length-3 t c = c .before .before .read-list .kept .1 .1 .1 .1 .0
+read-inner-same-length-3 t c = c .before .before .read-characters .kept .0
 
-read-inner-returns-4 : (t : ℕ) → read-inner-lts.Need-returns-4 (read-inner-calls t) (read-inner-at t) read-inner.Post
-read-inner-returns-4 t c = inner-elements _ _ _ _ _ _ _ _ _ _ _ _ (c .before .before .before .before .before .head4 .given .1) (c .before .before .read-list .ensures _)
+read-inner-returns-3 : (t : ℕ) → read-inner-lts.Need-returns-3 (read-inner-calls t) (read-inner-at t) read-inner.Post
+read-inner-returns-3 t c = (inner-characters _ _ _ _ _ _ _ _ _ _ _ _ (c .before .before .before .before .before .head3 .given .1) (λ cs e near. c .before .before .read-characters .ensures _ _ cs e near), keeps-refl _)
 
 read-inner-same-length-4 : (t : ℕ) → read-inner-lts.Need-same-length-4 (read-inner-calls t) (read-inner-at t) read-inner.Post
-read-inner-same-length-4 t c = c .before .before .read-pairs .kept .1 .1 .1 .1 .0
+read-inner-same-length-4 t c = c .before .before .before .before .read-list .kept .1 .1 .1 .1 .0
+
+read-inner-same-length-5 : (t : ℕ) → read-inner-lts.Need-same-length-5 (read-inner-calls t) (read-inner-at t) read-inner.Post
+read-inner-same-length-5 t c = c .before .before .before .before .read-list .kept .1 .1 .1 .1 .1 .0
+
+read-inner-returns-4 : (t : ℕ) → read-inner-lts.Need-returns-4 (read-inner-calls t) (read-inner-at t) read-inner.Post
+read-inner-returns-4 t c = (inner-elements _ _ _ _ _ _ _ _ _ _ _ _ (c .before .before .before .before .before .before .before .before .head4 .given .1) (c .before .before .before .before .read-list .ensures .0 _), c .before .before .before .before .read-list .ensures .1)
+
+read-inner-same-length-6 : (t : ℕ) → read-inner-lts.Need-same-length-6 (read-inner-calls t) (read-inner-at t) read-inner.Post
+read-inner-same-length-6 t c = c .before .before .before .before .read-pairs .kept .1 .1 .1 .1 .0
+
+read-inner-same-length-7 : (t : ℕ) → read-inner-lts.Need-same-length-7 (read-inner-calls t) (read-inner-at t) read-inner.Post
+read-inner-same-length-7 t c = c .before .before .before .before .read-pairs .kept .1 .1 .1 .1 .1 .0
 
 read-inner-returns-5 : (t : ℕ) → read-inner-lts.Need-returns-5 (read-inner-calls t) (read-inner-at t) read-inner.Post
-read-inner-returns-5 t c = inner-pairs _ _ _ _ _ _ _ _ _ _ _ _ (c .before .before .before .before .before .head5 .given .1) (c .before .before .read-pairs .ensures _)
+read-inner-returns-5 t c = (inner-pairs _ _ _ _ _ _ _ _ _ _ _ _ (c .before .before .before .before .before .before .before .before .head5 .given .1) (c .before .before .before .before .read-pairs .ensures .0 _), c .before .before .before .before .read-pairs .ensures .1)
 
 read-last-enum-known-head : (t : ℕ) → read-last-lts.Need-enum-known-head (read-last-calls t) (read-last-at t) read-last.Post
 read-last-enum-known-head t c = search needs
 
 read-last-read-characters-requires : (t : ℕ) → read-last-lts.Need-read-characters-requires (read-last-calls t) (read-last-at t) read-last.Post
-read-last-read-characters-requires t c κs = (omega arith, omega arith, omega arith, omega arith, omega arith, opens-span _ _ _ _ _ (c .before .before .before .before .before .before .before .before .pre .1 .1) (c .before .before .head .given .1) (c .before .before .before .before .before .before .before .before .pre .1 .0 .short))
+read-last-read-characters-requires t c κs = (omega arith, omega arith, omega arith, omega arith, omega arith, opens-span _ _ _ _ _ (c .before .before .before .before .before .before .before .before .before .pre .1 .0 .1) (c .before .before .head .given .1) (c .before .before .before .before .before .before .before .before .before .pre .1 .0 .0 .short))
 
 read-last-read-body-requires : (t : ℕ) → read-last-lts.Need-read-body-requires (read-last-calls t) (read-last-at t) read-last.Post
-read-last-read-body-requires t c κs = (omega (arith, c .before .before .before .before .before .before .pre .0), (c .before .before .before .before .before .before .pre .1 .0, c .before .before .before .before .before .before .pre .1 .1))
+read-last-read-body-requires t c κs = (omega (arith, c .before .before .before .before .before .before .before .before .pre .0), ((c .before .before .before .before .before .before .before .before .pre .1 .0 .0, c .before .before .before .before .before .before .before .before .pre .1 .0 .1), c .before .before .before .before .before .before .before .before .pre .1 .1))
 
 read-last-enum-known-number : (t : ℕ) → read-last-lts.Need-enum-known-number (read-last-calls t) (read-last-at t) read-last.Post
 read-last-enum-known-number t c = search needs
@@ -310,29 +328,35 @@ read-last-enum-known-number t c = search needs
 read-last-enum-known-next : (t : ℕ) → read-last-lts.Need-enum-known-next (read-last-calls t) (read-last-at t) read-last.Post
 read-last-enum-known-next t c = search needs
 
-read-last-add-t26 : (t : ℕ) → read-last-lts.Need-add-t26 (read-last-calls t) (read-last-at t) read-last.Post
-read-last-add-t26 t c = omega arith
+read-last-add-t29 : (t : ℕ) → read-last-lts.Need-add-t29 (read-last-calls t) (read-last-at t) read-last.Post
+read-last-add-t29 t c = omega arith
 
 read-last-same-length : (t : ℕ) → read-last-lts.Need-same-length (read-last-calls t) (read-last-at t) read-last.Post
 read-last-same-length t c = c .before .before .read-characters .kept .0
 
 read-last-returns : (t : ℕ) → read-last-lts.Need-returns (read-last-calls t) (read-last-at t) read-last.Post
-read-last-returns t c = last-characters _ _ _ _ _ _ _ _ _ _ _ _ _ _ (c .before .before .before .before .before .head .given .1) (λ cs e near. c .before .before .read-characters .ensures _ _ cs e near)
+read-last-returns t c = (last-characters _ _ _ _ _ _ _ _ _ _ _ _ _ _ (c .before .before .before .before .before .head .given .1) (λ cs e near. c .before .before .read-characters .ensures _ _ cs e near), keeps-refl _)
 
 read-last-same-length-2 : (t : ℕ) → read-last-lts.Need-same-length-2 (read-last-calls t) (read-last-at t) read-last.Post
-read-last-same-length-2 t c = c .before .before .before .before .before .read-body .kept .1 .1 .1 .1 .0
-
-read-last-returns-2 : (t : ℕ) → read-last-lts.Need-returns-2 (read-last-calls t) (read-last-at t) read-last.Post
-read-last-returns-2 t c = λ h next e s. last-refused _ _ _ _ _ _ _ _ _ _ (λ k p e. miss (0 ∷ 1 ∷ 3 ∷ 4 ∷ []) 2 tt (rw e at (c .before .before .before .before .before .before .before .match .keys2))) h next e _ _ _ _ _ (c .before .number .given .1) (c .before .before .before .before .before .read-body .ensures h next e s)
+read-last-same-length-2 t c = c .before .before .before .before .before .before .before .read-body .kept .1 .1 .1 .1 .0
 
 read-last-same-length-3 : (t : ℕ) → read-last-lts.Need-same-length-3 (read-last-calls t) (read-last-at t) read-last.Post
-read-last-same-length-3 t c = c .before .before .before .before .before .read-body .kept .1 .1 .1 .1 .0
+read-last-same-length-3 t c = c .before .before .before .before .before .before .before .read-body .kept .1 .1 .1 .1 .1 .0
+
+read-last-returns-2 : (t : ℕ) → read-last-lts.Need-returns-2 (read-last-calls t) (read-last-at t) read-last.Post
+read-last-returns-2 t c = (λ h next e s. last-refused _ _ _ _ _ _ _ _ _ _ (λ k p e. miss (0 ∷ 1 ∷ 3 ∷ 4 ∷ []) 2 tt (rw e at (c .before .before .before .before .before .before .before .before .before .before .match .keys2))) h next e _ _ _ _ _ (c .before .number .given .1) (c .before .before .before .before .before .before .before .read-body .ensures .0 h next e s), c .before .before .before .before .before .before .before .read-body .ensures .1)
+
+read-last-same-length-4 : (t : ℕ) → read-last-lts.Need-same-length-4 (read-last-calls t) (read-last-at t) read-last.Post
+read-last-same-length-4 t c = c .before .before .before .before .before .before .before .read-body .kept .1 .1 .1 .1 .0
+
+read-last-same-length-5 : (t : ℕ) → read-last-lts.Need-same-length-5 (read-last-calls t) (read-last-at t) read-last.Post
+read-last-same-length-5 t c = c .before .before .before .before .before .before .before .read-body .kept .1 .1 .1 .1 .1 .0
 
 read-last-returns-3 : (t : ℕ) → read-last-lts.Need-returns-3 (read-last-calls t) (read-last-at t) read-last.Post
-read-last-returns-3 t c = λ h next e s. last-got _ _ _ _ _ _ _ _ _ _ (λ k p e. miss (0 ∷ 1 ∷ 3 ∷ 4 ∷ []) 2 tt (rw e at (c .before .before .before .before .before .before .before .match .keys2))) h next e _ _ _ _ (c .before .next .given .1) (c .before .before .before .before .before .read-body .ensures h next e s)
+read-last-returns-3 t c = (λ h next e s. last-got _ _ _ _ _ _ _ _ _ _ (λ k p e. miss (0 ∷ 1 ∷ 3 ∷ 4 ∷ []) 2 tt (rw e at (c .before .before .before .before .before .before .before .before .before .before .match .keys2))) h next e _ _ _ _ (c .before .next .given .1) (c .before .before .before .before .before .before .before .read-body .ensures .0 h next e s), c .before .before .before .before .before .before .before .read-body .ensures .1)
 
 read-list-read-run-requires : (t : ℕ) → read-list-lts.Need-read-run-requires (read-list-calls t) (read-list-at t) read-list.Post
-read-list-read-run-requires t c κs = (omega (arith, c .before .before .before .before .before .pre .0), c .before .before .before .before .before .pre .1)
+read-list-read-run-requires t c κs = (omega (arith, c .before .before .before .before .before .before .before .pre .0), (c .before .before .before .before .before .before .before .pre .1 .0, c .before .before .before .before .before .before .before .pre .1 .1))
 
 read-list-enum-known-number : (t : ℕ) → read-list-lts.Need-enum-known-number (read-list-calls t) (read-list-at t) read-list.Post
 read-list-enum-known-number t c = search needs
@@ -341,110 +365,129 @@ read-list-enum-known-next : (t : ℕ) → read-list-lts.Need-enum-known-next (re
 read-list-enum-known-next t c = search needs
 
 read-list-read-tail-requires : (t : ℕ) → read-list-lts.Need-read-tail-requires (read-list-calls t) (read-list-at t) read-list.Post
-read-list-read-tail-requires t c κs = (omega (arith, c .before .before .before .before .before .before .before .before .before .before .before .before .pre .0), (room-after _ _ _ _ _ _ _ _ _ _ _ _ _ _ _ (c .before .before .before .before .before .before .before .before .before .before .before .before .pre .1) (c .before .before .before .before .before .before .read-run .ensures) (c .before .before .next .given .1) (c .before .before .before .before .before .before .read-run .kept .1 .1 .1 .1 .0), omega (arith, run-many _ _ _ _ _ _ _ _ _ _ _ (c .before .before .before .before .before .before .read-run .ensures) (c .before .before .next .given .1) .0)))
+read-list-read-tail-requires t c κs = (omega (arith, c .before .before .before .before .before .before .before .before .before .before .before .before .before .before .before .before .before .pre .0), ((room-after _ _ _ _ _ _ _ _ _ _ _ _ _ _ _ (c .before .before .before .before .before .before .before .before .before .before .before .before .before .before .before .before .before .pre .1 .0) (c .before .before .before .before .before .before .before .before .before .read-run .ensures .0) (c .before .before .before .next .given .1) (c .before .before .before .before .before .before .before .before .before .read-run .kept .1 .1 .1 .1 .0), omega (arith, run-many _ _ _ _ _ _ _ _ _ _ _ (c .before .before .before .before .before .before .before .before .before .read-run .ensures .0) (c .before .before .before .next .given .1) .0)), slots-after _ _ (c .before .before .before .before .before .before .before .before .before .before .before .before .before .before .before .before .before .pre .1 .1) (c .before .before .before .before .before .before .before .before .before .read-run .ensures .1)))
 
 read-list-same-length : (t : ℕ) → read-list-lts.Need-same-length (read-list-calls t) (read-list-at t) read-list.Post
-read-list-same-length t c = c .before .before .before .before .before .read-run .kept .1 .1 .1 .1 .0
-
-read-list-returns : (t : ℕ) → read-list-lts.Need-returns (read-list-calls t) (read-list-at t) read-list.Post
-read-list-returns t c = λ place. list-first _ _ _ _ place _ _ _ _ _ _ (c .before .before .before .before .before .read-run .ensures) _ _ _ (c .before .number .given .1)
+read-list-same-length t c = c .before .before .before .before .before .before .before .read-run .kept .1 .1 .1 .1 .0
 
 read-list-same-length-2 : (t : ℕ) → read-list-lts.Need-same-length-2 (read-list-calls t) (read-list-at t) read-list.Post
-read-list-same-length-2 t c = c .before .before .read-tail .kept .1 .1 .1 .1 .0 ∙ c .before .before .before .before .before .before .before .before .before .read-run .kept .1 .1 .1 .1 .0
+read-list-same-length-2 t c = c .before .before .before .before .before .before .before .read-run .kept .1 .1 .1 .1 .1 .0
+
+read-list-returns : (t : ℕ) → read-list-lts.Need-returns (read-list-calls t) (read-list-at t) read-list.Post
+read-list-returns t c = (λ place. list-first _ _ _ _ place _ _ _ _ _ _ (c .before .before .before .before .before .before .before .read-run .ensures .0) _ _ _ (c .before .number .given .1), c .before .before .before .before .before .before .before .read-run .ensures .1)
+
+read-list-same-length-3 : (t : ℕ) → read-list-lts.Need-same-length-3 (read-list-calls t) (read-list-at t) read-list.Post
+read-list-same-length-3 t c = c .before .before .before .before .read-tail .kept .1 .1 .1 .1 .0 ∙ c .before .before .before .before .before .before .before .before .before .before .before .before .before .before .read-run .kept .1 .1 .1 .1 .0
+
+read-list-same-length-4 : (t : ℕ) → read-list-lts.Need-same-length-4 (read-list-calls t) (read-list-at t) read-list.Post
+read-list-same-length-4 t c = c .before .before .before .before .read-tail .kept .1 .1 .1 .1 .1 .0 ∙ c .before .before .before .before .before .before .before .before .before .before .before .before .before .before .read-run .kept .1 .1 .1 .1 .1 .0
 
 read-list-returns-2 : (t : ℕ) → read-list-lts.Need-returns-2 (read-list-calls t) (read-list-at t) read-list.Post
-read-list-returns-2 t c = λ place. list-then _ _ _ _ place _ _ _ _ _ _ (c .before .before .before .before .before .before .before .before .before .read-run .ensures) _ _ _ _ (c .before .before .before .before .before .next .given .1) (c .before .before .read-tail .ensures)
+read-list-returns-2 t c = (λ place. list-then _ _ _ _ place _ _ _ _ _ _ (c .before .before .before .before .before .before .before .before .before .before .before .before .before .before .read-run .ensures .0) _ _ _ _ (c .before .before .before .before .before .before .before .before .next .given .1) (c .before .before .before .before .read-tail .ensures .0), keeps-trans _ _ _ (c .before .before .before .before .before .before .before .before .before .before .before .before .before .before .read-run .ensures .1) (c .before .before .before .before .read-tail .ensures .1))
 
 abbrev read-pairs-Inv-loop : read-pairs-lts.InvT-loop
-read-pairs-Inv-loop msg n places lengths table₀ at row deep cap count at-now₀ row-now₀ more₀ table at-now row-now more =
+read-pairs-Inv-loop msg n places lengths table₀ seen₀ at row deep cap count at-now₀ row-now₀ more₀ table seen at-now row-now more =
     Room msg (lent n places lengths) table cap at-now row-now row
     × (length table ≡ length table₀)
     × Entered (atoms-of (lent n places lengths)) cap deep msg at row count table₀ at-now row-now more table
+    × Keeps seen₀ seen
 
 abbrev read-pairs-μ-loop : read-pairs-lts.MeasureT-loop
-read-pairs-μ-loop msg n places lengths table₀ at row deep cap count at-now₀ row-now₀ more₀ table at-now row-now more =
+read-pairs-μ-loop msg n places lengths table₀ seen₀ at row deep cap count at-now₀ row-now₀ more₀ table seen at-now row-now more =
     more
 
 read-pairs-loop-holds : (t : ℕ) → read-pairs-lts.Need-loop-holds (read-pairs-calls t) (read-pairs-at t) read-pairs.Post read-pairs-Inv-loop read-pairs-μ-loop
-read-pairs-loop-holds t c = (c .before .before .before .before .pre .1, refl, entered-none _ _ _ _ _ _ _ _)
+read-pairs-loop-holds t c = (c .before .before .before .before .before .pre .1 .0, refl, entered-none _ _ _ _ _ _ _ _, keeps-refl _)
 
 read-pairs-read-term-requires : (t : ℕ) → read-pairs-lts.Need-read-term-requires (read-pairs-calls t) (read-pairs-at t) read-pairs.Post read-pairs-Inv-loop read-pairs-μ-loop
-read-pairs-read-term-requires t c κs = (omega (arith, c .before .before .before .before .before .before .before .pre .0), c .before .before .loop .inv .0)
+read-pairs-read-term-requires t c κs = (omega (arith, c .before .before .before .before .before .before .before .before .before .pre .0), (c .before .before .before .loop .inv .0, slots-after _ _ (c .before .before .before .before .before .before .before .before .before .pre .1 .1) (c .before .before .before .loop .inv .3)))
 
 read-pairs-enum-known-number : (t : ℕ) → read-pairs-lts.Need-enum-known-number (read-pairs-calls t) (read-pairs-at t) read-pairs.Post read-pairs-Inv-loop read-pairs-μ-loop
 read-pairs-enum-known-number t c = search needs
 
 read-pairs-same-length : (t : ℕ) → read-pairs-lts.Need-same-length (read-pairs-calls t) (read-pairs-at t) read-pairs.Post read-pairs-Inv-loop read-pairs-μ-loop
-read-pairs-same-length t c = c .before .before .before .before .before .read-term .kept .1 .1 .1 .1 .0 ∙ c .before .before .before .before .before .before .before .before .loop .inv .1
+read-pairs-same-length t c = c .before .before .before .before .before .before .before .read-term .kept .1 .1 .1 .1 .0 ∙ c .before .before .before .before .before .before .before .before .before .before .before .loop .inv .1
+
+read-pairs-same-length-2 : (t : ℕ) → read-pairs-lts.Need-same-length-2 (read-pairs-calls t) (read-pairs-at t) read-pairs.Post read-pairs-Inv-loop read-pairs-μ-loop
+read-pairs-same-length-2 t c = c .before .before .before .before .before .before .before .read-term .kept .1 .1 .1 .1 .1 .0 ∙ keeps-length _ _ (c .before .before .before .before .before .before .before .before .before .before .before .loop .inv .3)
 
 read-pairs-returns : (t : ℕ) → read-pairs-lts.Need-returns (read-pairs-calls t) (read-pairs-at t) read-pairs.Post read-pairs-Inv-loop read-pairs-μ-loop
 read-pairs-returns t c =
-    let i = c .before .before .before .before .before .before .before .before .loop in
+    let i = c .before .before .before .before .before .before .before .before .before .before .before .loop in
     let e : i .more ≡ 0 → ⊥ = omega arith in
-    λ place. key-refused _ _ _ _ _ _ _ _ _ _ _ _ (i .inv .2) e _ _ (c .before .before .before .before .before .read-term .ensures) _ _ place _ (c .before .number .given .1)
+    (λ place. key-refused _ _ _ _ _ _ _ _ _ _ _ _ (i .inv .2) e _ _ (c .before .before .before .before .before .before .before .read-term .ensures .0) _ _ place _ (c .before .number .given .1), keeps-trans _ _ _ (c .before .before .before .before .before .before .before .before .before .before .before .loop .inv .3) (c .before .before .before .before .before .before .before .read-term .ensures .1))
 
 read-pairs-enum-known-next : (t : ℕ) → read-pairs-lts.Need-enum-known-next (read-pairs-calls t) (read-pairs-at t) read-pairs.Post read-pairs-Inv-loop read-pairs-μ-loop
 read-pairs-enum-known-next t c = search needs
 
-read-pairs-key-among-requires : (t : ℕ) → read-pairs-lts.Need-key-among-requires (read-pairs-calls t) (read-pairs-at t) read-pairs.Post read-pairs-Inv-loop read-pairs-μ-loop
-read-pairs-key-among-requires t c κs = search needs
+read-pairs-repeats-requires : (t : ℕ) → read-pairs-lts.Need-repeats-requires (read-pairs-calls t) (read-pairs-at t) read-pairs.Post read-pairs-Inv-loop read-pairs-μ-loop
+read-pairs-repeats-requires t c κs = let s = slots-after _ _ (c .before .before .before .before .before .before .before .before .before .before .before .before .before .before .before .before .before .before .before .pre .1 .1) (keeps-trans _ _ _ (c .before .before .before .before .before .before .before .before .before .before .before .before .before .loop .inv .3) (c .before .before .before .before .before .before .before .before .before .read-term .ensures .1)) in let g = term-inside _ _ _ _ _ _ _ _ _ _ (c .before .before .before .next .given .1) (c .before .before .before .before .before .before .before .before .before .read-term .ensures .0) in (omega (arith, s .some), omega (arith, s .few), omega (arith, c .before .before .before .before .before .before .before .before .before .before .before .before .before .loop .inv .0 .few))
 
-read-pairs-same-length-2 : (t : ℕ) → read-pairs-lts.Need-same-length-2 (read-pairs-calls t) (read-pairs-at t) read-pairs.Post read-pairs-Inv-loop read-pairs-μ-loop
-read-pairs-same-length-2 t c = c .before .before .before .before .before .before .before .before .read-term .kept .1 .1 .1 .1 .0 ∙ c .before .before .before .before .before .before .before .before .before .before .before .loop .inv .1
+read-pairs-same-length-3 : (t : ℕ) → read-pairs-lts.Need-same-length-3 (read-pairs-calls t) (read-pairs-at t) read-pairs.Post read-pairs-Inv-loop read-pairs-μ-loop
+read-pairs-same-length-3 t c = c .before .before .before .before .before .before .before .before .before .before .before .before .before .read-term .kept .1 .1 .1 .1 .0 ∙ c .before .before .before .before .before .before .before .before .before .before .before .before .before .before .before .before .before .loop .inv .1
+
+read-pairs-same-length-4 : (t : ℕ) → read-pairs-lts.Need-same-length-4 (read-pairs-calls t) (read-pairs-at t) read-pairs.Post read-pairs-Inv-loop read-pairs-μ-loop
+read-pairs-same-length-4 t c = c .before .before .before .repeats .kept .1 .1 .1 .1 .0 ∙ c .before .before .before .before .before .before .before .before .before .before .before .before .before .read-term .kept .1 .1 .1 .1 .1 .0 ∙ keeps-length _ _ (c .before .before .before .before .before .before .before .before .before .before .before .before .before .before .before .before .before .loop .inv .3)
 
 read-pairs-returns-2 : (t : ℕ) → read-pairs-lts.Need-returns-2 (read-pairs-calls t) (read-pairs-at t) read-pairs.Post read-pairs-Inv-loop read-pairs-μ-loop
 read-pairs-returns-2 t c =
-    let i = c .before .before .before .before .before .before .before .before .before .before .before .loop in
+    let i = c .before .before .before .before .before .before .before .before .before .before .before .before .before .before .before .before .before .loop in
     let e : i .more ≡ 0 → ⊥ = omega arith in
-    λ place. key-twice _ _ _ _ _ _ _ _ _ _ _ _ (i .inv .2) e _ _ (c .before .before .before .before .before .before .before .before .read-term .ensures) _ _ _ (i .inv .0) _ _ (c .before .before .before .before .next .given .1) (keys-told _ _ _ _ _ _ (i .inv .0 .sized) (omega (arith, c .before .before .before .before .before .before .before .before .before .before .before .before .before .before .before .before .fits .n)) (λ j. omega (arith, c .before .before .before .before .before .before .before .before .before .before .before .before .before .before .before .shared-slice-known .given j))) _ (c .before .key-among .ensures) place _ (c .if1 .taken)
+    (λ place. key-twice _ _ _ _ _ _ _ _ _ _ _ _ (i .inv .2) e _ _ (c .before .before .before .before .before .before .before .before .before .before .before .before .before .read-term .ensures .0) _ _ _ (i .inv .0) _ _ (c .before .before .before .before .before .before .before .next .given .1) (keys-told _ _ _ _ _ _ (i .inv .0 .sized) (omega (arith, c .before .before .before .before .before .before .before .before .before .before .before .before .before .before .before .before .before .before .before .before .before .before .before .fits .n)) (λ j. omega (arith, c .before .before .before .before .before .before .before .before .before .before .before .before .before .before .before .before .before .before .before .before .before .before .shared-slice-known .given j))) _ (c .before .before .before .repeats .ensures .1) place _ (c .if1 .taken), keeps-trans _ _ _ (keeps-trans _ _ _ (c .before .before .before .before .before .before .before .before .before .before .before .before .before .before .before .before .before .loop .inv .3) (c .before .before .before .before .before .before .before .before .before .before .before .before .before .read-term .ensures .1)) (c .before .before .before .repeats .ensures .0))
 
 read-pairs-read-term-requires-2 : (t : ℕ) → read-pairs-lts.Need-read-term-requires-2 (read-pairs-calls t) (read-pairs-at t) read-pairs.Post read-pairs-Inv-loop read-pairs-μ-loop
-read-pairs-read-term-requires-2 t c κs = (omega (arith, c .before .before .before .before .before .before .before .before .before .before .before .before .before .before .before .before .before .pre .0), room-after _ _ _ _ _ _ _ _ _ _ _ _ _ _ _ (c .before .before .before .before .before .before .before .before .before .before .before .before .loop .inv .0) (c .before .before .before .before .before .before .before .before .before .read-term .ensures) (c .before .before .before .before .before .next .given .1) (c .before .before .before .before .before .before .before .before .before .read-term .kept .1 .1 .1 .1 .0))
+read-pairs-read-term-requires-2 t c κs = (omega (arith, c .before .before .before .before .before .before .before .before .before .before .before .before .before .before .before .before .before .before .before .before .before .before .before .before .before .pre .0), (room-after _ _ _ _ _ _ _ _ _ _ _ _ _ _ _ (c .before .before .before .before .before .before .before .before .before .before .before .before .before .before .before .before .before .before .before .loop .inv .0) (c .before .before .before .before .before .before .before .before .before .before .before .before .before .before .before .read-term .ensures .0) (c .before .before .before .before .before .before .before .before .before .next .given .1) (c .before .before .before .before .before .before .before .before .before .before .before .before .before .before .before .read-term .kept .1 .1 .1 .1 .0), slots-after _ _ (c .before .before .before .before .before .before .before .before .before .before .before .before .before .before .before .before .before .before .before .before .before .before .before .before .before .pre .1 .1) (keeps-trans _ _ _ (keeps-trans _ _ _ (c .before .before .before .before .before .before .before .before .before .before .before .before .before .before .before .before .before .before .before .loop .inv .3) (c .before .before .before .before .before .before .before .before .before .before .before .before .before .before .before .read-term .ensures .1)) (c .before .before .before .before .before .repeats .ensures .0))))
 
 read-pairs-enum-known-number-2 : (t : ℕ) → read-pairs-lts.Need-enum-known-number-2 (read-pairs-calls t) (read-pairs-at t) read-pairs.Post read-pairs-Inv-loop read-pairs-μ-loop
 read-pairs-enum-known-number-2 t c = search needs
 
-read-pairs-same-length-3 : (t : ℕ) → read-pairs-lts.Need-same-length-3 (read-pairs-calls t) (read-pairs-at t) read-pairs.Post read-pairs-Inv-loop read-pairs-μ-loop
-read-pairs-same-length-3 t c = c .before .before .before .before .before .read-term2 .kept .1 .1 .1 .1 .0 ∙ c .before .before .before .before .before .before .before .before .before .before .before .before .before .before .before .read-term .kept .1 .1 .1 .1 .0 ∙ c .before .before .before .before .before .before .before .before .before .before .before .before .before .before .before .before .before .before .loop .inv .1
+read-pairs-same-length-5 : (t : ℕ) → read-pairs-lts.Need-same-length-5 (read-pairs-calls t) (read-pairs-at t) read-pairs.Post read-pairs-Inv-loop read-pairs-μ-loop
+read-pairs-same-length-5 t c = c .before .before .before .before .before .before .before .read-term2 .kept .1 .1 .1 .1 .0 ∙ c .before .before .before .before .before .before .before .before .before .before .before .before .before .before .before .before .before .before .before .before .before .before .before .read-term .kept .1 .1 .1 .1 .0 ∙ c .before .before .before .before .before .before .before .before .before .before .before .before .before .before .before .before .before .before .before .before .before .before .before .before .before .before .before .loop .inv .1
+
+read-pairs-same-length-6 : (t : ℕ) → read-pairs-lts.Need-same-length-6 (read-pairs-calls t) (read-pairs-at t) read-pairs.Post read-pairs-Inv-loop read-pairs-μ-loop
+read-pairs-same-length-6 t c = c .before .before .before .before .before .before .before .read-term2 .kept .1 .1 .1 .1 .1 .0 ∙ c .before .before .before .before .before .before .before .before .before .before .before .before .before .repeats .kept .1 .1 .1 .1 .0 ∙ c .before .before .before .before .before .before .before .before .before .before .before .before .before .before .before .before .before .before .before .before .before .before .before .read-term .kept .1 .1 .1 .1 .1 .0 ∙ keeps-length _ _ (c .before .before .before .before .before .before .before .before .before .before .before .before .before .before .before .before .before .before .before .before .before .before .before .before .before .before .before .loop .inv .3)
 
 read-pairs-returns-3 : (t : ℕ) → read-pairs-lts.Need-returns-3 (read-pairs-calls t) (read-pairs-at t) read-pairs.Post read-pairs-Inv-loop read-pairs-μ-loop
 read-pairs-returns-3 t c =
-    let i = c .before .before .before .before .before .before .before .before .before .before .before .before .before .before .before .before .before .before .loop in
-    let e : i .more ≡ 0 → ⊥ = omega arith in
-    λ place. value-refused _ _ _ _ _ _ _ _ _ _ _ _ (i .inv .2) e _ _ (c .before .before .before .before .before .before .before .before .before .before .before .before .before .before .before .read-term .ensures) _ _ _ (i .inv .0) _ _ (c .before .before .before .before .before .before .before .before .before .before .before .next .given .1) (keys-told _ _ _ _ _ _ (i .inv .0 .sized) (omega (arith, c .before .before .before .before .before .before .before .before .before .before .before .before .before .before .before .before .before .before .before .before .before .before .before .fits .n)) (λ j. omega (arith, c .before .before .before .before .before .before .before .before .before .before .before .before .before .before .before .before .before .before .before .before .before .before .shared-slice-known .given j))) _ (c .before .before .before .before .before .before .before .before .key-among .ensures) (c .before .before .before .before .before .before .before .if1 .left) _ _ (c .before .before .before .before .before .read-term2 .ensures) _ _ place _ (c .before .number2 .given .1)
+    let i = c .before .before .before .before .before .before .before .before .before .before .before .before .before .before .before .before .before .before .before .before .before .before .before .before .before .before .before .loop in
+    let e : i .more ≡ 0 → ⊥ = omega (arith, c .before .before .before .before .before .before .before .before .before .before .before .before .before .before .before .before .before .before .before .before .before .before .before .before .before .before .loop-test .taken) in
+    (λ place. value-refused _ _ _ _ _ _ _ _ _ _ _ _ (i .inv .2) e _ _ (c .before .before .before .before .before .before .before .before .before .before .before .before .before .before .before .before .before .before .before .before .before .before .before .read-term .ensures .0) _ _ _ (i .inv .0) _ _ (c .before .before .before .before .before .before .before .before .before .before .before .before .before .before .before .before .before .next .given .1) (keys-told _ _ _ _ _ _ (i .inv .0 .sized) (omega (arith, c .before .before .before .before .before .before .before .before .before .before .before .before .before .before .before .before .before .before .before .before .before .before .before .before .before .before .before .before .before .before .before .before .before .fits .n)) (λ j. omega (arith, c .before .before .before .before .before .before .before .before .before .before .before .before .before .before .before .before .before .before .before .before .before .before .before .before .before .before .before .before .before .before .before .before .shared-slice-known .given j))) _ (c .before .before .before .before .before .before .before .before .before .before .before .before .before .repeats .ensures .1) (c .before .before .before .before .before .before .before .before .before .before .if1 .left) _ _ (c .before .before .before .before .before .before .before .read-term2 .ensures .0) _ _ place _ (c .before .number2 .given .1), keeps-trans _ _ _ (keeps-trans _ _ _ (keeps-trans _ _ _ (c .before .before .before .before .before .before .before .before .before .before .before .before .before .before .before .before .before .before .before .before .before .before .before .before .before .before .before .loop .inv .3) (c .before .before .before .before .before .before .before .before .before .before .before .before .before .before .before .before .before .before .before .before .before .before .before .read-term .ensures .1)) (c .before .before .before .before .before .before .before .before .before .before .before .before .before .repeats .ensures .0)) (c .before .before .before .before .before .before .before .read-term2 .ensures .1))
 
 read-pairs-enum-known-next-2 : (t : ℕ) → read-pairs-lts.Need-enum-known-next-2 (read-pairs-calls t) (read-pairs-at t) read-pairs.Post read-pairs-Inv-loop read-pairs-μ-loop
 read-pairs-enum-known-next-2 t c = search needs
 
 read-pairs-sub-more : (t : ℕ) → read-pairs-lts.Need-sub-more (read-pairs-calls t) (read-pairs-at t) read-pairs.Post read-pairs-Inv-loop read-pairs-μ-loop
-read-pairs-sub-more t c = omega arith
+read-pairs-sub-more t c = omega (arith, c .before .before .before .before .before .before .before .before .before .before .before .before .before .before .before .before .before .before .before .before .before .before .before .before .before .before .loop-test .taken)
 
 read-pairs-loop-less : (t : ℕ) → read-pairs-lts.Need-loop-less (read-pairs-calls t) (read-pairs-at t) read-pairs.Post read-pairs-Inv-loop read-pairs-μ-loop
-read-pairs-loop-less t c = omega arith
+read-pairs-loop-less t c = omega (arith, c .before .before .before .before .before .before .before .before .before .before .before .before .before .before .before .before .before .before .before .before .before .before .before .before .before .before .loop-test .taken)
 
 read-pairs-loop-again : (t : ℕ) → read-pairs-lts.Need-loop-again (read-pairs-calls t) (read-pairs-at t) read-pairs.Post read-pairs-Inv-loop read-pairs-μ-loop
 read-pairs-loop-again t c =
-    let i = c .before .before .before .before .before .before .before .before .before .before .before .before .before .before .before .before .before .before .loop in
-    let e : i .more ≡ 0 → ⊥ = omega arith in
-    (room-after _ _ _ _ _ _ _ _ _ _ _ _ _ _ _ (room-after _ _ _ _ _ _ _ _ _ _ _ _ _ _ _ (i .inv .0) (c .before .before .before .before .before .before .before .before .before .before .before .before .before .before .before .read-term .ensures) (c .before .before .before .before .before .before .before .before .before .before .before .next .given .1) (c .before .before .before .before .before .before .before .before .before .before .before .before .before .before .before .read-term .kept .1 .1 .1 .1 .0)) (c .before .before .before .before .before .read-term2 .ensures) (c .before .next2 .given .1) (c .before .before .before .before .before .read-term2 .kept .1 .1 .1 .1 .0), c .before .before .before .before .before .read-term2 .kept .1 .1 .1 .1 .0 ∙ c .before .before .before .before .before .before .before .before .before .before .before .before .before .before .before .read-term .kept .1 .1 .1 .1 .0 ∙ i .inv .1, entered-more _ _ _ _ _ _ _ _ _ _ _ _ (i .inv .2) e _ _ (c .before .before .before .before .before .before .before .before .before .before .before .before .before .before .before .read-term .ensures) _ _ _ (i .inv .0) _ _ (c .before .before .before .before .before .before .before .before .before .before .before .next .given .1) (keys-told _ _ _ _ _ _ (i .inv .0 .sized) (omega (arith, c .before .before .before .before .before .before .before .before .before .before .before .before .before .before .before .before .before .before .before .before .before .before .before .fits .n)) (λ j. omega (arith, c .before .before .before .before .before .before .before .before .before .before .before .before .before .before .before .before .before .before .before .before .before .before .shared-slice-known .given j))) _ (c .before .before .before .before .before .before .before .before .key-among .ensures) (c .before .before .before .before .before .before .before .if1 .left) _ _ (c .before .before .before .before .before .read-term2 .ensures) _ _ (c .before .next2 .given .1))
+    let i = c .before .before .before .before .before .before .before .before .before .before .before .before .before .before .before .before .before .before .before .before .before .before .before .before .before .before .before .loop in
+    let e : i .more ≡ 0 → ⊥ = omega (arith, c .before .before .before .before .before .before .before .before .before .before .before .before .before .before .before .before .before .before .before .before .before .before .before .before .before .before .loop-test .taken) in
+    (room-after _ _ _ _ _ _ _ _ _ _ _ _ _ _ _ (room-after _ _ _ _ _ _ _ _ _ _ _ _ _ _ _ (i .inv .0) (c .before .before .before .before .before .before .before .before .before .before .before .before .before .before .before .before .before .before .before .before .before .before .before .read-term .ensures .0) (c .before .before .before .before .before .before .before .before .before .before .before .before .before .before .before .before .before .next .given .1) (c .before .before .before .before .before .before .before .before .before .before .before .before .before .before .before .before .before .before .before .before .before .before .before .read-term .kept .1 .1 .1 .1 .0)) (c .before .before .before .before .before .before .before .read-term2 .ensures .0) (c .before .next2 .given .1) (c .before .before .before .before .before .before .before .read-term2 .kept .1 .1 .1 .1 .0), c .before .before .before .before .before .before .before .read-term2 .kept .1 .1 .1 .1 .0 ∙ c .before .before .before .before .before .before .before .before .before .before .before .before .before .before .before .before .before .before .before .before .before .before .before .read-term .kept .1 .1 .1 .1 .0 ∙ i .inv .1, entered-more _ _ _ _ _ _ _ _ _ _ _ _ (i .inv .2) e _ _ (c .before .before .before .before .before .before .before .before .before .before .before .before .before .before .before .before .before .before .before .before .before .before .before .read-term .ensures .0) _ _ _ (i .inv .0) _ _ (c .before .before .before .before .before .before .before .before .before .before .before .before .before .before .before .before .before .next .given .1) (keys-told _ _ _ _ _ _ (i .inv .0 .sized) (omega (arith, c .before .before .before .before .before .before .before .before .before .before .before .before .before .before .before .before .before .before .before .before .before .before .before .before .before .before .before .before .before .before .before .before .before .fits .n)) (λ j. omega (arith, c .before .before .before .before .before .before .before .before .before .before .before .before .before .before .before .before .before .before .before .before .before .before .before .before .before .before .before .before .before .before .before .before .shared-slice-known .given j))) _ (c .before .before .before .before .before .before .before .before .before .before .before .before .before .repeats .ensures .1) (c .before .before .before .before .before .before .before .before .before .before .if1 .left) _ _ (c .before .before .before .before .before .before .before .read-term2 .ensures .0) _ _ (c .before .next2 .given .1), keeps-trans _ _ _ (keeps-trans _ _ _ (keeps-trans _ _ _ (c .before .before .before .before .before .before .before .before .before .before .before .before .before .before .before .before .before .before .before .before .before .before .before .before .before .before .before .loop .inv .3) (c .before .before .before .before .before .before .before .before .before .before .before .before .before .before .before .before .before .before .before .before .before .before .before .read-term .ensures .1)) (c .before .before .before .before .before .before .before .before .before .before .before .before .before .repeats .ensures .0)) (c .before .before .before .before .before .before .before .read-term2 .ensures .1))
 
-read-pairs-mul-t34 : (t : ℕ) → read-pairs-lts.Need-mul-t34 (read-pairs-calls t) (read-pairs-at t) read-pairs.Post read-pairs-Inv-loop read-pairs-μ-loop
-read-pairs-mul-t34 t c =
+read-pairs-mul-t41 : (t : ℕ) → read-pairs-lts.Need-mul-t41 (read-pairs-calls t) (read-pairs-at t) read-pairs.Post read-pairs-Inv-loop read-pairs-μ-loop
+read-pairs-mul-t41 t c =
     let i = c .before .loop in
     let e : i .more ≡ 0 = omega arith in
     let a = entries-many _ _ _ _ _ _ _ _ _ _ _ _ (i .inv .2) (i .inv .0 .low) e in omega (arith, i .inv .0 .few)
 
-read-pairs-same-length-4 : (t : ℕ) → read-pairs-lts.Need-same-length-4 (read-pairs-calls t) (read-pairs-at t) read-pairs.Post read-pairs-Inv-loop read-pairs-μ-loop
-read-pairs-same-length-4 t c = c .before .loop .inv .1
+read-pairs-same-length-7 : (t : ℕ) → read-pairs-lts.Need-same-length-7 (read-pairs-calls t) (read-pairs-at t) read-pairs.Post read-pairs-Inv-loop read-pairs-μ-loop
+read-pairs-same-length-7 t c = c .before .loop .inv .1
+
+read-pairs-same-length-8 : (t : ℕ) → read-pairs-lts.Need-same-length-8 (read-pairs-calls t) (read-pairs-at t) read-pairs.Post read-pairs-Inv-loop read-pairs-μ-loop
+read-pairs-same-length-8 t c = keeps-length _ _ (c .before .loop .inv .3)
 
 read-pairs-returns-4 : (t : ℕ) → read-pairs-lts.Need-returns-4 (read-pairs-calls t) (read-pairs-at t) read-pairs.Post read-pairs-Inv-loop read-pairs-μ-loop
 read-pairs-returns-4 t c =
     let i = c .before .loop in
     let e : i .more ≡ 0 = omega arith in
-    λ place. entries-end _ _ _ _ _ _ _ _ _ _ _ _ (i .inv .2) place e (i .inv .0 .low) (i .inv .0 .near)
+    (λ place. entries-end _ _ _ _ _ _ _ _ _ _ _ _ (i .inv .2) place e (i .inv .0 .low) (i .inv .0 .near), c .before .loop .inv .3)
 
 read-parts-read-wanted-requires : (t : ℕ) → read-parts-lts.Need-read-wanted-requires (read-parts-calls t) (read-parts-at t) read-parts.Post
-read-parts-read-wanted-requires t c κs = (omega (arith, c .before .before .before .before .before .pre .0), c .before .before .before .before .before .pre .1)
+read-parts-read-wanted-requires t c κs = (omega (arith, c .before .before .before .before .before .before .before .pre .0), (c .before .before .before .before .before .before .before .pre .1 .0, c .before .before .before .before .before .before .before .pre .1 .1))
 
 read-parts-enum-known-number : (t : ℕ) → read-parts-lts.Need-enum-known-number (read-parts-calls t) (read-parts-at t) read-parts.Post
 read-parts-enum-known-number t c = search needs
@@ -453,7 +496,7 @@ read-parts-enum-known-next : (t : ℕ) → read-parts-lts.Need-enum-known-next (
 read-parts-enum-known-next t c = search needs
 
 read-parts-read-run-requires : (t : ℕ) → read-parts-lts.Need-read-run-requires (read-parts-calls t) (read-parts-at t) read-parts.Post
-read-parts-read-run-requires t c κs = (omega (arith, c .before .before .before .before .before .before .before .before .before .before .before .before .pre .0), room-after _ _ _ _ _ _ _ _ _ _ _ _ _ _ _ (c .before .before .before .before .before .before .before .before .before .before .before .before .pre .1) (c .before .before .before .before .before .before .read-wanted .ensures) (c .before .before .next .given .1) (c .before .before .before .before .before .before .read-wanted .kept .1 .1 .1 .1 .0))
+read-parts-read-run-requires t c κs = (omega (arith, c .before .before .before .before .before .before .before .before .before .before .before .before .before .before .before .before .before .pre .0), (room-after _ _ _ _ _ _ _ _ _ _ _ _ _ _ _ (c .before .before .before .before .before .before .before .before .before .before .before .before .before .before .before .before .before .pre .1 .0) (c .before .before .before .before .before .before .before .before .before .read-wanted .ensures .0) (c .before .before .before .next .given .1) (c .before .before .before .before .before .before .before .before .before .read-wanted .kept .1 .1 .1 .1 .0), slots-after _ _ (c .before .before .before .before .before .before .before .before .before .before .before .before .before .before .before .before .before .pre .1 .1) (c .before .before .before .before .before .before .before .before .before .read-wanted .ensures .1)))
 
 read-parts-enum-known-number-2 : (t : ℕ) → read-parts-lts.Need-enum-known-number-2 (read-parts-calls t) (read-parts-at t) read-parts.Post
 read-parts-enum-known-number-2 t c = search needs
@@ -462,7 +505,7 @@ read-parts-enum-known-next-2 : (t : ℕ) → read-parts-lts.Need-enum-known-next
 read-parts-enum-known-next-2 t c = search needs
 
 read-parts-read-later-requires : (t : ℕ) → read-parts-lts.Need-read-later-requires (read-parts-calls t) (read-parts-at t) read-parts.Post
-read-parts-read-later-requires t c κs = run-many _ _ _ _ _ _ _ _ _ _ _ (c .before .before .before .before .before .read-run .ensures) (c .before .next2 .given .1) .1
+read-parts-read-later-requires t c κs = run-many _ _ _ _ _ _ _ _ _ _ _ (c .before .before .before .before .before .before .before .read-run .ensures .0) (c .before .next2 .given .1) .1
 
 read-parts-enum-known-number-3 : (t : ℕ) → read-parts-lts.Need-enum-known-number-3 (read-parts-calls t) (read-parts-at t) read-parts.Post
 read-parts-enum-known-number-3 t c = search needs
@@ -470,115 +513,121 @@ read-parts-enum-known-number-3 t c = search needs
 read-parts-enum-known-next-3 : (t : ℕ) → read-parts-lts.Need-enum-known-next-3 (read-parts-calls t) (read-parts-at t) read-parts.Post
 read-parts-enum-known-next-3 t c = search needs
 
-read-parts-add-t37 : (t : ℕ) → read-parts-lts.Need-add-t37 (read-parts-calls t) (read-parts-at t) read-parts.Post
-read-parts-add-t37 t c = let a = run-many _ _ _ _ _ _ _ _ _ _ _ (c .before .before .before .before .before .before .before .before .before .before .before .before .before .before .before .before .read-wanted .ensures) (c .before .before .before .before .before .before .before .before .before .before .before .before .next .given .1) in let b = run-many _ _ _ _ _ _ _ _ _ _ _ (c .before .before .before .before .before .before .before .before .before .read-run .ensures) (c .before .before .before .before .before .next2 .given .1) in omega arith
+read-parts-add-t42 : (t : ℕ) → read-parts-lts.Need-add-t42 (read-parts-calls t) (read-parts-at t) read-parts.Post
+read-parts-add-t42 t c = let a = run-many _ _ _ _ _ _ _ _ _ _ _ (c .before .before .before .before .before .before .before .before .before .before .before .before .before .before .before .before .before .before .before .before .before .read-wanted .ensures .0) (c .before .before .before .before .before .before .before .before .before .before .before .before .before .before .before .next .given .1) in let b = run-many _ _ _ _ _ _ _ _ _ _ _ (c .before .before .before .before .before .before .before .before .before .before .before .read-run .ensures .0) (c .before .before .before .before .before .next2 .given .1) in omega arith
 
 read-parts-same-length : (t : ℕ) → read-parts-lts.Need-same-length (read-parts-calls t) (read-parts-at t) read-parts.Post
-read-parts-same-length t c = c .before .before .before .before .before .read-wanted .kept .1 .1 .1 .1 .0
-
-read-parts-returns : (t : ℕ) → read-parts-lts.Need-returns (read-parts-calls t) (read-parts-at t) read-parts.Post
-read-parts-returns t c = λ l kind later. parts-first _ _ _ _ _ _ _ _ _ _ l _ _ (c .before .before .before .before .before .read-wanted .ensures) _ _ _ (c .before .number .given .1)
+read-parts-same-length t c = c .before .before .before .before .before .before .before .read-wanted .kept .1 .1 .1 .1 .0
 
 read-parts-same-length-2 : (t : ℕ) → read-parts-lts.Need-same-length-2 (read-parts-calls t) (read-parts-at t) read-parts.Post
-read-parts-same-length-2 t c = c .before .before .before .before .before .read-run .kept .1 .1 .1 .1 .0 ∙ c .before .before .before .before .before .before .before .before .before .before .before .before .read-wanted .kept .1 .1 .1 .1 .0
+read-parts-same-length-2 t c = c .before .before .before .before .before .before .before .read-wanted .kept .1 .1 .1 .1 .1 .0
 
-read-parts-returns-2 : (t : ℕ) → read-parts-lts.Need-returns-2 (read-parts-calls t) (read-parts-at t) read-parts.Post
-read-parts-returns-2 t c = λ l kind later. parts-second _ _ _ _ _ _ _ _ _ _ l _ _ (c .before .before .before .before .before .before .before .before .before .before .before .before .read-wanted .ensures) _ _ (c .before .before .before .before .before .before .before .before .next .given .1) _ _ (c .before .before .before .before .before .read-run .ensures) _ _ _ (c .before .number2 .given .1)
+read-parts-returns : (t : ℕ) → read-parts-lts.Need-returns (read-parts-calls t) (read-parts-at t) read-parts.Post
+read-parts-returns t c = (λ l kind later. parts-first _ _ _ _ _ _ _ _ _ _ l _ _ (c .before .before .before .before .before .before .before .read-wanted .ensures .0) _ _ _ (c .before .number .given .1), c .before .before .before .before .before .before .before .read-wanted .ensures .1)
 
 read-parts-same-length-3 : (t : ℕ) → read-parts-lts.Need-same-length-3 (read-parts-calls t) (read-parts-at t) read-parts.Post
-read-parts-same-length-3 t c = c .before .before .before .before .before .before .before .before .before .read-run .kept .1 .1 .1 .1 .0 ∙ c .before .before .before .before .before .before .before .before .before .before .before .before .before .before .before .before .read-wanted .kept .1 .1 .1 .1 .0
-
-read-parts-returns-3 : (t : ℕ) → read-parts-lts.Need-returns-3 (read-parts-calls t) (read-parts-at t) read-parts.Post
-read-parts-returns-3 t c = λ l kind later. parts-later-refused _ _ _ _ _ _ _ _ _ _ l _ _ (c .before .before .before .before .before .before .before .before .before .before .before .before .before .before .before .before .read-wanted .ensures) _ _ (c .before .before .before .before .before .before .before .before .before .before .before .before .next .given .1) _ _ (c .before .before .before .before .before .before .before .before .before .read-run .ensures) _ _ (c .before .before .before .before .before .next2 .given .1) _ (c .before .before .before .read-later .ensures l later _) _ _ _ (c .before .number3 .given .1)
+read-parts-same-length-3 t c = c .before .before .before .before .before .before .before .read-run .kept .1 .1 .1 .1 .0 ∙ c .before .before .before .before .before .before .before .before .before .before .before .before .before .before .before .before .before .read-wanted .kept .1 .1 .1 .1 .0
 
 read-parts-same-length-4 : (t : ℕ) → read-parts-lts.Need-same-length-4 (read-parts-calls t) (read-parts-at t) read-parts.Post
-read-parts-same-length-4 t c = c .before .before .before .before .before .before .before .before .before .read-run .kept .1 .1 .1 .1 .0 ∙ c .before .before .before .before .before .before .before .before .before .before .before .before .before .before .before .before .read-wanted .kept .1 .1 .1 .1 .0
+read-parts-same-length-4 t c = c .before .before .before .before .before .before .before .read-run .kept .1 .1 .1 .1 .1 .0 ∙ c .before .before .before .before .before .before .before .before .before .before .before .before .before .before .before .before .before .read-wanted .kept .1 .1 .1 .1 .1 .0
+
+read-parts-returns-2 : (t : ℕ) → read-parts-lts.Need-returns-2 (read-parts-calls t) (read-parts-at t) read-parts.Post
+read-parts-returns-2 t c = (λ l kind later. parts-second _ _ _ _ _ _ _ _ _ _ l _ _ (c .before .before .before .before .before .before .before .before .before .before .before .before .before .before .before .before .before .read-wanted .ensures .0) _ _ (c .before .before .before .before .before .before .before .before .before .before .before .next .given .1) _ _ (c .before .before .before .before .before .before .before .read-run .ensures .0) _ _ _ (c .before .number2 .given .1), keeps-trans _ _ _ (c .before .before .before .before .before .before .before .before .before .before .before .before .before .before .before .before .before .read-wanted .ensures .1) (c .before .before .before .before .before .before .before .read-run .ensures .1))
+
+read-parts-same-length-5 : (t : ℕ) → read-parts-lts.Need-same-length-5 (read-parts-calls t) (read-parts-at t) read-parts.Post
+read-parts-same-length-5 t c = c .before .before .before .before .before .before .before .before .before .before .before .read-run .kept .1 .1 .1 .1 .0 ∙ c .before .before .before .before .before .before .before .before .before .before .before .before .before .before .before .before .before .before .before .before .before .read-wanted .kept .1 .1 .1 .1 .0
+
+read-parts-same-length-6 : (t : ℕ) → read-parts-lts.Need-same-length-6 (read-parts-calls t) (read-parts-at t) read-parts.Post
+read-parts-same-length-6 t c = c .before .before .before .before .before .before .before .before .before .before .before .read-run .kept .1 .1 .1 .1 .1 .0 ∙ c .before .before .before .before .before .before .before .before .before .before .before .before .before .before .before .before .before .before .before .before .before .read-wanted .kept .1 .1 .1 .1 .1 .0
+
+read-parts-returns-3 : (t : ℕ) → read-parts-lts.Need-returns-3 (read-parts-calls t) (read-parts-at t) read-parts.Post
+read-parts-returns-3 t c = (λ l kind later. parts-later-refused _ _ _ _ _ _ _ _ _ _ l _ _ (c .before .before .before .before .before .before .before .before .before .before .before .before .before .before .before .before .before .before .before .before .before .read-wanted .ensures .0) _ _ (c .before .before .before .before .before .before .before .before .before .before .before .before .before .before .before .next .given .1) _ _ (c .before .before .before .before .before .before .before .before .before .before .before .read-run .ensures .0) _ _ (c .before .before .before .before .before .next2 .given .1) _ (c .before .before .before .read-later .ensures l later _) _ _ _ (c .before .number3 .given .1), keeps-trans _ _ _ (c .before .before .before .before .before .before .before .before .before .before .before .before .before .before .before .before .before .before .before .before .before .read-wanted .ensures .1) (c .before .before .before .before .before .before .before .before .before .before .before .read-run .ensures .1))
+
+read-parts-same-length-7 : (t : ℕ) → read-parts-lts.Need-same-length-7 (read-parts-calls t) (read-parts-at t) read-parts.Post
+read-parts-same-length-7 t c = c .before .before .before .before .before .before .before .before .before .before .before .read-run .kept .1 .1 .1 .1 .0 ∙ c .before .before .before .before .before .before .before .before .before .before .before .before .before .before .before .before .before .before .before .before .before .read-wanted .kept .1 .1 .1 .1 .0
+
+read-parts-same-length-8 : (t : ℕ) → read-parts-lts.Need-same-length-8 (read-parts-calls t) (read-parts-at t) read-parts.Post
+read-parts-same-length-8 t c = c .before .before .before .before .before .before .before .before .before .before .before .read-run .kept .1 .1 .1 .1 .1 .0 ∙ c .before .before .before .before .before .before .before .before .before .before .before .before .before .before .before .before .before .before .before .before .before .read-wanted .kept .1 .1 .1 .1 .1 .0
 
 read-parts-returns-4 : (t : ℕ) → read-parts-lts.Need-returns-4 (read-parts-calls t) (read-parts-at t) read-parts.Post
-read-parts-returns-4 t c = λ l kind later. parts-got _ _ _ _ _ _ _ _ _ _ l _ _ (c .before .before .before .before .before .before .before .before .before .before .before .before .before .before .before .before .read-wanted .ensures) _ _ (c .before .before .before .before .before .before .before .before .before .before .before .before .next .given .1) _ _ (c .before .before .before .before .before .before .before .before .before .read-run .ensures) _ _ (c .before .before .before .before .before .next2 .given .1) _ (c .before .before .before .read-later .ensures l later _) _ _ kind (c .before .next3 .given .1)
+read-parts-returns-4 t c = (λ l kind later. parts-got _ _ _ _ _ _ _ _ _ _ l _ _ (c .before .before .before .before .before .before .before .before .before .before .before .before .before .before .before .before .before .before .before .before .before .read-wanted .ensures .0) _ _ (c .before .before .before .before .before .before .before .before .before .before .before .before .before .before .before .next .given .1) _ _ (c .before .before .before .before .before .before .before .before .before .before .before .read-run .ensures .0) _ _ (c .before .before .before .before .before .next2 .given .1) _ (c .before .before .before .read-later .ensures l later _) _ _ kind (c .before .next3 .given .1), keeps-trans _ _ _ (c .before .before .before .before .before .before .before .before .before .before .before .before .before .before .before .before .before .before .before .before .before .read-wanted .ensures .1) (c .before .before .before .before .before .before .before .before .before .before .before .read-run .ensures .1))
 
 abbrev read-run-Inv-loop : read-run-lts.InvT-loop
-read-run-Inv-loop msg n places lengths table₀ at row whole deep cap wanted count at-now₀ row-now₀ more₀ table at-now row-now more =
+read-run-Inv-loop msg n places lengths table₀ seen₀ at row whole deep cap wanted count at-now₀ row-now₀ more₀ table seen at-now row-now more =
     Room msg (lent n places lengths) table cap at-now row-now whole
     × (length table ≡ length table₀)
     × ((s : Step) (U : List ℕ)
     → RunDone msg more cap row-now whole table (each (term (atoms-of (lent n places lengths)) cap deep) (replicate more (wanted-of wanted)) (at-offset msg at-now row-now)) s U
     → RunDone msg count cap row whole table₀ (each (term (atoms-of (lent n places lengths)) cap deep) (replicate count (wanted-of wanted)) (at-offset msg at row)) s U)
+    × Keeps seen₀ seen
 
 abbrev read-run-μ-loop : read-run-lts.MeasureT-loop
-read-run-μ-loop msg n places lengths table₀ at row whole deep cap wanted count at-now₀ row-now₀ more₀ table at-now row-now more =
+read-run-μ-loop msg n places lengths table₀ seen₀ at row whole deep cap wanted count at-now₀ row-now₀ more₀ table seen at-now row-now more =
     more
 
-read-run-loop-holds : (t : ℕ) → read-run-lts.Need-loop-holds (read-run-calls t) (read-run-at t) read-run.Post
-    read-run-Inv-loop
-    read-run-μ-loop
-read-run-loop-holds t c = (c .before .before .before .before .pre .1, refl, λ s U d. d)
+read-run-loop-holds : (t : ℕ) → read-run-lts.Need-loop-holds (read-run-calls t) (read-run-at t) read-run.Post read-run-Inv-loop read-run-μ-loop
+read-run-loop-holds t c = (c .before .before .before .before .before .pre .1 .0, refl, (λ s U d. d), keeps-refl _)
 
 read-run-read-term-requires : (t : ℕ) → read-run-lts.Need-read-term-requires (read-run-calls t) (read-run-at t) read-run.Post read-run-Inv-loop read-run-μ-loop
-read-run-read-term-requires t c κs = (omega (arith, c .before .before .before .before .before .before .before .pre .0), c .before .before .loop .inv .0)
+read-run-read-term-requires t c κs = (omega (arith, c .before .before .before .before .before .before .before .before .before .pre .0), (c .before .before .before .loop .inv .0, slots-after _ _ (c .before .before .before .before .before .before .before .before .before .pre .1 .1) (c .before .before .before .loop .inv .3)))
 
 read-run-enum-known-number : (t : ℕ) → read-run-lts.Need-enum-known-number (read-run-calls t) (read-run-at t) read-run.Post read-run-Inv-loop read-run-μ-loop
 read-run-enum-known-number t c = search needs
 
-read-run-same-length : (t : ℕ) → read-run-lts.Need-same-length (read-run-calls t) (read-run-at t) read-run.Post
-    read-run-Inv-loop
-    read-run-μ-loop
-read-run-same-length t c = c .before .before .before .before .before .read-term .kept .1 .1 .1 .1 .0 ∙ c .before .before .before .before .before .before .before .before .loop .inv .1
+read-run-same-length : (t : ℕ) → read-run-lts.Need-same-length (read-run-calls t) (read-run-at t) read-run.Post read-run-Inv-loop read-run-μ-loop
+read-run-same-length t c = c .before .before .before .before .before .before .before .read-term .kept .1 .1 .1 .1 .0 ∙ c .before .before .before .before .before .before .before .before .before .before .before .loop .inv .1
 
-read-run-returns : (t : ℕ) → read-run-lts.Need-returns (read-run-calls t) (read-run-at t) read-run.Post
-    read-run-Inv-loop
-    read-run-μ-loop
+read-run-same-length-2 : (t : ℕ) → read-run-lts.Need-same-length-2 (read-run-calls t) (read-run-at t) read-run.Post read-run-Inv-loop read-run-μ-loop
+read-run-same-length-2 t c = c .before .before .before .before .before .before .before .read-term .kept .1 .1 .1 .1 .1 .0 ∙ keeps-length _ _ (c .before .before .before .before .before .before .before .before .before .before .before .loop .inv .3)
+
+read-run-returns : (t : ℕ) → read-run-lts.Need-returns (read-run-calls t) (read-run-at t) read-run.Post read-run-Inv-loop read-run-μ-loop
 read-run-returns t c =
-    let i = c .before .before .before .before .before .before .before .before .loop in
+    let i = c .before .before .before .before .before .before .before .before .before .before .before .loop in
     let e : i .more ≡ 0 → ⊥ = omega arith in
-    i .inv .2 _ _ (run-refused _ _ _ _ _ _ _ _ _ e _ _ _ _ _ (c .before .number .given .1) (c .before .before .before .before .before .read-term .ensures))
+    (i .inv .2 _ _ (run-refused _ _ _ _ _ _ _ _ _ e _ _ _ _ _ (c .before .number .given .1) (c .before .before .before .before .before .before .before .read-term .ensures .0)), keeps-trans _ _ _ (c .before .before .before .before .before .before .before .before .before .before .before .loop .inv .3) (c .before .before .before .before .before .before .before .read-term .ensures .1))
 
 read-run-enum-known-next : (t : ℕ) → read-run-lts.Need-enum-known-next (read-run-calls t) (read-run-at t) read-run.Post read-run-Inv-loop read-run-μ-loop
 read-run-enum-known-next t c = search needs
 
-read-run-sub-more : (t : ℕ) → read-run-lts.Need-sub-more (read-run-calls t) (read-run-at t) read-run.Post
-    read-run-Inv-loop
-    read-run-μ-loop
+read-run-sub-more : (t : ℕ) → read-run-lts.Need-sub-more (read-run-calls t) (read-run-at t) read-run.Post read-run-Inv-loop read-run-μ-loop
 read-run-sub-more t c = omega arith
 
-read-run-loop-less : (t : ℕ) → read-run-lts.Need-loop-less (read-run-calls t) (read-run-at t) read-run.Post
-    read-run-Inv-loop
-    read-run-μ-loop
+read-run-loop-less : (t : ℕ) → read-run-lts.Need-loop-less (read-run-calls t) (read-run-at t) read-run.Post read-run-Inv-loop read-run-μ-loop
 read-run-loop-less t c = omega arith
 
-read-run-loop-again : (t : ℕ) → read-run-lts.Need-loop-again (read-run-calls t) (read-run-at t) read-run.Post
-    read-run-Inv-loop
-    read-run-μ-loop
+read-run-loop-again : (t : ℕ) → read-run-lts.Need-loop-again (read-run-calls t) (read-run-at t) read-run.Post read-run-Inv-loop read-run-μ-loop
 read-run-loop-again t c =
-    let i = c .before .before .before .before .before .before .before .before .loop in
+    let i = c .before .before .before .before .before .before .before .before .before .before .before .loop in
     let e : i .more ≡ 0 → ⊥ = omega arith in
-    (room-after _ _ _ _ _ _ _ _ _ _ _ _ _ _ _ (i .inv .0) (c .before .before .before .before .before .read-term .ensures) (c .before .next .given .1) (c .before .before .before .before .before .read-term .kept .1 .1 .1 .1 .0), c .before .before .before .before .before .read-term .kept .1 .1 .1 .1 .0 ∙ i .inv .1, λ s U d. i .inv .2 s U (run-more _ _ _ _ _ _ _ _ _ e _ _ _ _ s U (c .before .next .given .1) (c .before .before .before .before .before .read-term .ensures) d))
+    (room-after _ _ _ _ _ _ _ _ _ _ _ _ _ _ _ (i .inv .0) (c .before .before .before .before .before .before .before .read-term .ensures .0) (c .before .next .given .1) (c .before .before .before .before .before .before .before .read-term .kept .1 .1 .1 .1 .0), c .before .before .before .before .before .before .before .read-term .kept .1 .1 .1 .1 .0 ∙ i .inv .1, (λ s U d. i .inv .2 s U (run-more _ _ _ _ _ _ _ _ _ e _ _ _ _ s U (c .before .next .given .1) (c .before .before .before .before .before .before .before .read-term .ensures .0) d)), keeps-trans _ _ _ (c .before .before .before .before .before .before .before .before .before .before .before .loop .inv .3) (c .before .before .before .before .before .before .before .read-term .ensures .1))
 
-read-run-same-length-2 : (t : ℕ) → read-run-lts.Need-same-length-2 (read-run-calls t) (read-run-at t) read-run.Post read-run-Inv-loop read-run-μ-loop
-read-run-same-length-2 t c = c .before .loop .inv .1
+read-run-same-length-3 : (t : ℕ) → read-run-lts.Need-same-length-3 (read-run-calls t) (read-run-at t) read-run.Post read-run-Inv-loop read-run-μ-loop
+read-run-same-length-3 t c = c .before .loop .inv .1
 
-read-run-returns-2 : (t : ℕ) → read-run-lts.Need-returns-2 (read-run-calls t) (read-run-at t) read-run.Post
-    read-run-Inv-loop
-    read-run-μ-loop
+read-run-same-length-4 : (t : ℕ) → read-run-lts.Need-same-length-4 (read-run-calls t) (read-run-at t) read-run.Post read-run-Inv-loop read-run-μ-loop
+read-run-same-length-4 t c = keeps-length _ _ (c .before .loop .inv .3)
+
+read-run-returns-2 : (t : ℕ) → read-run-lts.Need-returns-2 (read-run-calls t) (read-run-at t) read-run.Post read-run-Inv-loop read-run-μ-loop
 read-run-returns-2 t c =
     let i = c .before .loop in
     let e : i .more ≡ 0 = omega arith in
-    i .inv .2 _ _ (run-none _ _ _ _ _ _ _ _ _ e (i .inv .0 .low) (i .inv .0 .near))
+    (i .inv .2 _ _ (run-none _ _ _ _ _ _ _ _ _ e (i .inv .0 .low) (i .inv .0 .near)), c .before .loop .inv .3)
 
 abbrev read-tail-Inv-loop : read-tail-lts.InvT-loop
-read-tail-Inv-loop msg n places lengths table₀ at row whole deep cap before at-now₀ row-now₀ sum₀ table at-now row-now sum =
+read-tail-Inv-loop msg n places lengths table₀ seen₀ at row whole deep cap before at-now₀ row-now₀ sum₀ table seen at-now row-now sum =
     Room msg (lent n places lengths) table cap at-now row-now whole
     × (length table ≡ length table₀)
     × (sum ≤ row-now)
     × Tailed (atoms-of (lent n places lengths)) cap deep msg at-now row-now whole table sum
     (PartsDone msg before cap row whole table₀ (tail (atoms-of (lent n places lengths)) cap deep (body (atoms-of (lent n places lengths)) cap deep) (drop at msg) (at-offset msg at row)))
+    × Keeps seen₀ seen
 
 abbrev read-tail-μ-loop : read-tail-lts.MeasureT-loop
-read-tail-μ-loop msg n places lengths table₀ at row whole deep cap before at-now₀ row-now₀ sum₀ table at-now row-now sum =
+read-tail-μ-loop msg n places lengths table₀ seen₀ at row whole deep cap before at-now₀ row-now₀ sum₀ table seen at-now row-now sum =
     length msg - at-now
 
 read-tail-loop-holds : (t : ℕ) → read-tail-lts.Need-loop-holds (read-tail-calls t) (read-tail-at t) read-tail.Post read-tail-Inv-loop read-tail-μ-loop
-read-tail-loop-holds t c = (c .before .before .before .before .pre .1 .0, refl, c .before .before .before .before .pre .1 .1, tailed-none _ _ _ _ _ _ _ _ _)
+read-tail-loop-holds t c = (c .before .before .before .before .before .pre .1 .0 .0, refl, c .before .before .before .before .before .pre .1 .0 .1, tailed-none _ _ _ _ _ _ _ _ _, keeps-refl _)
 
 read-tail-read-opening-requires : (t : ℕ) → read-tail-lts.Need-read-opening-requires (read-tail-calls t) (read-tail-at t) read-tail.Post read-tail-Inv-loop read-tail-μ-loop
 read-tail-read-opening-requires t c κs = (c .loop .inv .0 .near, c .loop .inv .0 .short, c .loop .inv .0 .sized)
@@ -587,74 +636,86 @@ read-tail-enum-known-head : (t : ℕ) → read-tail-lts.Need-enum-known-head (re
 read-tail-enum-known-head t c = search needs
 
 read-tail-read-run-requires : (t : ℕ) → read-tail-lts.Need-read-run-requires (read-tail-calls t) (read-tail-at t) read-tail.Post read-tail-Inv-loop read-tail-μ-loop
-read-tail-read-run-requires t c κs = (omega (arith, c .before .before .before .before .before .before .before .before .before .before .pre .0), room-at _ _ _ _ _ _ _ _ (c .before .before .before .before .before .loop .inv .0) (opens-near _ _ _ _ (opens _ _ _ _ _ (opened _ _ _ (c .before .before .before .before .before .loop .row-now) _ _ (c .before .before .before .before .read-opening .ensures) (λ k p e. miss (3 ∷ []) 0 tt (rw e at (c .before .before .before .match .keys1))) (c .before .before .before .before .before .loop .inv .0 .near))) (c .before .before .head .given .1)))
+read-tail-read-run-requires t c κs = (omega (arith, c .before .before .before .before .before .before .before .before .before .before .before .before .pre .0), (room-at _ _ _ _ _ _ _ _ (c .before .before .before .before .before .before .loop .inv .0) (opens-near _ _ _ _ (opens _ _ _ _ _ (opened _ _ _ (c .before .before .before .before .before .before .loop .row-now) _ _ (c .before .before .before .before .before .read-opening .ensures) (λ k p e. miss (3 ∷ []) 0 tt (rw e at (c .before .before .before .before .match .keys1))) (c .before .before .before .before .before .before .loop .inv .0 .near))) (c .before .before .before .head .given .1)), slots-after _ _ (c .before .before .before .before .before .before .before .before .before .before .before .before .pre .1 .1) (c .before .before .before .before .before .before .loop .inv .4)))
 
 read-tail-enum-known-number : (t : ℕ) → read-tail-lts.Need-enum-known-number (read-tail-calls t) (read-tail-at t) read-tail.Post read-tail-Inv-loop read-tail-μ-loop
 read-tail-enum-known-number t c = search needs
 
 read-tail-same-length : (t : ℕ) → read-tail-lts.Need-same-length (read-tail-calls t) (read-tail-at t) read-tail.Post read-tail-Inv-loop read-tail-μ-loop
-read-tail-same-length t c = c .before .before .before .before .before .read-run .kept .1 .1 .1 .1 .0 ∙ c .before .before .before .before .before .before .before .before .before .before .before .loop .inv .1
+read-tail-same-length t c = c .before .before .before .before .before .before .before .read-run .kept .1 .1 .1 .1 .0 ∙ c .before .before .before .before .before .before .before .before .before .before .before .before .before .before .loop .inv .1
+
+read-tail-same-length-2 : (t : ℕ) → read-tail-lts.Need-same-length-2 (read-tail-calls t) (read-tail-at t) read-tail.Post read-tail-Inv-loop read-tail-μ-loop
+read-tail-same-length-2 t c = c .before .before .before .before .before .before .before .read-run .kept .1 .1 .1 .1 .1 .0 ∙ keeps-length _ _ (c .before .before .before .before .before .before .before .before .before .before .before .before .before .before .loop .inv .4)
 
 read-tail-returns : (t : ℕ) → read-tail-lts.Need-returns (read-tail-calls t) (read-tail-at t) read-tail.Post read-tail-Inv-loop read-tail-μ-loop
-read-tail-returns t c = tailed-run-refused _ _ _ _ _ _ _ _ _ _ (c .before .before .before .before .before .before .before .before .before .before .before .loop .inv .3) (opened _ _ _ (c .before .before .before .before .before .before .before .before .before .before .before .loop .row-now) _ _ (c .before .before .before .before .before .before .before .before .before .before .read-opening .ensures) (λ k p e. miss (3 ∷ []) 0 tt (rw e at (c .before .before .before .before .before .before .before .before .before .match .keys1))) (c .before .before .before .before .before .before .before .before .before .before .before .loop .inv .0 .near)) _ _ (c .before .before .before .before .before .before .before .before .head .given .1) _ _ (c .before .before .before .before .before .read-run .ensures) _ _ _ (c .before .number .given .1)
+read-tail-returns t c = (tailed-run-refused _ _ _ _ _ _ _ _ _ _ (c .before .before .before .before .before .before .before .before .before .before .before .before .before .before .loop .inv .3) (opened _ _ _ (c .before .before .before .before .before .before .before .before .before .before .before .before .before .before .loop .row-now) _ _ (c .before .before .before .before .before .before .before .before .before .before .before .before .before .read-opening .ensures) (λ k p e. miss (3 ∷ []) 0 tt (rw e at (c .before .before .before .before .before .before .before .before .before .before .before .before .match .keys1))) (c .before .before .before .before .before .before .before .before .before .before .before .before .before .before .loop .inv .0 .near)) _ _ (c .before .before .before .before .before .before .before .before .before .before .before .head .given .1) _ _ (c .before .before .before .before .before .before .before .read-run .ensures .0) _ _ _ (c .before .number .given .1), keeps-trans _ _ _ (c .before .before .before .before .before .before .before .before .before .before .before .before .before .before .loop .inv .4) (c .before .before .before .before .before .before .before .read-run .ensures .1))
 
 read-tail-enum-known-next : (t : ℕ) → read-tail-lts.Need-enum-known-next (read-tail-calls t) (read-tail-at t) read-tail.Post read-tail-Inv-loop read-tail-μ-loop
 read-tail-enum-known-next t c = search needs
 
 read-tail-add-sum : (t : ℕ) → read-tail-lts.Need-add-sum (read-tail-calls t) (read-tail-at t) read-tail.Post read-tail-Inv-loop read-tail-μ-loop
-read-tail-add-sum t c = let a = run-many _ _ _ _ _ _ _ _ _ _ _ (c .before .before .before .before .before .read-run .ensures) (c .before .next .given .1) in let b = room-after _ _ _ _ _ _ _ _ _ _ _ _ _ _ _ (room-at _ _ _ _ _ _ _ _ (c .before .before .before .before .before .before .before .before .before .before .before .loop .inv .0) (opens-near _ _ _ _ (opens _ _ _ _ _ (opened _ _ _ (c .before .before .before .before .before .before .before .before .before .before .before .loop .row-now) _ _ (c .before .before .before .before .before .before .before .before .before .before .read-opening .ensures) (λ k p e. miss (3 ∷ []) 0 tt (rw e at (c .before .before .before .before .before .before .before .before .before .match .keys1))) (c .before .before .before .before .before .before .before .before .before .before .before .loop .inv .0 .near))) (c .before .before .before .before .before .before .before .before .head .given .1))) (c .before .before .before .before .before .read-run .ensures) (c .before .next .given .1) (c .before .before .before .before .before .read-run .kept .1 .1 .1 .1 .0) in omega arith
+read-tail-add-sum t c = let a = run-many _ _ _ _ _ _ _ _ _ _ _ (c .before .before .before .before .before .before .before .read-run .ensures .0) (c .before .next .given .1) in let b = room-after _ _ _ _ _ _ _ _ _ _ _ _ _ _ _ (room-at _ _ _ _ _ _ _ _ (c .before .before .before .before .before .before .before .before .before .before .before .before .before .before .loop .inv .0) (opens-near _ _ _ _ (opens _ _ _ _ _ (opened _ _ _ (c .before .before .before .before .before .before .before .before .before .before .before .before .before .before .loop .row-now) _ _ (c .before .before .before .before .before .before .before .before .before .before .before .before .before .read-opening .ensures) (λ k p e. miss (3 ∷ []) 0 tt (rw e at (c .before .before .before .before .before .before .before .before .before .before .before .before .match .keys1))) (c .before .before .before .before .before .before .before .before .before .before .before .before .before .before .loop .inv .0 .near))) (c .before .before .before .before .before .before .before .before .before .before .before .head .given .1))) (c .before .before .before .before .before .before .before .read-run .ensures .0) (c .before .next .given .1) (c .before .before .before .before .before .before .before .read-run .kept .1 .1 .1 .1 .0) in omega arith
 
 read-tail-loop-less : (t : ℕ) → read-tail-lts.Need-loop-less (read-tail-calls t) (read-tail-at t) read-tail.Post read-tail-Inv-loop read-tail-μ-loop
-read-tail-loop-less t c = let a = tailed-further _ _ _ _ _ _ _ _ _ _ (c .before .before .before .before .before .before .before .before .before .before .before .loop .inv .3) (opened _ _ _ (c .before .before .before .before .before .before .before .before .before .before .before .loop .row-now) _ _ (c .before .before .before .before .before .before .before .before .before .before .read-opening .ensures) (λ k p e. miss (3 ∷ []) 0 tt (rw e at (c .before .before .before .before .before .before .before .before .before .match .keys1))) (c .before .before .before .before .before .before .before .before .before .before .before .loop .inv .0 .near)) _ _ (c .before .before .before .before .before .before .before .before .head .given .1) _ _ (c .before .before .before .before .before .read-run .ensures) _ _ (c .before .next .given .1) in omega (arith, run-many _ _ _ _ _ _ _ _ _ _ _ (c .before .before .before .before .before .read-run .ensures) (c .before .next .given .1) .1)
+read-tail-loop-less t c = let a = tailed-further _ _ _ _ _ _ _ _ _ _ (c .before .before .before .before .before .before .before .before .before .before .before .before .before .before .loop .inv .3) (opened _ _ _ (c .before .before .before .before .before .before .before .before .before .before .before .before .before .before .loop .row-now) _ _ (c .before .before .before .before .before .before .before .before .before .before .before .before .before .read-opening .ensures) (λ k p e. miss (3 ∷ []) 0 tt (rw e at (c .before .before .before .before .before .before .before .before .before .before .before .before .match .keys1))) (c .before .before .before .before .before .before .before .before .before .before .before .before .before .before .loop .inv .0 .near)) _ _ (c .before .before .before .before .before .before .before .before .before .before .before .head .given .1) _ _ (c .before .before .before .before .before .before .before .read-run .ensures .0) _ _ (c .before .next .given .1) in omega (arith, run-many _ _ _ _ _ _ _ _ _ _ _ (c .before .before .before .before .before .before .before .read-run .ensures .0) (c .before .next .given .1) .1)
 
 read-tail-loop-again : (t : ℕ) → read-tail-lts.Need-loop-again (read-tail-calls t) (read-tail-at t) read-tail.Post read-tail-Inv-loop read-tail-μ-loop
-read-tail-loop-again t c = (room-after _ _ _ _ _ _ _ _ _ _ _ _ _ _ _ (room-at _ _ _ _ _ _ _ _ (c .before .before .before .before .before .before .before .before .before .before .before .loop .inv .0) (opens-near _ _ _ _ (opens _ _ _ _ _ (opened _ _ _ (c .before .before .before .before .before .before .before .before .before .before .before .loop .row-now) _ _ (c .before .before .before .before .before .before .before .before .before .before .read-opening .ensures) (λ k p e. miss (3 ∷ []) 0 tt (rw e at (c .before .before .before .before .before .before .before .before .before .match .keys1))) (c .before .before .before .before .before .before .before .before .before .before .before .loop .inv .0 .near))) (c .before .before .before .before .before .before .before .before .head .given .1))) (c .before .before .before .before .before .read-run .ensures) (c .before .next .given .1) (c .before .before .before .before .before .read-run .kept .1 .1 .1 .1 .0), c .before .before .before .before .before .read-run .kept .1 .1 .1 .1 .0 ∙ c .before .before .before .before .before .before .before .before .before .before .before .loop .inv .1, omega (arith, run-many _ _ _ _ _ _ _ _ _ _ _ (c .before .before .before .before .before .read-run .ensures) (c .before .next .given .1) .0), tailed-more _ _ _ _ _ _ _ _ _ _ (c .before .before .before .before .before .before .before .before .before .before .before .loop .inv .3) (opened _ _ _ (c .before .before .before .before .before .before .before .before .before .before .before .loop .row-now) _ _ (c .before .before .before .before .before .before .before .before .before .before .read-opening .ensures) (λ k p e. miss (3 ∷ []) 0 tt (rw e at (c .before .before .before .before .before .before .before .before .before .match .keys1))) (c .before .before .before .before .before .before .before .before .before .before .before .loop .inv .0 .near)) _ _ (c .before .before .before .before .before .before .before .before .head .given .1) _ _ (c .before .before .before .before .before .read-run .ensures) _ _ (c .before .next .given .1))
+read-tail-loop-again t c = (room-after _ _ _ _ _ _ _ _ _ _ _ _ _ _ _ (room-at _ _ _ _ _ _ _ _ (c .before .before .before .before .before .before .before .before .before .before .before .before .before .before .loop .inv .0) (opens-near _ _ _ _ (opens _ _ _ _ _ (opened _ _ _ (c .before .before .before .before .before .before .before .before .before .before .before .before .before .before .loop .row-now) _ _ (c .before .before .before .before .before .before .before .before .before .before .before .before .before .read-opening .ensures) (λ k p e. miss (3 ∷ []) 0 tt (rw e at (c .before .before .before .before .before .before .before .before .before .before .before .before .match .keys1))) (c .before .before .before .before .before .before .before .before .before .before .before .before .before .before .loop .inv .0 .near))) (c .before .before .before .before .before .before .before .before .before .before .before .head .given .1))) (c .before .before .before .before .before .before .before .read-run .ensures .0) (c .before .next .given .1) (c .before .before .before .before .before .before .before .read-run .kept .1 .1 .1 .1 .0), c .before .before .before .before .before .before .before .read-run .kept .1 .1 .1 .1 .0 ∙ c .before .before .before .before .before .before .before .before .before .before .before .before .before .before .loop .inv .1, omega (arith, run-many _ _ _ _ _ _ _ _ _ _ _ (c .before .before .before .before .before .before .before .read-run .ensures .0) (c .before .next .given .1) .0), tailed-more _ _ _ _ _ _ _ _ _ _ (c .before .before .before .before .before .before .before .before .before .before .before .before .before .before .loop .inv .3) (opened _ _ _ (c .before .before .before .before .before .before .before .before .before .before .before .before .before .before .loop .row-now) _ _ (c .before .before .before .before .before .before .before .before .before .before .before .before .before .read-opening .ensures) (λ k p e. miss (3 ∷ []) 0 tt (rw e at (c .before .before .before .before .before .before .before .before .before .before .before .before .match .keys1))) (c .before .before .before .before .before .before .before .before .before .before .before .before .before .before .loop .inv .0 .near)) _ _ (c .before .before .before .before .before .before .before .before .before .before .before .head .given .1) _ _ (c .before .before .before .before .before .before .before .read-run .ensures .0) _ _ (c .before .next .given .1), keeps-trans _ _ _ (c .before .before .before .before .before .before .before .before .before .before .before .before .before .before .loop .inv .4) (c .before .before .before .before .before .before .before .read-run .ensures .1))
 
 read-tail-enum-known-head-2 : (t : ℕ) → read-tail-lts.Need-enum-known-head-2 (read-tail-calls t) (read-tail-at t) read-tail.Post read-tail-Inv-loop read-tail-μ-loop
 read-tail-enum-known-head-2 t c = search needs
 
-read-tail-same-length-2 : (t : ℕ) → read-tail-lts.Need-same-length-2 (read-tail-calls t) (read-tail-at t) read-tail.Post read-tail-Inv-loop read-tail-μ-loop
-read-tail-same-length-2 t c = c .before .before .before .before .loop .inv .1
+read-tail-same-length-3 : (t : ℕ) → read-tail-lts.Need-same-length-3 (read-tail-calls t) (read-tail-at t) read-tail.Post read-tail-Inv-loop read-tail-μ-loop
+read-tail-same-length-3 t c = c .before .before .before .before .loop .inv .1
+
+read-tail-same-length-4 : (t : ℕ) → read-tail-lts.Need-same-length-4 (read-tail-calls t) (read-tail-at t) read-tail.Post read-tail-Inv-loop read-tail-μ-loop
+read-tail-same-length-4 t c = keeps-length _ _ (c .before .before .before .before .loop .inv .4)
 
 read-tail-returns-2 : (t : ℕ) → read-tail-lts.Need-returns-2 (read-tail-calls t) (read-tail-at t) read-tail.Post read-tail-Inv-loop read-tail-μ-loop
-read-tail-returns-2 t c = tailed-refused _ _ _ _ _ _ _ _ _ _ (c .before .before .before .before .loop .inv .3) _ _ _ _ (c .before .before .before .read-opening .ensures) (c .before .head2 .given .1)
+read-tail-returns-2 t c = (tailed-refused _ _ _ _ _ _ _ _ _ _ (c .before .before .before .before .loop .inv .3) _ _ _ _ (c .before .before .before .read-opening .ensures) (c .before .head2 .given .1), c .before .before .before .before .loop .inv .4)
 
 read-tail-read-last-requires : (t : ℕ) → read-tail-lts.Need-read-last-requires (read-tail-calls t) (read-tail-at t) read-tail.Post read-tail-Inv-loop read-tail-μ-loop
 read-tail-read-last-requires t c κs =
-    let o = (opened _ _ _ (c .before .before .before .loop .row-now) _ _ (c .before .before .read-opening .ensures) (λ k p e. miss (1 ∷ 2 ∷ 4 ∷ []) 0 tt (rw e at (c .before .match .keys3))) (c .before .before .before .loop .inv .0 .near)) in
-    (omega (arith, c .before .before .before .before .before .before .before .before .pre .0), (room-at _ _ _ _ _ _ _ _ (c .before .before .before .loop .inv .0) (omega (arith, o .sound .before, o .sound .end)), opens _ _ _ _ _ o, c .before .before .before .loop .inv .2))
+    let o = (opened _ _ _ (c .before .before .before .before .loop .row-now) _ _ (c .before .before .before .read-opening .ensures) (λ k p e. miss (1 ∷ 2 ∷ 4 ∷ []) 0 tt (rw e at (c .before .before .match .keys3))) (c .before .before .before .before .loop .inv .0 .near)) in
+    (omega (arith, c .before .before .before .before .before .before .before .before .before .before .pre .0), ((room-at _ _ _ _ _ _ _ _ (c .before .before .before .before .loop .inv .0) (omega (arith, o .sound .before, o .sound .end)), opens _ _ _ _ _ o, c .before .before .before .before .loop .inv .2), slots-after _ _ (c .before .before .before .before .before .before .before .before .before .before .pre .1 .1) (c .before .before .before .before .loop .inv .4)))
 
-read-tail-same-length-3 : (t : ℕ) → read-tail-lts.Need-same-length-3 (read-tail-calls t) (read-tail-at t) read-tail.Post read-tail-Inv-loop read-tail-μ-loop
-read-tail-same-length-3 t c = c .before .before .read-last .kept .1 .1 .1 .1 .0 ∙ c .before .before .before .before .before .before .loop .inv .1
+read-tail-same-length-5 : (t : ℕ) → read-tail-lts.Need-same-length-5 (read-tail-calls t) (read-tail-at t) read-tail.Post read-tail-Inv-loop read-tail-μ-loop
+read-tail-same-length-5 t c = c .before .before .before .before .read-last .kept .1 .1 .1 .1 .0 ∙ c .before .before .before .before .before .before .before .before .before .loop .inv .1
+
+read-tail-same-length-6 : (t : ℕ) → read-tail-lts.Need-same-length-6 (read-tail-calls t) (read-tail-at t) read-tail.Post read-tail-Inv-loop read-tail-μ-loop
+read-tail-same-length-6 t c = c .before .before .before .before .read-last .kept .1 .1 .1 .1 .1 .0 ∙ keeps-length _ _ (c .before .before .before .before .before .before .before .before .before .loop .inv .4)
 
 read-tail-returns-3 : (t : ℕ) → read-tail-lts.Need-returns-3 (read-tail-calls t) (read-tail-at t) read-tail.Post read-tail-Inv-loop read-tail-μ-loop
-read-tail-returns-3 t c = tailed-last _ _ _ _ _ _ _ _ _ _ (c .before .before .before .before .before .before .loop .inv .3) (opened _ _ _ (c .before .before .before .before .before .before .loop .row-now) _ _ (c .before .before .before .before .before .read-opening .ensures) (λ k p e. miss (1 ∷ 2 ∷ 4 ∷ []) 0 tt (rw e at (c .before .before .before .before .match .keys3))) (c .before .before .before .before .before .before .loop .inv .0 .near)) _ _ (λ k p e. miss (1 ∷ 2 ∷ 4 ∷ []) 3 tt (rw e at (c .before .before .before .before .match .keys3))) (c .before .before .read-last .ensures)
+read-tail-returns-3 t c = (tailed-last _ _ _ _ _ _ _ _ _ _ (c .before .before .before .before .before .before .before .before .before .loop .inv .3) (opened _ _ _ (c .before .before .before .before .before .before .before .before .before .loop .row-now) _ _ (c .before .before .before .before .before .before .before .before .read-opening .ensures) (λ k p e. miss (1 ∷ 2 ∷ 4 ∷ []) 0 tt (rw e at (c .before .before .before .before .before .before .before .match .keys3))) (c .before .before .before .before .before .before .before .before .before .loop .inv .0 .near)) _ _ (λ k p e. miss (1 ∷ 2 ∷ 4 ∷ []) 3 tt (rw e at (c .before .before .before .before .before .before .before .match .keys3))) (c .before .before .before .before .read-last .ensures .0), keeps-trans _ _ _ (c .before .before .before .before .before .before .before .before .before .loop .inv .4) (c .before .before .before .before .read-last .ensures .1))
 
 read-term-read-opening-requires : (t : ℕ) → read-term-lts.Need-read-opening-requires (read-term-calls t) (read-term-at t) read-term.Post
-read-term-read-opening-requires t c κs = (c .before .before .before .before .pre .1 .near, c .before .before .before .before .pre .1 .short, c .before .before .before .before .pre .1 .sized)
+read-term-read-opening-requires t c κs = (c .before .before .before .before .before .pre .1 .0 .near, c .before .before .before .before .before .pre .1 .0 .short, c .before .before .before .before .before .pre .1 .0 .sized)
 
 read-term-enum-known-head : (t : ℕ) → read-term-lts.Need-enum-known-head (read-term-calls t) (read-term-at t) read-term.Post
 read-term-enum-known-head t c = search needs
 
 read-term-read-body-requires : (t : ℕ) → read-term-lts.Need-read-body-requires (read-term-calls t) (read-term-at t) read-term.Post
 read-term-read-body-requires t c κs =
-    let o = (opened _ _ _ (c .before .before .before .before .before .before .before .args .row) _ _ (c .before .before .read-opening .ensures) (λ k p e. miss (1 ∷ 2 ∷ 3 ∷ 4 ∷ []) 0 tt (rw e at (c .before .match .keys2))) (c .before .before .before .before .before .before .before .pre .1 .near)) in
-    (omega (arith, c .before .before .before .before .before .before .before .pre .0), (room-at _ _ _ _ _ _ _ _ (c .before .before .before .before .before .before .before .pre .1) (omega (arith, o .sound .before, o .sound .end)), opens _ _ _ _ _ o))
+    let o = (opened _ _ _ (c .before .before .before .before .before .before .before .before .before .args .row) _ _ (c .before .before .before .read-opening .ensures) (λ k p e. miss (1 ∷ 2 ∷ 3 ∷ 4 ∷ []) 0 tt (rw e at (c .before .before .match .keys2))) (c .before .before .before .before .before .before .before .before .before .pre .1 .0 .near)) in
+    (omega (arith, c .before .before .before .before .before .before .before .before .before .pre .0), ((room-at _ _ _ _ _ _ _ _ (c .before .before .before .before .before .before .before .before .before .pre .1 .0) (omega (arith, o .sound .before, o .sound .end)), opens _ _ _ _ _ o), c .before .before .before .before .before .before .before .before .before .pre .1 .1))
 
 read-term-returns : (t : ℕ) → read-term-lts.Need-returns (read-term-calls t) (read-term-at t) read-term.Post
-read-term-returns t c = term-refused _ _ _ _ _ _ _ _ _ _ _ _ _ (c .before .before .before .read-opening .ensures) (c .before .head .given .1)
+read-term-returns t c = (term-refused _ _ _ _ _ _ _ _ _ _ _ _ _ (c .before .before .before .read-opening .ensures) (c .before .head .given .1), keeps-refl _)
 
 read-term-same-length : (t : ℕ) → read-term-lts.Need-same-length (read-term-calls t) (read-term-at t) read-term.Post
-read-term-same-length t c = c .before .before .read-body .kept .1 .1 .1 .1 .0
+read-term-same-length t c = c .before .before .before .before .read-body .kept .1 .1 .1 .1 .0
+
+read-term-same-length-2 : (t : ℕ) → read-term-lts.Need-same-length-2 (read-term-calls t) (read-term-at t) read-term.Post
+read-term-same-length-2 t c = c .before .before .before .before .read-body .kept .1 .1 .1 .1 .1 .0
 
 read-term-returns-2 : (t : ℕ) → read-term-lts.Need-returns-2 (read-term-calls t) (read-term-at t) read-term.Post
-read-term-returns-2 t c = term-opened _ _ _ _ _ _ _ _ _ _ (opened _ _ _ (c .before .before .before .before .before .before .before .before .before .before .args .row) _ _ (c .before .before .before .before .before .read-opening .ensures) (λ k p e. miss (1 ∷ 2 ∷ 3 ∷ 4 ∷ []) 0 tt (rw e at (c .before .before .before .before .match .keys2))) (c .before .before .before .before .before .before .before .before .before .before .pre .1 .near)) _ (c .before .before .read-body .ensures)
+read-term-returns-2 t c = (term-opened _ _ _ _ _ _ _ _ _ _ (opened _ _ _ (c .before .before .before .before .before .before .before .before .before .before .before .before .before .before .args .row) _ _ (c .before .before .before .before .before .before .before .before .read-opening .ensures) (λ k p e. miss (1 ∷ 2 ∷ 3 ∷ 4 ∷ []) 0 tt (rw e at (c .before .before .before .before .before .before .before .match .keys2))) (c .before .before .before .before .before .before .before .before .before .before .before .before .before .before .pre .1 .0 .near)) _ (c .before .before .before .before .read-body .ensures .0), c .before .before .before .before .read-body .ensures .1)
 
 read-wanted-at-most-requires : (t : ℕ) → read-wanted-lts.Need-at-most-requires (read-wanted-calls t) (read-wanted-at t) read-wanted.Post
 read-wanted-at-most-requires t c κs = search needs
 
 read-wanted-read-run-requires : (t : ℕ) → read-wanted-lts.Need-read-run-requires (read-wanted-calls t) (read-wanted-at t) read-wanted.Post
-read-wanted-read-run-requires t c κs = (omega (arith, c .before .before .before .before .before .before .pre .0), c .before .before .before .before .before .before .pre .1)
+read-wanted-read-run-requires t c κs = (omega (arith, c .before .before .before .before .before .before .before .before .pre .0), (c .before .before .before .before .before .before .before .before .pre .1 .0, c .before .before .before .before .before .before .before .before .pre .1 .1))
 
 read-wanted-enum-known-number : (t : ℕ) → read-wanted-lts.Need-enum-known-number (read-wanted-calls t) (read-wanted-at t) read-wanted.Post
 read-wanted-enum-known-number t c = search needs
@@ -663,22 +724,28 @@ read-wanted-enum-known-next : (t : ℕ) → read-wanted-lts.Need-enum-known-next
 read-wanted-enum-known-next t c = search needs
 
 read-wanted-sub-read-run : (t : ℕ) → read-wanted-lts.Need-sub-read-run (read-wanted-calls t) (read-wanted-at t) read-wanted.Post
-read-wanted-sub-read-run t c = omega (arith, c .before .before .before .before .before .before .before .before .at-most .ensures)
+read-wanted-sub-read-run t c = omega (arith, c .before .before .before .before .before .before .before .before .before .before .before .before .at-most .ensures)
 
 read-wanted-read-run-requires-2 : (t : ℕ) → read-wanted-lts.Need-read-run-requires-2 (read-wanted-calls t) (read-wanted-at t) read-wanted.Post
-read-wanted-read-run-requires-2 t c κs = (omega (arith, c .before .before .before .before .before .before .before .before .before .before .before .before .before .pre .0), room-after _ _ _ _ _ _ _ _ _ _ _ _ _ _ _ (c .before .before .before .before .before .before .before .before .before .before .before .before .before .pre .1) (c .before .before .before .before .before .before .read-run .ensures) (c .before .before .next .given .1) (c .before .before .before .before .before .before .read-run .kept .1 .1 .1 .1 .0))
+read-wanted-read-run-requires-2 t c κs = (omega (arith, c .before .before .before .before .before .before .before .before .before .before .before .before .before .before .before .before .before .before .pre .0), (room-after _ _ _ _ _ _ _ _ _ _ _ _ _ _ _ (c .before .before .before .before .before .before .before .before .before .before .before .before .before .before .before .before .before .before .pre .1 .0) (c .before .before .before .before .before .before .before .before .before .read-run .ensures .0) (c .before .before .before .next .given .1) (c .before .before .before .before .before .before .before .before .before .read-run .kept .1 .1 .1 .1 .0), slots-after _ _ (c .before .before .before .before .before .before .before .before .before .before .before .before .before .before .before .before .before .before .pre .1 .1) (c .before .before .before .before .before .before .before .before .before .read-run .ensures .1)))
 
 read-wanted-same-length : (t : ℕ) → read-wanted-lts.Need-same-length (read-wanted-calls t) (read-wanted-at t) read-wanted.Post
-read-wanted-same-length t c = c .before .before .before .before .before .read-run .kept .1 .1 .1 .1 .0
-
-read-wanted-returns : (t : ℕ) → read-wanted-lts.Need-returns (read-wanted-calls t) (read-wanted-at t) read-wanted.Post
-read-wanted-returns t c = wanted-refused _ _ _ _ _ _ _ _ _ (c .before .before .before .before .before .before .before .at-most .ensures) _ _ (c .before .before .before .before .before .read-run .ensures) _ _ _ (c .before .number .given .1)
+read-wanted-same-length t c = c .before .before .before .before .before .before .before .read-run .kept .1 .1 .1 .1 .0
 
 read-wanted-same-length-2 : (t : ℕ) → read-wanted-lts.Need-same-length-2 (read-wanted-calls t) (read-wanted-at t) read-wanted.Post
-read-wanted-same-length-2 t c = c .before .before .read-run2 .kept .1 .1 .1 .1 .0 ∙ c .before .before .before .before .before .before .before .before .before .read-run .kept .1 .1 .1 .1 .0
+read-wanted-same-length-2 t c = c .before .before .before .before .before .before .before .read-run .kept .1 .1 .1 .1 .1 .0
+
+read-wanted-returns : (t : ℕ) → read-wanted-lts.Need-returns (read-wanted-calls t) (read-wanted-at t) read-wanted.Post
+read-wanted-returns t c = (wanted-refused _ _ _ _ _ _ _ _ _ (c .before .before .before .before .before .before .before .before .before .before .at-most .ensures) _ _ (c .before .before .before .before .before .before .before .read-run .ensures .0) _ _ _ (c .before .number .given .1), c .before .before .before .before .before .before .before .read-run .ensures .1)
+
+read-wanted-same-length-3 : (t : ℕ) → read-wanted-lts.Need-same-length-3 (read-wanted-calls t) (read-wanted-at t) read-wanted.Post
+read-wanted-same-length-3 t c = c .before .before .before .before .read-run2 .kept .1 .1 .1 .1 .0 ∙ c .before .before .before .before .before .before .before .before .before .before .before .before .before .before .read-run .kept .1 .1 .1 .1 .0
+
+read-wanted-same-length-4 : (t : ℕ) → read-wanted-lts.Need-same-length-4 (read-wanted-calls t) (read-wanted-at t) read-wanted.Post
+read-wanted-same-length-4 t c = c .before .before .before .before .read-run2 .kept .1 .1 .1 .1 .1 .0 ∙ c .before .before .before .before .before .before .before .before .before .before .before .before .before .before .read-run .kept .1 .1 .1 .1 .1 .0
 
 read-wanted-returns-2 : (t : ℕ) → read-wanted-lts.Need-returns-2 (read-wanted-calls t) (read-wanted-at t) read-wanted.Post
-read-wanted-returns-2 t c = wanted-more _ _ _ _ _ _ _ _ _ (c .before .before .before .before .before .before .before .before .before .before .before .at-most .ensures) _ _ (c .before .before .before .before .before .before .before .before .before .read-run .ensures) _ _ _ _ (c .before .before .before .before .before .next .given .1) (c .before .before .read-run2 .ensures)
+read-wanted-returns-2 t c = (wanted-more _ _ _ _ _ _ _ _ _ (c .before .before .before .before .before .before .before .before .before .before .before .before .before .before .before .before .before .at-most .ensures) _ _ (c .before .before .before .before .before .before .before .before .before .before .before .before .before .before .read-run .ensures .0) _ _ _ _ (c .before .before .before .before .before .before .before .before .next .given .1) (c .before .before .before .before .read-run2 .ensures .0), keeps-trans _ _ _ (c .before .before .before .before .before .before .before .before .before .before .before .before .before .before .read-run .ensures .1) (c .before .before .before .before .read-run2 .ensures .1))
 
 pub +read-body+read-inner+read-last+read-list+read-pairs+read-parts+read-run+read-tail+read-term+read-wanted-spec :
     {M : Type 1} → statement M
@@ -708,8 +775,10 @@ pub +read-body+read-inner+read-last+read-list+read-pairs+read-parts+read-run+rea
     (read-body-mul-table t)
     (read-body-slice-write-table t)
     (read-body-same-length t)
-    (read-body-returns-3 t)
     (read-body-same-length-2 t)
+    (read-body-returns-3 t)
+    (read-body-same-length-3 t)
+    (read-body-same-length-4 t)
     (read-body-returns-4 t))
     (λ t. read-inner-lts.spec (read-inner-calls t) (read-inner-at t)
     read-inner.Post
@@ -724,12 +793,15 @@ pub +read-body+read-inner+read-last+read-list+read-pairs+read-parts+read-run+rea
     (read-inner-read-pairs-requires t)
     (read-inner-returns t)
     (read-inner-same-length t)
-    (read-inner-returns-2 t)
     (read-inner-same-length-2 t)
-    (read-inner-returns-3 t)
+    (read-inner-returns-2 t)
     (read-inner-same-length-3 t)
-    (read-inner-returns-4 t)
+    (read-inner-returns-3 t)
     (read-inner-same-length-4 t)
+    (read-inner-same-length-5 t)
+    (read-inner-returns-4 t)
+    (read-inner-same-length-6 t)
+    (read-inner-same-length-7 t)
     (read-inner-returns-5 t))
     (λ t. read-last-lts.spec (read-last-calls t) (read-last-at t)
     read-last.Post
@@ -738,23 +810,26 @@ pub +read-body+read-inner+read-last+read-list+read-pairs+read-parts+read-run+rea
     (read-last-read-body-requires t)
     (read-last-enum-known-number t)
     (read-last-enum-known-next t)
-    (read-last-add-t26 t)
+    (read-last-add-t29 t)
     (read-last-same-length t)
     (read-last-returns t)
     (read-last-same-length-2 t)
-    (read-last-returns-2 t)
     (read-last-same-length-3 t)
+    (read-last-returns-2 t)
+    (read-last-same-length-4 t)
+    (read-last-same-length-5 t)
     (read-last-returns-3 t))
-    (λ t. read-list-lts.spec
-    (read-list-calls t) (read-list-at t)
+    (λ t. read-list-lts.spec (read-list-calls t) (read-list-at t)
     read-list.Post
     (read-list-read-run-requires t)
     (read-list-enum-known-number t)
     (read-list-enum-known-next t)
     (read-list-read-tail-requires t)
     (read-list-same-length t)
-    (read-list-returns t)
     (read-list-same-length-2 t)
+    (read-list-returns t)
+    (read-list-same-length-3 t)
+    (read-list-same-length-4 t)
     (read-list-returns-2 t))
     (λ t. read-pairs-lts.spec (read-pairs-calls t) (read-pairs-at t)
     read-pairs.Post
@@ -764,21 +839,25 @@ pub +read-body+read-inner+read-last+read-list+read-pairs+read-parts+read-run+rea
     (read-pairs-read-term-requires t)
     (read-pairs-enum-known-number t)
     (read-pairs-same-length t)
+    (read-pairs-same-length-2 t)
     (read-pairs-returns t)
     (read-pairs-enum-known-next t)
-    (read-pairs-key-among-requires t)
-    (read-pairs-same-length-2 t)
+    (read-pairs-repeats-requires t)
+    (read-pairs-same-length-3 t)
+    (read-pairs-same-length-4 t)
     (read-pairs-returns-2 t)
     (read-pairs-read-term-requires-2 t)
     (read-pairs-enum-known-number-2 t)
-    (read-pairs-same-length-3 t)
+    (read-pairs-same-length-5 t)
+    (read-pairs-same-length-6 t)
     (read-pairs-returns-3 t)
     (read-pairs-enum-known-next-2 t)
     (read-pairs-sub-more t)
     (read-pairs-loop-less t)
     (read-pairs-loop-again t)
-    (read-pairs-mul-t34 t)
-    (read-pairs-same-length-4 t)
+    (read-pairs-mul-t41 t)
+    (read-pairs-same-length-7 t)
+    (read-pairs-same-length-8 t)
     (read-pairs-returns-4 t))
     (λ t. read-parts-lts.spec (read-parts-calls t) (read-parts-at t)
     read-parts.Post
@@ -791,17 +870,20 @@ pub +read-body+read-inner+read-last+read-list+read-pairs+read-parts+read-run+rea
     (read-parts-read-later-requires t)
     (read-parts-enum-known-number-3 t)
     (read-parts-enum-known-next-3 t)
-    (read-parts-add-t37 t)
+    (read-parts-add-t42 t)
     (read-parts-same-length t)
-    (read-parts-returns t)
     (read-parts-same-length-2 t)
-    (read-parts-returns-2 t)
+    (read-parts-returns t)
     (read-parts-same-length-3 t)
-    (read-parts-returns-3 t)
     (read-parts-same-length-4 t)
+    (read-parts-returns-2 t)
+    (read-parts-same-length-5 t)
+    (read-parts-same-length-6 t)
+    (read-parts-returns-3 t)
+    (read-parts-same-length-7 t)
+    (read-parts-same-length-8 t)
     (read-parts-returns-4 t))
-    (λ t. read-run-lts.spec
-    (read-run-calls t) (read-run-at t)
+    (λ t. read-run-lts.spec (read-run-calls t) (read-run-at t)
     read-run.Post
     read-run-Inv-loop
     read-run-μ-loop
@@ -809,12 +891,14 @@ pub +read-body+read-inner+read-last+read-list+read-pairs+read-parts+read-run+rea
     (read-run-read-term-requires t)
     (read-run-enum-known-number t)
     (read-run-same-length t)
+    (read-run-same-length-2 t)
     (read-run-returns t)
     (read-run-enum-known-next t)
     (read-run-sub-more t)
     (read-run-loop-less t)
     (read-run-loop-again t)
-    (read-run-same-length-2 t)
+    (read-run-same-length-3 t)
+    (read-run-same-length-4 t)
     (read-run-returns-2 t))
     (λ t. read-tail-lts.spec (read-tail-calls t) (read-tail-at t)
     read-tail.Post
@@ -826,16 +910,19 @@ pub +read-body+read-inner+read-last+read-list+read-pairs+read-parts+read-run+rea
     (read-tail-read-run-requires t)
     (read-tail-enum-known-number t)
     (read-tail-same-length t)
+    (read-tail-same-length-2 t)
     (read-tail-returns t)
     (read-tail-enum-known-next t)
     (read-tail-add-sum t)
     (read-tail-loop-less t)
     (read-tail-loop-again t)
     (read-tail-enum-known-head-2 t)
-    (read-tail-same-length-2 t)
+    (read-tail-same-length-3 t)
+    (read-tail-same-length-4 t)
     (read-tail-returns-2 t)
     (read-tail-read-last-requires t)
-    (read-tail-same-length-3 t)
+    (read-tail-same-length-5 t)
+    (read-tail-same-length-6 t)
     (read-tail-returns-3 t))
     (λ t. read-term-lts.spec (read-term-calls t) (read-term-at t)
     read-term.Post
@@ -844,9 +931,9 @@ pub +read-body+read-inner+read-last+read-list+read-pairs+read-parts+read-run+rea
     (read-term-read-body-requires t)
     (read-term-returns t)
     (read-term-same-length t)
+    (read-term-same-length-2 t)
     (read-term-returns-2 t))
-    λ t. read-wanted-lts.spec
-    (read-wanted-calls t) (read-wanted-at t)
+    λ t. read-wanted-lts.spec (read-wanted-calls t) (read-wanted-at t)
     read-wanted.Post
     (read-wanted-at-most-requires t)
     (read-wanted-read-run-requires t)
@@ -855,6 +942,8 @@ pub +read-body+read-inner+read-last+read-list+read-pairs+read-parts+read-run+rea
     (read-wanted-sub-read-run t)
     (read-wanted-read-run-requires-2 t)
     (read-wanted-same-length t)
-    (read-wanted-returns t)
     (read-wanted-same-length-2 t)
+    (read-wanted-returns t)
+    (read-wanted-same-length-3 t)
+    (read-wanted-same-length-4 t)
     (read-wanted-returns-2 t)
