@@ -5,20 +5,23 @@ use heads::Head;
 use heads::Later;
 use heads::Wanted;
 ghost use mathlib.Core.Path.{_≡_};
+ghost use mathlib.Core.Bool.{true};
 ghost use mathlib.Core.List.{List};
-ghost use Prim.Native.Nat.{ℕ, _+_, _≤_, _<_, min};
+ghost use Prim.Native.Nat.{ℕ, _+_, _/_, _%_, _≤_, _<_, min};
 ghost use lib.ListN.{length, drop, replicate};
 ghost use lib.Seq.{sets};
 ghost use Rattle.format.specs.Answers.{read-answer};
 ghost use Rattle.format.specs.AtomList.{atoms-of};
 ghost use Rattle.format.specs.Head as format;
-ghost use Rattle.format.specs.Head.{characters, elements, pairs, parts};
+ghost use Rattle.format.specs.Head.{any, characters, elements, pairs, parts, head};
 ghost use Rattle.format.specs.Message.{standalone, payload, read, outermost, standalone-term, payload-terms, terms-framed};
 ghost use Rattle.format.specs.Reading.{each, tail, body, term};
 ghost use Rattle.format.specs.Rows.{table-after};
 ghost use Rattle.format.proofs.Bridge.{at-offset};
 ghost use Rattle.octets.specs.Cleared.{cleared};
-ghost use Rattle.heads.specs.Code.{lent, wanted-of, later-of, kind-later, head-at};
+ghost use Rattle.heads.specs.Code.{lent, wanted-of, later-of, kind-later, head-at, head-of};
+ghost use Rattle.heads.specs.Quick.{quick-word};
+ghost use Rattle.heads.proofs.Common.{Told};
 ghost use Rattle.keys.specs.Seen.{Keeps};
 ghost use Rattle.terms.specs.Code.{first-refusal, rows-in, asked, character-words, framing-of, Slots, Room, Sound, Opens, inner, last, TermDone, RunDone, PartsDone, MessageDone};
 
@@ -74,6 +77,23 @@ fn read_term(
     ensures { λ r. ⌜ TermDone (now (msg .entry)) cap row whole (now (table .entry)) (term (atoms-of (lent n (now (places .entry)) (now (lengths .entry)))) cap left (wanted-of wanted) (at-offset (now (msg .entry)) at row)) r (now (table .exit)) ⌝ }
     ensures { λ _. ⌜ Keeps (now (seen .entry)) (now (seen .exit)) ⌝ }
 {
+    let word = heads::quick_at(msg, n, places, lengths, at, wanted);
+    if word != 0 {
+        return read_quick(
+            msg,
+            n,
+            places,
+            lengths,
+            table,
+            seen,
+            at,
+            row,
+            whole,
+            left,
+            cap,
+            word,
+        );
+    }
     let opening = heads::read_opening(msg, n, places, lengths, at, wanted);
     let place = opening.place;
     let head = opening.head;
@@ -93,6 +113,127 @@ fn read_term(
             left,
             cap,
         ),
+    }
+}
+
+// A common term, whose head is in `word`. Its own row is stored after its parts.
+fn read_quick(
+    msg: &[u8],
+    n: u8,
+    places: &[u8],
+    lengths: &[u16],
+    table: &mut [u64],
+    seen: &mut [u16],
+    at: usize,
+    row: usize,
+    whole: usize,
+    left: usize,
+    cap: usize,
+    word: u64,
+) -> Step
+    requires { ⌜ Room (now msg) (lent n (now places) (now lengths)) (now table) cap at row whole × (word ≡ 0 → ⊥) × ((rows : ℕ) → word ≡ quick-word (head-of (head (atoms-of (lent n (now places) (now lengths))) any (at-offset (now msg) at rows)))) ⌝ }
+    requires { ⌜ 0 < length (now seen) ⌝ }
+    ensures { λ r. ⌜ TermDone (now (msg .entry)) cap row whole (now (table .entry)) (term (atoms-of (lent n (now (places .entry)) (now (lengths .entry)))) cap left any (at-offset (now (msg .entry)) at row)) r (now (table .exit)) ⌝ }
+    ensures { λ _. ⌜ Keeps (now (seen .entry)) (now (seen .exit)) ⌝ }
+{
+    if left == 0 {
+        return Step::Refused {
+            number: 8,
+            place: at,
+        };
+    }
+    if cap <= row {
+        return Step::Refused {
+            number: 9,
+            place: at,
+        };
+    }
+    match read_common(
+        msg,
+        n,
+        places,
+        lengths,
+        table,
+        seen,
+        row + 1,
+        left - 1,
+        cap,
+        word,
+    ) {
+        Parts::Refused { number, place } => Step::Refused { number, place },
+        Parts::Got {
+            next,
+            rows,
+            parts,
+            kind,
+        } => {
+            table[row] = row::pack(kind, at, whole, parts, rows - row);
+            Step::Got { next, rows }
+        }
+    }
+}
+
+// The parts of a common term, whose head is in `word`, from `row` on; their whole is the row before.
+fn read_common(
+    msg: &[u8],
+    n: u8,
+    places: &[u8],
+    lengths: &[u16],
+    table: &mut [u64],
+    seen: &mut [u16],
+    row: usize,
+    deep: usize,
+    cap: usize,
+    word: u64,
+) -> Parts
+    requires { ⌜ Room (now msg) (lent n (now places) (now lengths)) (now table) cap (word / 16 % 131072) row row ⌝ }
+    requires { ⌜ 0 < length (now seen) ⌝ }
+    ensures { λ r. ⌜ ((place : ℕ) (h : format.Head) (next : ℕ) → Told word h next → PartsDone (now (msg .entry)) 0 cap row row (now (table .entry)) (inner (atoms-of (lent n (now (places .entry)) (now (lengths .entry)))) cap deep place h (at-offset (now (msg .entry)) next row)) r (now (table .exit))) ⌝ }
+    ensures { λ _. ⌜ Keeps (now (seen .entry)) (now (seen .exit)) ⌝ }
+{
+    let kind = (word % 16) as usize;
+    let at = (word / 16 % 131072) as usize;
+    let count = (word / 2097152) as usize;
+    if count == 0 {
+        return Parts::Got {
+            next: at,
+            rows: row,
+            parts: 0,
+            kind,
+        };
+    }
+    if kind == 14 {
+        return read_list(
+            msg, n, places, lengths, table, seen, at, row, deep, cap, count,
+        );
+    }
+    if kind == 15 {
+        return read_pairs(
+            msg, n, places, lengths, table, seen, at, row, deep, cap, count,
+        );
+    }
+    match read_run(
+        msg,
+        n,
+        places,
+        lengths,
+        table,
+        seen,
+        at,
+        row,
+        row,
+        deep,
+        cap,
+        Wanted::Any,
+        count,
+    ) {
+        Step::Refused { number, place } => Parts::Refused { number, place },
+        Step::Got { next, rows } => Parts::Got {
+            next,
+            rows,
+            parts: count,
+            kind,
+        },
     }
 }
 
@@ -350,6 +491,22 @@ fn read_wanted(
     }
 }
 
+// Whether a word is the head of a term without parts, and there are a level and a row for it.
+fn is_leaf(word: u64, deep: usize, row: usize, cap: usize) -> bool
+    ensures { λ r. ⌜ (r ≡ true → (word ≡ 0 → ⊥) × (word < 2097152) × (deep ≡ 0 → ⊥) × (row < cap)) ⌝ }
+{
+    if word == 0 {
+        return false;
+    }
+    if 2097152 <= word {
+        return false;
+    }
+    if deep == 0 {
+        return false;
+    }
+    row < cap
+}
+
 // `count` terms in turn.
 fn read_run(
     msg: &[u8],
@@ -375,6 +532,14 @@ fn read_run(
     let mut row_now = row;
     let mut more = count;
     while more > 0 {
+        let word = heads::leaf_at(msg, at_now, wanted);
+        if is_leaf(word, deep, row_now, cap) {
+            table[row_now] = row::pack((word % 16) as usize, at_now, whole, 0, 1);
+            at_now = (word / 16) as usize;
+            row_now += 1;
+            more -= 1;
+            continue;
+        }
         match read_term(
             msg,
             n,

@@ -24,44 +24,44 @@ use borrow.Fn.Kinds.{In}
 use borrow.Fn.PlainCycle.{Measures, is, falls, and}
 use Rattle.terms.proofs.read_body.Reads as read-body
 use Rattle.terms.proofs.read_body.Kinds as read-body-kinds
-use Rattle.terms.proofs.+read_body+read_inner+read_last+read_list+read_pairs+read_parts+read_run+read_tail+read_term+read_wanted.Lts-read_body as read-body-lts
+use Rattle.terms.proofs.+read_body+read_common+read_inner+read_last+read_list+read_pairs+read_parts+read_quick+read_run+read_tail+read_term+read_wanted.Lts-read_body as read-body-lts
 use Rattle.terms.proofs.read_inner.Reads as read-inner
 use Rattle.terms.proofs.read_inner.Kinds as read-inner-kinds
-use Rattle.terms.proofs.+read_body+read_inner+read_last+read_list+read_pairs+read_parts+read_run+read_tail+read_term+read_wanted.Lts-read_inner as read-inner-lts
+use Rattle.terms.proofs.+read_body+read_common+read_inner+read_last+read_list+read_pairs+read_parts+read_quick+read_run+read_tail+read_term+read_wanted.Lts-read_inner as read-inner-lts
 use Rattle.terms.proofs.read_last.Reads as read-last
 use Rattle.terms.proofs.read_last.Kinds as read-last-kinds
-use Rattle.terms.proofs.+read_body+read_inner+read_last+read_list+read_pairs+read_parts+read_run+read_tail+read_term+read_wanted.Lts-read_last as read-last-lts
+use Rattle.terms.proofs.+read_body+read_common+read_inner+read_last+read_list+read_pairs+read_parts+read_quick+read_run+read_tail+read_term+read_wanted.Lts-read_last as read-last-lts
 use Rattle.terms.proofs.read_list.Reads as read-list
 use Rattle.terms.proofs.read_list.Kinds as read-list-kinds
-use Rattle.terms.proofs.+read_body+read_inner+read_last+read_list+read_pairs+read_parts+read_run+read_tail+read_term+read_wanted.Lts-read_list as read-list-lts
+use Rattle.terms.proofs.+read_body+read_common+read_inner+read_last+read_list+read_pairs+read_parts+read_quick+read_run+read_tail+read_term+read_wanted.Lts-read_list as read-list-lts
 use Rattle.terms.proofs.read_pairs.Reads as read-pairs
 use Rattle.terms.proofs.read_pairs.Kinds as read-pairs-kinds
-use Rattle.terms.proofs.+read_body+read_inner+read_last+read_list+read_pairs+read_parts+read_run+read_tail+read_term+read_wanted.Lts-read_pairs as read-pairs-lts
+use Rattle.terms.proofs.+read_body+read_common+read_inner+read_last+read_list+read_pairs+read_parts+read_quick+read_run+read_tail+read_term+read_wanted.Lts-read_pairs as read-pairs-lts
 use Rattle.terms.proofs.read_parts.Reads as read-parts
 use Rattle.terms.proofs.read_parts.Kinds as read-parts-kinds
-use Rattle.terms.proofs.+read_body+read_inner+read_last+read_list+read_pairs+read_parts+read_run+read_tail+read_term+read_wanted.Lts-read_parts as read-parts-lts
+use Rattle.terms.proofs.+read_body+read_common+read_inner+read_last+read_list+read_pairs+read_parts+read_quick+read_run+read_tail+read_term+read_wanted.Lts-read_parts as read-parts-lts
 use Rattle.terms.proofs.read_run.Reads as read-run
 use Rattle.terms.proofs.read_run.Kinds as read-run-kinds
-use Rattle.terms.proofs.+read_body+read_inner+read_last+read_list+read_pairs+read_parts+read_run+read_tail+read_term+read_wanted.Lts-read_run as read-run-lts
+use Rattle.terms.proofs.+read_body+read_common+read_inner+read_last+read_list+read_pairs+read_parts+read_quick+read_run+read_tail+read_term+read_wanted.Lts-read_run as read-run-lts
 use Rattle.terms.proofs.read_tail.Reads as read-tail
 use Rattle.terms.proofs.read_tail.Kinds as read-tail-kinds
-use Rattle.terms.proofs.+read_body+read_inner+read_last+read_list+read_pairs+read_parts+read_run+read_tail+read_term+read_wanted.Lts-read_tail as read-tail-lts
+use Rattle.terms.proofs.+read_body+read_common+read_inner+read_last+read_list+read_pairs+read_parts+read_quick+read_run+read_tail+read_term+read_wanted.Lts-read_tail as read-tail-lts
 use Rattle.terms.proofs.read_term.Reads as read-term
 use Rattle.terms.proofs.read_term.Kinds as read-term-kinds
-use Rattle.terms.proofs.+read_body+read_inner+read_last+read_list+read_pairs+read_parts+read_run+read_tail+read_term+read_wanted.Lts-read_term as read-term-lts
+use Rattle.terms.proofs.+read_body+read_common+read_inner+read_last+read_list+read_pairs+read_parts+read_quick+read_run+read_tail+read_term+read_wanted.Lts-read_term as read-term-lts
 use Rattle.terms.proofs.read_wanted.Reads as read-wanted
 use Rattle.terms.proofs.read_wanted.Kinds as read-wanted-kinds
-use Rattle.terms.proofs.+read_body+read_inner+read_last+read_list+read_pairs+read_parts+read_run+read_tail+read_term+read_wanted.Lts-read_wanted as read-wanted-lts
+use Rattle.terms.proofs.+read_body+read_common+read_inner+read_last+read_list+read_pairs+read_parts+read_quick+read_run+read_tail+read_term+read_wanted.Lts-read_wanted as read-wanted-lts
 use Rattle.heads.proofs.read_later.Reads as read-later-reads
 use Rattle.heads.proofs.read_opening.Reads as read-opening-reads
 use Rattle.keys.proofs.repeats.Reads as repeats-reads
 use Rattle.row.proofs.pack.Reads as pack-reads
 use Rattle.terms.proofs.at_most.Reads as at-most-reads
 use Rattle.terms.proofs.read_characters.Reads as read-characters-reads
-use Rattle.terms.proofs.+read_body+read_inner+read_last+read_list+read_pairs+read_parts+read_run+read_tail+read_term+read_wanted.{
+use Rattle.terms.proofs.+read_body+read_common+read_inner+read_last+read_list+read_pairs+read_parts+read_quick+read_run+read_tail+read_term+read_wanted.{
   statement,
 }
-use Rattle.terms.proofs.+read_body+read_inner+read_last+read_list+read_pairs+read_parts+read_run+read_tail+read_term+read_wanted.Tie.{
+use Rattle.terms.proofs.+read_body+read_common+read_inner+read_last+read_list+read_pairs+read_parts+read_quick+read_run+read_tail+read_term+read_wanted.Tie.{
   close,
 }
 
