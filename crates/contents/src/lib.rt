@@ -273,7 +273,8 @@ fn length_at(lengths: &[u16], i: usize) -> usize
     wide16(lengths[i])
 }
 
-fn wide16(x: u16) -> usize
+// A number of 16 bits as one of a machine word.
+pub fn wide16(x: u16) -> usize
     ensures { λ r. ⌜ r ≡ x ⌝ }
 {
     x as usize
