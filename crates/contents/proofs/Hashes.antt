@@ -138,12 +138,12 @@ module _ (m places : List ℕ) (h : ℕ) (f : Flat) (r : ℕ) where
 
 -- ---- contents that say the same
 
-both-true : (b c : Bool) → choose b c false ≡ true → (b ≡ true) × (c ≡ true)
+pub both-true : (b c : Bool) → choose b c false ≡ true → (b ≡ true) × (c ≡ true)
 unfolding choose
 both-true true c e = (refl, e)
 both-true false c e = never e
 
-unless-true : (b c : Bool) → choose b false c ≡ true → (b ≡ false) × (c ≡ true)
+pub unless-true : (b c : Bool) → choose b false c ≡ true → (b ≡ false) × (c ≡ true)
 unfolding choose
 unless-true true c e = never e
 unless-true false c e = (refl, e)
