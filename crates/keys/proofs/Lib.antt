@@ -5,4 +5,3 @@ pub mod Hashes
 pub mod Held
 pub mod Seen
 pub mod Accepted
-pub mod Seen
