@@ -1,5 +1,6 @@
 -- Keys that were read, remembered in slots by their hash. A slot is 0 (empty) or the row of a key plus 1.
 use mathlib.Core.Path.{_≡_}
+use mathlib.Core.Bool.{false}
 use mathlib.Core.List.{List, [], _∷_}
 use Prim.Native.Nat.{ℕ, zero, suc, _+_, _*_, _-_, _%_, _<_}
 use lib.ListN.{length, getD}
@@ -7,19 +8,20 @@ use Rattle.format.specs.Rows.{kind-in, offset-in, parts-in, size-in}
 use Rattle.contents.specs.Found.{content-of}
 use Rattle.contents.specs.Meaning.{term-kind}
 use Rattle.contents.specs.Hash.{mix, hash-contents}
-use Rattle.keys.specs.Compare.{pair-size}
+use Rattle.keys.specs.Compare.{same-terms-raw, pair-size}
 
 -- the d-th slot from the hash h on
 abbrev pub slot : List ℕ → ℕ → ℕ → ℕ
 slot L h d = getD L ((h + d) % length L) 0
 
 -- the key at the row k, whose hash is h, stands in a slot before the first empty one, if one is empty
-unfoldable pub Known : List ℕ → ℕ → ℕ → Type 0
-Known L h k = (d : ℕ) → d < length L → slot L h d ≡ 0 → (e : ℕ) × (e < d) × (slot L h e ≡ k + 1)
+pub record Known (L : List ℕ) (h k : ℕ) : Type 0 where
+  pub stands : (d : ℕ) → d < length L → slot L h d ≡ 0 → (e : ℕ) × (e < d) × (slot L h e ≡ k + 1)
 
 -- taken slots stay as they are, and so does the number of slots
-unfoldable pub Keeps : List ℕ → List ℕ → Type 0
-Keeps L L′ = (length L′ ≡ length L) × ((i : ℕ) → (getD L i 0 ≡ 0 → ⊥) → getD L′ i 0 ≡ getD L i 0)
+pub record Keeps (L L′ : List ℕ) : Type 0 where
+  pub as-many : length L′ ≡ length L
+  pub taken : (i : ℕ) → (getD L i 0 ≡ 0 → ⊥) → getD L′ i 0 ≡ getD L i 0
 
 -- hashes of terms, over the words of their rows
 module _ (m places lengths : List ℕ) where
@@ -44,6 +46,11 @@ module _ (m places lengths : List ℕ) where
   -- of the term at a row, as a key of the map whose first key is at the row `first`
   unfoldable pub term-hash : List ℕ → ℕ → ℕ → ℕ
   term-hash T first row = hash-rows T (mix 0 first) (size-in (getD T row 0)) row
+
+  -- an empty slot comes from the hash h on, and no row in the slots before it means the same as the key
+  unfoldable pub Unmet : List ℕ → ℕ → List ℕ → ℕ → Type 0
+  Unmet T key L h =
+      (d : ℕ) × (d < length L) × (slot L h d ≡ 0) × ((e : ℕ) → e < d → same-terms-raw m places lengths T key (slot L h e - 1) ≡ false)
 
   module _ (T : List ℕ) (first key : ℕ) (L : List ℕ) where
     -- the keys at which among-steps looks are known: in n steps from the row `at` on

@@ -1,4 +1,3 @@
-pub mod Slots
 pub mod Characters
 pub mod Found
 pub mod Openings

@@ -44,11 +44,6 @@ unfoldable pub character-words : ℕ → ℕ → ℕ → List ℕ
 character-words whole at zero = []
 character-words whole at (suc n) = pack 14 at whole 0 1 ∷ character-words whole (at + 1) n
 
--- the slots in which keys are remembered
-pub record Slots (L : List ℕ) : Type 0 where
-  pub some : 0 < length L
-  pub few : length L ≤ 65536
-
 -- what the reader is given: a table with room for cap rows, of which those below `row` are taken
 pub record Room (m : List ℕ) (atoms : AtomList) (T : List ℕ) (cap at row whole : ℕ) : Type 0 where
   pub sized : of-size atoms ≡ true

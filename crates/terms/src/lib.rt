@@ -23,7 +23,7 @@ ghost use Rattle.heads.specs.Code.{lent, wanted-of, later-of, kind-later, head-
 ghost use Rattle.heads.specs.Quick.{quick-word};
 ghost use Rattle.heads.proofs.Common.{Told};
 ghost use Rattle.keys.specs.Seen.{Keeps};
-ghost use Rattle.terms.specs.Code.{first-refusal, rows-in, asked, character-words, framing-of, Slots, Room, Sound, Opens, inner, last, TermDone, RunDone, PartsDone, MessageDone};
+ghost use Rattle.terms.specs.Code.{first-refusal, rows-in, asked, character-words, framing-of, Room, Sound, Opens, inner, last, TermDone, RunDone, PartsDone, MessageDone};
 
 // What reading a term, or some terms in turn, comes to: the offset and the row past it, or a refusal.
 pub enum Step {
@@ -73,7 +73,7 @@ fn read_term(
     wanted: Wanted,
 ) -> Step
     requires { ⌜ Room (now msg) (lent n (now places) (now lengths)) (now table) cap at row whole ⌝ }
-    requires { ⌜ Slots (now seen) ⌝ }
+    requires { ⌜ 0 < length (now seen) ⌝ }
     ensures { λ r. ⌜ TermDone (now (msg .entry)) cap row whole (now (table .entry)) (term (atoms-of (lent n (now (places .entry)) (now (lengths .entry)))) cap left (wanted-of wanted) (at-offset (now (msg .entry)) at row)) r (now (table .exit)) ⌝ }
     ensures { λ _. ⌜ Keeps (now (seen .entry)) (now (seen .exit)) ⌝ }
 {
@@ -253,7 +253,7 @@ fn read_body(
     cap: usize,
 ) -> Step
     requires { ⌜ Room (now msg) (lent n (now places) (now lengths)) (now table) cap place row whole × Opens (now msg) place head ⌝ }
-    requires { ⌜ Slots (now seen) ⌝ }
+    requires { ⌜ 0 < length (now seen) ⌝ }
     ensures { λ r. ⌜ ((h : format.Head) (next : ℕ) → head ≡ head-at h next → Sound (now (msg .entry)) place next h → TermDone (now (msg .entry)) cap row whole (now (table .entry)) (body (atoms-of (lent n (now (places .entry)) (now (lengths .entry)))) cap left place h (at-offset (now (msg .entry)) next row)) r (now (table .exit))) ⌝ }
     ensures { λ _. ⌜ Keeps (now (seen .entry)) (now (seen .exit)) ⌝ }
 {
@@ -304,7 +304,7 @@ fn read_inner(
     cap: usize,
 ) -> Parts
     requires { ⌜ Room (now msg) (lent n (now places) (now lengths)) (now table) cap place row row × Opens (now msg) place head ⌝ }
-    requires { ⌜ Slots (now seen) ⌝ }
+    requires { ⌜ 0 < length (now seen) ⌝ }
     ensures { λ r. ⌜ ((h : format.Head) (next : ℕ) → head ≡ head-at h next → Sound (now (msg .entry)) place next h → PartsDone (now (msg .entry)) 0 cap row row (now (table .entry)) (inner (atoms-of (lent n (now (places .entry)) (now (lengths .entry)))) cap deep place h (at-offset (now (msg .entry)) next row)) r (now (table .exit))) ⌝ }
     ensures { λ _. ⌜ Keeps (now (seen .entry)) (now (seen .exit)) ⌝ }
 {
@@ -388,7 +388,7 @@ fn read_parts(
     later: Later,
 ) -> Parts
     requires { ⌜ Room (now msg) (lent n (now places) (now lengths)) (now table) cap at row row ⌝ }
-    requires { ⌜ Slots (now seen) ⌝ }
+    requires { ⌜ 0 < length (now seen) ⌝ }
     ensures { λ r. ⌜ ((l : format.Later) → kind ≡ kind-later l → later-of l ≡ later → PartsDone (now (msg .entry)) 0 cap row row (now (table .entry)) (inner (atoms-of (lent n (now (places .entry)) (now (lengths .entry)))) cap deep place (parts (asked wanted) count l) (at-offset (now (msg .entry)) at row)) r (now (table .exit))) ⌝ }
     ensures { λ _. ⌜ Keeps (now (seen .entry)) (now (seen .exit)) ⌝ }
 {
@@ -452,7 +452,7 @@ fn read_wanted(
     wanted: usize,
 ) -> Step
     requires { ⌜ Room (now msg) (lent n (now places) (now lengths)) (now table) cap at row whole ⌝ }
-    requires { ⌜ Slots (now seen) ⌝ }
+    requires { ⌜ 0 < length (now seen) ⌝ }
     ensures { λ r. ⌜ RunDone (now (msg .entry)) wanted cap row whole (now (table .entry)) (each (term (atoms-of (lent n (now (places .entry)) (now (lengths .entry)))) cap deep) (asked wanted) (at-offset (now (msg .entry)) at row)) r (now (table .exit)) ⌝ }
     ensures { λ _. ⌜ Keeps (now (seen .entry)) (now (seen .exit)) ⌝ }
 {
@@ -524,7 +524,7 @@ fn read_run(
     count: usize,
 ) -> Step
     requires { ⌜ Room (now msg) (lent n (now places) (now lengths)) (now table) cap at row whole ⌝ }
-    requires { ⌜ Slots (now seen) ⌝ }
+    requires { ⌜ 0 < length (now seen) ⌝ }
     ensures { λ r. ⌜ RunDone (now (msg .entry)) count cap row whole (now (table .entry)) (each (term (atoms-of (lent n (now (places .entry)) (now (lengths .entry)))) cap deep) (replicate count (wanted-of wanted)) (at-offset (now (msg .entry)) at row)) r (now (table .exit)) ⌝ }
     ensures { λ _. ⌜ Keeps (now (seen .entry)) (now (seen .exit)) ⌝ }
 {
@@ -633,7 +633,7 @@ fn read_list(
     count: usize,
 ) -> Parts
     requires { ⌜ Room (now msg) (lent n (now places) (now lengths)) (now table) cap at row row ⌝ }
-    requires { ⌜ Slots (now seen) ⌝ }
+    requires { ⌜ 0 < length (now seen) ⌝ }
     ensures { λ r. ⌜ ((place : ℕ) → PartsDone (now (msg .entry)) 0 cap row row (now (table .entry)) (inner (atoms-of (lent n (now (places .entry)) (now (lengths .entry)))) cap deep place (elements count) (at-offset (now (msg .entry)) at row)) r (now (table .exit))) ⌝ }
     ensures { λ _. ⌜ Keeps (now (seen .entry)) (now (seen .exit)) ⌝ }
 {
@@ -686,7 +686,7 @@ fn read_tail(
     before: usize,
 ) -> Parts
     requires { ⌜ Room (now msg) (lent n (now places) (now lengths)) (now table) cap at row whole × (before ≤ row) ⌝ }
-    requires { ⌜ Slots (now seen) ⌝ }
+    requires { ⌜ 0 < length (now seen) ⌝ }
     ensures { λ r. ⌜ PartsDone (now (msg .entry)) before cap row whole (now (table .entry)) (tail (atoms-of (lent n (now (places .entry)) (now (lengths .entry)))) cap deep (body (atoms-of (lent n (now (places .entry)) (now (lengths .entry)))) cap deep) (drop at (now (msg .entry))) (at-offset (now (msg .entry)) at row)) r (now (table .exit)) ⌝ }
     ensures { λ _. ⌜ Keeps (now (seen .entry)) (now (seen .exit)) ⌝ }
 {
@@ -759,7 +759,7 @@ fn read_last(
     before: usize,
 ) -> Parts
     requires { ⌜ Room (now msg) (lent n (now places) (now lengths)) (now table) cap place row whole × Opens (now msg) place head × (before ≤ row) ⌝ }
-    requires { ⌜ Slots (now seen) ⌝ }
+    requires { ⌜ 0 < length (now seen) ⌝ }
     ensures { λ r. ⌜ ((h : format.Head) (next : ℕ) → head ≡ head-at h next → Sound (now (msg .entry)) place next h → PartsDone (now (msg .entry)) before cap row whole (now (table .entry)) (last (atoms-of (lent n (now (places .entry)) (now (lengths .entry)))) cap deep place h (at-offset (now (msg .entry)) next row)) r (now (table .exit))) ⌝ }
     ensures { λ _. ⌜ Keeps (now (seen .entry)) (now (seen .exit)) ⌝ }
 {
@@ -807,7 +807,7 @@ fn read_pairs(
     count: usize,
 ) -> Parts
     requires { ⌜ Room (now msg) (lent n (now places) (now lengths)) (now table) cap at row row ⌝ }
-    requires { ⌜ Slots (now seen) ⌝ }
+    requires { ⌜ 0 < length (now seen) ⌝ }
     ensures { λ r. ⌜ ((place : ℕ) → PartsDone (now (msg .entry)) 0 cap row row (now (table .entry)) (inner (atoms-of (lent n (now (places .entry)) (now (lengths .entry)))) cap deep place (pairs count) (at-offset (now (msg .entry)) at row)) r (now (table .exit))) ⌝ }
     ensures { λ _. ⌜ Keeps (now (seen .entry)) (now (seen .exit)) ⌝ }
 {
@@ -882,7 +882,7 @@ fn read_outermost(
     cap: usize,
 ) -> Step
     requires { ⌜ Room (now msg) (lent n (now places) (now lengths)) (now table) cap at row 0 ⌝ }
-    requires { ⌜ Slots (now seen) ⌝ }
+    requires { ⌜ 0 < length (now seen) ⌝ }
     ensures { λ r. ⌜ TermDone (now (msg .entry)) cap row 0 (now (table .entry)) (outermost (atoms-of (lent n (now (places .entry)) (now (lengths .entry)))) cap (at-offset (now (msg .entry)) at row)) r (now (table .exit)) ⌝ }
 {
     read_term(
@@ -912,7 +912,7 @@ fn standalone_terms(
     cap: usize,
 ) -> ReadAnswer
     requires { ⌜ Room (now msg) (lent n (now places) (now lengths)) (now table) cap 0 0 0 ⌝ }
-    requires { ⌜ Slots (now seen) ⌝ }
+    requires { ⌜ 0 < length (now seen) ⌝ }
     ensures { λ r. ⌜ MessageDone (now (msg .entry)) cap (now (table .entry)) (standalone-term (atoms-of (lent n (now (places .entry)) (now (lengths .entry)))) cap (at-offset (now (msg .entry)) 0 0)) r (now (table .exit)) ⌝ }
 {
     if msg.len() == 0 {
@@ -952,7 +952,7 @@ fn payload_terms(
     cap: usize,
 ) -> ReadAnswer
     requires { ⌜ Room (now msg) (lent n (now places) (now lengths)) (now table) cap 0 0 0 ⌝ }
-    requires { ⌜ Slots (now seen) ⌝ }
+    requires { ⌜ 0 < length (now seen) ⌝ }
     ensures { λ r. ⌜ MessageDone (now (msg .entry)) cap (now (table .entry)) (payload-terms (atoms-of (lent n (now (places .entry)) (now (lengths .entry)))) cap (at-offset (now (msg .entry)) 0 0)) r (now (table .exit)) ⌝ }
 {
     match read_outermost(msg, n, places, lengths, table, seen, 0, 0, cap) {
@@ -989,7 +989,7 @@ fn framed_terms(
     framing: Framing,
 ) -> ReadAnswer
     requires { ⌜ Room (now msg) (lent n (now places) (now lengths)) (now table) cap 0 0 0 ⌝ }
-    requires { ⌜ Slots (now seen) ⌝ }
+    requires { ⌜ 0 < length (now seen) ⌝ }
     ensures { λ r. ⌜ MessageDone (now (msg .entry)) cap (now (table .entry)) (terms-framed (atoms-of (lent n (now (places .entry)) (now (lengths .entry)))) cap (framing-of framing) (at-offset (now (msg .entry)) 0 0)) r (now (table .exit)) ⌝ }
 {
     match framing {

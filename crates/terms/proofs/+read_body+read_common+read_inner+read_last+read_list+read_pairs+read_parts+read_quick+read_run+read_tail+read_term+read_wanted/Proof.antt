@@ -3,12 +3,11 @@ use Rattle.terms.proofs.Entries.{Entered, entered-none, entries-many, e
 use Rattle.terms.proofs.Inner.{opens-near, opens-place, opens-span, inner-refused, inner-parts, inner-characters, inner-elements, inner-pairs, parts-first, parts-second, parts-later-refused, parts-got, run-many, list-first, list-then, Tailed, tailed-none, tailed-refused, tailed-last, tailed-run-refused, tailed-further, tailed-more, last-characters, last-refused, last-got}
 use Rattle.terms.proofs.Bodies.{term-refused, term-opened, body-deep, body-full, body-refused, body-got, body-small, parts-past, room-inside, room-at}
 use Rattle.terms.proofs.Runs.{room-after, run-none, run-refused, run-more, wanted-refused, wanted-more}
-use Rattle.terms.proofs.Slots.{slots-after, keeps-length}
 use Rattle.terms.proofs.Openings.{opened, opens}
 use Rattle.terms.specs.Code.{Room, RunDone, PartsDone}
 use Rattle.terms.specs.declared.Step.{Step}
 use Rattle.keys.specs.Seen.{Keeps}
-use Rattle.keys.proofs.Seen.{keeps-refl, keeps-trans}
+use Rattle.keys.proofs.Slots.{keeps-refl, keeps-trans}
 use Rattle.heads.specs.Code.{lent, wanted-of}
 use Rattle.format.proofs.Bridge.{at-offset}
 use Rattle.format.specs.Reading.{each, tail, body, term}
@@ -365,7 +364,7 @@ read-list-enum-known-next : (t : ℕ) → read-list-lts.Need-enum-known-next (re
 read-list-enum-known-next t c = search needs
 
 read-list-read-tail-requires : (t : ℕ) → read-list-lts.Need-read-tail-requires (read-list-calls t) (read-list-at t) read-list.Post
-read-list-read-tail-requires t c κs = (omega (arith, c .before .before .before .before .before .before .before .before .before .before .before .before .before .before .before .before .before .pre .0), ((room-after _ _ _ _ _ _ _ _ _ _ _ _ _ _ _ (c .before .before .before .before .before .before .before .before .before .before .before .before .before .before .before .before .before .pre .1 .0) (c .before .before .before .before .before .before .before .before .before .read-run .ensures .0) (c .before .before .before .next .given .1) (c .before .before .before .before .before .before .before .before .before .read-run .kept .1 .1 .1 .1 .0), omega (arith, run-many _ _ _ _ _ _ _ _ _ _ _ (c .before .before .before .before .before .before .before .before .before .read-run .ensures .0) (c .before .before .before .next .given .1) .0)), slots-after _ _ (c .before .before .before .before .before .before .before .before .before .before .before .before .before .before .before .before .before .pre .1 .1) (c .before .before .before .before .before .before .before .before .before .read-run .ensures .1)))
+read-list-read-tail-requires t c κs = (omega (arith, c .before .before .before .before .before .before .before .before .before .before .before .before .before .before .before .before .before .pre .0), ((room-after _ _ _ _ _ _ _ _ _ _ _ _ _ _ _ (c .before .before .before .before .before .before .before .before .before .before .before .before .before .before .before .before .before .pre .1 .0) (c .before .before .before .before .before .before .before .before .before .read-run .ensures .0) (c .before .before .before .next .given .1) (c .before .before .before .before .before .before .before .before .before .read-run .kept .1 .1 .1 .1 .0), omega (arith, run-many _ _ _ _ _ _ _ _ _ _ _ (c .before .before .before .before .before .before .before .before .before .read-run .ensures .0) (c .before .before .before .next .given .1) .0)), omega (arith, c .before .before .before .before .before .before .before .before .before .before .before .before .before .before .before .before .before .pre .1 .1, c .before .before .before .before .before .before .before .before .before .read-run .ensures .1 .as-many)))
 
 read-list-same-length : (t : ℕ) → read-list-lts.Need-same-length (read-list-calls t) (read-list-at t) read-list.Post
 read-list-same-length t c = c .before .before .before .before .before .before .before .read-run .kept .1 .1 .1 .1 .0
@@ -383,13 +382,13 @@ read-list-same-length-4 : (t : ℕ) → read-list-lts.Need-same-length-4 (read-l
 read-list-same-length-4 t c = c .before .before .before .before .read-tail .kept .1 .1 .1 .1 .1 .0 ∙ c .before .before .before .before .before .before .before .before .before .before .before .before .before .before .read-run .kept .1 .1 .1 .1 .1 .0
 
 read-list-returns-2 : (t : ℕ) → read-list-lts.Need-returns-2 (read-list-calls t) (read-list-at t) read-list.Post
-read-list-returns-2 t c = (λ place. list-then _ _ _ _ place _ _ _ _ _ _ (c .before .before .before .before .before .before .before .before .before .before .before .before .before .before .read-run .ensures .0) _ _ _ _ (c .before .before .before .before .before .before .before .before .next .given .1) (c .before .before .before .before .read-tail .ensures .0), keeps-trans _ _ _ (c .before .before .before .before .before .before .before .before .before .before .before .before .before .before .read-run .ensures .1) (c .before .before .before .before .read-tail .ensures .1))
+read-list-returns-2 t c = (λ place. list-then _ _ _ _ place _ _ _ _ _ _ (c .before .before .before .before .before .before .before .before .before .before .before .before .before .before .read-run .ensures .0) _ _ _ _ (c .before .before .before .before .before .before .before .before .next .given .1) (c .before .before .before .before .read-tail .ensures .0), keeps-trans (c .before .before .before .before .before .before .before .before .before .before .before .before .before .before .read-run .ensures .1) (c .before .before .before .before .read-tail .ensures .1))
 
 abbrev read-pairs-Inv-loop : read-pairs-lts.InvT-loop
 read-pairs-Inv-loop msg n places lengths table₀ seen₀ at row deep cap count at-now₀ row-now₀ more₀ table seen at-now row-now more =
     Room msg (lent n places lengths) table cap at-now row-now row
     × (length table ≡ length table₀)
-    × Entered (atoms-of (lent n places lengths)) cap deep msg at row count table₀ at-now row-now more table
+    × Entered (atoms-of (lent n places lengths)) cap deep msg places lengths at row count table₀ at-now row-now more table seen
     × Keeps seen₀ seen
 
 abbrev read-pairs-μ-loop : read-pairs-lts.MeasureT-loop
@@ -397,10 +396,10 @@ read-pairs-μ-loop msg n places lengths table₀ seen₀ at row deep cap count a
     more
 
 read-pairs-loop-holds : (t : ℕ) → read-pairs-lts.Need-loop-holds (read-pairs-calls t) (read-pairs-at t) read-pairs.Post read-pairs-Inv-loop read-pairs-μ-loop
-read-pairs-loop-holds t c = (c .before .before .before .before .before .pre .1 .0, refl, entered-none _ _ _ _ _ _ _ _, keeps-refl _)
+read-pairs-loop-holds t c = (c .before .before .before .before .before .pre .1 .0, refl, entered-none _ _ _ _ _ _ _ _ _ _ _, keeps-refl _)
 
 read-pairs-read-term-requires : (t : ℕ) → read-pairs-lts.Need-read-term-requires (read-pairs-calls t) (read-pairs-at t) read-pairs.Post read-pairs-Inv-loop read-pairs-μ-loop
-read-pairs-read-term-requires t c κs = (omega (arith, c .before .before .before .before .before .before .before .before .before .pre .0), (c .before .before .before .loop .inv .0, slots-after _ _ (c .before .before .before .before .before .before .before .before .before .pre .1 .1) (c .before .before .before .loop .inv .3)))
+read-pairs-read-term-requires t c κs = (omega (arith, c .before .before .before .before .before .before .before .before .before .pre .0), (c .before .before .before .loop .inv .0, omega (arith, c .before .before .before .before .before .before .before .before .before .pre .1 .1, c .before .before .before .loop .inv .3 .as-many)))
 
 read-pairs-enum-known-number : (t : ℕ) → read-pairs-lts.Need-enum-known-number (read-pairs-calls t) (read-pairs-at t) read-pairs.Post read-pairs-Inv-loop read-pairs-μ-loop
 read-pairs-enum-known-number t c = search needs
@@ -409,34 +408,34 @@ read-pairs-same-length : (t : ℕ) → read-pairs-lts.Need-same-length (read-pai
 read-pairs-same-length t c = c .before .before .before .before .before .before .before .read-term .kept .1 .1 .1 .1 .0 ∙ c .before .before .before .before .before .before .before .before .before .before .before .loop .inv .1
 
 read-pairs-same-length-2 : (t : ℕ) → read-pairs-lts.Need-same-length-2 (read-pairs-calls t) (read-pairs-at t) read-pairs.Post read-pairs-Inv-loop read-pairs-μ-loop
-read-pairs-same-length-2 t c = c .before .before .before .before .before .before .before .read-term .kept .1 .1 .1 .1 .1 .0 ∙ keeps-length _ _ (c .before .before .before .before .before .before .before .before .before .before .before .loop .inv .3)
+read-pairs-same-length-2 t c = c .before .before .before .before .before .before .before .read-term .kept .1 .1 .1 .1 .1 .0 ∙ c .before .before .before .before .before .before .before .before .before .before .before .loop .inv .3 .as-many
 
 read-pairs-returns : (t : ℕ) → read-pairs-lts.Need-returns (read-pairs-calls t) (read-pairs-at t) read-pairs.Post read-pairs-Inv-loop read-pairs-μ-loop
 read-pairs-returns t c =
     let i = c .before .before .before .before .before .before .before .before .before .before .before .loop in
-    let e : i .more ≡ 0 → ⊥ = omega arith in
-    (λ place. key-refused _ _ _ _ _ _ _ _ _ _ _ _ (i .inv .2) e _ _ (c .before .before .before .before .before .before .before .read-term .ensures .0) _ _ place _ (c .before .number .given .1), keeps-trans _ _ _ (c .before .before .before .before .before .before .before .before .before .before .before .loop .inv .3) (c .before .before .before .before .before .before .before .read-term .ensures .1))
+    let e : i .more ≡ 0 → ⊥ = omega (arith, c .before .before .before .before .before .before .before .before .before .before .loop-test .taken) in
+    (λ place. key-refused _ _ _ _ _ _ _ _ _ _ _ _ _ _ _ (i .inv .2) e _ _ (c .before .before .before .before .before .before .before .read-term .ensures .0) _ _ place _ (c .before .number .given .1), keeps-trans (c .before .before .before .before .before .before .before .before .before .before .before .loop .inv .3) (c .before .before .before .before .before .before .before .read-term .ensures .1))
 
 read-pairs-enum-known-next : (t : ℕ) → read-pairs-lts.Need-enum-known-next (read-pairs-calls t) (read-pairs-at t) read-pairs.Post read-pairs-Inv-loop read-pairs-μ-loop
 read-pairs-enum-known-next t c = search needs
 
 read-pairs-repeats-requires : (t : ℕ) → read-pairs-lts.Need-repeats-requires (read-pairs-calls t) (read-pairs-at t) read-pairs.Post read-pairs-Inv-loop read-pairs-μ-loop
-read-pairs-repeats-requires t c κs = let s = slots-after _ _ (c .before .before .before .before .before .before .before .before .before .before .before .before .before .before .before .before .before .before .before .pre .1 .1) (keeps-trans _ _ _ (c .before .before .before .before .before .before .before .before .before .before .before .before .before .loop .inv .3) (c .before .before .before .before .before .before .before .before .before .read-term .ensures .1)) in let g = term-inside _ _ _ _ _ _ _ _ _ _ (c .before .before .before .next .given .1) (c .before .before .before .before .before .before .before .before .before .read-term .ensures .0) in (omega (arith, s .some), omega (arith, s .few), omega (arith, c .before .before .before .before .before .before .before .before .before .before .before .before .before .loop .inv .0 .few))
+read-pairs-repeats-requires t c κs = (omega (arith, c .before .before .before .before .before .before .before .before .before .before .before .before .before .before .before .before .before .before .before .pre .1 .1, c .before .before .before .before .before .before .before .before .before .before .before .before .before .loop .inv .3 .as-many, c .before .before .before .before .before .before .before .before .before .read-term .ensures .1 .as-many), omega (arith, term-inside _ _ _ _ _ _ _ _ _ _ (c .before .before .before .next .given .1) (c .before .before .before .before .before .before .before .before .before .read-term .ensures .0), c .before .before .before .before .before .before .before .before .before .before .before .before .before .loop .inv .0 .few))
 
 read-pairs-same-length-3 : (t : ℕ) → read-pairs-lts.Need-same-length-3 (read-pairs-calls t) (read-pairs-at t) read-pairs.Post read-pairs-Inv-loop read-pairs-μ-loop
 read-pairs-same-length-3 t c = c .before .before .before .before .before .before .before .before .before .before .before .before .before .read-term .kept .1 .1 .1 .1 .0 ∙ c .before .before .before .before .before .before .before .before .before .before .before .before .before .before .before .before .before .loop .inv .1
 
 read-pairs-same-length-4 : (t : ℕ) → read-pairs-lts.Need-same-length-4 (read-pairs-calls t) (read-pairs-at t) read-pairs.Post read-pairs-Inv-loop read-pairs-μ-loop
-read-pairs-same-length-4 t c = c .before .before .before .repeats .kept .1 .1 .1 .1 .0 ∙ c .before .before .before .before .before .before .before .before .before .before .before .before .before .read-term .kept .1 .1 .1 .1 .1 .0 ∙ keeps-length _ _ (c .before .before .before .before .before .before .before .before .before .before .before .before .before .before .before .before .before .loop .inv .3)
+read-pairs-same-length-4 t c = c .before .before .before .repeats .kept .1 .1 .1 .1 .0 ∙ c .before .before .before .before .before .before .before .before .before .before .before .before .before .read-term .kept .1 .1 .1 .1 .1 .0 ∙ c .before .before .before .before .before .before .before .before .before .before .before .before .before .before .before .before .before .loop .inv .3 .as-many
 
 read-pairs-returns-2 : (t : ℕ) → read-pairs-lts.Need-returns-2 (read-pairs-calls t) (read-pairs-at t) read-pairs.Post read-pairs-Inv-loop read-pairs-μ-loop
 read-pairs-returns-2 t c =
     let i = c .before .before .before .before .before .before .before .before .before .before .before .before .before .before .before .before .before .loop in
-    let e : i .more ≡ 0 → ⊥ = omega arith in
-    (λ place. key-twice _ _ _ _ _ _ _ _ _ _ _ _ (i .inv .2) e _ _ (c .before .before .before .before .before .before .before .before .before .before .before .before .before .read-term .ensures .0) _ _ _ (i .inv .0) _ _ (c .before .before .before .before .before .before .before .next .given .1) (keys-told _ _ _ _ _ _ (i .inv .0 .sized) (omega (arith, c .before .before .before .before .before .before .before .before .before .before .before .before .before .before .before .before .before .before .before .before .before .before .before .fits .n)) (λ j. omega (arith, c .before .before .before .before .before .before .before .before .before .before .before .before .before .before .before .before .before .before .before .before .before .before .shared-slice-known .given j))) _ (c .before .before .before .repeats .ensures .1) place _ (c .if1 .taken), keeps-trans _ _ _ (keeps-trans _ _ _ (c .before .before .before .before .before .before .before .before .before .before .before .before .before .before .before .before .before .loop .inv .3) (c .before .before .before .before .before .before .before .before .before .before .before .before .before .read-term .ensures .1)) (c .before .before .before .repeats .ensures .0))
+    let e : i .more ≡ 0 → ⊥ = omega (arith, c .before .before .before .before .before .before .before .before .before .before .before .before .before .before .before .before .loop-test .taken) in
+    (λ place. key-twice _ _ _ _ _ _ _ _ _ _ _ _ _ _ _ (i .inv .2) e _ _ (c .before .before .before .before .before .before .before .before .before .before .before .before .before .read-term .ensures .0) _ (i .inv .0) _ _ (c .before .before .before .before .before .before .before .next .given .1) (keys-told _ _ _ _ _ _ (i .inv .0 .sized) (omega (arith, c .before .before .before .before .before .before .before .before .before .before .before .before .before .before .before .before .before .before .before .before .before .before .before .fits .n)) (λ j. omega (arith, c .before .before .before .before .before .before .before .before .before .before .before .before .before .before .before .before .before .before .before .before .before .before .shared-slice-known .given j))) _ _ (c .before .before .before .before .before .before .before .before .before .before .before .before .before .read-term .ensures .1) (c .before .before .before .repeats .ensures .1 .0) place _ (c .if1 .taken), keeps-trans (keeps-trans (c .before .before .before .before .before .before .before .before .before .before .before .before .before .before .before .before .before .loop .inv .3) (c .before .before .before .before .before .before .before .before .before .before .before .before .before .read-term .ensures .1)) (c .before .before .before .repeats .ensures .0))
 
 read-pairs-read-term-requires-2 : (t : ℕ) → read-pairs-lts.Need-read-term-requires-2 (read-pairs-calls t) (read-pairs-at t) read-pairs.Post read-pairs-Inv-loop read-pairs-μ-loop
-read-pairs-read-term-requires-2 t c κs = (omega (arith, c .before .before .before .before .before .before .before .before .before .before .before .before .before .before .before .before .before .before .before .before .before .before .before .before .before .pre .0), (room-after _ _ _ _ _ _ _ _ _ _ _ _ _ _ _ (c .before .before .before .before .before .before .before .before .before .before .before .before .before .before .before .before .before .before .before .loop .inv .0) (c .before .before .before .before .before .before .before .before .before .before .before .before .before .before .before .read-term .ensures .0) (c .before .before .before .before .before .before .before .before .before .next .given .1) (c .before .before .before .before .before .before .before .before .before .before .before .before .before .before .before .read-term .kept .1 .1 .1 .1 .0), slots-after _ _ (c .before .before .before .before .before .before .before .before .before .before .before .before .before .before .before .before .before .before .before .before .before .before .before .before .before .pre .1 .1) (keeps-trans _ _ _ (keeps-trans _ _ _ (c .before .before .before .before .before .before .before .before .before .before .before .before .before .before .before .before .before .before .before .loop .inv .3) (c .before .before .before .before .before .before .before .before .before .before .before .before .before .before .before .read-term .ensures .1)) (c .before .before .before .before .before .repeats .ensures .0))))
+read-pairs-read-term-requires-2 t c κs = (omega (arith, c .before .before .before .before .before .before .before .before .before .before .before .before .before .before .before .before .before .before .before .before .before .before .before .before .before .pre .0), (room-after _ _ _ _ _ _ _ _ _ _ _ _ _ _ _ (c .before .before .before .before .before .before .before .before .before .before .before .before .before .before .before .before .before .before .before .loop .inv .0) (c .before .before .before .before .before .before .before .before .before .before .before .before .before .before .before .read-term .ensures .0) (c .before .before .before .before .before .before .before .before .before .next .given .1) (c .before .before .before .before .before .before .before .before .before .before .before .before .before .before .before .read-term .kept .1 .1 .1 .1 .0), omega (arith, c .before .before .before .before .before .before .before .before .before .before .before .before .before .before .before .before .before .before .before .before .before .before .before .before .before .pre .1 .1, c .before .before .before .before .before .before .before .before .before .before .before .before .before .before .before .before .before .before .before .loop .inv .3 .as-many, c .before .before .before .before .before .before .before .before .before .before .before .before .before .before .before .read-term .ensures .1 .as-many, c .before .before .before .before .before .repeats .ensures .0 .as-many)))
 
 read-pairs-enum-known-number-2 : (t : ℕ) → read-pairs-lts.Need-enum-known-number-2 (read-pairs-calls t) (read-pairs-at t) read-pairs.Post read-pairs-Inv-loop read-pairs-μ-loop
 read-pairs-enum-known-number-2 t c = search needs
@@ -445,13 +444,13 @@ read-pairs-same-length-5 : (t : ℕ) → read-pairs-lts.Need-same-length-5 (read
 read-pairs-same-length-5 t c = c .before .before .before .before .before .before .before .read-term2 .kept .1 .1 .1 .1 .0 ∙ c .before .before .before .before .before .before .before .before .before .before .before .before .before .before .before .before .before .before .before .before .before .before .before .read-term .kept .1 .1 .1 .1 .0 ∙ c .before .before .before .before .before .before .before .before .before .before .before .before .before .before .before .before .before .before .before .before .before .before .before .before .before .before .before .loop .inv .1
 
 read-pairs-same-length-6 : (t : ℕ) → read-pairs-lts.Need-same-length-6 (read-pairs-calls t) (read-pairs-at t) read-pairs.Post read-pairs-Inv-loop read-pairs-μ-loop
-read-pairs-same-length-6 t c = c .before .before .before .before .before .before .before .read-term2 .kept .1 .1 .1 .1 .1 .0 ∙ c .before .before .before .before .before .before .before .before .before .before .before .before .before .repeats .kept .1 .1 .1 .1 .0 ∙ c .before .before .before .before .before .before .before .before .before .before .before .before .before .before .before .before .before .before .before .before .before .before .before .read-term .kept .1 .1 .1 .1 .1 .0 ∙ keeps-length _ _ (c .before .before .before .before .before .before .before .before .before .before .before .before .before .before .before .before .before .before .before .before .before .before .before .before .before .before .before .loop .inv .3)
+read-pairs-same-length-6 t c = c .before .before .before .before .before .before .before .read-term2 .kept .1 .1 .1 .1 .1 .0 ∙ c .before .before .before .before .before .before .before .before .before .before .before .before .before .repeats .kept .1 .1 .1 .1 .0 ∙ c .before .before .before .before .before .before .before .before .before .before .before .before .before .before .before .before .before .before .before .before .before .before .before .read-term .kept .1 .1 .1 .1 .1 .0 ∙ c .before .before .before .before .before .before .before .before .before .before .before .before .before .before .before .before .before .before .before .before .before .before .before .before .before .before .before .loop .inv .3 .as-many
 
 read-pairs-returns-3 : (t : ℕ) → read-pairs-lts.Need-returns-3 (read-pairs-calls t) (read-pairs-at t) read-pairs.Post read-pairs-Inv-loop read-pairs-μ-loop
 read-pairs-returns-3 t c =
     let i = c .before .before .before .before .before .before .before .before .before .before .before .before .before .before .before .before .before .before .before .before .before .before .before .before .before .before .before .loop in
     let e : i .more ≡ 0 → ⊥ = omega (arith, c .before .before .before .before .before .before .before .before .before .before .before .before .before .before .before .before .before .before .before .before .before .before .before .before .before .before .loop-test .taken) in
-    (λ place. value-refused _ _ _ _ _ _ _ _ _ _ _ _ (i .inv .2) e _ _ (c .before .before .before .before .before .before .before .before .before .before .before .before .before .before .before .before .before .before .before .before .before .before .before .read-term .ensures .0) _ _ _ (i .inv .0) _ _ (c .before .before .before .before .before .before .before .before .before .before .before .before .before .before .before .before .before .next .given .1) (keys-told _ _ _ _ _ _ (i .inv .0 .sized) (omega (arith, c .before .before .before .before .before .before .before .before .before .before .before .before .before .before .before .before .before .before .before .before .before .before .before .before .before .before .before .before .before .before .before .before .before .fits .n)) (λ j. omega (arith, c .before .before .before .before .before .before .before .before .before .before .before .before .before .before .before .before .before .before .before .before .before .before .before .before .before .before .before .before .before .before .before .before .shared-slice-known .given j))) _ (c .before .before .before .before .before .before .before .before .before .before .before .before .before .repeats .ensures .1) (c .before .before .before .before .before .before .before .before .before .before .if1 .left) _ _ (c .before .before .before .before .before .before .before .read-term2 .ensures .0) _ _ place _ (c .before .number2 .given .1), keeps-trans _ _ _ (keeps-trans _ _ _ (keeps-trans _ _ _ (c .before .before .before .before .before .before .before .before .before .before .before .before .before .before .before .before .before .before .before .before .before .before .before .before .before .before .before .loop .inv .3) (c .before .before .before .before .before .before .before .before .before .before .before .before .before .before .before .before .before .before .before .before .before .before .before .read-term .ensures .1)) (c .before .before .before .before .before .before .before .before .before .before .before .before .before .repeats .ensures .0)) (c .before .before .before .before .before .before .before .read-term2 .ensures .1))
+    (λ place. value-refused _ _ _ _ _ _ _ _ _ _ _ _ _ _ _ (i .inv .2) e _ _ (c .before .before .before .before .before .before .before .before .before .before .before .before .before .before .before .before .before .before .before .before .before .before .before .read-term .ensures .0) _ (i .inv .0) _ _ (c .before .before .before .before .before .before .before .before .before .before .before .before .before .before .before .before .before .next .given .1) (keys-told _ _ _ _ _ _ (i .inv .0 .sized) (omega (arith, c .before .before .before .before .before .before .before .before .before .before .before .before .before .before .before .before .before .before .before .before .before .before .before .before .before .before .before .before .before .before .before .before .before .fits .n)) (λ j. omega (arith, c .before .before .before .before .before .before .before .before .before .before .before .before .before .before .before .before .before .before .before .before .before .before .before .before .before .before .before .before .before .before .before .before .shared-slice-known .given j))) _ _ (c .before .before .before .before .before .before .before .before .before .before .before .before .before .before .before .before .before .before .before .before .before .before .before .read-term .ensures .1) (c .before .before .before .before .before .before .before .before .before .before .before .before .before .repeats .ensures .1 .0) (c .before .before .before .before .before .before .before .before .before .before .if1 .left) _ _ (c .before .before .before .before .before .before .before .read-term2 .ensures .0) _ _ place _ (c .before .number2 .given .1), keeps-trans (keeps-trans (keeps-trans (c .before .before .before .before .before .before .before .before .before .before .before .before .before .before .before .before .before .before .before .before .before .before .before .before .before .before .before .loop .inv .3) (c .before .before .before .before .before .before .before .before .before .before .before .before .before .before .before .before .before .before .before .before .before .before .before .read-term .ensures .1)) (c .before .before .before .before .before .before .before .before .before .before .before .before .before .repeats .ensures .0)) (c .before .before .before .before .before .before .before .read-term2 .ensures .1))
 
 read-pairs-enum-known-next-2 : (t : ℕ) → read-pairs-lts.Need-enum-known-next-2 (read-pairs-calls t) (read-pairs-at t) read-pairs.Post read-pairs-Inv-loop read-pairs-μ-loop
 read-pairs-enum-known-next-2 t c = search needs
@@ -466,25 +465,25 @@ read-pairs-loop-again : (t : ℕ) → read-pairs-lts.Need-loop-again (read-pairs
 read-pairs-loop-again t c =
     let i = c .before .before .before .before .before .before .before .before .before .before .before .before .before .before .before .before .before .before .before .before .before .before .before .before .before .before .before .loop in
     let e : i .more ≡ 0 → ⊥ = omega (arith, c .before .before .before .before .before .before .before .before .before .before .before .before .before .before .before .before .before .before .before .before .before .before .before .before .before .before .loop-test .taken) in
-    (room-after _ _ _ _ _ _ _ _ _ _ _ _ _ _ _ (room-after _ _ _ _ _ _ _ _ _ _ _ _ _ _ _ (i .inv .0) (c .before .before .before .before .before .before .before .before .before .before .before .before .before .before .before .before .before .before .before .before .before .before .before .read-term .ensures .0) (c .before .before .before .before .before .before .before .before .before .before .before .before .before .before .before .before .before .next .given .1) (c .before .before .before .before .before .before .before .before .before .before .before .before .before .before .before .before .before .before .before .before .before .before .before .read-term .kept .1 .1 .1 .1 .0)) (c .before .before .before .before .before .before .before .read-term2 .ensures .0) (c .before .next2 .given .1) (c .before .before .before .before .before .before .before .read-term2 .kept .1 .1 .1 .1 .0), c .before .before .before .before .before .before .before .read-term2 .kept .1 .1 .1 .1 .0 ∙ c .before .before .before .before .before .before .before .before .before .before .before .before .before .before .before .before .before .before .before .before .before .before .before .read-term .kept .1 .1 .1 .1 .0 ∙ i .inv .1, entered-more _ _ _ _ _ _ _ _ _ _ _ _ (i .inv .2) e _ _ (c .before .before .before .before .before .before .before .before .before .before .before .before .before .before .before .before .before .before .before .before .before .before .before .read-term .ensures .0) _ _ _ (i .inv .0) _ _ (c .before .before .before .before .before .before .before .before .before .before .before .before .before .before .before .before .before .next .given .1) (keys-told _ _ _ _ _ _ (i .inv .0 .sized) (omega (arith, c .before .before .before .before .before .before .before .before .before .before .before .before .before .before .before .before .before .before .before .before .before .before .before .before .before .before .before .before .before .before .before .before .before .fits .n)) (λ j. omega (arith, c .before .before .before .before .before .before .before .before .before .before .before .before .before .before .before .before .before .before .before .before .before .before .before .before .before .before .before .before .before .before .before .before .shared-slice-known .given j))) _ (c .before .before .before .before .before .before .before .before .before .before .before .before .before .repeats .ensures .1) (c .before .before .before .before .before .before .before .before .before .before .if1 .left) _ _ (c .before .before .before .before .before .before .before .read-term2 .ensures .0) _ _ (c .before .next2 .given .1), keeps-trans _ _ _ (keeps-trans _ _ _ (keeps-trans _ _ _ (c .before .before .before .before .before .before .before .before .before .before .before .before .before .before .before .before .before .before .before .before .before .before .before .before .before .before .before .loop .inv .3) (c .before .before .before .before .before .before .before .before .before .before .before .before .before .before .before .before .before .before .before .before .before .before .before .read-term .ensures .1)) (c .before .before .before .before .before .before .before .before .before .before .before .before .before .repeats .ensures .0)) (c .before .before .before .before .before .before .before .read-term2 .ensures .1))
+    (room-after _ _ _ _ _ _ _ _ _ _ _ _ _ _ _ (room-after _ _ _ _ _ _ _ _ _ _ _ _ _ _ _ (i .inv .0) (c .before .before .before .before .before .before .before .before .before .before .before .before .before .before .before .before .before .before .before .before .before .before .before .read-term .ensures .0) (c .before .before .before .before .before .before .before .before .before .before .before .before .before .before .before .before .before .next .given .1) (c .before .before .before .before .before .before .before .before .before .before .before .before .before .before .before .before .before .before .before .before .before .before .before .read-term .kept .1 .1 .1 .1 .0)) (c .before .before .before .before .before .before .before .read-term2 .ensures .0) (c .before .next2 .given .1) (c .before .before .before .before .before .before .before .read-term2 .kept .1 .1 .1 .1 .0), c .before .before .before .before .before .before .before .read-term2 .kept .1 .1 .1 .1 .0 ∙ c .before .before .before .before .before .before .before .before .before .before .before .before .before .before .before .before .before .before .before .before .before .before .before .read-term .kept .1 .1 .1 .1 .0 ∙ i .inv .1, entered-more _ _ _ _ _ _ _ _ _ _ _ _ _ _ _ (i .inv .2) e _ _ (c .before .before .before .before .before .before .before .before .before .before .before .before .before .before .before .before .before .before .before .before .before .before .before .read-term .ensures .0) _ (i .inv .0) _ _ (c .before .before .before .before .before .before .before .before .before .before .before .before .before .before .before .before .before .next .given .1) (keys-told _ _ _ _ _ _ (i .inv .0 .sized) (omega (arith, c .before .before .before .before .before .before .before .before .before .before .before .before .before .before .before .before .before .before .before .before .before .before .before .before .before .before .before .before .before .before .before .before .before .fits .n)) (λ j. omega (arith, c .before .before .before .before .before .before .before .before .before .before .before .before .before .before .before .before .before .before .before .before .before .before .before .before .before .before .before .before .before .before .before .before .shared-slice-known .given j))) _ _ (c .before .before .before .before .before .before .before .before .before .before .before .before .before .before .before .before .before .before .before .before .before .before .before .read-term .ensures .1) (c .before .before .before .before .before .before .before .before .before .before .before .before .before .repeats .ensures .1 .0) (c .before .before .before .before .before .before .before .before .before .before .if1 .left) _ _ (c .before .before .before .before .before .before .before .read-term2 .ensures .0) _ _ (c .before .next2 .given .1) _ _ (c .before .before .before .before .before .before .before .before .before .before .before .before .before .repeats .ensures .0) (c .before .before .before .before .before .before .before .read-term2 .ensures .1) (c .before .before .before .before .before .before .before .before .before .before .before .before .before .repeats .ensures .1 .1), keeps-trans (keeps-trans (keeps-trans (c .before .before .before .before .before .before .before .before .before .before .before .before .before .before .before .before .before .before .before .before .before .before .before .before .before .before .before .loop .inv .3) (c .before .before .before .before .before .before .before .before .before .before .before .before .before .before .before .before .before .before .before .before .before .before .before .read-term .ensures .1)) (c .before .before .before .before .before .before .before .before .before .before .before .before .before .repeats .ensures .0)) (c .before .before .before .before .before .before .before .read-term2 .ensures .1))
 
 read-pairs-mul-t41 : (t : ℕ) → read-pairs-lts.Need-mul-t41 (read-pairs-calls t) (read-pairs-at t) read-pairs.Post read-pairs-Inv-loop read-pairs-μ-loop
 read-pairs-mul-t41 t c =
     let i = c .before .loop in
     let e : i .more ≡ 0 = omega arith in
-    let a = entries-many _ _ _ _ _ _ _ _ _ _ _ _ (i .inv .2) (i .inv .0 .low) e in omega (arith, i .inv .0 .few)
+    let a = entries-many _ _ _ _ _ _ _ _ _ _ _ _ _ _ _ (i .inv .2) (i .inv .0 .low) e in omega (arith, i .inv .0 .few)
 
 read-pairs-same-length-7 : (t : ℕ) → read-pairs-lts.Need-same-length-7 (read-pairs-calls t) (read-pairs-at t) read-pairs.Post read-pairs-Inv-loop read-pairs-μ-loop
 read-pairs-same-length-7 t c = c .before .loop .inv .1
 
 read-pairs-same-length-8 : (t : ℕ) → read-pairs-lts.Need-same-length-8 (read-pairs-calls t) (read-pairs-at t) read-pairs.Post read-pairs-Inv-loop read-pairs-μ-loop
-read-pairs-same-length-8 t c = keeps-length _ _ (c .before .loop .inv .3)
+read-pairs-same-length-8 t c = c .before .loop .inv .3 .as-many
 
 read-pairs-returns-4 : (t : ℕ) → read-pairs-lts.Need-returns-4 (read-pairs-calls t) (read-pairs-at t) read-pairs.Post read-pairs-Inv-loop read-pairs-μ-loop
 read-pairs-returns-4 t c =
     let i = c .before .loop in
     let e : i .more ≡ 0 = omega arith in
-    (λ place. entries-end _ _ _ _ _ _ _ _ _ _ _ _ (i .inv .2) place e (i .inv .0 .low) (i .inv .0 .near), c .before .loop .inv .3)
+    (λ place. entries-end _ _ _ _ _ _ _ _ _ _ _ _ _ _ _ (i .inv .2) place e (i .inv .0 .low) (i .inv .0 .near), c .before .loop .inv .3)
 
 read-parts-read-wanted-requires : (t : ℕ) → read-parts-lts.Need-read-wanted-requires (read-parts-calls t) (read-parts-at t) read-parts.Post
 read-parts-read-wanted-requires t c κs = (omega (arith, c .before .before .before .before .before .before .before .pre .0), (c .before .before .before .before .before .before .before .pre .1 .0, c .before .before .before .before .before .before .before .pre .1 .1))
@@ -496,7 +495,7 @@ read-parts-enum-known-next : (t : ℕ) → read-parts-lts.Need-enum-known-next (
 read-parts-enum-known-next t c = search needs
 
 read-parts-read-run-requires : (t : ℕ) → read-parts-lts.Need-read-run-requires (read-parts-calls t) (read-parts-at t) read-parts.Post
-read-parts-read-run-requires t c κs = (omega (arith, c .before .before .before .before .before .before .before .before .before .before .before .before .before .before .before .before .before .pre .0), (room-after _ _ _ _ _ _ _ _ _ _ _ _ _ _ _ (c .before .before .before .before .before .before .before .before .before .before .before .before .before .before .before .before .before .pre .1 .0) (c .before .before .before .before .before .before .before .before .before .read-wanted .ensures .0) (c .before .before .before .next .given .1) (c .before .before .before .before .before .before .before .before .before .read-wanted .kept .1 .1 .1 .1 .0), slots-after _ _ (c .before .before .before .before .before .before .before .before .before .before .before .before .before .before .before .before .before .pre .1 .1) (c .before .before .before .before .before .before .before .before .before .read-wanted .ensures .1)))
+read-parts-read-run-requires t c κs = (omega (arith, c .before .before .before .before .before .before .before .before .before .before .before .before .before .before .before .before .before .pre .0), (room-after _ _ _ _ _ _ _ _ _ _ _ _ _ _ _ (c .before .before .before .before .before .before .before .before .before .before .before .before .before .before .before .before .before .pre .1 .0) (c .before .before .before .before .before .before .before .before .before .read-wanted .ensures .0) (c .before .before .before .next .given .1) (c .before .before .before .before .before .before .before .before .before .read-wanted .kept .1 .1 .1 .1 .0), omega (arith, c .before .before .before .before .before .before .before .before .before .before .before .before .before .before .before .before .before .pre .1 .1, c .before .before .before .before .before .before .before .before .before .read-wanted .ensures .1 .as-many)))
 
 read-parts-enum-known-number-2 : (t : ℕ) → read-parts-lts.Need-enum-known-number-2 (read-parts-calls t) (read-parts-at t) read-parts.Post
 read-parts-enum-known-number-2 t c = search needs
@@ -532,7 +531,7 @@ read-parts-same-length-4 : (t : ℕ) → read-parts-lts.Need-same-length-4 (read
 read-parts-same-length-4 t c = c .before .before .before .before .before .before .before .read-run .kept .1 .1 .1 .1 .1 .0 ∙ c .before .before .before .before .before .before .before .before .before .before .before .before .before .before .before .before .before .read-wanted .kept .1 .1 .1 .1 .1 .0
 
 read-parts-returns-2 : (t : ℕ) → read-parts-lts.Need-returns-2 (read-parts-calls t) (read-parts-at t) read-parts.Post
-read-parts-returns-2 t c = (λ l kind later. parts-second _ _ _ _ _ _ _ _ _ _ l _ _ (c .before .before .before .before .before .before .before .before .before .before .before .before .before .before .before .before .before .read-wanted .ensures .0) _ _ (c .before .before .before .before .before .before .before .before .before .before .before .next .given .1) _ _ (c .before .before .before .before .before .before .before .read-run .ensures .0) _ _ _ (c .before .number2 .given .1), keeps-trans _ _ _ (c .before .before .before .before .before .before .before .before .before .before .before .before .before .before .before .before .before .read-wanted .ensures .1) (c .before .before .before .before .before .before .before .read-run .ensures .1))
+read-parts-returns-2 t c = (λ l kind later. parts-second _ _ _ _ _ _ _ _ _ _ l _ _ (c .before .before .before .before .before .before .before .before .before .before .before .before .before .before .before .before .before .read-wanted .ensures .0) _ _ (c .before .before .before .before .before .before .before .before .before .before .before .next .given .1) _ _ (c .before .before .before .before .before .before .before .read-run .ensures .0) _ _ _ (c .before .number2 .given .1), keeps-trans (c .before .before .before .before .before .before .before .before .before .before .before .before .before .before .before .before .before .read-wanted .ensures .1) (c .before .before .before .before .before .before .before .read-run .ensures .1))
 
 read-parts-same-length-5 : (t : ℕ) → read-parts-lts.Need-same-length-5 (read-parts-calls t) (read-parts-at t) read-parts.Post
 read-parts-same-length-5 t c = c .before .before .before .before .before .before .before .before .before .before .before .read-run .kept .1 .1 .1 .1 .0 ∙ c .before .before .before .before .before .before .before .before .before .before .before .before .before .before .before .before .before .before .before .before .before .read-wanted .kept .1 .1 .1 .1 .0
@@ -541,7 +540,7 @@ read-parts-same-length-6 : (t : ℕ) → read-parts-lts.Need-same-length-6 (read
 read-parts-same-length-6 t c = c .before .before .before .before .before .before .before .before .before .before .before .read-run .kept .1 .1 .1 .1 .1 .0 ∙ c .before .before .before .before .before .before .before .before .before .before .before .before .before .before .before .before .before .before .before .before .before .read-wanted .kept .1 .1 .1 .1 .1 .0
 
 read-parts-returns-3 : (t : ℕ) → read-parts-lts.Need-returns-3 (read-parts-calls t) (read-parts-at t) read-parts.Post
-read-parts-returns-3 t c = (λ l kind later. parts-later-refused _ _ _ _ _ _ _ _ _ _ l _ _ (c .before .before .before .before .before .before .before .before .before .before .before .before .before .before .before .before .before .before .before .before .before .read-wanted .ensures .0) _ _ (c .before .before .before .before .before .before .before .before .before .before .before .before .before .before .before .next .given .1) _ _ (c .before .before .before .before .before .before .before .before .before .before .before .read-run .ensures .0) _ _ (c .before .before .before .before .before .next2 .given .1) _ (c .before .before .before .read-later .ensures l later _) _ _ _ (c .before .number3 .given .1), keeps-trans _ _ _ (c .before .before .before .before .before .before .before .before .before .before .before .before .before .before .before .before .before .before .before .before .before .read-wanted .ensures .1) (c .before .before .before .before .before .before .before .before .before .before .before .read-run .ensures .1))
+read-parts-returns-3 t c = (λ l kind later. parts-later-refused _ _ _ _ _ _ _ _ _ _ l _ _ (c .before .before .before .before .before .before .before .before .before .before .before .before .before .before .before .before .before .before .before .before .before .read-wanted .ensures .0) _ _ (c .before .before .before .before .before .before .before .before .before .before .before .before .before .before .before .next .given .1) _ _ (c .before .before .before .before .before .before .before .before .before .before .before .read-run .ensures .0) _ _ (c .before .before .before .before .before .next2 .given .1) _ (c .before .before .before .read-later .ensures l later _) _ _ _ (c .before .number3 .given .1), keeps-trans (c .before .before .before .before .before .before .before .before .before .before .before .before .before .before .before .before .before .before .before .before .before .read-wanted .ensures .1) (c .before .before .before .before .before .before .before .before .before .before .before .read-run .ensures .1))
 
 read-parts-same-length-7 : (t : ℕ) → read-parts-lts.Need-same-length-7 (read-parts-calls t) (read-parts-at t) read-parts.Post
 read-parts-same-length-7 t c = c .before .before .before .before .before .before .before .before .before .before .before .read-run .kept .1 .1 .1 .1 .0 ∙ c .before .before .before .before .before .before .before .before .before .before .before .before .before .before .before .before .before .before .before .before .before .read-wanted .kept .1 .1 .1 .1 .0
@@ -550,7 +549,7 @@ read-parts-same-length-8 : (t : ℕ) → read-parts-lts.Need-same-length-8 (read
 read-parts-same-length-8 t c = c .before .before .before .before .before .before .before .before .before .before .before .read-run .kept .1 .1 .1 .1 .1 .0 ∙ c .before .before .before .before .before .before .before .before .before .before .before .before .before .before .before .before .before .before .before .before .before .read-wanted .kept .1 .1 .1 .1 .1 .0
 
 read-parts-returns-4 : (t : ℕ) → read-parts-lts.Need-returns-4 (read-parts-calls t) (read-parts-at t) read-parts.Post
-read-parts-returns-4 t c = (λ l kind later. parts-got _ _ _ _ _ _ _ _ _ _ l _ _ (c .before .before .before .before .before .before .before .before .before .before .before .before .before .before .before .before .before .before .before .before .before .read-wanted .ensures .0) _ _ (c .before .before .before .before .before .before .before .before .before .before .before .before .before .before .before .next .given .1) _ _ (c .before .before .before .before .before .before .before .before .before .before .before .read-run .ensures .0) _ _ (c .before .before .before .before .before .next2 .given .1) _ (c .before .before .before .read-later .ensures l later _) _ _ kind (c .before .next3 .given .1), keeps-trans _ _ _ (c .before .before .before .before .before .before .before .before .before .before .before .before .before .before .before .before .before .before .before .before .before .read-wanted .ensures .1) (c .before .before .before .before .before .before .before .before .before .before .before .read-run .ensures .1))
+read-parts-returns-4 t c = (λ l kind later. parts-got _ _ _ _ _ _ _ _ _ _ l _ _ (c .before .before .before .before .before .before .before .before .before .before .before .before .before .before .before .before .before .before .before .before .before .read-wanted .ensures .0) _ _ (c .before .before .before .before .before .before .before .before .before .before .before .before .before .before .before .next .given .1) _ _ (c .before .before .before .before .before .before .before .before .before .before .before .read-run .ensures .0) _ _ (c .before .before .before .before .before .next2 .given .1) _ (c .before .before .before .read-later .ensures l later _) _ _ kind (c .before .next3 .given .1), keeps-trans (c .before .before .before .before .before .before .before .before .before .before .before .before .before .before .before .before .before .before .before .before .before .read-wanted .ensures .1) (c .before .before .before .before .before .before .before .before .before .before .before .read-run .ensures .1))
 
 abbrev read-run-Inv-loop : read-run-lts.InvT-loop
 read-run-Inv-loop msg n places lengths table₀ seen₀ at row whole deep cap wanted count at-now₀ row-now₀ more₀ table seen at-now row-now more =
@@ -569,7 +568,7 @@ read-run-loop-holds : (t : ℕ) → read-run-lts.Need-loop-holds (read-run-calls
 read-run-loop-holds t c = (c .before .before .before .before .before .pre .1 .0, refl, (λ s U d. d), keeps-refl _)
 
 read-run-read-term-requires : (t : ℕ) → read-run-lts.Need-read-term-requires (read-run-calls t) (read-run-at t) read-run.Post read-run-Inv-loop read-run-μ-loop
-read-run-read-term-requires t c κs = (omega (arith, c .before .before .before .before .before .before .before .before .before .pre .0), (c .before .before .before .loop .inv .0, slots-after _ _ (c .before .before .before .before .before .before .before .before .before .pre .1 .1) (c .before .before .before .loop .inv .3)))
+read-run-read-term-requires t c κs = (omega (arith, c .before .before .before .before .before .before .before .before .before .pre .0), (c .before .before .before .loop .inv .0, omega (arith, c .before .before .before .before .before .before .before .before .before .pre .1 .1, c .before .before .before .loop .inv .3 .as-many)))
 
 read-run-enum-known-number : (t : ℕ) → read-run-lts.Need-enum-known-number (read-run-calls t) (read-run-at t) read-run.Post read-run-Inv-loop read-run-μ-loop
 read-run-enum-known-number t c = search needs
@@ -578,13 +577,13 @@ read-run-same-length : (t : ℕ) → read-run-lts.Need-same-length (read-run-cal
 read-run-same-length t c = c .before .before .before .before .before .before .before .read-term .kept .1 .1 .1 .1 .0 ∙ c .before .before .before .before .before .before .before .before .before .before .before .loop .inv .1
 
 read-run-same-length-2 : (t : ℕ) → read-run-lts.Need-same-length-2 (read-run-calls t) (read-run-at t) read-run.Post read-run-Inv-loop read-run-μ-loop
-read-run-same-length-2 t c = c .before .before .before .before .before .before .before .read-term .kept .1 .1 .1 .1 .1 .0 ∙ keeps-length _ _ (c .before .before .before .before .before .before .before .before .before .before .before .loop .inv .3)
+read-run-same-length-2 t c = c .before .before .before .before .before .before .before .read-term .kept .1 .1 .1 .1 .1 .0 ∙ c .before .before .before .before .before .before .before .before .before .before .before .loop .inv .3 .as-many
 
 read-run-returns : (t : ℕ) → read-run-lts.Need-returns (read-run-calls t) (read-run-at t) read-run.Post read-run-Inv-loop read-run-μ-loop
 read-run-returns t c =
     let i = c .before .before .before .before .before .before .before .before .before .before .before .loop in
     let e : i .more ≡ 0 → ⊥ = omega arith in
-    (i .inv .2 _ _ (run-refused _ _ _ _ _ _ _ _ _ e _ _ _ _ _ (c .before .number .given .1) (c .before .before .before .before .before .before .before .read-term .ensures .0)), keeps-trans _ _ _ (c .before .before .before .before .before .before .before .before .before .before .before .loop .inv .3) (c .before .before .before .before .before .before .before .read-term .ensures .1))
+    (i .inv .2 _ _ (run-refused _ _ _ _ _ _ _ _ _ e _ _ _ _ _ (c .before .number .given .1) (c .before .before .before .before .before .before .before .read-term .ensures .0)), keeps-trans (c .before .before .before .before .before .before .before .before .before .before .before .loop .inv .3) (c .before .before .before .before .before .before .before .read-term .ensures .1))
 
 read-run-enum-known-next : (t : ℕ) → read-run-lts.Need-enum-known-next (read-run-calls t) (read-run-at t) read-run.Post read-run-Inv-loop read-run-μ-loop
 read-run-enum-known-next t c = search needs
@@ -599,13 +598,13 @@ read-run-loop-again : (t : ℕ) → read-run-lts.Need-loop-again (read-run-calls
 read-run-loop-again t c =
     let i = c .before .before .before .before .before .before .before .before .before .before .before .loop in
     let e : i .more ≡ 0 → ⊥ = omega arith in
-    (room-after _ _ _ _ _ _ _ _ _ _ _ _ _ _ _ (i .inv .0) (c .before .before .before .before .before .before .before .read-term .ensures .0) (c .before .next .given .1) (c .before .before .before .before .before .before .before .read-term .kept .1 .1 .1 .1 .0), c .before .before .before .before .before .before .before .read-term .kept .1 .1 .1 .1 .0 ∙ i .inv .1, (λ s U d. i .inv .2 s U (run-more _ _ _ _ _ _ _ _ _ e _ _ _ _ s U (c .before .next .given .1) (c .before .before .before .before .before .before .before .read-term .ensures .0) d)), keeps-trans _ _ _ (c .before .before .before .before .before .before .before .before .before .before .before .loop .inv .3) (c .before .before .before .before .before .before .before .read-term .ensures .1))
+    (room-after _ _ _ _ _ _ _ _ _ _ _ _ _ _ _ (i .inv .0) (c .before .before .before .before .before .before .before .read-term .ensures .0) (c .before .next .given .1) (c .before .before .before .before .before .before .before .read-term .kept .1 .1 .1 .1 .0), c .before .before .before .before .before .before .before .read-term .kept .1 .1 .1 .1 .0 ∙ i .inv .1, (λ s U d. i .inv .2 s U (run-more _ _ _ _ _ _ _ _ _ e _ _ _ _ s U (c .before .next .given .1) (c .before .before .before .before .before .before .before .read-term .ensures .0) d)), keeps-trans (c .before .before .before .before .before .before .before .before .before .before .before .loop .inv .3) (c .before .before .before .before .before .before .before .read-term .ensures .1))
 
 read-run-same-length-3 : (t : ℕ) → read-run-lts.Need-same-length-3 (read-run-calls t) (read-run-at t) read-run.Post read-run-Inv-loop read-run-μ-loop
 read-run-same-length-3 t c = c .before .loop .inv .1
 
 read-run-same-length-4 : (t : ℕ) → read-run-lts.Need-same-length-4 (read-run-calls t) (read-run-at t) read-run.Post read-run-Inv-loop read-run-μ-loop
-read-run-same-length-4 t c = keeps-length _ _ (c .before .loop .inv .3)
+read-run-same-length-4 t c = c .before .loop .inv .3 .as-many
 
 read-run-returns-2 : (t : ℕ) → read-run-lts.Need-returns-2 (read-run-calls t) (read-run-at t) read-run.Post read-run-Inv-loop read-run-μ-loop
 read-run-returns-2 t c =
@@ -636,7 +635,7 @@ read-tail-enum-known-head : (t : ℕ) → read-tail-lts.Need-enum-known-head (re
 read-tail-enum-known-head t c = search needs
 
 read-tail-read-run-requires : (t : ℕ) → read-tail-lts.Need-read-run-requires (read-tail-calls t) (read-tail-at t) read-tail.Post read-tail-Inv-loop read-tail-μ-loop
-read-tail-read-run-requires t c κs = (omega (arith, c .before .before .before .before .before .before .before .before .before .before .before .before .pre .0), (room-at _ _ _ _ _ _ _ _ (c .before .before .before .before .before .before .loop .inv .0) (opens-near _ _ _ _ (opens _ _ _ _ _ (opened _ _ _ (c .before .before .before .before .before .before .loop .row-now) _ _ (c .before .before .before .before .before .read-opening .ensures) (λ k p e. miss (3 ∷ []) 0 tt (rw e at (c .before .before .before .before .match .keys1))) (c .before .before .before .before .before .before .loop .inv .0 .near))) (c .before .before .before .head .given .1)), slots-after _ _ (c .before .before .before .before .before .before .before .before .before .before .before .before .pre .1 .1) (c .before .before .before .before .before .before .loop .inv .4)))
+read-tail-read-run-requires t c κs = (omega (arith, c .before .before .before .before .before .before .before .before .before .before .before .before .pre .0), (room-at _ _ _ _ _ _ _ _ (c .before .before .before .before .before .before .loop .inv .0) (opens-near _ _ _ _ (opens _ _ _ _ _ (opened _ _ _ (c .before .before .before .before .before .before .loop .row-now) _ _ (c .before .before .before .before .before .read-opening .ensures) (λ k p e. miss (3 ∷ []) 0 tt (rw e at (c .before .before .before .before .match .keys1))) (c .before .before .before .before .before .before .loop .inv .0 .near))) (c .before .before .before .head .given .1)), omega (arith, c .before .before .before .before .before .before .before .before .before .before .before .before .pre .1 .1, c .before .before .before .before .before .before .loop .inv .4 .as-many)))
 
 read-tail-enum-known-number : (t : ℕ) → read-tail-lts.Need-enum-known-number (read-tail-calls t) (read-tail-at t) read-tail.Post read-tail-Inv-loop read-tail-μ-loop
 read-tail-enum-known-number t c = search needs
@@ -645,10 +644,10 @@ read-tail-same-length : (t : ℕ) → read-tail-lts.Need-same-length (read-tail-
 read-tail-same-length t c = c .before .before .before .before .before .before .before .read-run .kept .1 .1 .1 .1 .0 ∙ c .before .before .before .before .before .before .before .before .before .before .before .before .before .before .loop .inv .1
 
 read-tail-same-length-2 : (t : ℕ) → read-tail-lts.Need-same-length-2 (read-tail-calls t) (read-tail-at t) read-tail.Post read-tail-Inv-loop read-tail-μ-loop
-read-tail-same-length-2 t c = c .before .before .before .before .before .before .before .read-run .kept .1 .1 .1 .1 .1 .0 ∙ keeps-length _ _ (c .before .before .before .before .before .before .before .before .before .before .before .before .before .before .loop .inv .4)
+read-tail-same-length-2 t c = c .before .before .before .before .before .before .before .read-run .kept .1 .1 .1 .1 .1 .0 ∙ c .before .before .before .before .before .before .before .before .before .before .before .before .before .before .loop .inv .4 .as-many
 
 read-tail-returns : (t : ℕ) → read-tail-lts.Need-returns (read-tail-calls t) (read-tail-at t) read-tail.Post read-tail-Inv-loop read-tail-μ-loop
-read-tail-returns t c = (tailed-run-refused _ _ _ _ _ _ _ _ _ _ (c .before .before .before .before .before .before .before .before .before .before .before .before .before .before .loop .inv .3) (opened _ _ _ (c .before .before .before .before .before .before .before .before .before .before .before .before .before .before .loop .row-now) _ _ (c .before .before .before .before .before .before .before .before .before .before .before .before .before .read-opening .ensures) (λ k p e. miss (3 ∷ []) 0 tt (rw e at (c .before .before .before .before .before .before .before .before .before .before .before .before .match .keys1))) (c .before .before .before .before .before .before .before .before .before .before .before .before .before .before .loop .inv .0 .near)) _ _ (c .before .before .before .before .before .before .before .before .before .before .before .head .given .1) _ _ (c .before .before .before .before .before .before .before .read-run .ensures .0) _ _ _ (c .before .number .given .1), keeps-trans _ _ _ (c .before .before .before .before .before .before .before .before .before .before .before .before .before .before .loop .inv .4) (c .before .before .before .before .before .before .before .read-run .ensures .1))
+read-tail-returns t c = (tailed-run-refused _ _ _ _ _ _ _ _ _ _ (c .before .before .before .before .before .before .before .before .before .before .before .before .before .before .loop .inv .3) (opened _ _ _ (c .before .before .before .before .before .before .before .before .before .before .before .before .before .before .loop .row-now) _ _ (c .before .before .before .before .before .before .before .before .before .before .before .before .before .read-opening .ensures) (λ k p e. miss (3 ∷ []) 0 tt (rw e at (c .before .before .before .before .before .before .before .before .before .before .before .before .match .keys1))) (c .before .before .before .before .before .before .before .before .before .before .before .before .before .before .loop .inv .0 .near)) _ _ (c .before .before .before .before .before .before .before .before .before .before .before .head .given .1) _ _ (c .before .before .before .before .before .before .before .read-run .ensures .0) _ _ _ (c .before .number .given .1), keeps-trans (c .before .before .before .before .before .before .before .before .before .before .before .before .before .before .loop .inv .4) (c .before .before .before .before .before .before .before .read-run .ensures .1))
 
 read-tail-enum-known-next : (t : ℕ) → read-tail-lts.Need-enum-known-next (read-tail-calls t) (read-tail-at t) read-tail.Post read-tail-Inv-loop read-tail-μ-loop
 read-tail-enum-known-next t c = search needs
@@ -660,7 +659,7 @@ read-tail-loop-less : (t : ℕ) → read-tail-lts.Need-loop-less (read-tail-call
 read-tail-loop-less t c = let a = tailed-further _ _ _ _ _ _ _ _ _ _ (c .before .before .before .before .before .before .before .before .before .before .before .before .before .before .loop .inv .3) (opened _ _ _ (c .before .before .before .before .before .before .before .before .before .before .before .before .before .before .loop .row-now) _ _ (c .before .before .before .before .before .before .before .before .before .before .before .before .before .read-opening .ensures) (λ k p e. miss (3 ∷ []) 0 tt (rw e at (c .before .before .before .before .before .before .before .before .before .before .before .before .match .keys1))) (c .before .before .before .before .before .before .before .before .before .before .before .before .before .before .loop .inv .0 .near)) _ _ (c .before .before .before .before .before .before .before .before .before .before .before .head .given .1) _ _ (c .before .before .before .before .before .before .before .read-run .ensures .0) _ _ (c .before .next .given .1) in omega (arith, run-many _ _ _ _ _ _ _ _ _ _ _ (c .before .before .before .before .before .before .before .read-run .ensures .0) (c .before .next .given .1) .1)
 
 read-tail-loop-again : (t : ℕ) → read-tail-lts.Need-loop-again (read-tail-calls t) (read-tail-at t) read-tail.Post read-tail-Inv-loop read-tail-μ-loop
-read-tail-loop-again t c = (room-after _ _ _ _ _ _ _ _ _ _ _ _ _ _ _ (room-at _ _ _ _ _ _ _ _ (c .before .before .before .before .before .before .before .before .before .before .before .before .before .before .loop .inv .0) (opens-near _ _ _ _ (opens _ _ _ _ _ (opened _ _ _ (c .before .before .before .before .before .before .before .before .before .before .before .before .before .before .loop .row-now) _ _ (c .before .before .before .before .before .before .before .before .before .before .before .before .before .read-opening .ensures) (λ k p e. miss (3 ∷ []) 0 tt (rw e at (c .before .before .before .before .before .before .before .before .before .before .before .before .match .keys1))) (c .before .before .before .before .before .before .before .before .before .before .before .before .before .before .loop .inv .0 .near))) (c .before .before .before .before .before .before .before .before .before .before .before .head .given .1))) (c .before .before .before .before .before .before .before .read-run .ensures .0) (c .before .next .given .1) (c .before .before .before .before .before .before .before .read-run .kept .1 .1 .1 .1 .0), c .before .before .before .before .before .before .before .read-run .kept .1 .1 .1 .1 .0 ∙ c .before .before .before .before .before .before .before .before .before .before .before .before .before .before .loop .inv .1, omega (arith, run-many _ _ _ _ _ _ _ _ _ _ _ (c .before .before .before .before .before .before .before .read-run .ensures .0) (c .before .next .given .1) .0), tailed-more _ _ _ _ _ _ _ _ _ _ (c .before .before .before .before .before .before .before .before .before .before .before .before .before .before .loop .inv .3) (opened _ _ _ (c .before .before .before .before .before .before .before .before .before .before .before .before .before .before .loop .row-now) _ _ (c .before .before .before .before .before .before .before .before .before .before .before .before .before .read-opening .ensures) (λ k p e. miss (3 ∷ []) 0 tt (rw e at (c .before .before .before .before .before .before .before .before .before .before .before .before .match .keys1))) (c .before .before .before .before .before .before .before .before .before .before .before .before .before .before .loop .inv .0 .near)) _ _ (c .before .before .before .before .before .before .before .before .before .before .before .head .given .1) _ _ (c .before .before .before .before .before .before .before .read-run .ensures .0) _ _ (c .before .next .given .1), keeps-trans _ _ _ (c .before .before .before .before .before .before .before .before .before .before .before .before .before .before .loop .inv .4) (c .before .before .before .before .before .before .before .read-run .ensures .1))
+read-tail-loop-again t c = (room-after _ _ _ _ _ _ _ _ _ _ _ _ _ _ _ (room-at _ _ _ _ _ _ _ _ (c .before .before .before .before .before .before .before .before .before .before .before .before .before .before .loop .inv .0) (opens-near _ _ _ _ (opens _ _ _ _ _ (opened _ _ _ (c .before .before .before .before .before .before .before .before .before .before .before .before .before .before .loop .row-now) _ _ (c .before .before .before .before .before .before .before .before .before .before .before .before .before .read-opening .ensures) (λ k p e. miss (3 ∷ []) 0 tt (rw e at (c .before .before .before .before .before .before .before .before .before .before .before .before .match .keys1))) (c .before .before .before .before .before .before .before .before .before .before .before .before .before .before .loop .inv .0 .near))) (c .before .before .before .before .before .before .before .before .before .before .before .head .given .1))) (c .before .before .before .before .before .before .before .read-run .ensures .0) (c .before .next .given .1) (c .before .before .before .before .before .before .before .read-run .kept .1 .1 .1 .1 .0), c .before .before .before .before .before .before .before .read-run .kept .1 .1 .1 .1 .0 ∙ c .before .before .before .before .before .before .before .before .before .before .before .before .before .before .loop .inv .1, omega (arith, run-many _ _ _ _ _ _ _ _ _ _ _ (c .before .before .before .before .before .before .before .read-run .ensures .0) (c .before .next .given .1) .0), tailed-more _ _ _ _ _ _ _ _ _ _ (c .before .before .before .before .before .before .before .before .before .before .before .before .before .before .loop .inv .3) (opened _ _ _ (c .before .before .before .before .before .before .before .before .before .before .before .before .before .before .loop .row-now) _ _ (c .before .before .before .before .before .before .before .before .before .before .before .before .before .read-opening .ensures) (λ k p e. miss (3 ∷ []) 0 tt (rw e at (c .before .before .before .before .before .before .before .before .before .before .before .before .match .keys1))) (c .before .before .before .before .before .before .before .before .before .before .before .before .before .before .loop .inv .0 .near)) _ _ (c .before .before .before .before .before .before .before .before .before .before .before .head .given .1) _ _ (c .before .before .before .before .before .before .before .read-run .ensures .0) _ _ (c .before .next .given .1), keeps-trans (c .before .before .before .before .before .before .before .before .before .before .before .before .before .before .loop .inv .4) (c .before .before .before .before .before .before .before .read-run .ensures .1))
 
 read-tail-enum-known-head-2 : (t : ℕ) → read-tail-lts.Need-enum-known-head-2 (read-tail-calls t) (read-tail-at t) read-tail.Post read-tail-Inv-loop read-tail-μ-loop
 read-tail-enum-known-head-2 t c = search needs
@@ -669,7 +668,7 @@ read-tail-same-length-3 : (t : ℕ) → read-tail-lts.Need-same-length-3 (read-t
 read-tail-same-length-3 t c = c .before .before .before .before .loop .inv .1
 
 read-tail-same-length-4 : (t : ℕ) → read-tail-lts.Need-same-length-4 (read-tail-calls t) (read-tail-at t) read-tail.Post read-tail-Inv-loop read-tail-μ-loop
-read-tail-same-length-4 t c = keeps-length _ _ (c .before .before .before .before .loop .inv .4)
+read-tail-same-length-4 t c = c .before .before .before .before .loop .inv .4 .as-many
 
 read-tail-returns-2 : (t : ℕ) → read-tail-lts.Need-returns-2 (read-tail-calls t) (read-tail-at t) read-tail.Post read-tail-Inv-loop read-tail-μ-loop
 read-tail-returns-2 t c = (tailed-refused _ _ _ _ _ _ _ _ _ _ (c .before .before .before .before .loop .inv .3) _ _ _ _ (c .before .before .before .read-opening .ensures) (c .before .head2 .given .1), c .before .before .before .before .loop .inv .4)
@@ -677,16 +676,16 @@ read-tail-returns-2 t c = (tailed-refused _ _ _ _ _ _ _ _ _ _ (c .before .before
 read-tail-read-last-requires : (t : ℕ) → read-tail-lts.Need-read-last-requires (read-tail-calls t) (read-tail-at t) read-tail.Post read-tail-Inv-loop read-tail-μ-loop
 read-tail-read-last-requires t c κs =
     let o = (opened _ _ _ (c .before .before .before .before .loop .row-now) _ _ (c .before .before .before .read-opening .ensures) (λ k p e. miss (1 ∷ 2 ∷ 4 ∷ []) 0 tt (rw e at (c .before .before .match .keys3))) (c .before .before .before .before .loop .inv .0 .near)) in
-    (omega (arith, c .before .before .before .before .before .before .before .before .before .before .pre .0), ((room-at _ _ _ _ _ _ _ _ (c .before .before .before .before .loop .inv .0) (omega (arith, o .sound .before, o .sound .end)), opens _ _ _ _ _ o, c .before .before .before .before .loop .inv .2), slots-after _ _ (c .before .before .before .before .before .before .before .before .before .before .pre .1 .1) (c .before .before .before .before .loop .inv .4)))
+    (omega (arith, c .before .before .before .before .before .before .before .before .before .before .pre .0), ((room-at _ _ _ _ _ _ _ _ (c .before .before .before .before .loop .inv .0) (omega (arith, o .sound .before, o .sound .end)), opens _ _ _ _ _ o, c .before .before .before .before .loop .inv .2), omega (arith, c .before .before .before .before .before .before .before .before .before .before .pre .1 .1, c .before .before .before .before .loop .inv .4 .as-many)))
 
 read-tail-same-length-5 : (t : ℕ) → read-tail-lts.Need-same-length-5 (read-tail-calls t) (read-tail-at t) read-tail.Post read-tail-Inv-loop read-tail-μ-loop
 read-tail-same-length-5 t c = c .before .before .before .before .read-last .kept .1 .1 .1 .1 .0 ∙ c .before .before .before .before .before .before .before .before .before .loop .inv .1
 
 read-tail-same-length-6 : (t : ℕ) → read-tail-lts.Need-same-length-6 (read-tail-calls t) (read-tail-at t) read-tail.Post read-tail-Inv-loop read-tail-μ-loop
-read-tail-same-length-6 t c = c .before .before .before .before .read-last .kept .1 .1 .1 .1 .1 .0 ∙ keeps-length _ _ (c .before .before .before .before .before .before .before .before .before .loop .inv .4)
+read-tail-same-length-6 t c = c .before .before .before .before .read-last .kept .1 .1 .1 .1 .1 .0 ∙ c .before .before .before .before .before .before .before .before .before .loop .inv .4 .as-many
 
 read-tail-returns-3 : (t : ℕ) → read-tail-lts.Need-returns-3 (read-tail-calls t) (read-tail-at t) read-tail.Post read-tail-Inv-loop read-tail-μ-loop
-read-tail-returns-3 t c = (tailed-last _ _ _ _ _ _ _ _ _ _ (c .before .before .before .before .before .before .before .before .before .loop .inv .3) (opened _ _ _ (c .before .before .before .before .before .before .before .before .before .loop .row-now) _ _ (c .before .before .before .before .before .before .before .before .read-opening .ensures) (λ k p e. miss (1 ∷ 2 ∷ 4 ∷ []) 0 tt (rw e at (c .before .before .before .before .before .before .before .match .keys3))) (c .before .before .before .before .before .before .before .before .before .loop .inv .0 .near)) _ _ (λ k p e. miss (1 ∷ 2 ∷ 4 ∷ []) 3 tt (rw e at (c .before .before .before .before .before .before .before .match .keys3))) (c .before .before .before .before .read-last .ensures .0), keeps-trans _ _ _ (c .before .before .before .before .before .before .before .before .before .loop .inv .4) (c .before .before .before .before .read-last .ensures .1))
+read-tail-returns-3 t c = (tailed-last _ _ _ _ _ _ _ _ _ _ (c .before .before .before .before .before .before .before .before .before .loop .inv .3) (opened _ _ _ (c .before .before .before .before .before .before .before .before .before .loop .row-now) _ _ (c .before .before .before .before .before .before .before .before .read-opening .ensures) (λ k p e. miss (1 ∷ 2 ∷ 4 ∷ []) 0 tt (rw e at (c .before .before .before .before .before .before .before .match .keys3))) (c .before .before .before .before .before .before .before .before .before .loop .inv .0 .near)) _ _ (λ k p e. miss (1 ∷ 2 ∷ 4 ∷ []) 3 tt (rw e at (c .before .before .before .before .before .before .before .match .keys3))) (c .before .before .before .before .read-last .ensures .0), keeps-trans (c .before .before .before .before .before .before .before .before .before .loop .inv .4) (c .before .before .before .before .read-last .ensures .1))
 
 read-term-read-opening-requires : (t : ℕ) → read-term-lts.Need-read-opening-requires (read-term-calls t) (read-term-at t) read-term.Post
 read-term-read-opening-requires t c κs = (c .before .before .before .before .before .pre .1 .0 .near, c .before .before .before .before .before .pre .1 .0 .short, c .before .before .before .before .before .pre .1 .0 .sized)
@@ -727,7 +726,7 @@ read-wanted-sub-read-run : (t : ℕ) → read-wanted-lts.Need-sub-read-run (read
 read-wanted-sub-read-run t c = omega (arith, c .before .before .before .before .before .before .before .before .before .before .before .before .at-most .ensures)
 
 read-wanted-read-run-requires-2 : (t : ℕ) → read-wanted-lts.Need-read-run-requires-2 (read-wanted-calls t) (read-wanted-at t) read-wanted.Post
-read-wanted-read-run-requires-2 t c κs = (omega (arith, c .before .before .before .before .before .before .before .before .before .before .before .before .before .before .before .before .before .before .pre .0), (room-after _ _ _ _ _ _ _ _ _ _ _ _ _ _ _ (c .before .before .before .before .before .before .before .before .before .before .before .before .before .before .before .before .before .before .pre .1 .0) (c .before .before .before .before .before .before .before .before .before .read-run .ensures .0) (c .before .before .before .next .given .1) (c .before .before .before .before .before .before .before .before .before .read-run .kept .1 .1 .1 .1 .0), slots-after _ _ (c .before .before .before .before .before .before .before .before .before .before .before .before .before .before .before .before .before .before .pre .1 .1) (c .before .before .before .before .before .before .before .before .before .read-run .ensures .1)))
+read-wanted-read-run-requires-2 t c κs = (omega (arith, c .before .before .before .before .before .before .before .before .before .before .before .before .before .before .before .before .before .before .pre .0), (room-after _ _ _ _ _ _ _ _ _ _ _ _ _ _ _ (c .before .before .before .before .before .before .before .before .before .before .before .before .before .before .before .before .before .before .pre .1 .0) (c .before .before .before .before .before .before .before .before .before .read-run .ensures .0) (c .before .before .before .next .given .1) (c .before .before .before .before .before .before .before .before .before .read-run .kept .1 .1 .1 .1 .0), omega (arith, c .before .before .before .before .before .before .before .before .before .before .before .before .before .before .before .before .before .before .pre .1 .1, c .before .before .before .before .before .before .before .before .before .read-run .ensures .1 .as-many)))
 
 read-wanted-same-length : (t : ℕ) → read-wanted-lts.Need-same-length (read-wanted-calls t) (read-wanted-at t) read-wanted.Post
 read-wanted-same-length t c = c .before .before .before .before .before .before .before .read-run .kept .1 .1 .1 .1 .0
@@ -745,7 +744,7 @@ read-wanted-same-length-4 : (t : ℕ) → read-wanted-lts.Need-same-length-4 (re
 read-wanted-same-length-4 t c = c .before .before .before .before .read-run2 .kept .1 .1 .1 .1 .1 .0 ∙ c .before .before .before .before .before .before .before .before .before .before .before .before .before .before .read-run .kept .1 .1 .1 .1 .1 .0
 
 read-wanted-returns-2 : (t : ℕ) → read-wanted-lts.Need-returns-2 (read-wanted-calls t) (read-wanted-at t) read-wanted.Post
-read-wanted-returns-2 t c = (wanted-more _ _ _ _ _ _ _ _ _ (c .before .before .before .before .before .before .before .before .before .before .before .before .before .before .before .before .before .at-most .ensures) _ _ (c .before .before .before .before .before .before .before .before .before .before .before .before .before .before .read-run .ensures .0) _ _ _ _ (c .before .before .before .before .before .before .before .before .next .given .1) (c .before .before .before .before .read-run2 .ensures .0), keeps-trans _ _ _ (c .before .before .before .before .before .before .before .before .before .before .before .before .before .before .read-run .ensures .1) (c .before .before .before .before .read-run2 .ensures .1))
+read-wanted-returns-2 t c = (wanted-more _ _ _ _ _ _ _ _ _ (c .before .before .before .before .before .before .before .before .before .before .before .before .before .before .before .before .before .at-most .ensures) _ _ (c .before .before .before .before .before .before .before .before .before .before .before .before .before .before .read-run .ensures .0) _ _ _ _ (c .before .before .before .before .before .before .before .before .next .given .1) (c .before .before .before .before .read-run2 .ensures .0), keeps-trans (c .before .before .before .before .before .before .before .before .before .before .before .before .before .before .read-run .ensures .1) (c .before .before .before .before .read-run2 .ensures .1))
 
 pub +read-body+read-inner+read-last+read-list+read-pairs+read-parts+read-run+read-tail+read-term+read-wanted-spec :
     {M : Type 1} → statement M

@@ -1,7 +1,7 @@
 -- `terms::payload_terms` meets its contract. Assumes nothing.
 use Rattle.terms.proofs.Message.{payload-one, payload-refused, payload-over, payload-second-refused, payload-two}
 use Rattle.terms.proofs.Runs.{room-after}
-use Rattle.terms.proofs.Slots.{slots-kept}
+use native.Mathlib.Omega.{arith}
 use borrow.Author.Needs.{needs}
 use Rattle.terms.proofs.payload_terms.Statement.{statement}
 use Rattle.terms.proofs.payload_terms.Tie as tie
@@ -25,7 +25,7 @@ returns : tie.Need-returns
 returns c = payload-one _ _ _ _ _ _ (c .before .before .before .before .before .before .before .before .read-outermost .ensures) _ _ (c .before .before .next .given .1) (c .if1 .taken)
 
 read-outermost-requires-2 : tie.Need-read-outermost-requires-2
-read-outermost-requires-2 c κs = (room-after _ _ _ _ _ _ _ _ _ _ _ _ _ _ _ (c .before .before .before .before .before .before .before .before .before .before .before .before .before .before .before .before .before .before .pre .0) (c .before .before .before .before .before .before .before .before .before .before .read-outermost .ensures) (c .before .before .before .before .next .given .1) (c .before .before .before .before .before .before .before .before .before .before .read-outermost .kept .1 .1 .1 .1 .0), slots-kept _ _ (c .before .before .before .before .before .before .before .before .before .before .before .before .before .before .before .before .before .before .pre .1) (c .before .before .before .before .before .before .before .before .before .before .read-outermost .kept .1 .1 .1 .1 .1 .0))
+read-outermost-requires-2 c κs = (room-after _ _ _ _ _ _ _ _ _ _ _ _ _ _ _ (c .before .before .before .before .before .before .before .before .before .before .before .before .before .before .before .before .before .before .pre .0) (c .before .before .before .before .before .before .before .before .before .before .read-outermost .ensures) (c .before .before .before .before .next .given .1) (c .before .before .before .before .before .before .before .before .before .before .read-outermost .kept .1 .1 .1 .1 .0), omega (arith, c .before .before .before .before .before .before .before .before .before .before .before .before .before .before .before .before .before .before .pre .1, c .before .before .before .before .before .before .before .before .before .before .read-outermost .kept .1 .1 .1 .1 .1 .0))
 
 enum-known-number-2 : tie.Need-enum-known-number-2
 enum-known-number-2 c = search needs

@@ -1,6 +1,4 @@
 -- `terms::short_terms` meets its contract. Assumes nothing.
-use Rattle.terms.proofs.Slots.{slots-of}
-use mathlib.Core.Path.{refl}
 use native.Mathlib.Omega.{arith}
 use borrow.Author.Needs.{needs}
 use Rattle.terms.proofs.short_terms.Statement.{statement}
@@ -10,7 +8,7 @@ slice-aggregate-framed-terms : tie.Need-slice-aggregate-framed-terms
 slice-aggregate-framed-terms c = search needs
 
 framed-terms-requires : tie.Need-framed-terms-requires
-framed-terms-requires c κs = (c .before .before .before .before .before .before .pre, slots-of _ 512 refl (omega arith) (omega arith))
+framed-terms-requires c κs = (c .before .before .before .before .before .before .pre, omega arith)
 
 same-length : tie.Need-same-length
 same-length c = search needs
