@@ -9,8 +9,7 @@ use lib.ListN.{length, getD, take, drop, replicate, set, length-append, length-r
 use lib.Seq.{sets, sets-eq, length-sets, take-at, drop-at, take-append-seam, drop-append-add, length-take-le, take-take}
 use borrow.Author.Tests.{leb-true}
 use Rattle.format.specs.Text.{Coding, valid, invalid-at, check, encodes, utf-8}
-use Rattle.format.specs.Answer.{Answer, good, refused, Position}
-use Rattle.format.proofs.Bridge.{at-offset}
+use Rattle.format.specs.Answer.{Answer, good, refused, Position, at-offset}
 use Rattle.format.specs.Text as texts
 use Rattle.packets.specs.declared.Place.{Place}
 use Rattle.packets.specs.Memory.{Cache, cache-of, Held, nothing, no-text, text, text-if, held-as, held}

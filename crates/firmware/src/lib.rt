@@ -123,7 +123,7 @@ pub extern "C" fn ik_write_standalone(
     scratch: &mut [u64],
     output: &mut [u8],
 ) -> WriteReply
-    ensures { λ r. ⌜ r ≡ flat-written (write-answer (read standalone (lent n (now (places .entry)) (now (lengths .entry))) (length (now (scratch .entry))) (now (msg .entry))) (write standalone (lent n (now (places .entry)) (now (lengths .entry))) (length (now (scratch .entry))) (length (now (output .entry))) (now (msg .entry)))) ⌝ }
+    ensures { λ r. ⌜ r ≡ flat-written (write-answer (write standalone (lent n (now (places .entry)) (now (lengths .entry))) (length (now (scratch .entry))) (length (now (output .entry))) (now (msg .entry)))) ⌝ }
     ensures { λ _. ⌜ now (scratch .exit) ≡ scratch-after (length (now (scratch .entry))) ⌝ }
     ensures { λ _. ⌜ now (output .exit) ≡ output-after (now (output .entry)) (write standalone (lent n (now (places .entry)) (now (lengths .entry))) (length (now (scratch .entry))) (length (now (output .entry))) (now (msg .entry))) ⌝ }
 {
@@ -140,7 +140,7 @@ pub extern "C" fn ik_write_payload(
     scratch: &mut [u64],
     output: &mut [u8],
 ) -> WriteReply
-    ensures { λ r. ⌜ r ≡ flat-written (write-answer (read payload (lent n (now (places .entry)) (now (lengths .entry))) (length (now (scratch .entry))) (now (msg .entry))) (write payload (lent n (now (places .entry)) (now (lengths .entry))) (length (now (scratch .entry))) (length (now (output .entry))) (now (msg .entry)))) ⌝ }
+    ensures { λ r. ⌜ r ≡ flat-written (write-answer (write payload (lent n (now (places .entry)) (now (lengths .entry))) (length (now (scratch .entry))) (length (now (output .entry))) (now (msg .entry)))) ⌝ }
     ensures { λ _. ⌜ now (scratch .exit) ≡ scratch-after (length (now (scratch .entry))) ⌝ }
     ensures { λ _. ⌜ now (output .exit) ≡ output-after (now (output .entry)) (write payload (lent n (now (places .entry)) (now (lengths .entry))) (length (now (scratch .entry))) (length (now (output .entry))) (now (msg .entry))) ⌝ }
 {

@@ -5,8 +5,7 @@ use mathlib.Core.List.{List, [], _∷_}
 use Prim.Native.Nat.{ℕ, _+_, _≤_, _<_}
 use lib.ListN.{length, getD, take, drop}
 use Rattle.format.specs.Text.{Coding, valid, invalid-at, check, encodes}
-use Rattle.format.specs.Answer.{Answer, good, refused, Position}
-use Rattle.format.proofs.Bridge.{at-offset}
+use Rattle.format.specs.Answer.{Answer, good, refused, Position, at-offset}
 use Rattle.format.specs.Text as texts
 use Rattle.text.specs.declared.Checked.{Checked}
 use Rattle.text.specs.declared.Checked.the-variants as checked

@@ -9,7 +9,7 @@ ghost use Rattle.format.specs.Numbers.{big-endian};
 ghost use Rattle.format.specs.Text.{check, valid, encodes};
 ghost use Rattle.packets.specs.Memory.{cache-of, held};
 ghost use Rattle.packets.specs.Header.{flag-bytes, half, references};
-ghost use Rattle.format.proofs.Bridge.{at-offset};
+ghost use Rattle.format.specs.Answer.{at-offset};
 ghost use Rattle.packets.specs.Answers.{coding-of};
 ghost use Rattle.headers.specs.Code.{flags-of, holding-when, Opens, Spells, found-valid, is-valid, TextFits, held-case, JudgesNew, JudgesCached, Steps, Ends, HeaderIs};
 use format::Refusal;

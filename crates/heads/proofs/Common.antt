@@ -8,13 +8,12 @@ use lib.Dec.{eqb, ltb}
 use lib.ListN.{length, getD, drop}
 use lib.Seq.{drop-cons}
 use borrow.Author.Tests.{eqb-true, ltb-true}
-use Rattle.format.specs.Answer.{Answer, good, refused, Position, Reading, done}
+use Rattle.format.specs.Answer.{Answer, good, refused, Position, Reading, done, at-offset}
 use Rattle.format.specs.Term.{Label}
 use Rattle.format.specs.Head.{Atoms, Wanted, any, known, parts, characters, elements, pairs, head}
 use Rattle.format.specs.Head as format
 use Rattle.format.specs.Reading.{empty-108, opening}
 use Rattle.format.specs.Rows.{kind-of}
-use Rattle.format.proofs.Bridge.{at-offset}
 use Rattle.heads.specs.Code.{kind-later, later-of, head-at, head-of}
 use Rattle.heads.specs.Quick.{only-if, fit, quick-later, quick-word}
 use Rattle.heads.proofs.Found.{Past, past-is, head-past-tag}

@@ -5,7 +5,7 @@ use mathlib.Core.List.{List, [], _∷_}
 use Prim.Native.Nat.{ℕ, zero, suc, _+_, _-_, _≤_}
 use lib.Dec.{eqb, leb}
 use lib.ListN.{length, getD, take, drop}
-use Rattle.format.specs.Answer.{Answer, good, refused, Position, after}
+use Rattle.format.specs.Answer.{Answer, good, refused, Position, at-offset, after}
 use Rattle.format.specs.Term.{Label}
 use Rattle.format.specs.Head.{any, an-atom, an-arity, parts, characters, elements, pairs, known, pid-fields, port-fields, reference-fields, old-reference-fields}
 use Rattle.format.specs.Head as format
@@ -18,7 +18,6 @@ use Rattle.text.specs.declared.Checked.the-variants as checked
 use Rattle.text.specs.Shown.{shown}
 use Rattle.format.specs.Reading.{opening}
 use Rattle.format.specs.Rows.{kind-of}
-use Rattle.format.proofs.Bridge.{at-offset}
 use Rattle.heads.specs.declared.Wanted.{Wanted}
 use Rattle.heads.specs.declared.Wanted.the-variants.{Any, Atom, Arity}
 use Rattle.heads.specs.declared.Later.{Later}

@@ -8,14 +8,13 @@ ghost use lib.IntN.{ℤ};
 ghost use lib.ListN.{length, take, drop};
 ghost use Rattle.format.specs.Numbers.{big-endian};
 ghost use Rattle.format.specs.Term.{integer};
-ghost use Rattle.format.specs.Answer.{after, done};
+ghost use Rattle.format.specs.Answer.{after, done, at-offset};
 ghost use Rattle.format.specs.Answer as answer;
 ghost use Rattle.format.specs.Head.{Atoms, leaf, tuple-ext, list-ext, map-ext, string-ext, binary-ext, bit-binary-ext, big-ext, new-float-ext, new-reference-ext, atom-ext, atom-cache-ref};
 ghost use Rattle.format.specs.Head.{any, pid-fields, port-fields, reference-fields, old-reference-fields, creation-rule, words-rule, one-of, head};
 ghost use Rattle.format.specs.Head as format;
 ghost use Rattle.format.specs.Reading.{opening};
 ghost use Rattle.format.specs.AtomList.{of-size, atoms-of};
-ghost use Rattle.format.proofs.Bridge.{at-offset};
 ghost use Rattle.heads.specs.Quick.{only-if, fit, quick-later, quick-word};
 ghost use Rattle.heads.specs.Code.{Width, Bits, head-of, fields-of, later-of, step-of, lent, found-valid, coding-of, is-text, words-at, later-fields, tag-fields, allowed, wanted-of, empty-at, Skipped, opened-at, opening-of};
 

@@ -13,7 +13,7 @@ ghost use Rattle.packets.specs.declared.Pending.{Pending};
 ghost use Rattle.packets.specs.Packet.{normal, starting, continuing, rest};
 ghost use Rattle.packets.specs.Calls.{after-packet, cache-after-reset};
 ghost use Rattle.format.specs.Text.{Coding};
-ghost use Rattle.format.proofs.Bridge.{at-offset};
+ghost use Rattle.format.specs.Answer.{at-offset};
 use format::Refusal;
 use headers::HeaderAnswer;
 use headers::Held;

@@ -9,7 +9,7 @@ use lib.Seq.{sets, length-sets}
 use Rattle.format.specs.Tree.{none, _▹_, _▹▹_, count, size, sizes}
 use Rattle.format.specs.Term.{Term}
 use Rattle.format.specs.Equal.{among}
-use Rattle.format.specs.Answer.{Answer, good, Position, Reading, after, done, rule}
+use Rattle.format.specs.Answer.{Answer, good, Position, Reading, after, done, rule, at-offset}
 use Rattle.format.specs.Head.{Atoms, Wanted, any, pairs}
 use Rattle.format.specs.AtomList.{AtomList, of-size, atoms-of}
 use Rattle.format.specs.Reading.{Located, meaning, entries, term}
@@ -17,7 +17,6 @@ use Rattle.format.specs.Message.{Terms}
 use Rattle.format.specs.Rows.{Row, tree-rows, rows, kind-of, whole-code, words-of}
 use Rattle.format.proofs.Backed.{Backed, Backeds, term-backed}
 use Rattle.format.proofs.Backed as backing
-use Rattle.format.proofs.Bridge.{at-offset}
 use Rattle.format.proofs.RoundTrip.{join-none}
 use Rattle.format.proofs.Rows.{Each-node, Each-nodes, size-positive, each-nodes-join, sizes-join, count-join, count-le-sizes, length-rows}
 use Rattle.format.proofs.Text.{Under}

@@ -10,7 +10,7 @@ use lib.ListN.{length, getD, drop, replicate, drop-of-length-le}
 use lib.Seq.{sets, drop-cons}
 use borrow.Author.Tests.{eq-eqb, ne-eqb, le-leb, lt-leb, leb-true}
 use Rattle.format.specs.Tree.{none, _▹_, count, size, sizes}
-use Rattle.format.specs.Answer.{Answer, good, refused, Position, Reading, after, done}
+use Rattle.format.specs.Answer.{Answer, good, refused, Position, at-offset, Reading, after, done}
 use Rattle.format.specs.Answers.{read-answer}
 use Rattle.format.specs.AtomList.{AtomList, of-size, atoms-of}
 use Rattle.format.specs.Head.{Atoms, any}
@@ -21,7 +21,6 @@ use Rattle.format.specs.Rows.{Row, tree-rows, rows, words-of, table-after}
 use Rattle.format.specs.declared.Refusal.{Refusal}
 use Rattle.format.specs.declared.ReadAnswer.{ReadAnswer}
 use Rattle.format.specs.declared.ReadAnswer.the-variants as reads
-use Rattle.format.proofs.Bridge.{at-offset}
 use Rattle.format.proofs.Rows.{Each-node, length-rows}
 use Rattle.format.proofs.Words.{Placed, length-words-of}
 use Rattle.octets.specs.Cleared.{cleared}

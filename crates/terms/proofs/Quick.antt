@@ -6,12 +6,11 @@ use native.Mathlib.Omega.{arith}
 use lib.ListN.{length, set, replicate}
 use Rattle.format.specs.Tree.{none, count}
 use Rattle.format.specs.Term.{Label}
-use Rattle.format.specs.Answer.{good}
+use Rattle.format.specs.Answer.{good, at-offset}
 use Rattle.format.specs.Head.{Atoms, Wanted, any, Head, parts, characters, elements, pairs, known, later, head}
 use Rattle.format.specs.AtomList.{AtomList}
 use Rattle.format.specs.Reading.{each, run, string, one-term, body, term}
 use Rattle.format.specs.Rows.{rows, kind-of, pack, Small-fields, words-of}
-use Rattle.format.proofs.Bridge.{at-offset}
 use Rattle.format.proofs.Rows.{Each-node}
 use Rattle.format.proofs.Words.{Between, kind-of-range}
 use Rattle.heads.specs.declared.Step.the-variants as fields

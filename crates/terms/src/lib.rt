@@ -17,7 +17,7 @@ ghost use Rattle.format.specs.Head.{any, characters, elements, pairs, parts, he
 ghost use Rattle.format.specs.Message.{standalone, payload, read, outermost, standalone-term, payload-terms, terms-framed};
 ghost use Rattle.format.specs.Reading.{each, tail, body, term};
 ghost use Rattle.format.specs.Rows.{table-after};
-ghost use Rattle.format.proofs.Bridge.{at-offset};
+ghost use Rattle.format.specs.Answer.{at-offset};
 ghost use Rattle.octets.specs.Cleared.{cleared};
 ghost use Rattle.heads.specs.Code.{lent, wanted-of, later-of, kind-later, head-at, head-of};
 ghost use Rattle.heads.specs.Quick.{quick-word};

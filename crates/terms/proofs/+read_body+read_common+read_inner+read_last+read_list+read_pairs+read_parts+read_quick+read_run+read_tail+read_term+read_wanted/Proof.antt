@@ -9,7 +9,7 @@ use Rattle.terms.specs.declared.Step.{Step}
 use Rattle.keys.specs.Seen.{Keeps}
 use Rattle.keys.proofs.Slots.{keeps-refl, keeps-trans}
 use Rattle.heads.specs.Code.{lent, wanted-of}
-use Rattle.format.proofs.Bridge.{at-offset}
+use Rattle.format.specs.Answer.{at-offset}
 use Rattle.format.specs.Reading.{each, tail, body, term}
 use Rattle.format.specs.AtomList.{atoms-of}
 use types.Run.{miss}

@@ -1,0 +1,234 @@
+//! All that is lent to the packet call, for both implementations, and each call on it compared.
+
+use crate::random::Random;
+use crate::tally::{hex, Call, Tally};
+use crate::twin::Twin;
+use border::{Cached, Done, Guarded, Packet, Pending, Place};
+use second::packets::{self, Answer, Cache, Index, ListOut, Record};
+use second::Refusal;
+
+pub const CACHE_BYTES: usize = 65_536;
+pub const CACHE_PLACES: usize = 2_048;
+const LIST_BYTES: usize = 8_160;
+const LIST_PLACES: usize = 255;
+const GATHER_BYTES: usize = 65_536;
+
+/// An atom list that packets write.
+pub struct List {
+    n: Twin<u8>,
+    pub places: Twin<u8>,
+    pub lengths: Twin<u16>,
+}
+
+pub struct Memory {
+    pub cache: Twin<u8>,
+    pub cache_lengths: Twin<u16>,
+    pub plain: List,
+    pub pending: List,
+    record: Guarded<Pending>,
+    other_record: Record,
+    pub gather: Twin<u8>,
+}
+
+fn pending_of(record: &Record) -> Pending {
+    Pending { sequence: record.sequence, due: record.due, gathered: record.gathered }
+}
+
+fn done(answer: Result<(), Refusal>) -> Done {
+    answer.map_or_else(|refused| Done { refusal: refused.number.into(), place: refused.place }, |()| Done::default())
+}
+
+impl List {
+    fn new() -> List {
+        List { n: Twin::new(1), places: Twin::new(LIST_BYTES + 1), lengths: Twin::new(LIST_PLACES + 1) }
+    }
+
+    pub fn n(&self) -> u8 {
+        self.n.other()[0]
+    }
+
+    fn garbage(&mut self, r: &mut Random) {
+        self.n.garbage(r, 1);
+        self.places.garbage(r, LIST_BYTES);
+        self.lengths.garbage(r, LIST_PLACES);
+    }
+
+    fn guarded(&mut self) -> border::ListOut<'_> {
+        let n = &mut self.n.guarded_mut()[0];
+        border::ListOut { n, places: self.places.guarded_mut(), lengths: self.lengths.guarded_mut() }
+    }
+
+    fn other(&mut self) -> ListOut<'_> {
+        ListOut { n: &mut self.n.other_mut()[0], texts: self.places.other_mut(), lengths: self.lengths.other_mut() }
+    }
+
+    fn same(&mut self) -> bool {
+        let same = [self.n.same(), self.places.same(), self.lengths.same()];
+        same.iter().all(|same| *same)
+    }
+}
+
+impl Memory {
+    pub fn new() -> Memory {
+        Memory {
+            cache: Twin::new(CACHE_BYTES + 1),
+            cache_lengths: Twin::new(CACHE_PLACES + 1),
+            plain: List::new(),
+            pending: List::new(),
+            record: Guarded::new(1),
+            other_record: Record::default(),
+            gather: Twin::new(GATHER_BYTES + 1),
+        }
+    }
+
+    /// Memory of the stated sizes with made-up content, and a record of none pending.
+    pub fn garbage(&mut self, r: &mut Random) {
+        self.cache.garbage(r, CACHE_BYTES);
+        self.cache_lengths.garbage(r, CACHE_PLACES);
+        self.plain.garbage(r);
+        self.pending.garbage(r);
+        self.gather.garbage(r, GATHER_BYTES);
+        self.set_record(Record::default());
+    }
+
+    /// The stated sizes lent again.
+    pub fn right_sizes(&mut self) {
+        self.cache.lend(CACHE_BYTES);
+        self.cache_lengths.lend(CACHE_PLACES);
+        for list in [&mut self.plain, &mut self.pending] {
+            list.places.lend(LIST_BYTES);
+            list.lengths.lend(LIST_PLACES);
+        }
+        self.gather.lend(GATHER_BYTES);
+    }
+
+    /// One of the seven lent runs not of its stated size.
+    pub fn wrong_size(&mut self, r: &mut Random) {
+        fn wrong(r: &mut Random, size: usize) -> usize {
+            let any = r.below(size);
+            r.pick(&[0, 1, any, size - 1, size - 1, size + 1, size + 1])
+        }
+        match r.below(7) {
+            0 => self.cache.lend(wrong(r, CACHE_BYTES)),
+            1 => self.cache_lengths.lend(wrong(r, CACHE_PLACES)),
+            2 => self.plain.places.lend(wrong(r, LIST_BYTES)),
+            3 => self.plain.lengths.lend(wrong(r, LIST_PLACES)),
+            4 => self.pending.places.lend(wrong(r, LIST_BYTES)),
+            5 => self.pending.lengths.lend(wrong(r, LIST_PLACES)),
+            _ => self.gather.lend(wrong(r, GATHER_BYTES)),
+        }
+    }
+
+    pub fn record(&self) -> Record {
+        self.other_record
+    }
+
+    pub fn set_record(&mut self, record: Record) {
+        self.record[0] = pending_of(&record);
+        self.other_record = record;
+    }
+
+    /// Every lent byte, after a call.
+    fn compare(&mut self, call: Call, tally: &mut Tally, told: &dyn Fn() -> String) {
+        let same = [
+            ("cache", self.cache.same()),
+            ("cache lengths", self.cache_lengths.same()),
+            ("plain list", self.plain.same()),
+            ("pending list", self.pending.same()),
+            ("record", self.record[0] == pending_of(&self.other_record)),
+            ("gather", self.gather.same()),
+        ];
+        for (name, same) in same {
+            tally.check(call, same, || format!("{name} differs; {}", told()));
+        }
+        self.set_record(self.other_record);
+    }
+
+    /// A packet taken by both; the answer.
+    pub fn packet(&mut self, utf8: u8, packet: &Twin<u8>, tally: &mut Tally) -> Packet {
+        let before = self.other_record;
+        let mut lent = border::Lent {
+            cache: self.cache.guarded_mut(),
+            cache_lengths: self.cache_lengths.guarded_mut(),
+            plain: self.plain.guarded(),
+            pending: self.pending.guarded(),
+            record: &mut self.record[0],
+            gather: self.gather.guarded_mut(),
+        };
+        let got = border::packet(utf8, packet.guarded(), &mut lent);
+        let mut lent = packets::Lent {
+            cache: Cache { texts: self.cache.other_mut(), lengths: self.cache_lengths.other_mut() },
+            plain: self.plain.other(),
+            pending: self.pending.other(),
+            record: &mut self.other_record,
+            gather: self.gather.other_mut(),
+        };
+        let expected = packet_answer(packets::packet(&mut lent, utf8 != 0, packet.other()));
+        tally.met(Call::Packet, expected.refusal);
+        let told = || format!("{got:?}, {expected:?} expected; utf8 {utf8} {before:?} packet {}", hex(packet.other()));
+        tally.check(Call::Packet, got == expected, told);
+        self.compare(Call::Packet, tally, &told);
+        tally.check(Call::Packet, packet.guarded() == packet.other(), || format!("the packet changed; {}", told()));
+        expected
+    }
+
+    pub fn drop_pending(&mut self, tally: &mut Tally) -> bool {
+        let before = self.other_record;
+        let got = border::drop_pending(&mut self.record[0]);
+        let expected = done(packets::drop_pending(&mut self.other_record));
+        tally.met(Call::Drop, expected.refusal);
+        let told = || format!("{got:?}, {expected:?} expected; {before:?}");
+        tally.check(Call::Drop, got == expected, told);
+        self.compare(Call::Drop, tally, &told);
+        expected.refusal == 0
+    }
+
+    pub fn reset(&mut self, tally: &mut Tally) -> bool {
+        let got = border::reset(self.cache.guarded_mut(), self.cache_lengths.guarded_mut(), &mut self.record[0]);
+        let mut cache = Cache { texts: self.cache.other_mut(), lengths: self.cache_lengths.other_mut() };
+        let expected = done(packets::reset(&mut cache, &mut self.other_record));
+        tally.met(Call::Reset, expected.refusal);
+        let sizes = (self.cache.other().len(), self.cache_lengths.other().len());
+        let told = || format!("{got:?}, {expected:?} expected; cache {sizes:?}");
+        tally.check(Call::Reset, got == expected, told);
+        self.compare(Call::Reset, tally, &told);
+        expected.refusal == 0
+    }
+
+    /// The text that a place holds.
+    pub fn place(&mut self, place: usize, tally: &mut Tally) {
+        let got = border::place(self.cache.guarded(), self.cache_lengths.guarded(), place);
+        let text = packets::text_of_place(self.cache.other(), self.cache_lengths.other(), packets::Place(place));
+        let expected = match text {
+            Ok(text) => Cached { start: 32 * place as u64, length: text.len() as u64, ..Cached::default() },
+            Err(Refusal { number, place }) => Cached { refusal: number.into(), place, ..Cached::default() },
+        };
+        tally.met(Call::Place, expected.refusal);
+        let held = |cache: &Twin<u8>| hex(cache.other().get(32 * (place & 2_047)..).map_or(&[], |held| &held[..held.len().min(32)]));
+        tally.check(Call::Place, got == expected, || format!("place {place}: {got:?}, not {expected:?}; {}", held(&self.cache)));
+        let kept = self.cache.same() && self.cache_lengths.same();
+        tally.check(Call::Place, kept, || format!("the cache changed after place {place}"));
+    }
+}
+
+/// The place that a reference of a packet's header names.
+pub fn reference(utf8: u8, packet: &Twin<u8>, index: usize, tally: &mut Tally) {
+    let got = border::reference(utf8, packet.guarded(), index);
+    let expected = match packets::place_of_reference(packet.other(), utf8 != 0, Index(index)) {
+        Ok(place) => Place { cache_place: place.0 as u64, ..Place::default() },
+        Err(Refusal { number, place }) => Place { refusal: number.into(), place, ..Place::default() },
+    };
+    tally.met(Call::Reference, expected.refusal);
+    let told = || format!("index {index}: {got:?}, not {expected:?}; utf8 {utf8} packet {}", hex(packet.other()));
+    tally.check(Call::Reference, got == expected && packet.guarded() == packet.other(), told);
+}
+
+fn packet_answer(answer: Result<Answer, Refusal>) -> Packet {
+    let none = Packet::default();
+    match answer {
+        Ok(Answer::Plain { offset, length }) => Packet { kind: 1, offset: offset as u64, length: length as u64, ..none },
+        Ok(Answer::Pending { due, gathered }) => Packet { kind: 2, due, gathered, ..none },
+        Ok(Answer::Complete { gathered }) => Packet { kind: 3, gathered, ..none },
+        Err(Refusal { number, place }) => Packet { refusal: number.into(), place, ..none },
+    }
+}

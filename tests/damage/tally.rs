@@ -1,0 +1,124 @@
+//! What the run met, and what disagreed.
+
+/// The calls, by what they do.
+#[derive(Clone, Copy, Debug, PartialEq)]
+pub enum Call {
+    Read,
+    Write,
+    Number,
+    Text,
+    Mark,
+    Packet,
+    Drop,
+    Reset,
+    Reference,
+    Place,
+}
+
+const CALLS: [Call; 10] =
+    [Call::Read, Call::Write, Call::Number, Call::Text, Call::Mark, Call::Packet, Call::Drop, Call::Reset, Call::Reference, Call::Place];
+
+/// One over the highest refusal number.
+const NUMBERS: usize = 27;
+const SHOWN_MOST: u64 = 10;
+const HEX_MOST: usize = 4096;
+
+pub struct Tally {
+    seed: u64,
+    case: u64,
+    /// for each call the answers of this case, a bit each (bit 0: accepted)
+    met: [u32; CALLS.len()],
+    cases_met: [[u64; NUMBERS]; CALLS.len()],
+    pub calls: u64,
+    case_failed: bool,
+    shown: u64,
+    pub passed: u64,
+    pub failed: u64,
+}
+
+pub fn hex(bytes: &[u8]) -> String {
+    let mut text: String = bytes.iter().take(HEX_MOST).map(|byte| format!("{byte:02x}")).collect();
+    if bytes.len() > HEX_MOST {
+        text += &format!(".. ({} bytes)", bytes.len());
+    }
+    text
+}
+
+impl Tally {
+    pub fn new(seed: u64) -> Tally {
+        let met = [0; CALLS.len()];
+        let cases_met = [[0; NUMBERS]; CALLS.len()];
+        Tally { seed, case: 0, met, cases_met, calls: 0, case_failed: false, shown: 0, passed: 0, failed: 0 }
+    }
+
+    pub fn begin(&mut self, case: u64) {
+        self.case = case;
+        self.met = [0; CALLS.len()];
+        self.case_failed = false;
+    }
+
+    pub fn end(&mut self) {
+        for (met, counts) in self.met.iter().zip(&mut self.cases_met) {
+            for (number, count) in counts.iter_mut().enumerate() {
+                *count += u64::from(met >> number & 1);
+            }
+        }
+        self.passed += u64::from(!self.case_failed);
+        self.failed += u64::from(self.case_failed);
+    }
+
+    /// An answer of a call: 0 accepted, or the refusal.
+    pub fn met(&mut self, call: Call, refusal: u64) {
+        self.calls += 1;
+        self.met[call as usize] |= 1 << refusal.min(NUMBERS as u64 - 1);
+    }
+
+    /// Counts a disagreement unless `same`; the first ones are printed.
+    pub fn check(&mut self, call: Call, same: bool, what: impl Fn() -> String) {
+        if same {
+            return;
+        }
+        self.case_failed = true;
+        self.shown += 1;
+        if self.shown <= SHOWN_MOST {
+            println!("DISAGREE seed {} case {} {call:?}: {}", self.seed, self.case, what());
+        }
+    }
+
+    /// Whether every answer was met that a call can give, by the call's own list in document 01.
+    pub fn unmet(&self) -> Vec<(Call, usize)> {
+        let terms: &[usize] = &[0, 1, 2, 3, 4, 5, 6, 7, 8, 9, 10, 12, 13, 14];
+        let mut unmet = Vec::new();
+        for call in CALLS {
+            let answers = match call {
+                Call::Read | Call::Number | Call::Mark => terms,
+                Call::Write => &[0, 1, 2, 3, 4, 5, 6, 7, 8, 9, 10, 11, 12, 13, 14],
+                Call::Text => &[0],
+                Call::Packet => &[0, 1, 2, 5, 12, 13, 14, 20, 21, 22, 23, 24, 25, 26],
+                Call::Drop => &[0, 14, 25],
+                Call::Reset => &[0, 13],
+                Call::Reference => &[0, 1, 2, 5, 6, 20, 22, 23, 24],
+                Call::Place => &[0, 13, 14, 21],
+            };
+            let counts = &self.cases_met[call as usize];
+            unmet.extend(answers.iter().filter(|n| counts[**n] == 0).map(|n| (call, *n)));
+        }
+        unmet
+    }
+
+    /// The table: in how many cases each call gave each answer.
+    pub fn print(&self) {
+        println!("cases in which a call gave an answer (0: accepted)");
+        print!("{:>6}", "answer");
+        CALLS.iter().for_each(|call| print!("{:>10}", format!("{call:?}")));
+        println!();
+        for number in 0..NUMBERS {
+            if self.cases_met.iter().all(|counts| counts[number] == 0) {
+                continue;
+            }
+            print!("{number:>6}");
+            self.cases_met.iter().for_each(|counts| print!("{:>10}", counts[number]));
+            println!();
+        }
+    }
+}

@@ -1,0 +1,253 @@
+//! One message through reading, writing and asking, in both implementations.
+
+use crate::random::Random;
+use crate::tally::{hex, Call, Tally};
+use crate::twin::Twin;
+use border::{Form, Mark, Number, Read, Text, Written};
+use second::looks::{self, Stretch};
+use second::terms::Reading;
+use second::text::AtomList;
+use second::{canon, terms, Refusal};
+
+const ROWS_MOST: usize = 8_192;
+/// Most words of a lent table, and most bytes of a lent output.
+const TABLE_MOST: usize = 10_000;
+const OUTPUT_MOST: usize = 300_000;
+/// A longer refused message is not searched for the rows that it needs.
+const SEARCHED_MOST: usize = 2_000;
+
+/// A message and an atom list, as each implementation is lent them.
+pub struct Input<'a> {
+    pub form: Form,
+    pub message: &'a Twin<u8>,
+    pub n: u8,
+    pub places: &'a Twin<u8>,
+    pub lengths: &'a Twin<u16>,
+    /// how many rows it has, where it was made to be accepted
+    pub rows: Option<usize>,
+}
+
+impl Input<'_> {
+    fn list(&self) -> border::AtomList<'_> {
+        border::AtomList { n: self.n, places: self.places.guarded(), lengths: self.lengths.guarded() }
+    }
+
+    fn other_list(&self) -> AtomList<'_> {
+        AtomList { n: self.n, texts: self.places.other(), lengths: self.lengths.other() }
+    }
+
+    fn other_form(&self) -> terms::Form {
+        match self.form {
+            Form::Standalone => terms::Form::Standalone,
+            Form::Payload => terms::Form::Payload,
+        }
+    }
+
+    /// The input in words, for a disagreement.
+    fn told(&self) -> String {
+        let places = self.places.other();
+        let used = (32 * usize::from(self.n)).min(places.len());
+        let lengths = self.lengths.other();
+        let told_lengths = &lengths[..usize::from(self.n).min(lengths.len())];
+        format!(
+            "{:?} message {} n {} places ({}) {} lengths ({}) {told_lengths:?}",
+            self.form,
+            hex(self.message.other()),
+            self.n,
+            places.len(),
+            hex(&places[..used]),
+            lengths.len(),
+        )
+    }
+}
+
+/// The lent memory that is written.
+pub struct Room {
+    table: Twin<u64>,
+    output: Twin<u8>,
+}
+
+impl Room {
+    pub fn new() -> Room {
+        Room { table: Twin::new(TABLE_MOST), output: Twin::new(OUTPUT_MOST) }
+    }
+}
+
+/// How many rows a table has: enough, one fewer, few, many.
+fn table_length(r: &mut Random, needed: usize) -> usize {
+    match r.below(24) {
+        0..=8 => needed,
+        9 | 10 => needed.saturating_sub(1),
+        11 | 12 => r.below(needed + 1),
+        13 => 0,
+        14 => r.pick(&[ROWS_MOST - 1, ROWS_MOST, ROWS_MOST + 1, TABLE_MOST]),
+        15 => r.between(ROWS_MOST, TABLE_MOST),
+        _ => needed + r.below(30),
+    }
+}
+
+/// How many bytes an output has.
+fn output_length(r: &mut Random, needed: usize) -> usize {
+    match r.below(12) {
+        0..=3 => needed,
+        4 | 5 => needed.saturating_sub(1),
+        6 => r.below(needed + 1),
+        7 => 0,
+        8 if r.one_in(10) => OUTPUT_MOST,
+        _ => needed + r.below(40),
+    }
+}
+
+/// The fewest rows with which a message gives its answer: those of its terms, or those before its refusal.
+fn rows_needed(input: &Input, reading: &Result<Reading, Refusal>) -> usize {
+    let refused = match reading {
+        Ok(reading) => return reading.rows.len(),
+        Err(refused) => refused,
+    };
+    let (mut fewest, mut enough) = (0, input.message.other().len().min(ROWS_MOST));
+    if enough > SEARCHED_MOST {
+        return enough;
+    }
+    while fewest < enough {
+        let rows = (fewest + enough) / 2;
+        let answer = terms::read(input.other_form(), input.message.other(), &input.other_list(), rows);
+        if answer.is_err_and(|other| other == *refused) {
+            enough = rows;
+        } else {
+            fewest = rows + 1;
+        }
+    }
+    fewest
+}
+
+/// Compares every call on the input.
+pub fn compare(r: &mut Random, input: &Input, room: &mut Room, tally: &mut Tally) {
+    let reading = terms::read(input.other_form(), input.message.other(), &input.other_list(), ROWS_MOST);
+    let rows = rows_needed(input, &reading);
+    let as_made = input.rows.is_none() || reading.is_ok() && input.rows == Some(rows);
+    tally.check(Call::Read, as_made, || format!("made to be accepted with {:?} rows; {}", input.rows, input.told()));
+    let table = table_length(r, rows);
+    read(r, input, table, room, tally);
+    let scratch = if r.one_in(4) { table_length(r, rows) } else { rows + r.below(3) };
+    write(r, input, scratch, room, tally);
+    let asked = if rows > 1000 { 1 } else { 2 };
+    for _ in 0..asked {
+        number(input, row_to_ask(r, rows), tally);
+        let offset = offset_to_ask(r, &reading, input.message.other().len());
+        text_and_mark(input, &reading, offset, tally);
+    }
+    let kept = input.message.guarded() == input.message.other()
+        && input.places.guarded() == input.places.other()
+        && input.lengths.guarded() == input.lengths.other();
+    tally.check(Call::Read, kept, || format!("a message or list changed: {}", input.told()));
+}
+
+/// Reading: the answer and every word of the table.
+fn read(r: &mut Random, input: &Input, rows: usize, room: &mut Room, tally: &mut Tally) {
+    room.table.garbage(r, rows);
+    let got = border::read(input.form, input.message.guarded(), &input.list(), room.table.guarded_mut());
+    let other = terms::read_into(input.other_form(), input.message.other(), &input.other_list(), room.table.other_mut());
+    let expected = match other {
+        Ok((terms, rows)) => Read { terms: terms as u64, rows: rows as u64, ..Read::default() },
+        Err(Refusal { number, place }) => Read { refusal: number.into(), place, ..Read::default() },
+    };
+    tally.met(Call::Read, expected.refusal);
+    tally.check(Call::Read, got == expected, || format!("table {rows}: {got:?}, not {expected:?}; {}", input.told()));
+    let same = room.table.same();
+    tally.check(Call::Read, same, || format!("table {rows} differs, {expected:?}; {}", input.told()));
+}
+
+/// Writing: the answer, every byte of the output, every word of the scratch table.
+fn write(r: &mut Random, input: &Input, rows: usize, room: &mut Room, tally: &mut Tally) {
+    let form = input.other_form();
+    let whole = canon::canonical(form, input.message.other(), &input.other_list(), rows);
+    let length = output_length(r, whole.as_ref().map_or(30, Vec::len)).min(OUTPUT_MOST);
+    room.table.garbage(r, rows);
+    room.output.garbage(r, length);
+    let got = border::write(input.form, input.message.guarded(), &input.list(), room.table.guarded_mut(), room.output.guarded_mut());
+    let other = canon::write_into(form, input.message.other(), &input.other_list(), room.table.other_mut(), room.output.other_mut());
+    let expected = match other {
+        Ok(length) => Written { terms: terms_of(input), length: length as u64, ..Written::default() },
+        Err(Refusal { number, place }) => Written { refusal: number.into(), place, ..Written::default() },
+    };
+    tally.met(Call::Write, expected.refusal);
+    let told = |what: &str| format!("{what}, scratch {rows} output {length}: {got:?}, {expected:?} expected; {}", input.told());
+    tally.check(Call::Write, got == expected, || told("answer"));
+    let same = (room.table.same(), room.output.same());
+    tally.check(Call::Write, same.0, || told("scratch differs"));
+    tally.check(Call::Write, same.1, || told("output differs"));
+}
+
+/// How many terms an accepted message has.
+fn terms_of(input: &Input) -> u64 {
+    let reading = terms::read(input.other_form(), input.message.other(), &input.other_list(), ROWS_MOST);
+    reading.map_or(0, |reading| reading.terms.len() as u64)
+}
+
+fn row_to_ask(r: &mut Random, rows: usize) -> usize {
+    match r.below(16) {
+        0 => rows,
+        1 => rows + 1,
+        2 => r.pick(&[ROWS_MOST - 1, ROWS_MOST, ROWS_MOST + 1, usize::MAX, 1 << 32]),
+        _ => r.below(rows.max(1)),
+    }
+}
+
+fn number(input: &Input, row: usize, tally: &mut Tally) {
+    let got = border::number(input.form, input.message.guarded(), &input.list(), row);
+    let other = looks::number(input.other_form(), input.message.other(), &input.other_list(), row as u64);
+    let expected = match other {
+        Ok(looks::Number::Whole(whole)) => Number { kind: 1, whole, ..Number::default() },
+        Ok(looks::Number::Float(bits)) => Number { kind: 2, real: f64::from_bits(bits), ..Number::default() },
+        Ok(looks::Number::Neither) => Number::default(),
+        Err(Refusal { number, place }) => Number { refusal: number.into(), place, ..Number::default() },
+    };
+    tally.met(Call::Number, expected.refusal);
+    tally.check(Call::Number, got == expected, || format!("row {row}: {got:?}, not {expected:?}; {}", input.told()));
+}
+
+/// The offset of an atom's tag mostly, or one beside it, or any.
+fn offset_to_ask(r: &mut Random, reading: &Result<Reading, Refusal>, length: usize) -> usize {
+    let rows = reading.as_ref().map_or(&[][..], |reading| &reading.rows);
+    let first = if rows.is_empty() { 0 } else { r.below(rows.len()) };
+    let atom = rows[first..].iter().chain(&rows[..first]).find(|row| row.text.is_some());
+    match (r.below(8), atom) {
+        (0..=4, Some(row)) => row.offset,
+        (5, Some(row)) => row.offset + 1,
+        (6, _) => r.pick(&[0, 1, length, length + 1, 65_536, usize::MAX]),
+        _ => r.below(length + 1),
+    }
+}
+
+/// Where the text of an accepted message's atom stands, the empty one's too (ikparumo.h).
+fn stretch(reading: &Result<Reading, Refusal>, offset: usize) -> Text {
+    let rows = reading.as_ref().map_or(&[][..], |reading| &reading.rows);
+    match rows.iter().find(|row| row.offset == offset && row.text.is_some()).and_then(|row| row.text) {
+        Some((Stretch::Message { start, length }, _)) => Text { from: 1, start: start as u64, length: length as u64 },
+        Some((Stretch::List { start, length }, _)) => Text { from: 2, start: start as u64, length: length as u64 },
+        _ => Text::default(),
+    }
+}
+
+fn text_and_mark(input: &Input, reading: &Result<Reading, Refusal>, offset: usize, tally: &mut Tally) {
+    let (message, list) = (input.message.guarded(), input.list());
+    let (got_text, got) = (border::text(input.form, message, &list, offset), border::mark(input.form, message, &list, offset));
+    let other = looks::mark(input.other_form(), input.message.other(), &input.other_list(), offset as u64);
+    let expected = match other {
+        Ok(looks::Mark::Latin1) => Mark { mark: 1, ..Mark::default() },
+        Ok(looks::Mark::Utf8) => Mark { mark: 2, ..Mark::default() },
+        Err(Refusal { number, place }) => Mark { refusal: number.into(), place, ..Mark::default() },
+    };
+    tally.met(Call::Mark, expected.refusal);
+    tally.check(Call::Mark, got == expected, || format!("offset {offset}: {got:?}, not {expected:?}; {}", input.told()));
+    let expected = stretch(reading, offset);
+    let other = looks::text(input.other_form(), input.message.other(), &input.other_list(), offset as u64);
+    let agrees = match other {
+        Stretch::Empty => got_text.length == 0,
+        Stretch::Message { start, length } => got_text == Text { from: 1, start: start as u64, length: length as u64 },
+        Stretch::List { start, length } => got_text == Text { from: 2, start: start as u64, length: length as u64 },
+    };
+    tally.met(Call::Text, if expected.from == 0 { got.refusal } else { 0 });
+    let same = agrees && got_text == expected;
+    tally.check(Call::Text, same, || format!("offset {offset}: {got_text:?}, not {expected:?} ({other:?}); {}", input.told()));
+}

@@ -1,0 +1,127 @@
+%% Makes the messages that are measured, the same in every run: small messages as a picking floor sends them, and for each
+%% kind of term one message of any size up to 65,536 bytes and 8,192 rows. A file holds messages, each after its length in 4 bytes.
+-module(corpus).
+-export([make/1]).
+
+-define(NODE_NAME, <<119, 10, "unit@floor">>).
+-define(BYTES_MOST, 65536).
+-define(ROWS_MOST, 8192).
+-define(EACH, 256).
+
+%% Writes all files; prints their names, the sizes of a kind upward.
+make(Dir) ->
+    [write(Dir, ["small-", Name], [message(F, I) || I <- lists:seq(1, ?EACH)]) || {Name, F} <- small()],
+    [write(Dir, io_lib:format("size-~s-~b", [Name, KB]), [sized(Kind, 1024 * KB)]) || {Name, Kind} <- kinds(), KB <- sizes(Kind)],
+    [write(Dir, ["packet-", Name], packets(N, Flag)) || {Name, N, Flag} <- headers()],
+    ok.
+
+write(Dir, Name, Messages) ->
+    ok = file:write_file(filename:join(Dir, Name), [[<<(byte_size(M)):32>>, M] || M <- Messages]),
+    io:format("~s~n", [Name]).
+
+message(F, I) -> term_to_binary(F(I), [{minor_version, 2}]).
+
+%% ---- small messages
+
+small() ->
+    [{"acks", fun ack/1}, {"picks", fun pick/1}, {"maps", fun order/1}, {"binaries", fun label/1}, {"lists", fun route/1},
+     {"strings", fun say/1}, {"calls", fun call/1}, {"mixed", fun mixed/1}].
+
+ack(I) -> {ack, I, ok}.
+pick(I) -> {pick, 100000 + I, {I rem 40, I rem 12, I rem 6}, sku(I), 1 + I rem 9}.
+order(I) ->
+    #{order => 100000 + I, sku => sku(I), quantity => 1 + I rem 9, zone => zone(I), done => I rem 2 =:= 0, weight => I / 7}.
+label(I) -> {label, I, << <<((I * K) rem 256)>> || K <- lists:seq(1, 120) >>, sku(I)}.
+route(I) -> {route, I, [{sku(I + K), 1 + K rem 5, {at, K rem 40, 300 + K}} || K <- lists:seq(1, 10)]}.
+say(I) -> {say, zone(I), "Pick " ++ integer_to_list(1 + I rem 9) ++ " of the red boxes on the left"}.
+call(I) -> {'$gen_call', {pid(I), [alias | reference(I)]}, {where, 100000 + I}}.
+mixed(I) ->
+    All = [fun ack/1, fun pick/1, fun order/1, fun label/1, fun route/1, fun say/1, fun call/1],
+    (lists:nth(1 + I rem length(All), All))(I).
+
+sku(I) -> iolist_to_binary(io_lib:format("SKU-~6..0b", [I * 7919 rem 1000000])).
+zone(I) -> lists:nth(1 + I rem 3, [north, south, cold]).
+pid(I) -> binary_to_term(<<131, (pid_bytes(I))/binary>>).
+reference(I) -> binary_to_term(<<131, (reference_bytes(I))/binary>>).
+
+%% ---- kinds of one message: a run of elements {run, tag, width of the number field, element I, what ends it, rows of an element}, a map of
+%% keys {map, key I of N}, or bytes {filled, tag, fields after the length, byte}
+
+kinds() ->
+    [{"small-integers", list(1, fun(I) -> <<97, I>> end)},
+     {"integers", list(1, fun(I) -> <<98, (I * 7919):32>> end)},
+     {"long-integers", list(1, fun(I) -> <<110, 8, 0, (I + 1):56, 200>> end)},
+     {"bignums", list(1, fun(I) -> <<110, 16, (I rem 2), (I + 1):120, 200>> end)},
+     {"one-bignum", {filled, <<111>>, <<0>>, 200}},
+     {"floats", list(1, fun(I) -> <<70, (I / 7)/float>> end)},
+     {"atoms", list(1, fun(I) -> atom_bytes(I rem 200) end)},
+     {"tuples", list(3, fun(I) -> <<104, 2, 97, I, 98, (I * 31):32>> end)},
+     {"string", {string, 107}},
+     {"binary", {filled, <<109>>, <<>>, 65}},
+     {"binaries", list(1, fun(I) -> <<109, 20:32, I:160>> end)},
+     {"bitstrings", list(1, fun(I) -> <<77, 20:32, 3, I:152, 160>> end)},
+     {"pids", list(2, fun pid_bytes/1)},
+     {"ports", list(2, fun(I) -> <<89, ?NODE_NAME/binary, I:32, 7:32>> end)},
+     {"references", list(2, fun reference_bytes/1)},
+     {"exports", list(4, fun(I) -> <<113, (atom_bytes(I rem 200))/binary, (atom_bytes(I rem 7))/binary, 97, (I rem 9)>> end)},
+     {"small-maps", list(9, fun small_map/1)},
+     {"64-deep", list(63, fun(I) -> [binary:copy(<<104, 1>>, 62), <<97, I>>] end)},
+     {"joined-tails", {run, <<>>, 0, fun(I) -> <<108, 1:32, 98, (I * 31):32>> end, <<106>>, 1}},
+     {"keys-upward", map(fun(_, I) -> <<98, I:32>> end)},
+     {"keys-downward", map(fun(N, I) -> <<98, (N - I):32>> end)},
+     {"keys-binary", map(fun(_, I) -> <<109, 8:32, I:64>> end)},
+     {"keys-atom", map(fun(_, I) -> atom_bytes(I) end)}].
+
+list(Rows, Element) -> {run, <<108>>, 4, fun(I) -> iolist_to_binary(Element(I)) end, <<106>>, Rows}.
+map(Key) -> {map, Key}.
+
+pid_bytes(I) -> <<88, ?NODE_NAME/binary, (I rem 32768):32, (I rem 100):32, 7:32>>.
+reference_bytes(I) -> <<90, 3:16, ?NODE_NAME/binary, 7:32, (I rem 262144):32, 11:32, 12:32>>.
+atom_bytes(I) -> iolist_to_binary([119, 8, io_lib:format("atom~4..0b", [I])]).
+small_map(I) -> [<<116, 4:32>>, [[atom_bytes(K), <<98, (I * K):32>>] || K <- [1, 2, 3, 4]]].
+
+%% The largest message of the kind with at most so many bytes and at most 8,192 rows.
+sized({filled, Tag, Fixed, Byte}, Bytes) ->
+    N = Bytes - 5 - byte_size(Tag) - byte_size(Fixed),
+    <<131, Tag/binary, N:32, Fixed/binary, (binary:copy(<<Byte>>, N))/binary>>;
+sized({string, Tag}, Bytes) ->
+    N = min(Bytes - 4, ?ROWS_MOST - 1),
+    <<131, Tag, N:16, << <<(I rem 256)>> || I <- lists:seq(1, N) >>/binary>>;
+sized({map, Key}, Bytes) ->
+    Size = byte_size(Key(0, 0)) + 2,
+    N = min((Bytes - 6) div Size, (?ROWS_MOST - 1) div 2),
+    iolist_to_binary([131, 116, <<N:32>>, [[Key(N, I), 97, I rem 256] || I <- lists:seq(1, N)]]);
+sized({run, Tag, Width, Element, Last, Rows}, Bytes) ->
+    Room = Bytes - 1 - byte_size(Tag) - Width - byte_size(Last),
+    N = min(Room div byte_size(Element(1)), (?ROWS_MOST - 1) div Rows),
+    iolist_to_binary([131, Tag, <<N:(8 * Width)>>, [Element(I) || I <- lists:seq(1, N)], Last]).
+
+%% The sizes in KB up to the first at which the rows are full (the message is then smaller than its name says).
+sizes(Kind) ->
+    Most = byte_size(sized(Kind, ?BYTES_MOST)),
+    [KB || KB <- [1, 2, 4, 8, 16, 32, 64], KB =:= 1 orelse 600 * KB < Most].
+
+%% ---- plain packets: a header of N references, all new or, after a first packet, all cached; a control message and a message
+
+headers() -> [{"no-references", 0, cached}, {"3-cached", 3, cached}, {"3-new", 3, new}, {"255-cached", 255, cached}].
+
+packets(0, _) -> [packet(0, new, I, ?NODE_NAME) || I <- lists:seq(1, ?EACH)];
+packets(N, new) -> [packet(N, new, I, <<82, 0>>) || I <- lists:seq(1, ?EACH)];
+packets(N, cached) -> [packet(N, case I of 1 -> new; _ -> cached end, I, <<82, 0>>) || I <- lists:seq(1, ?EACH)].
+
+packet(N, Flag, I, Node) ->
+    Control = [104, 4, 97, 6, 88, Node, <<I:32, 0:32, 7:32>>, 119, 0, 119, 6, "picker"],
+    Message = [104, 3, 119, 4, "pick", 97, I rem 256, 109, <<10:32>>, sku(I)],
+    iolist_to_binary([131, 68, N, flags(N, Flag), [entry(Flag, K) || K <- lists:seq(1, N)], Control, Message]).
+
+flags(0, _) -> [];
+flags(N, Flag) ->
+    Half = case Flag of new -> 8; cached -> 0 end,
+    Halves = lists:duplicate(N, Half) ++ lists:duplicate(2 - N rem 2, 0),
+    pairs(Halves).
+
+pairs([Low, High | Rest]) -> [High * 16 + Low | pairs(Rest)];
+pairs([]) -> [].
+
+entry(new, K) -> [K, 8, io_lib:format("atom~4..0b", [K])];
+entry(cached, K) -> K.

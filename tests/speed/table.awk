@@ -1,0 +1,105 @@
+# Tables of what was measured. First file: Erlang's lines (name, reading, writing), of several runs, the best counts;
+# second file: the lines of speed.c. All numbers are nanoseconds a message.
+BEGIN { FS = "\t" }
+
+FNR == NR {
+    if (!($1 in read_erlang) || $2 < read_erlang[$1]) read_erlang[$1] = $2
+    if (!($1 in write_erlang) || $3 < write_erlang[$1]) write_erlang[$1] = $3
+    next
+}
+
+{ bytes[$1] = $2; messages[$1] = $3 }
+
+$1 ~ /^packet-/ { packets[++packet_count] = $1; alone[$1] = $4; with_reading[$1] = $5; next }
+
+{
+    read_exact[$1] = $4; read_full[$1] = $5; read_libei[$1] = $6
+    write_exact[$1] = $7; write_full[$1] = $8; write_libei[$1] = $9
+}
+
+$1 ~ /^small-/ { small[++small_count] = $1; next }
+
+{
+    size = $1; sub(/.*-/, "", size)
+    kind = $1; sub(/^size-/, "", kind); sub(/-[0-9]*$/, "", kind)
+    if (!(kind in largest)) kinds[++kind_count] = kind
+    largest[kind] = size
+}
+
+function name_of(kind, size) { return "size-" kind "-" size }
+
+# The largest of the ratios seen, and where.
+function worst(which, ratio, name) {
+    if (ratio > worst_ratio[which]) { worst_ratio[which] = ratio; worst_name[which] = name }
+    held[which] += ratio <= limit[which]
+    seen[which]++
+}
+
+function reading_line(shown, n,    libei, erlang) {
+    libei = read_exact[n] / read_libei[n]
+    erlang = read_exact[n] / read_erlang[n]
+    printf "%-22s %7.0f %10.0f %10.0f %10.0f %10.0f %9.2f %9.2f %9.2f\n", shown, bytes[n] / messages[n], read_exact[n], read_full[n], \
+        read_libei[n], read_erlang[n], libei, erlang, read_full[n] / read_libei[n]
+    worst("libei", libei, shown)
+    worst("erlang", erlang, shown)
+}
+
+function writing_line(shown, n,    again) {
+    again = read_libei[n] + write_libei[n]
+    printf "%-22s %7.0f %10.0f %10.0f %10.0f %10.0f %9.2f %9.2f %9.2f %9.2f\n", shown, bytes[n] / messages[n], write_exact[n], write_full[n], \
+        write_libei[n], write_erlang[n], write_exact[n] / write_libei[n], write_exact[n] / again, write_exact[n] / write_erlang[n], \
+        write_exact[n] / (read_erlang[n] + write_erlang[n])
+}
+
+function each_line(reading,    i, shown) {
+    for (i = 1; i <= small_count; i++) {
+        shown = small[i]
+        if (reading) reading_line(shown, shown); else writing_line(shown, shown)
+    }
+    for (i = 1; i <= kind_count; i++) {
+        shown = "large-" kinds[i]
+        if (reading) reading_line(shown, name_of(kinds[i], largest[kinds[i]])); else writing_line(shown, name_of(kinds[i], largest[kinds[i]]))
+    }
+}
+
+# Nanoseconds a byte from 1 KB up to the largest size, which may be smaller than its heading: 8,192 rows end it.
+function size_line(kind, time, what,    size, n, first, last, growth) {
+    printf "%-22s", kind
+    for (size = 1; size <= 64; size *= 2) {
+        n = name_of(kind, size)
+        if (!(n in time)) { printf " %8s", "-"; continue }
+        last = time[n] / bytes[n]
+        if (size == 4) first = last
+        printf " %8.3f", last
+    }
+    growth = last / first
+    printf " %9.2f\n", growth
+    worst(what, growth, kind)
+    if (growth > limit[what]) bent[what] = bent[what] " " kind
+}
+
+function sizes(what, time,    i) {
+    printf "\n%s, nanoseconds a byte against size (table of the rows needed); last column: largest size / 4 KB\n", what
+    printf "%-22s %8s %8s %8s %8s %8s %8s %8s %9s\n", "kind", "1 KB", "2 KB", "4 KB", "8 KB", "16 KB", "32 KB", "64 KB", "growth"
+    for (i = 1; i <= kind_count; i++) size_line(kinds[i], time, what)
+}
+
+END {
+    limit["libei"] = 1; limit["erlang"] = 0.5; limit["Reading"] = limit["Writing"] = 1.5
+    print "Reading, nanoseconds a message"
+    printf "%-22s %7s %10s %10s %10s %10s %9s %9s %9s\n", "corpus", "bytes", "ours", "ours 8192", "libei", "b_to_term", "/libei", "/b_to_t", "8192/libei"
+    each_line(1)
+    print "\nWriting, nanoseconds a message (ours reads and writes; libei and term_to_binary write elements or a term made before)"
+    printf "%-22s %7s %10s %10s %10s %10s %9s %9s %9s %9s\n", "corpus", "bytes", "ours", "ours 8192", "libei", "term_to_b", "/libei", "/ei both", "/t_to_b", "/erl both"
+    each_line(0)
+    print "\nPlain packets with headers, nanoseconds a packet (libei and Erlang's functions take none)"
+    printf "%-22s %7s %10s %18s\n", "packets", "bytes", "ik_packet", "+ ik_read_payload"
+    for (i = 1; i <= packet_count; i++)
+        printf "%-22s %7.0f %10.0f %18.0f\n", packets[i], bytes[packets[i]] / messages[packets[i]], alone[packets[i]], with_reading[packets[i]]
+    sizes("Reading", read_exact)
+    sizes("Writing", write_exact)
+    printf "\nno slower than libei: %d of %d; at least twice as fast as binary_to_term: %d of %d\n", held["libei"], seen["libei"], held["erlang"], seen["erlang"]
+    bent_all = (bent["Reading"] == "" ? "" : " reading" bent["Reading"]) (bent["Writing"] == "" ? "" : " writing" bent["Writing"])
+    printf "linear: %s; reading at most %.2f times libei (%s), at most %.2f times binary_to_term (%s)\n", bent_all == "" ? "yes" : "no," bent_all, \
+        worst_ratio["libei"], worst_name["libei"], worst_ratio["erlang"], worst_name["erlang"]
+}
