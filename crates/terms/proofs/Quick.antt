@@ -147,3 +147,8 @@ leaf-small m list T cap at row whole w room inside =
     let c : cap ≤ 8192 = room .few in
     let d : length m ≤ 65536 = room .short in
     record { small-kind = omega arith; small-offset = omega arith; small-whole = omega arith; small-parts = omega arith; small-size = omega arith }
+
+-- where any term is wanted
+pub any-asked : (atoms : Atoms) (cap left : ℕ) (w : Wanted) (m : List ℕ) (at row whole : ℕ) (T : List ℕ) (r : Step) (U : List ℕ) → w ≡ any
+    → TermDone m cap row whole T (term atoms cap left any (at-offset m at row)) r U → TermDone m cap row whole T (term atoms cap left w (at-offset m at row)) r U
+any-asked atoms cap left w m at row whole T r U e d = rw e d

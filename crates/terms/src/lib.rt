@@ -204,12 +204,32 @@ fn read_common(
     }
     if kind == 14 {
         return read_list(
-            msg, n, places, lengths, table, seen, at, row, deep, cap, count,
+            msg,
+            n,
+            places,
+            lengths,
+            table,
+            seen,
+            at,
+            row,
+            deep,
+            cap,
+            count,
         );
     }
     if kind == 15 {
         return read_pairs(
-            msg, n, places, lengths, table, seen, at, row, deep, cap, count,
+            msg,
+            n,
+            places,
+            lengths,
+            table,
+            seen,
+            at,
+            row,
+            deep,
+            cap,
+            count,
         );
     }
     match read_run(

@@ -2,6 +2,7 @@
 use Rattle.terms.proofs.Entries.{Entered, entered-none, entries-many, entries-end, key-refused, key-twice, value-refused, entered-more, keys-told, term-inside}
 use Rattle.terms.proofs.Inner.{opens-near, opens-place, opens-span, inner-refused, inner-parts, inner-characters, inner-elements, inner-pairs, parts-first, parts-second, parts-later-refused, parts-got, run-many, list-first, list-then, Tailed, tailed-none, tailed-refused, tailed-last, tailed-run-refused, tailed-further, tailed-more, last-characters, last-refused, last-got}
 use Rattle.terms.proofs.Bodies.{term-refused, term-opened, body-deep, body-full, body-refused, body-got, body-small, parts-past, room-inside, room-at}
+use Rattle.terms.proofs.Quick.{told-next, common-leaf, common-list, common-pairs, common-refused, common-got, opened-quickly, quick-near, quick-inside, quick-term, quick-leaf, leaf-small, any-asked}
 use Rattle.terms.proofs.Runs.{room-after, run-none, run-refused, run-more, wanted-refused, wanted-more}
 use Rattle.terms.proofs.Openings.{opened, opens}
 use Rattle.terms.specs.Code.{Room, RunDone, PartsDone}
@@ -24,6 +25,9 @@ use borrow.Fn.PlainCycle.{Measures, is, falls, and}
 use Rattle.terms.proofs.read_body.Reads as read-body
 use Rattle.terms.proofs.read_body.Kinds as read-body-kinds
 use Rattle.terms.proofs.+read_body+read_common+read_inner+read_last+read_list+read_pairs+read_parts+read_quick+read_run+read_tail+read_term+read_wanted.Lts-read_body as read-body-lts
+use Rattle.terms.proofs.read_common.Reads as read-common
+use Rattle.terms.proofs.read_common.Kinds as read-common-kinds
+use Rattle.terms.proofs.+read_body+read_common+read_inner+read_last+read_list+read_pairs+read_parts+read_quick+read_run+read_tail+read_term+read_wanted.Lts-read_common as read-common-lts
 use Rattle.terms.proofs.read_inner.Reads as read-inner
 use Rattle.terms.proofs.read_inner.Kinds as read-inner-kinds
 use Rattle.terms.proofs.+read_body+read_common+read_inner+read_last+read_list+read_pairs+read_parts+read_quick+read_run+read_tail+read_term+read_wanted.Lts-read_inner as read-inner-lts
@@ -39,6 +43,9 @@ use Rattle.terms.proofs.+read_body+read_common+read_inner+read_last+rea
 use Rattle.terms.proofs.read_parts.Reads as read-parts
 use Rattle.terms.proofs.read_parts.Kinds as read-parts-kinds
 use Rattle.terms.proofs.+read_body+read_common+read_inner+read_last+read_list+read_pairs+read_parts+read_quick+read_run+read_tail+read_term+read_wanted.Lts-read_parts as read-parts-lts
+use Rattle.terms.proofs.read_quick.Reads as read-quick
+use Rattle.terms.proofs.read_quick.Kinds as read-quick-kinds
+use Rattle.terms.proofs.+read_body+read_common+read_inner+read_last+read_list+read_pairs+read_parts+read_quick+read_run+read_tail+read_term+read_wanted.Lts-read_quick as read-quick-lts
 use Rattle.terms.proofs.read_run.Reads as read-run
 use Rattle.terms.proofs.read_run.Kinds as read-run-kinds
 use Rattle.terms.proofs.+read_body+read_common+read_inner+read_last+read_list+read_pairs+read_parts+read_quick+read_run+read_tail+read_term+read_wanted.Lts-read_run as read-run-lts
@@ -51,11 +58,14 @@ use Rattle.terms.proofs.+read_body+read_common+read_inner+read_last+rea
 use Rattle.terms.proofs.read_wanted.Reads as read-wanted
 use Rattle.terms.proofs.read_wanted.Kinds as read-wanted-kinds
 use Rattle.terms.proofs.+read_body+read_common+read_inner+read_last+read_list+read_pairs+read_parts+read_quick+read_run+read_tail+read_term+read_wanted.Lts-read_wanted as read-wanted-lts
+use Rattle.heads.proofs.leaf_at.Reads as leaf-at-reads
+use Rattle.heads.proofs.quick_at.Reads as quick-at-reads
 use Rattle.heads.proofs.read_later.Reads as read-later-reads
 use Rattle.heads.proofs.read_opening.Reads as read-opening-reads
 use Rattle.keys.proofs.repeats.Reads as repeats-reads
 use Rattle.row.proofs.pack.Reads as pack-reads
 use Rattle.terms.proofs.at_most.Reads as at-most-reads
+use Rattle.terms.proofs.is_leaf.Reads as is-leaf-reads
 use Rattle.terms.proofs.read_characters.Reads as read-characters-reads
 use Rattle.terms.proofs.+read_body+read_common+read_inner+read_last+read_list+read_pairs+read_parts+read_quick+read_run+read_tail+read_term+read_wanted.{
   statement,
@@ -66,6 +76,9 @@ use Rattle.terms.proofs.+read_body+read_common+read_inner+read_last+rea
 
 abbrev μ-read-body : Measures 5 read-body-kinds.ps ℕ
 μ-read-body κs a = a .1 .1 .1 .1 .1 .1 .1 .1 .1 .1 .0 * 8 + 0
+
+abbrev μ-read-common : Measures 5 read-common-kinds.ps ℕ
+μ-read-common κs a = a .1 .1 .1 .1 .1 .1 .1 .0 * 8 + 5
 
 abbrev μ-read-inner : Measures 5 read-inner-kinds.ps ℕ
 μ-read-inner κs a = a .1 .1 .1 .1 .1 .1 .1 .1 .1 .0 * 8 + 5
@@ -81,6 +94,9 @@ abbrev μ-read-pairs : Measures 5 read-pairs-kinds.ps ℕ
 
 abbrev μ-read-parts : Measures 5 read-parts-kinds.ps ℕ
 μ-read-parts κs a = a .1 .1 .1 .1 .1 .1 .1 .1 .1 .0 * 8 + 4
+
+abbrev μ-read-quick : Measures 5 read-quick-kinds.ps ℕ
+μ-read-quick κs a = a .1 .1 .1 .1 .1 .1 .1 .1 .1 .0 * 8 + 0
 
 abbrev μ-read-run : Measures 5 read-run-kinds.ps ℕ
 μ-read-run κs a = a .1 .1 .1 .1 .1 .1 .1 .1 .1 .0 * 8 + 2
@@ -100,6 +116,13 @@ read-body-at t = and 5 read-body-kinds.ps (is 5 read-body-kinds.ps μ-read-body 
 abbrev read-body-below : ℕ → In 5 read-body-kinds.ps
 read-body-below t =
     and 5 read-body-kinds.ps (falls 5 read-body-kinds.ps _<_ μ-read-body t) read-body.Pre
+
+abbrev read-common-at : ℕ → In 5 read-common-kinds.ps
+read-common-at t = and 5 read-common-kinds.ps (is 5 read-common-kinds.ps μ-read-common t) read-common.Pre
+
+abbrev read-common-below : ℕ → In 5 read-common-kinds.ps
+read-common-below t =
+    and 5 read-common-kinds.ps (falls 5 read-common-kinds.ps _<_ μ-read-common t) read-common.Pre
 
 abbrev read-inner-at : ℕ → In 5 read-inner-kinds.ps
 read-inner-at t =
@@ -139,6 +162,13 @@ abbrev read-parts-below : ℕ → In 5 read-parts-kinds.ps
 read-parts-below t =
     and 5 read-parts-kinds.ps (falls 5 read-parts-kinds.ps _<_ μ-read-parts t) read-parts.Pre
 
+abbrev read-quick-at : ℕ → In 5 read-quick-kinds.ps
+read-quick-at t = and 5 read-quick-kinds.ps (is 5 read-quick-kinds.ps μ-read-quick t) read-quick.Pre
+
+abbrev read-quick-below : ℕ → In 5 read-quick-kinds.ps
+read-quick-below t =
+    and 5 read-quick-kinds.ps (falls 5 read-quick-kinds.ps _<_ μ-read-quick t) read-quick.Pre
+
 abbrev read-run-at : ℕ → In 5 read-run-kinds.ps
 read-run-at t = and 5 read-run-kinds.ps (is 5 read-run-kinds.ps μ-read-run t) read-run.Pre
 
@@ -171,6 +201,9 @@ read-wanted-below t =
 abbrev read-body-calls : ℕ → read-body-lts.Claims
 read-body-calls t = (read-inner-below t, read-inner.Post, pack-reads.Asked, pack-reads.Learnt)
 
+abbrev read-common-calls : ℕ → read-common-lts.Claims
+read-common-calls t = (read-list-below t, read-list.Post, read-pairs-below t, read-pairs.Post, read-run-below t, read-run.Post)
+
 abbrev read-inner-calls : ℕ → read-inner-lts.Claims
 read-inner-calls t = (read-parts-below t, read-parts.Post, read-characters-reads.Asked, read-characters-reads.Learnt, read-list-below t, read-list.Post, read-pairs-below t, read-pairs.Post)
 
@@ -186,14 +219,17 @@ read-pairs-calls t = (read-term-below t, read-term.Post, repeats-reads.Asked, re
 abbrev read-parts-calls : ℕ → read-parts-lts.Claims
 read-parts-calls t = (read-wanted-below t, read-wanted.Post, read-run-below t, read-run.Post, read-later-reads.Asked, read-later-reads.Learnt)
 
+abbrev read-quick-calls : ℕ → read-quick-lts.Claims
+read-quick-calls t = (read-common-below t, read-common.Post, pack-reads.Asked, pack-reads.Learnt)
+
 abbrev read-run-calls : ℕ → read-run-lts.Claims
-read-run-calls t = (read-term-below t, read-term.Post)
+read-run-calls t = (leaf-at-reads.Asked, leaf-at-reads.Learnt, is-leaf-reads.Asked, is-leaf-reads.Learnt, pack-reads.Asked, pack-reads.Learnt, read-term-below t, read-term.Post)
 
 abbrev read-tail-calls : ℕ → read-tail-lts.Claims
 read-tail-calls t = (read-opening-reads.Asked, read-opening-reads.Learnt, read-run-below t, read-run.Post, read-last-below t, read-last.Post)
 
 abbrev read-term-calls : ℕ → read-term-lts.Claims
-read-term-calls t = (read-opening-reads.Asked, read-opening-reads.Learnt, read-body-below t, read-body.Post)
+read-term-calls t = (quick-at-reads.Asked, quick-at-reads.Learnt, read-quick-below t, read-quick.Post, read-opening-reads.Asked, read-opening-reads.Learnt, read-body-below t, read-body.Post)
 
 abbrev read-wanted-calls : ℕ → read-wanted-lts.Claims
 read-wanted-calls t = (at-most-reads.Asked, at-most-reads.Learnt, read-run-below t, read-run.Post)
@@ -567,26 +603,23 @@ read-run-μ-loop msg n places lengths table₀ seen₀ at row whole deep cap wan
 read-run-loop-holds : (t : ℕ) → read-run-lts.Need-loop-holds (read-run-calls t) (read-run-at t) read-run.Post read-run-Inv-loop read-run-μ-loop
 read-run-loop-holds t c = (c .before .before .before .before .before .pre .1 .0, refl, (λ s U d. d), keeps-refl _)
 
-read-run-read-term-requires : (t : ℕ) → read-run-lts.Need-read-term-requires (read-run-calls t) (read-run-at t) read-run.Post read-run-Inv-loop read-run-μ-loop
-read-run-read-term-requires t c κs = (omega (arith, c .before .before .before .before .before .before .before .before .before .pre .0), (c .before .before .before .loop .inv .0, omega (arith, c .before .before .before .before .before .before .before .before .before .pre .1 .1, c .before .before .before .loop .inv .3 .as-many)))
+read-run-leaf-at-requires : (t : ℕ) → read-run-lts.Need-leaf-at-requires (read-run-calls t) (read-run-at t) read-run.Post read-run-Inv-loop read-run-μ-loop
+read-run-leaf-at-requires t c κs = (c .before .loop .inv .0 .near, c .before .loop .inv .0 .short)
 
-read-run-enum-known-number : (t : ℕ) → read-run-lts.Need-enum-known-number (read-run-calls t) (read-run-at t) read-run.Post read-run-Inv-loop read-run-μ-loop
-read-run-enum-known-number t c = search needs
+read-run-is-leaf-requires : (t : ℕ) → read-run-lts.Need-is-leaf-requires (read-run-calls t) (read-run-at t) read-run.Post read-run-Inv-loop read-run-μ-loop
+read-run-is-leaf-requires t c κs = search needs
 
-read-run-same-length : (t : ℕ) → read-run-lts.Need-same-length (read-run-calls t) (read-run-at t) read-run.Post read-run-Inv-loop read-run-μ-loop
-read-run-same-length t c = c .before .before .before .before .before .before .before .read-term .kept .1 .1 .1 .1 .0 ∙ c .before .before .before .before .before .before .before .before .before .before .before .loop .inv .1
+read-run-pack-requires : (t : ℕ) → read-run-lts.Need-pack-requires (read-run-calls t) (read-run-at t) read-run.Post read-run-Inv-loop read-run-μ-loop
+read-run-pack-requires t c κs = let f = c .before .is-leaf .ensures (c .if1 .taken) in let w = c .before .before .leaf-at .ensures (f .0) in leaf-small _ _ _ _ _ _ _ _ (c .before .before .before .before .loop .inv .0) (quick-inside _ _ _ (c .before .before .before .before .loop .row-now) _ (f .0) (w .1 (atoms-of (lent 0 [] [])) (c .before .before .before .before .loop .row-now)))
 
-read-run-same-length-2 : (t : ℕ) → read-run-lts.Need-same-length-2 (read-run-calls t) (read-run-at t) read-run.Post read-run-Inv-loop read-run-μ-loop
-read-run-same-length-2 t c = c .before .before .before .before .before .before .before .read-term .kept .1 .1 .1 .1 .1 .0 ∙ c .before .before .before .before .before .before .before .before .before .before .before .loop .inv .3 .as-many
+read-run-mul-table : (t : ℕ) → read-run-lts.Need-mul-table (read-run-calls t) (read-run-at t) read-run.Post read-run-Inv-loop read-run-μ-loop
+read-run-mul-table t c = omega arith
 
-read-run-returns : (t : ℕ) → read-run-lts.Need-returns (read-run-calls t) (read-run-at t) read-run.Post read-run-Inv-loop read-run-μ-loop
-read-run-returns t c =
-    let i = c .before .before .before .before .before .before .before .before .before .before .before .loop in
-    let e : i .more ≡ 0 → ⊥ = omega arith in
-    (i .inv .2 _ _ (run-refused _ _ _ _ _ _ _ _ _ e _ _ _ _ _ (c .before .number .given .1) (c .before .before .before .before .before .before .before .read-term .ensures .0)), keeps-trans (c .before .before .before .before .before .before .before .before .before .before .before .loop .inv .3) (c .before .before .before .before .before .before .before .read-term .ensures .1))
+read-run-slice-write-table : (t : ℕ) → read-run-lts.Need-slice-write-table (read-run-calls t) (read-run-at t) read-run.Post read-run-Inv-loop read-run-μ-loop
+read-run-slice-write-table t c = let f = c .before .before .is-leaf .ensures (c .before .if1 .taken) in omega (arith, f .3, c .before .before .before .before .before .loop .inv .0 .wide)
 
-read-run-enum-known-next : (t : ℕ) → read-run-lts.Need-enum-known-next (read-run-calls t) (read-run-at t) read-run.Post read-run-Inv-loop read-run-μ-loop
-read-run-enum-known-next t c = search needs
+read-run-add-row-now : (t : ℕ) → read-run-lts.Need-add-row-now (read-run-calls t) (read-run-at t) read-run.Post read-run-Inv-loop read-run-μ-loop
+read-run-add-row-now t c = let f = c .before .before .is-leaf .ensures (c .before .if1 .taken) in omega (arith, f .3, c .before .before .before .before .before .loop .inv .0 .few)
 
 read-run-sub-more : (t : ℕ) → read-run-lts.Need-sub-more (read-run-calls t) (read-run-at t) read-run.Post read-run-Inv-loop read-run-μ-loop
 read-run-sub-more t c = omega arith
@@ -596,9 +629,44 @@ read-run-loop-less t c = omega arith
 
 read-run-loop-again : (t : ℕ) → read-run-lts.Need-loop-again (read-run-calls t) (read-run-at t) read-run.Post read-run-Inv-loop read-run-μ-loop
 read-run-loop-again t c =
-    let i = c .before .before .before .before .before .before .before .before .before .before .before .loop in
+    let i = c .before .before .before .before .before .loop in
     let e : i .more ≡ 0 → ⊥ = omega arith in
-    (room-after _ _ _ _ _ _ _ _ _ _ _ _ _ _ _ (i .inv .0) (c .before .before .before .before .before .before .before .read-term .ensures .0) (c .before .next .given .1) (c .before .before .before .before .before .before .before .read-term .kept .1 .1 .1 .1 .0), c .before .before .before .before .before .before .before .read-term .kept .1 .1 .1 .1 .0 ∙ i .inv .1, (λ s U d. i .inv .2 s U (run-more _ _ _ _ _ _ _ _ _ e _ _ _ _ s U (c .before .next .given .1) (c .before .before .before .before .before .before .before .read-term .ensures .0) d)), keeps-trans (c .before .before .before .before .before .before .before .before .before .before .before .loop .inv .3) (c .before .before .before .before .before .before .before .read-term .ensures .1))
+    let f = c .before .before .is-leaf .ensures (c .before .if1 .taken) in let w = c .before .before .before .leaf-at .ensures (f .0) in
+    let d = (quick-leaf _ _ _ (i .row-now) _ (f .0) (w .1 _ (i .row-now)) _ _ _ _ _ (w .0) (f .1) (f .2) (f .3) (omega (arith, quick-inside _ _ _ (i .row-now) _ (f .0) (w .1 (atoms-of (lent 0 [] [])) (i .row-now)), i .inv .0 .short)) _ (c .pack .ensures)) in
+    (room-after _ _ _ _ _ _ _ _ _ _ _ _ _ _ _ (i .inv .0) d refl (length-set {A = ℕ} (i .table) (i .row-now) (c .pack .result)), length-set {A = ℕ} (i .table) (i .row-now) (c .pack .result) ∙ i .inv .1, (λ s U g. i .inv .2 s U (run-more _ _ _ _ _ _ _ _ _ e _ _ _ _ s U refl d g)), i .inv .3)
+
+read-run-read-term-requires : (t : ℕ) → read-run-lts.Need-read-term-requires (read-run-calls t) (read-run-at t) read-run.Post read-run-Inv-loop read-run-μ-loop
+read-run-read-term-requires t c κs = (omega (arith, c .before .before .before .before .before .before .before .before .before .before .before .before .pre .0), (c .before .before .before .before .before .before .loop .inv .0, omega (arith, c .before .before .before .before .before .before .before .before .before .before .before .before .pre .1 .1, c .before .before .before .before .before .before .loop .inv .3 .as-many)))
+
+read-run-enum-known-number : (t : ℕ) → read-run-lts.Need-enum-known-number (read-run-calls t) (read-run-at t) read-run.Post read-run-Inv-loop read-run-μ-loop
+read-run-enum-known-number t c = search needs
+
+read-run-same-length : (t : ℕ) → read-run-lts.Need-same-length (read-run-calls t) (read-run-at t) read-run.Post read-run-Inv-loop read-run-μ-loop
+read-run-same-length t c = c .before .before .before .before .before .before .before .read-term .kept .1 .1 .1 .1 .0 ∙ c .before .before .before .before .before .before .before .before .before .before .before .before .before .before .loop .inv .1
+
+read-run-same-length-2 : (t : ℕ) → read-run-lts.Need-same-length-2 (read-run-calls t) (read-run-at t) read-run.Post read-run-Inv-loop read-run-μ-loop
+read-run-same-length-2 t c = c .before .before .before .before .before .before .before .read-term .kept .1 .1 .1 .1 .1 .0 ∙ c .before .before .before .before .before .before .before .before .before .before .before .before .before .before .loop .inv .3 .as-many
+
+read-run-returns : (t : ℕ) → read-run-lts.Need-returns (read-run-calls t) (read-run-at t) read-run.Post read-run-Inv-loop read-run-μ-loop
+read-run-returns t c =
+    let i = c .before .before .before .before .before .before .before .before .before .before .before .before .before .before .loop in
+    let e : i .more ≡ 0 → ⊥ = omega arith in
+    (i .inv .2 _ _ (run-refused _ _ _ _ _ _ _ _ _ e _ _ _ _ _ (c .before .number .given .1) (c .before .before .before .before .before .before .before .read-term .ensures .0)), keeps-trans (i .inv .3) (c .before .before .before .before .before .before .before .read-term .ensures .1))
+
+read-run-enum-known-next : (t : ℕ) → read-run-lts.Need-enum-known-next (read-run-calls t) (read-run-at t) read-run.Post read-run-Inv-loop read-run-μ-loop
+read-run-enum-known-next t c = search needs
+
+read-run-sub-more-2 : (t : ℕ) → read-run-lts.Need-sub-more-2 (read-run-calls t) (read-run-at t) read-run.Post read-run-Inv-loop read-run-μ-loop
+read-run-sub-more-2 t c = omega arith
+
+read-run-loop-less-2 : (t : ℕ) → read-run-lts.Need-loop-less-2 (read-run-calls t) (read-run-at t) read-run.Post read-run-Inv-loop read-run-μ-loop
+read-run-loop-less-2 t c = omega arith
+
+read-run-loop-again-2 : (t : ℕ) → read-run-lts.Need-loop-again-2 (read-run-calls t) (read-run-at t) read-run.Post read-run-Inv-loop read-run-μ-loop
+read-run-loop-again-2 t c =
+    let i = c .before .before .before .before .before .before .before .before .before .before .before .before .before .before .loop in
+    let e : i .more ≡ 0 → ⊥ = omega arith in
+    (room-after _ _ _ _ _ _ _ _ _ _ _ _ _ _ _ (i .inv .0) (c .before .before .before .before .before .before .before .read-term .ensures .0) (c .before .next .given .1) (c .before .before .before .before .before .before .before .read-term .kept .1 .1 .1 .1 .0), c .before .before .before .before .before .before .before .read-term .kept .1 .1 .1 .1 .0 ∙ i .inv .1, (λ s U d. i .inv .2 s U (run-more _ _ _ _ _ _ _ _ _ e _ _ _ _ s U (c .before .next .given .1) (c .before .before .before .before .before .before .before .read-term .ensures .0) d)), keeps-trans (i .inv .3) (c .before .before .before .before .before .before .before .read-term .ensures .1))
 
 read-run-same-length-3 : (t : ℕ) → read-run-lts.Need-same-length-3 (read-run-calls t) (read-run-at t) read-run.Post read-run-Inv-loop read-run-μ-loop
 read-run-same-length-3 t c = c .before .loop .inv .1
@@ -610,7 +678,7 @@ read-run-returns-2 : (t : ℕ) → read-run-lts.Need-returns-2 (read-run-calls t
 read-run-returns-2 t c =
     let i = c .before .loop in
     let e : i .more ≡ 0 = omega arith in
-    (i .inv .2 _ _ (run-none _ _ _ _ _ _ _ _ _ e (i .inv .0 .low) (i .inv .0 .near)), c .before .loop .inv .3)
+    (i .inv .2 _ _ (run-none _ _ _ _ _ _ _ _ _ e (i .inv .0 .low) (i .inv .0 .near)), i .inv .3)
 
 abbrev read-tail-Inv-loop : read-tail-lts.InvT-loop
 read-tail-Inv-loop msg n places lengths table₀ seen₀ at row whole deep cap before at-now₀ row-now₀ sum₀ table seen at-now row-now sum =
@@ -687,29 +755,6 @@ read-tail-same-length-6 t c = c .before .before .before .before .read-last .kept
 read-tail-returns-3 : (t : ℕ) → read-tail-lts.Need-returns-3 (read-tail-calls t) (read-tail-at t) read-tail.Post read-tail-Inv-loop read-tail-μ-loop
 read-tail-returns-3 t c = (tailed-last _ _ _ _ _ _ _ _ _ _ (c .before .before .before .before .before .before .before .before .before .loop .inv .3) (opened _ _ _ (c .before .before .before .before .before .before .before .before .before .loop .row-now) _ _ (c .before .before .before .before .before .before .before .before .read-opening .ensures) (λ k p e. miss (1 ∷ 2 ∷ 4 ∷ []) 0 tt (rw e at (c .before .before .before .before .before .before .before .match .keys3))) (c .before .before .before .before .before .before .before .before .before .loop .inv .0 .near)) _ _ (λ k p e. miss (1 ∷ 2 ∷ 4 ∷ []) 3 tt (rw e at (c .before .before .before .before .before .before .before .match .keys3))) (c .before .before .before .before .read-last .ensures .0), keeps-trans (c .before .before .before .before .before .before .before .before .before .loop .inv .4) (c .before .before .before .before .read-last .ensures .1))
 
-read-term-read-opening-requires : (t : ℕ) → read-term-lts.Need-read-opening-requires (read-term-calls t) (read-term-at t) read-term.Post
-read-term-read-opening-requires t c κs = (c .before .before .before .before .before .pre .1 .0 .near, c .before .before .before .before .before .pre .1 .0 .short, c .before .before .before .before .before .pre .1 .0 .sized)
-
-read-term-enum-known-head : (t : ℕ) → read-term-lts.Need-enum-known-head (read-term-calls t) (read-term-at t) read-term.Post
-read-term-enum-known-head t c = search needs
-
-read-term-read-body-requires : (t : ℕ) → read-term-lts.Need-read-body-requires (read-term-calls t) (read-term-at t) read-term.Post
-read-term-read-body-requires t c κs =
-    let o = (opened _ _ _ (c .before .before .before .before .before .before .before .before .before .args .row) _ _ (c .before .before .before .read-opening .ensures) (λ k p e. miss (1 ∷ 2 ∷ 3 ∷ 4 ∷ []) 0 tt (rw e at (c .before .before .match .keys2))) (c .before .before .before .before .before .before .before .before .before .pre .1 .0 .near)) in
-    (omega (arith, c .before .before .before .before .before .before .before .before .before .pre .0), ((room-at _ _ _ _ _ _ _ _ (c .before .before .before .before .before .before .before .before .before .pre .1 .0) (omega (arith, o .sound .before, o .sound .end)), opens _ _ _ _ _ o), c .before .before .before .before .before .before .before .before .before .pre .1 .1))
-
-read-term-returns : (t : ℕ) → read-term-lts.Need-returns (read-term-calls t) (read-term-at t) read-term.Post
-read-term-returns t c = (term-refused _ _ _ _ _ _ _ _ _ _ _ _ _ (c .before .before .before .read-opening .ensures) (c .before .head .given .1), keeps-refl _)
-
-read-term-same-length : (t : ℕ) → read-term-lts.Need-same-length (read-term-calls t) (read-term-at t) read-term.Post
-read-term-same-length t c = c .before .before .before .before .read-body .kept .1 .1 .1 .1 .0
-
-read-term-same-length-2 : (t : ℕ) → read-term-lts.Need-same-length-2 (read-term-calls t) (read-term-at t) read-term.Post
-read-term-same-length-2 t c = c .before .before .before .before .read-body .kept .1 .1 .1 .1 .1 .0
-
-read-term-returns-2 : (t : ℕ) → read-term-lts.Need-returns-2 (read-term-calls t) (read-term-at t) read-term.Post
-read-term-returns-2 t c = (term-opened _ _ _ _ _ _ _ _ _ _ (opened _ _ _ (c .before .before .before .before .before .before .before .before .before .before .before .before .before .before .args .row) _ _ (c .before .before .before .before .before .before .before .before .read-opening .ensures) (λ k p e. miss (1 ∷ 2 ∷ 3 ∷ 4 ∷ []) 0 tt (rw e at (c .before .before .before .before .before .before .before .match .keys2))) (c .before .before .before .before .before .before .before .before .before .before .before .before .before .before .pre .1 .0 .near)) _ (c .before .before .before .before .read-body .ensures .0), c .before .before .before .before .read-body .ensures .1)
-
 read-wanted-at-most-requires : (t : ℕ) → read-wanted-lts.Need-at-most-requires (read-wanted-calls t) (read-wanted-at t) read-wanted.Post
 read-wanted-at-most-requires t c κs = search needs
 
@@ -746,16 +791,161 @@ read-wanted-same-length-4 t c = c .before .before .before .before .read-run2 .ke
 read-wanted-returns-2 : (t : ℕ) → read-wanted-lts.Need-returns-2 (read-wanted-calls t) (read-wanted-at t) read-wanted.Post
 read-wanted-returns-2 t c = (wanted-more _ _ _ _ _ _ _ _ _ (c .before .before .before .before .before .before .before .before .before .before .before .before .before .before .before .before .before .at-most .ensures) _ _ (c .before .before .before .before .before .before .before .before .before .before .before .before .before .before .read-run .ensures .0) _ _ _ _ (c .before .before .before .before .before .before .before .before .next .given .1) (c .before .before .before .before .read-run2 .ensures .0), keeps-trans (c .before .before .before .before .before .before .before .before .before .before .before .before .before .before .read-run .ensures .1) (c .before .before .before .before .read-run2 .ensures .1))
 
-pub +read-body+read-inner+read-last+read-list+read-pairs+read-parts+read-run+read-tail+read-term+read-wanted-spec :
+read-common-returns : (t : ℕ) → read-common-lts.Need-returns (read-common-calls t) (read-common-at t) read-common.Post
+read-common-returns t c = (λ place h next told. common-leaf _ _ _ _ place _ _ _ told (c .if1 .taken) (omega (arith, told-next told, c .before .before .before .before .before .before .pre .1 .0 .near)) (c .before .before .before .before .before .before .pre .1 .0 .low), keeps-refl _)
+
+read-common-read-list-requires : (t : ℕ) → read-common-lts.Need-read-list-requires (read-common-calls t) (read-common-at t) read-common.Post
+read-common-read-list-requires t c κs = (omega (arith, c .before .before .before .before .before .before .before .before .before .pre .0), (c .before .before .before .before .before .before .before .before .before .pre .1 .0, c .before .before .before .before .before .before .before .before .before .pre .1 .1))
+
+read-common-same-length : (t : ℕ) → read-common-lts.Need-same-length (read-common-calls t) (read-common-at t) read-common.Post
+read-common-same-length t c = c .before .before .before .before .read-list .kept .1 .1 .1 .1 .0
+
+read-common-same-length-2 : (t : ℕ) → read-common-lts.Need-same-length-2 (read-common-calls t) (read-common-at t) read-common.Post
+read-common-same-length-2 t c = c .before .before .before .before .read-list .kept .1 .1 .1 .1 .1 .0
+
+read-common-returns-2 : (t : ℕ) → read-common-lts.Need-returns-2 (read-common-calls t) (read-common-at t) read-common.Post
+read-common-returns-2 t c = (λ place h next told. common-list _ _ _ _ place _ _ _ told _ _ (c .before .before .before .before .before .before .before .if2 .taken) (c .before .before .before .before .read-list .ensures .0 place), c .before .before .before .before .read-list .ensures .1)
+
+read-common-read-pairs-requires : (t : ℕ) → read-common-lts.Need-read-pairs-requires (read-common-calls t) (read-common-at t) read-common.Post
+read-common-read-pairs-requires t c κs = (omega (arith, c .before .before .before .before .before .before .before .before .before .before .pre .0), (c .before .before .before .before .before .before .before .before .before .before .pre .1 .0, c .before .before .before .before .before .before .before .before .before .before .pre .1 .1))
+
+read-common-same-length-3 : (t : ℕ) → read-common-lts.Need-same-length-3 (read-common-calls t) (read-common-at t) read-common.Post
+read-common-same-length-3 t c = c .before .before .before .before .read-pairs .kept .1 .1 .1 .1 .0
+
+read-common-same-length-4 : (t : ℕ) → read-common-lts.Need-same-length-4 (read-common-calls t) (read-common-at t) read-common.Post
+read-common-same-length-4 t c = c .before .before .before .before .read-pairs .kept .1 .1 .1 .1 .1 .0
+
+read-common-returns-3 : (t : ℕ) → read-common-lts.Need-returns-3 (read-common-calls t) (read-common-at t) read-common.Post
+read-common-returns-3 t c = (λ place h next told. common-pairs _ _ _ _ place _ _ _ told _ _ (c .before .before .before .before .before .before .before .if3 .taken) (c .before .before .before .before .read-pairs .ensures .0 place), c .before .before .before .before .read-pairs .ensures .1)
+
+read-common-read-run-requires : (t : ℕ) → read-common-lts.Need-read-run-requires (read-common-calls t) (read-common-at t) read-common.Post
+read-common-read-run-requires t c κs = (omega (arith, c .before .before .before .before .before .before .before .before .before .before .pre .0), (c .before .before .before .before .before .before .before .before .before .before .pre .1 .0, c .before .before .before .before .before .before .before .before .before .before .pre .1 .1))
+
+read-common-enum-known-number : (t : ℕ) → read-common-lts.Need-enum-known-number (read-common-calls t) (read-common-at t) read-common.Post
+read-common-enum-known-number t c = search needs
+
+read-common-enum-known-next : (t : ℕ) → read-common-lts.Need-enum-known-next (read-common-calls t) (read-common-at t) read-common.Post
+read-common-enum-known-next t c = search needs
+
+read-common-same-length-5 : (t : ℕ) → read-common-lts.Need-same-length-5 (read-common-calls t) (read-common-at t) read-common.Post
+read-common-same-length-5 t c = c .before .before .before .before .before .before .before .read-run .kept .1 .1 .1 .1 .0
+
+read-common-same-length-6 : (t : ℕ) → read-common-lts.Need-same-length-6 (read-common-calls t) (read-common-at t) read-common.Post
+read-common-same-length-6 t c = c .before .before .before .before .before .before .before .read-run .kept .1 .1 .1 .1 .1 .0
+
+read-common-returns-4 : (t : ℕ) → read-common-lts.Need-returns-4 (read-common-calls t) (read-common-at t) read-common.Post
+read-common-returns-4 t c = (λ place h next told. common-refused _ _ _ _ place _ _ _ told (c .before .before .before .before .before .before .before .before .before .before .before .before .if1 .left) (c .before .before .before .before .before .before .before .before .before .before .before .if2 .left) (c .before .before .before .before .before .before .before .before .before .before .if3 .left) (omega (arith, told-next told, c .before .before .before .before .before .before .before .before .before .before .before .before .before .before .before .before .before .before .pre .1 .0 .near)) (c .before .before .before .before .before .before .before .before .before .before .before .before .before .before .before .before .before .before .pre .1 .0 .low) _ _ (c .before .before .before .before .before .before .before .read-run .ensures .0) _ _ _ (c .before .number .given .1), c .before .before .before .before .before .before .before .read-run .ensures .1)
+
+read-common-same-length-7 : (t : ℕ) → read-common-lts.Need-same-length-7 (read-common-calls t) (read-common-at t) read-common.Post
+read-common-same-length-7 t c = c .before .before .before .before .before .before .before .read-run .kept .1 .1 .1 .1 .0
+
+read-common-same-length-8 : (t : ℕ) → read-common-lts.Need-same-length-8 (read-common-calls t) (read-common-at t) read-common.Post
+read-common-same-length-8 t c = c .before .before .before .before .before .before .before .read-run .kept .1 .1 .1 .1 .1 .0
+
+read-common-returns-5 : (t : ℕ) → read-common-lts.Need-returns-5 (read-common-calls t) (read-common-at t) read-common.Post
+read-common-returns-5 t c = (λ place h next told. common-got _ _ _ _ place _ _ _ told (c .before .before .before .before .before .before .before .before .before .before .before .before .if1 .left) (c .before .before .before .before .before .before .before .before .before .before .before .if2 .left) (c .before .before .before .before .before .before .before .before .before .before .if3 .left) (omega (arith, told-next told, c .before .before .before .before .before .before .before .before .before .before .before .before .before .before .before .before .before .before .pre .1 .0 .near)) (c .before .before .before .before .before .before .before .before .before .before .before .before .before .before .before .before .before .before .pre .1 .0 .low) _ _ (c .before .before .before .before .before .before .before .read-run .ensures .0) _ _ (c .before .next .given .1), c .before .before .before .before .before .before .before .read-run .ensures .1)
+
+read-quick-returns : (t : ℕ) → read-quick-lts.Need-returns (read-quick-calls t) (read-quick-at t) read-quick.Post
+read-quick-returns t c = (quick-term _ _ _ (c .before .before .before .before .before .before .args .row) _ (c .before .before .before .before .before .before .pre .1 .0 .1) (c .before .before .before .before .before .before .pre .1 .0 .2 (c .before .before .before .before .before .before .args .row)) _ _ _ _ _ _ (body-deep _ _ _ _ _ _ _ _ _ _ _ (c .if1 .taken)), keeps-refl _)
+
+read-quick-returns-2 : (t : ℕ) → read-quick-lts.Need-returns-2 (read-quick-calls t) (read-quick-at t) read-quick.Post
+read-quick-returns-2 t c = (quick-term _ _ _ (c .before .before .before .before .before .before .before .args .row) _ (c .before .before .before .before .before .before .before .pre .1 .0 .1) (c .before .before .before .before .before .before .before .pre .1 .0 .2 (c .before .before .before .before .before .before .before .args .row)) _ _ _ _ _ _ (body-full _ _ _ _ _ _ _ _ _ _ (c .before .if1 .left) _ (c .if2 .taken)), keeps-refl _)
+
+read-quick-add-read-common : (t : ℕ) → read-quick-lts.Need-add-read-common (read-quick-calls t) (read-quick-at t) read-quick.Post
+read-quick-add-read-common t c = omega arith
+
+read-quick-sub-read-common : (t : ℕ) → read-quick-lts.Need-sub-read-common (read-quick-calls t) (read-quick-at t) read-quick.Post
+read-quick-sub-read-common t c = omega arith
+
+read-quick-read-common-requires : (t : ℕ) → read-quick-lts.Need-read-common-requires (read-quick-calls t) (read-quick-at t) read-quick.Post
+read-quick-read-common-requires t c κs = (omega (arith, c .before .before .before .before .before .before .before .before .before .pre .0, c .before .before .before .if1 .left), (room-at _ _ _ _ _ _ _ _ (room-inside _ _ _ _ _ _ _ (c .before .before .before .before .before .before .before .before .before .pre .1 .0 .0) (c .before .before .if2 .left)) (quick-near _ _ _ (c .before .before .before .before .before .before .before .before .before .args .row) _ (c .before .before .before .before .before .before .before .before .before .pre .1 .0 .1) (c .before .before .before .before .before .before .before .before .before .pre .1 .0 .2 (c .before .before .before .before .before .before .before .before .before .args .row))), c .before .before .before .before .before .before .before .before .before .pre .1 .1))
+
+read-quick-enum-known-number : (t : ℕ) → read-quick-lts.Need-enum-known-number (read-quick-calls t) (read-quick-at t) read-quick.Post
+read-quick-enum-known-number t c = search needs
+
+read-quick-enum-known-next : (t : ℕ) → read-quick-lts.Need-enum-known-next (read-quick-calls t) (read-quick-at t) read-quick.Post
+read-quick-enum-known-next t c = search needs
+
+read-quick-sub-pack : (t : ℕ) → read-quick-lts.Need-sub-pack (read-quick-calls t) (read-quick-at t) read-quick.Post
+read-quick-sub-pack t c = let q = opened-quickly _ _ _ (c .before .before .before .before .before .before .before .before .before .before .before .before .before .before .before .before .before .args .row) _ (c .before .before .before .before .before .before .before .before .before .before .before .before .before .before .before .before .before .pre .1 .0 .1) (c .before .before .before .before .before .before .before .before .before .before .before .before .before .before .before .before .before .pre .1 .0 .2 (c .before .before .before .before .before .before .before .before .before .before .before .before .before .before .before .before .before .args .row)) in let g = parts-past _ _ _ _ _ _ _ _ _ _ _ _ _ (c .before .next .given .1) (c .before .before .before .before .before .before .before .read-common .ensures .0 (c .before .before .before .before .before .before .before .before .before .before .before .before .before .before .before .before .before .args .at) (q .h) (q .next) (q .told-by)) in omega arith
+
+read-quick-pack-requires : (t : ℕ) → read-quick-lts.Need-pack-requires (read-quick-calls t) (read-quick-at t) read-quick.Post
+read-quick-pack-requires t c κs = let q = opened-quickly _ _ _ (c .before .before .before .before .before .before .before .before .before .before .before .before .before .before .before .before .before .args .row) _ (c .before .before .before .before .before .before .before .before .before .before .before .before .before .before .before .before .before .pre .1 .0 .1) (c .before .before .before .before .before .before .before .before .before .before .before .before .before .before .before .before .before .pre .1 .0 .2 (c .before .before .before .before .before .before .before .before .before .before .before .before .before .before .before .before .before .args .row)) in body-small _ _ _ _ _ (q .h) (q .next) _ _ _ (c .before .before .before .before .before .before .before .before .before .before .before .if1 .left) (c .before .before .before .before .before .before .before .before .before .before .if2 .left) _ _ (c .before .before .before .before .before .before .before .read-common .ensures .0 (c .before .before .before .before .before .before .before .before .before .before .before .before .before .before .before .before .before .args .at) (q .h) (q .next) (q .told-by)) _ _ _ _ _ _ (c .before .next .given .1) (c .before .before .before .before .before .before .before .before .before .before .before .before .before .before .before .before .before .pre .1 .0 .0) (omega (arith, quick-inside _ _ _ (c .before .before .before .before .before .before .before .before .before .before .before .before .before .before .before .before .before .args .row) _ (c .before .before .before .before .before .before .before .before .before .before .before .before .before .before .before .before .before .pre .1 .0 .1) (c .before .before .before .before .before .before .before .before .before .before .before .before .before .before .before .before .before .pre .1 .0 .2 (c .before .before .before .before .before .before .before .before .before .before .before .before .before .before .before .before .before .args .row)), c .before .before .before .before .before .before .before .before .before .before .before .before .before .before .before .before .before .pre .1 .0 .0 .short))
+
+read-quick-mul-table : (t : ℕ) → read-quick-lts.Need-mul-table (read-quick-calls t) (read-quick-at t) read-quick.Post
+read-quick-mul-table t c = omega arith
+
+read-quick-slice-write-table : (t : ℕ) → read-quick-lts.Need-slice-write-table (read-quick-calls t) (read-quick-at t) read-quick.Post
+read-quick-slice-write-table t c = omega (arith, c .before .before .before .before .before .before .before .before .read-common .kept .1 .1 .1 .1 .0)
+
+read-quick-same-length : (t : ℕ) → read-quick-lts.Need-same-length (read-quick-calls t) (read-quick-at t) read-quick.Post
+read-quick-same-length t c = c .before .before .before .before .before .before .before .read-common .kept .1 .1 .1 .1 .0
+
+read-quick-same-length-2 : (t : ℕ) → read-quick-lts.Need-same-length-2 (read-quick-calls t) (read-quick-at t) read-quick.Post
+read-quick-same-length-2 t c = c .before .before .before .before .before .before .before .read-common .kept .1 .1 .1 .1 .1 .0
+
+read-quick-returns-3 : (t : ℕ) → read-quick-lts.Need-returns-3 (read-quick-calls t) (read-quick-at t) read-quick.Post
+read-quick-returns-3 t c = let q = opened-quickly _ _ _ (c .before .before .before .before .before .before .before .before .before .before .before .before .before .before .before .before .before .args .row) _ (c .before .before .before .before .before .before .before .before .before .before .before .before .before .before .before .before .before .pre .1 .0 .1) (c .before .before .before .before .before .before .before .before .before .before .before .before .before .before .before .before .before .pre .1 .0 .2 (c .before .before .before .before .before .before .before .before .before .before .before .before .before .before .before .before .before .args .row)) in (quick-term _ _ _ (c .before .before .before .before .before .before .before .before .before .before .before .before .before .before .before .before .before .args .row) _ (c .before .before .before .before .before .before .before .before .before .before .before .before .before .before .before .before .before .pre .1 .0 .1) (c .before .before .before .before .before .before .before .before .before .before .before .before .before .before .before .before .before .pre .1 .0 .2 (c .before .before .before .before .before .before .before .before .before .before .before .before .before .before .before .before .before .args .row)) _ _ _ _ _ _ (body-refused _ _ _ _ _ (q .h) (q .next) _ _ _ (c .before .before .before .before .before .before .before .before .before .before .before .if1 .left) (c .before .before .before .before .before .before .before .before .before .before .if2 .left) _ _ (c .before .before .before .before .before .before .before .read-common .ensures .0 (c .before .before .before .before .before .before .before .before .before .before .before .before .before .before .before .before .before .args .at) (q .h) (q .next) (q .told-by)) _ _ _ (c .before .number .given .1)), c .before .before .before .before .before .before .before .read-common .ensures .1)
+
+read-quick-same-length-3 : (t : ℕ) → read-quick-lts.Need-same-length-3 (read-quick-calls t) (read-quick-at t) read-quick.Post
+read-quick-same-length-3 t c = simp length-set (c .before .before .before .before .before .before .before .before .read-common .kept .1 .1 .1 .1 .0)
+
+read-quick-same-length-4 : (t : ℕ) → read-quick-lts.Need-same-length-4 (read-quick-calls t) (read-quick-at t) read-quick.Post
+read-quick-same-length-4 t c = c .before .before .before .before .before .before .before .before .read-common .kept .1 .1 .1 .1 .1 .0
+
+read-quick-returns-4 : (t : ℕ) → read-quick-lts.Need-returns-4 (read-quick-calls t) (read-quick-at t) read-quick.Post
+read-quick-returns-4 t c = let q = opened-quickly _ _ _ (c .before .before .before .before .before .before .before .before .before .before .before .before .before .before .before .before .before .before .args .row) _ (c .before .before .before .before .before .before .before .before .before .before .before .before .before .before .before .before .before .before .pre .1 .0 .1) (c .before .before .before .before .before .before .before .before .before .before .before .before .before .before .before .before .before .before .pre .1 .0 .2 (c .before .before .before .before .before .before .before .before .before .before .before .before .before .before .before .before .before .before .args .row)) in (quick-term _ _ _ (c .before .before .before .before .before .before .before .before .before .before .before .before .before .before .before .before .before .before .args .row) _ (c .before .before .before .before .before .before .before .before .before .before .before .before .before .before .before .before .before .before .pre .1 .0 .1) (c .before .before .before .before .before .before .before .before .before .before .before .before .before .before .before .before .before .before .pre .1 .0 .2 (c .before .before .before .before .before .before .before .before .before .before .before .before .before .before .before .before .before .before .args .row)) _ _ _ _ _ _ (body-got _ _ _ _ _ (q .h) (q .next) _ _ _ (c .before .before .before .before .before .before .before .before .before .before .before .before .if1 .left) (c .before .before .before .before .before .before .before .before .before .before .before .if2 .left) _ _ (c .before .before .before .before .before .before .before .before .read-common .ensures .0 (c .before .before .before .before .before .before .before .before .before .before .before .before .before .before .before .before .before .before .args .at) (q .h) (q .next) (q .told-by)) _ _ _ _ _ (c .before .before .next .given .1) (omega (arith, quick-inside _ _ _ (c .before .before .before .before .before .before .before .before .before .before .before .before .before .before .before .before .before .before .args .row) _ (c .before .before .before .before .before .before .before .before .before .before .before .before .before .before .before .before .before .before .pre .1 .0 .1) (c .before .before .before .before .before .before .before .before .before .before .before .before .before .before .before .before .before .before .pre .1 .0 .2 (c .before .before .before .before .before .before .before .before .before .before .before .before .before .before .before .before .before .before .args .row)), c .before .before .before .before .before .before .before .before .before .before .before .before .before .before .before .before .before .before .pre .1 .0 .0 .short)) (c .pack .ensures)), c .before .before .before .before .before .before .before .before .read-common .ensures .1)
+
+read-term-quick-at-requires : (t : ℕ) → read-term-lts.Need-quick-at-requires (read-term-calls t) (read-term-at t) read-term.Post
+read-term-quick-at-requires t c κs = (c .before .before .before .before .before .pre .1 .0 .near, c .before .before .before .before .before .pre .1 .0 .short, c .before .before .before .before .before .pre .1 .0 .sized)
+
+read-term-read-quick-requires : (t : ℕ) → read-term-lts.Need-read-quick-requires (read-term-calls t) (read-term-at t) read-term.Post
+read-term-read-quick-requires t c κs = (omega (arith, c .before .before .before .before .before .before .before .before .before .pre .0), ((c .before .before .before .before .before .before .before .before .before .pre .1 .0, c .before .before .if1 .taken, λ rows. c .before .before .before .quick-at .ensures (c .before .before .if1 .taken) .1 rows), c .before .before .before .before .before .before .before .before .before .pre .1 .1))
+
+read-term-same-length : (t : ℕ) → read-term-lts.Need-same-length (read-term-calls t) (read-term-at t) read-term.Post
+read-term-same-length t c = c .before .before .before .before .read-quick .kept .1 .1 .1 .1 .0
+
+read-term-same-length-2 : (t : ℕ) → read-term-lts.Need-same-length-2 (read-term-calls t) (read-term-at t) read-term.Post
+read-term-same-length-2 t c = c .before .before .before .before .read-quick .kept .1 .1 .1 .1 .1 .0
+
+read-term-returns : (t : ℕ) → read-term-lts.Need-returns (read-term-calls t) (read-term-at t) read-term.Post
+read-term-returns t c = (any-asked _ _ _ _ _ _ _ _ _ _ _ (c .before .before .before .before .before .before .before .before .quick-at .ensures (c .before .before .before .before .before .before .before .if1 .taken) .0) (c .before .before .before .before .read-quick .ensures .0), c .before .before .before .before .read-quick .ensures .1)
+
+read-term-read-opening-requires : (t : ℕ) → read-term-lts.Need-read-opening-requires (read-term-calls t) (read-term-at t) read-term.Post
+read-term-read-opening-requires t c κs = (c .before .before .before .before .before .before .before .pre .1 .0 .near, c .before .before .before .before .before .before .before .pre .1 .0 .short, c .before .before .before .before .before .before .before .pre .1 .0 .sized)
+
+read-term-enum-known-head : (t : ℕ) → read-term-lts.Need-enum-known-head (read-term-calls t) (read-term-at t) read-term.Post
+read-term-enum-known-head t c = search needs
+
+read-term-read-body-requires : (t : ℕ) → read-term-lts.Need-read-body-requires (read-term-calls t) (read-term-at t) read-term.Post
+read-term-read-body-requires t c κs =
+    let o = (opened _ _ _ (c .before .before .before .before .before .before .before .before .before .before .before .args .row) _ _ (c .before .before .before .read-opening .ensures) (λ k p e. miss (1 ∷ 2 ∷ 3 ∷ 4 ∷ []) 0 tt (rw e at (c .before .before .match .keys2))) (c .before .before .before .before .before .before .before .before .before .before .before .pre .1 .0 .near)) in
+    (omega (arith, c .before .before .before .before .before .before .before .before .before .before .before .pre .0), ((room-at _ _ _ _ _ _ _ _ (c .before .before .before .before .before .before .before .before .before .before .before .pre .1 .0) (omega (arith, o .sound .before, o .sound .end)), opens _ _ _ _ _ o), c .before .before .before .before .before .before .before .before .before .before .before .pre .1 .1))
+
+read-term-returns-2 : (t : ℕ) → read-term-lts.Need-returns-2 (read-term-calls t) (read-term-at t) read-term.Post
+read-term-returns-2 t c = (term-refused _ _ _ _ _ _ _ _ _ _ _ _ _ (c .before .before .before .read-opening .ensures) (c .before .head .given .1), keeps-refl _)
+
+read-term-same-length-3 : (t : ℕ) → read-term-lts.Need-same-length-3 (read-term-calls t) (read-term-at t) read-term.Post
+read-term-same-length-3 t c = c .before .before .before .before .read-body .kept .1 .1 .1 .1 .0
+
+read-term-same-length-4 : (t : ℕ) → read-term-lts.Need-same-length-4 (read-term-calls t) (read-term-at t) read-term.Post
+read-term-same-length-4 t c = c .before .before .before .before .read-body .kept .1 .1 .1 .1 .1 .0
+
+read-term-returns-3 : (t : ℕ) → read-term-lts.Need-returns-3 (read-term-calls t) (read-term-at t) read-term.Post
+read-term-returns-3 t c = (term-opened _ _ _ _ _ _ _ _ _ _ (opened _ _ _ (c .before .before .before .before .before .before .before .before .before .before .before .before .before .before .before .before .args .row) _ _ (c .before .before .before .before .before .before .before .before .read-opening .ensures) (λ k p e. miss (1 ∷ 2 ∷ 3 ∷ 4 ∷ []) 0 tt (rw e at (c .before .before .before .before .before .before .before .match .keys2))) (c .before .before .before .before .before .before .before .before .before .before .before .before .before .before .before .before .pre .1 .0 .near)) _ (c .before .before .before .before .read-body .ensures .0), c .before .before .before .before .read-body .ensures .1)
+
+pub +read-body+read-common+read-inner+read-last+read-list+read-pairs+read-parts+read-quick+read-run+read-tail+read-term+read-wanted-spec :
     {M : Type 1} → statement M
-+read-body+read-inner+read-last+read-list+read-pairs+read-parts+read-run+read-tail+read-term+read-wanted-spec =
++read-body+read-common+read-inner+read-last+read-list+read-pairs+read-parts+read-quick+read-run+read-tail+read-term+read-wanted-spec =
     close
     μ-read-body
+    μ-read-common
     μ-read-inner
     μ-read-last
     μ-read-list
     μ-read-pairs
     μ-read-parts
+    μ-read-quick
     μ-read-run
     μ-read-tail
     μ-read-term
@@ -779,6 +969,26 @@ pub +read-body+read-inner+read-last+read-list+read-pairs+read-parts+read-run+rea
     (read-body-same-length-3 t)
     (read-body-same-length-4 t)
     (read-body-returns-4 t))
+    (λ t. read-common-lts.spec (read-common-calls t) (read-common-at t)
+    read-common.Post
+    (read-common-returns t)
+    (read-common-read-list-requires t)
+    (read-common-same-length t)
+    (read-common-same-length-2 t)
+    (read-common-returns-2 t)
+    (read-common-read-pairs-requires t)
+    (read-common-same-length-3 t)
+    (read-common-same-length-4 t)
+    (read-common-returns-3 t)
+    (read-common-read-run-requires t)
+    (read-common-enum-known-number t)
+    (read-common-enum-known-next t)
+    (read-common-same-length-5 t)
+    (read-common-same-length-6 t)
+    (read-common-returns-4 t)
+    (read-common-same-length-7 t)
+    (read-common-same-length-8 t)
+    (read-common-returns-5 t))
     (λ t. read-inner-lts.spec (read-inner-calls t) (read-inner-at t)
     read-inner.Post
     (read-inner-enum-known-head t)
@@ -882,20 +1092,48 @@ pub +read-body+read-inner+read-last+read-list+read-pairs+read-parts+read-run+rea
     (read-parts-same-length-7 t)
     (read-parts-same-length-8 t)
     (read-parts-returns-4 t))
+    (λ t. read-quick-lts.spec (read-quick-calls t) (read-quick-at t)
+    read-quick.Post
+    (read-quick-returns t)
+    (read-quick-returns-2 t)
+    (read-quick-add-read-common t)
+    (read-quick-sub-read-common t)
+    (read-quick-read-common-requires t)
+    (read-quick-enum-known-number t)
+    (read-quick-enum-known-next t)
+    (read-quick-sub-pack t)
+    (read-quick-pack-requires t)
+    (read-quick-mul-table t)
+    (read-quick-slice-write-table t)
+    (read-quick-same-length t)
+    (read-quick-same-length-2 t)
+    (read-quick-returns-3 t)
+    (read-quick-same-length-3 t)
+    (read-quick-same-length-4 t)
+    (read-quick-returns-4 t))
     (λ t. read-run-lts.spec (read-run-calls t) (read-run-at t)
     read-run.Post
     read-run-Inv-loop
     read-run-μ-loop
     (read-run-loop-holds t)
+    (read-run-leaf-at-requires t)
+    (read-run-is-leaf-requires t)
+    (read-run-pack-requires t)
+    (read-run-mul-table t)
+    (read-run-slice-write-table t)
+    (read-run-add-row-now t)
+    (read-run-sub-more t)
+    (read-run-loop-less t)
+    (read-run-loop-again t)
     (read-run-read-term-requires t)
     (read-run-enum-known-number t)
     (read-run-same-length t)
     (read-run-same-length-2 t)
     (read-run-returns t)
     (read-run-enum-known-next t)
-    (read-run-sub-more t)
-    (read-run-loop-less t)
-    (read-run-loop-again t)
+    (read-run-sub-more-2 t)
+    (read-run-loop-less-2 t)
+    (read-run-loop-again-2 t)
     (read-run-same-length-3 t)
     (read-run-same-length-4 t)
     (read-run-returns-2 t))
@@ -925,13 +1163,18 @@ pub +read-body+read-inner+read-last+read-list+read-pairs+read-parts+read-run+rea
     (read-tail-returns-3 t))
     (λ t. read-term-lts.spec (read-term-calls t) (read-term-at t)
     read-term.Post
+    (read-term-quick-at-requires t)
+    (read-term-read-quick-requires t)
+    (read-term-same-length t)
+    (read-term-same-length-2 t)
+    (read-term-returns t)
     (read-term-read-opening-requires t)
     (read-term-enum-known-head t)
     (read-term-read-body-requires t)
-    (read-term-returns t)
-    (read-term-same-length t)
-    (read-term-same-length-2 t)
-    (read-term-returns-2 t))
+    (read-term-returns-2 t)
+    (read-term-same-length-3 t)
+    (read-term-same-length-4 t)
+    (read-term-returns-3 t))
     λ t. read-wanted-lts.spec (read-wanted-calls t) (read-wanted-at t)
     read-wanted.Post
     (read-wanted-at-most-requires t)
