@@ -34,7 +34,7 @@ pub record Agree (t : Bool) (A : Type 0) : Type 0 where
   pub sure : t ≡ true → A
   pub back : A → t ≡ true
 
-never : {A : Type 0} → false ≡ true → A
+pub never : {A : Type 0} → false ≡ true → A
 never e = let z : _≡_ {A = ℕ} 0 1 = cc in absurd (omega arith)
 
 -- one test and then another
@@ -376,7 +376,7 @@ pub record Numbers (a b : Flat) : Type 0 where
   pub second : a .second ≡ b .second
   pub third : a .third ≡ b .third
 
-flats-agree : (m places : List ℕ) (a b : Flat) {A : Type 0} → Agree (same-stretches m places (a .code) a b) A → Agree (same-flat m places a b) (Numbers a b × A)
+pub flats-agree : (m places : List ℕ) (a b : Flat) {A : Type 0} → Agree (same-stretches m places (a .code) a b) A → Agree (same-flat m places a b) (Numbers a b × A)
 unfolding same-flat same-numbers
 flats-agree m places a b p =
     through (λ x. (record { code = x .0 .0; negative = x .0 .1 .0; first = x .0 .1 .1 .0; second = x .0 .1 .1 .1 .0; third = x .0 .1 .1 .1 .1 }, x .1))
@@ -386,7 +386,7 @@ flats-agree m places a b p =
 yes-agrees : Agree true (Unit {0})
 yes-agrees = record { sure = λ _. tt; back = λ _. refl }
 
-self-agrees : (t : Bool) → Agree t (t ≡ true)
+pub self-agrees : (t : Bool) → Agree t (t ≡ true)
 self-agrees t = record { sure = λ e. e; back = λ e. e }
 
 -- the kinds k and k′ are equal where neither term has fields of its own

@@ -13,6 +13,7 @@ use Rattle.format.specs.Answer.{Answer, good, refused, Position, at-offset, Rea
 use Rattle.format.specs.Head.{Atoms, Wanted, an-atom, an-arity, Head, parts, characters, elements, pairs, later}
 use Rattle.format.specs.AtomList.{AtomList, of-size}
 use Rattle.format.specs.Reading.{Located, bytes-left, each, run, entries, string, tail, body, term}
+use Rattle.format.specs.Message as message
 use Rattle.format.specs.Message.{Terms}
 use Rattle.format.specs.Rows.{tree-rows, rows, kind-of, pack, words-of}
 use Rattle.format.specs.declared.ReadAnswer.{ReadAnswer}
@@ -25,6 +26,8 @@ use Rattle.terms.specs.declared.Step.{Step}
 use Rattle.terms.specs.declared.Step.the-variants as step
 use Rattle.terms.specs.declared.Parts.{Parts}
 use Rattle.terms.specs.declared.Parts.the-variants as found
+use Rattle.terms.specs.declared.Framing.{Framing}
+use Rattle.terms.specs.declared.Framing.the-variants as framing
 
 -- the whole that a number in a row's word stands for: its row plus 1, or 0
 unfoldable pub whole-of : ℕ → Option ℕ
@@ -139,6 +142,11 @@ PartsDone m before cap row whole =
 abbrev pub MessageDone : List ℕ → ℕ → List ℕ → Answer (Terms × Position) → ReadAnswer → List ℕ → Type 0
 MessageDone m cap =
     Done (λ ts next end. reads.Terms (count ts) end) (λ n p. reads.Refused (record { number = n; place = p })) sizes (λ ts. words-of (rows none 0 ts)) (λ ts. Unit {0}) m cap 0
+
+-- how the terms of a message are set
+unfoldable pub framing-of : Framing → message.Framing
+framing-of framing.Standalone = message.standalone
+framing-of framing.Payload = message.payload
 
 -- the refusal before any byte is read: 13, then 12; 0 for none
 unfoldable pub first-number : Bool → Bool → ℕ
