@@ -15,7 +15,7 @@ use Rattle.format.specs.Head.{clear-low}
 use Rattle.format.specs.Term.{integer, tuple, list, improper-list, binary, bitstring, map, port, reference, export}
 use Rattle.format.specs.Canonical.{big-bytes, integer-bytes, atom-bytes, tuple-bytes, words-bytes, small}
 use Rattle.format.proofs.Numbers.{length-digits}
-use Rattle.format.proofs.Text.{Under}
+use Rattle.format.proofs.Text.{Under, under-all}
 use Rattle.format.specs.Rows.{kind-in, parts-in}
 use Rattle.octets.specs.Parts.{choose, stretch, source}
 use Rattle.octets.proofs.Numbers.{bytes-one}
@@ -91,10 +91,6 @@ module _ (n : ℕ) where
       simp (le-ltb (n - 1) 2147483648 g) (ap (λ (k : ℕ). big-bytes 1 (digits k)) e)
 
 -- bytes of a part are bytes
-pub under-all : (s : List ℕ) → ((i : ℕ) → i < length s → getD s i 0 < 256) → Under 256 s
-under-all [] h = tt
-under-all (x ∷ s) h = (h 0 (omega arith), under-all s (λ i l. h (suc i) (omega arith)))
-
 pub under-part : (m : List ℕ) (start n : ℕ) → Bytes-only m → start + n ≤ length m → Under 256 (stretch m start n)
 under-part m start n b h =
     let k : length (stretch m start n) ≡ n = length-part m start n h in
