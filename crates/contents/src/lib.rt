@@ -2,11 +2,11 @@
 ghost use mathlib.Core.Path.{_≡_};
 ghost use mathlib.Core.Bool.{true, false};
 ghost use mathlib.Core.List.{_++_};
-ghost use Prim.Native.Nat.{ℕ, _+_, _*_, _-_, _≤_, _<_};
+ghost use Prim.Native.Nat.{_+_, _*_, _-_, _≤_, _<_};
 ghost use lib.Dec.{leb};
 ghost use lib.ListN.{length, getD, take, drop};
 ghost use Rattle.format.specs.Numbers.{little-endian};
-ghost use Rattle.format.specs.Text.{encode, encodes};
+ghost use Rattle.format.specs.Text.{encodes};
 ghost use Rattle.contents.specs.Found.{Width, value, stripped, byte-found, signed-whole, signed-found, whole-of, stripped-found, big-found, integer-found, float-found, text-width, text-found, place-found, listed-found, atom-found, text-end, atom-end, bytes-found, bits-of, bits-found, binary-found, pid-found, port-found, words-found, word-found, counted-found, pids-found, ports-found, references-found, content-of};
 ghost use Rattle.contents.specs.Same.{same-bool, same-list, same-part, same-stretch, same-spelling, same-text, same-texts, same-last, same-bits, same-words, Spelling, numbers-of, stretch-of, text-of, flat-of, same-numbers, same-atoms, same-stretches, same-flat, same-contents};
 
