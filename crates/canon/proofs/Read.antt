@@ -31,7 +31,8 @@ use Rattle.contents.proofs.Says as contents
 use Rattle.contents.proofs.Says.{Readable, Lent, Says}
 use Rattle.contents.proofs.Again.{content-says}
 use Rattle.contents.proofs.Read.{label-inside}
-use Rattle.layout.specs.Layout.{source, stretch, Inside}
+use Rattle.octets.specs.Parts.{stretch}
+use Rattle.layout.specs.Layout.{Inside}
 use Rattle.layout.proofs.Bodies.{length-bits}
 use Rattle.fields.specs.Sound.{Spelt, Sound, listed-in}
 use Rattle.canon.specs.Held.{Writable, Held-run}
@@ -65,7 +66,7 @@ not-zero negative (suc n) h e = omega arith
 
 module _ (m : List ℕ) (atoms : AtomList) (short : length m ≤ 65536) (fits : length (atoms .places) ≤ 65536) where
   text-sound : (latin1 listed : Bool) (start n : ℕ) → contents.Sound m (atoms .places) (Text latin1 listed start n) → Sound m (atoms .places) (Text latin1 listed start n)
-  unfolding Sound source choose
+  unfolding Sound choose
   text-sound latin1 true start n (h, r) = (record { there = h; few = omega arith }, λ e. spelt-by _ (subst (λ (z : Bool). Readable z (stretch (atoms .places) start n)) e r))
   text-sound latin1 false start n (h, r) = (record { there = h; few = omega arith }, λ e. spelt-by _ (subst (λ (z : Bool). Readable z (stretch m start n)) e r))
 

@@ -2,13 +2,13 @@
 ghost use mathlib.Core.Path.{_≡_};
 ghost use mathlib.Core.Bool.{true, false};
 ghost use mathlib.Core.List.{[], _∷_, _++_};
-ghost use Prim.Native.Nat.{ℕ, _+_, _*_, _-_, _^_, _≤_, _<_};
+ghost use Prim.Native.Nat.{ℕ, _+_, _*_, _-_, _≤_, _<_};
 ghost use lib.Dec.{leb};
 ghost use lib.ListN.{length, getD, take, drop};
 ghost use Rattle.format.specs.Numbers.{little-endian};
-ghost use Rattle.format.specs.Text.{encode, encodes};
+ghost use Rattle.format.specs.Text.{encodes};
 ghost use Rattle.contents.specs.Found.{Width, value, stripped, byte-found, signed-whole, signed-found, whole-of, stripped-found, big-found, integer-found, float-found, text-width, text-found, place-found, listed-found, atom-found, text-end, atom-end, bytes-found, bits-of, bits-found, binary-found, pid-found, port-found, words-found, word-found, counted-found, pids-found, ports-found, references-found, content-of};
-ghost use Rattle.contents.specs.Same.{same-bool, same-list, high, same-part, same-stretch, same-spelling, same-text, same-texts, same-last, same-bits, same-words, Spelling, numbers-of, stretch-of, text-of, flat-of, same-numbers, same-atoms, same-stretches, same-flat, same-contents};
+ghost use Rattle.contents.specs.Same.{same-bool, same-list, same-part, same-stretch, same-spelling, same-text, same-texts, same-last, same-bits, same-words, Spelling, numbers-of, stretch-of, text-of, flat-of, same-numbers, same-atoms, same-stretches, same-flat, same-contents};
 ghost use Rattle.contents.specs.Hash.{mix, mix-all, as-utf8, hash-part, hashed, hash-stretch, hash-flat, hash-contents};
 
 // A term's own fields.
@@ -778,31 +778,6 @@ fn same_text(
     same_stretch(a, i, n, b, j, k)
 }
 
-// 2 to the number of bits of a byte that do not count.
-fn unit(bits: usize) -> usize
-    ensures { λ r. ⌜ (r ≡ 2 ^ (8 - bits)) × (0 < r) ⌝ }
-{
-    match bits {
-        0 => 256,
-        1 => 128,
-        2 => 64,
-        3 => 32,
-        4 => 16,
-        5 => 8,
-        6 => 4,
-        7 => 2,
-        _ => 1,
-    }
-}
-
-// A byte with the bits zero that do not count.
-fn high_bits(x: u8, bits: usize) -> usize
-    ensures { λ r. ⌜ r ≡ high x bits ⌝ }
-{
-    let n = octets::wide(x);
-    n - n % unit(bits)
-}
-
 // Whether n bytes from i and from j on are the same, and then the bits that count of one byte more.
 fn same_last(msg: &[u8], bits: usize, i: usize, j: usize, n: usize) -> bool
     requires { ⌜ (i + n < length (now msg)) × (j + n < length (now msg)) ⌝ }
@@ -811,7 +786,7 @@ fn same_last(msg: &[u8], bits: usize, i: usize, j: usize, n: usize) -> bool
     if !same_part(msg, i, msg, j, n) {
         return false;
     }
-    high_bits(msg[i + n], bits) == high_bits(msg[j + n], bits)
+    octets::high_bits(msg[i + n], bits) == octets::high_bits(msg[j + n], bits)
 }
 
 fn same_bits(msg: &[u8], bits: usize, i: usize, n: usize, j: usize, k: usize) -> bool

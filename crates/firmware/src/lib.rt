@@ -17,10 +17,11 @@ ghost use Rattle.format.specs.Answers.{read-answer, write-answer, number-answer
 ghost use Rattle.format.specs.Look.{number-in, text-in};
 ghost use Rattle.format.specs.Message.{standalone, payload, read};
 ghost use Rattle.format.specs.Rows.{table-after};
+ghost use Rattle.format.specs.Text.{coding-of};
 ghost use Rattle.format.specs.Writing.{write, output-after, scratch-after};
 ghost use Rattle.heads.specs.Code.{lent};
 ghost use Rattle.asking.specs.Code.{text-at};
-ghost use Rattle.packets.specs.Answers.{coding-of, place-answer, text-answer, drop-answer, reset-answer, taken-answer};
+ghost use Rattle.packets.specs.Answers.{place-answer, text-answer, drop-answer, reset-answer, taken-answer};
 ghost use Rattle.packets.specs.Calls.{after-packet, cache-after-reset};
 ghost use Rattle.packets.specs.Look.{place-of-reference, text-of-place};
 ghost use Rattle.packets.specs.Memory.{cache-of, list-lent, memory-of};

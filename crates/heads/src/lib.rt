@@ -7,6 +7,7 @@ ghost use lib.Dec.{eqb, ltb};
 ghost use lib.IntN.{ℤ};
 ghost use lib.ListN.{length, take, drop};
 ghost use Rattle.format.specs.Numbers.{big-endian};
+ghost use Rattle.format.specs.Text.{coding-of};
 ghost use Rattle.format.specs.Term.{integer};
 ghost use Rattle.format.specs.Answer.{after, done, at-offset};
 ghost use Rattle.format.specs.Answer as answer;
@@ -16,7 +17,7 @@ ghost use Rattle.format.specs.Head as format;
 ghost use Rattle.format.specs.Reading.{opening};
 ghost use Rattle.format.specs.AtomList.{of-size, atoms-of};
 ghost use Rattle.heads.specs.Quick.{only-if, fit, quick-later, quick-word};
-ghost use Rattle.heads.specs.Code.{Width, Bits, head-of, fields-of, later-of, step-of, lent, found-valid, coding-of, is-text, words-at, later-fields, tag-fields, allowed, wanted-of, empty-at, Skipped, opened-at, opening-of};
+ghost use Rattle.heads.specs.Code.{Width, Bits, head-of, fields-of, later-of, step-of, lent, words-at, later-fields, tag-fields, allowed, wanted-of, empty-at, Skipped, opened-at, opening-of};
 
 // Which terms may stand at a place.
 pub enum Wanted {
@@ -363,30 +364,10 @@ fn reference(msg: &[u8], at: usize, width: usize) -> Head
     }
 }
 
-// Whether a text was found.
-fn is_valid(c: text::Checked) -> bool
-    ensures { λ r. ⌜ r ≡ found-valid c ⌝ }
-{
-    match c {
-        text::Checked::Characters(_) => true,
-        text::Checked::Bad(_) => false,
-    }
-}
-
-// Whether bytes are a text, in Latin-1 or in UTF-8.
-fn is_text(s: &[u8], latin: bool) -> bool
-    ensures { λ r. ⌜ r ≡ is-text latin (now (s .entry)) ⌝ }
-{
-    if latin {
-        return is_valid(text::check_latin1(s));
-    }
-    is_valid(text::check_utf8(s))
-}
-
 // Tags 100 and 115 (Latin-1), 118 and 119 (UTF-8): a count of bytes, the bytes of a text.
-fn atom(msg: &[u8], at: usize, width: usize, latin: bool) -> Head
+fn atom(msg: &[u8], at: usize, width: usize, utf8: bool) -> Head
     requires { ⌜ (at < length (now msg)) × Width width ⌝ }
-    ensures { λ r. ⌜ ((atoms : Atoms) (rows : ℕ) → r ≡ fields-of atoms (now (msg .entry)) at (atom-ext (coding-of latin) width) rows) ⌝ }
+    ensures { λ r. ⌜ ((atoms : Atoms) (rows : ℕ) → r ≡ fields-of atoms (now (msg .entry)) at (atom-ext (coding-of utf8) width) rows) ⌝ }
 {
     let left = msg.len() - at - 1;
     if left < width {
@@ -404,7 +385,7 @@ fn atom(msg: &[u8], at: usize, width: usize, latin: bool) -> Head
     }
     let from = at + 1 + width;
     let end = from + n;
-    if !is_text(&msg[from..end], latin) {
+    if !text::is_text(&msg[from..end], utf8) {
         return Head::Refused {
             number: 5,
             place: at,
@@ -446,7 +427,7 @@ fn cached_atom(msg: &[u8], n: u8, places: &[u8], lengths: &[u16], at: usize) -> 
     }
     let from = 32 * i;
     let end = from + length as usize;
-    if !is_text(&places[from..end], false) {
+    if !text::is_text(&places[from..end], true) {
         return Head::Refused {
             number: 14,
             place: 0,
@@ -642,10 +623,10 @@ fn by_tag(msg: &[u8], n: u8, places: &[u8], lengths: &[u16], at: usize, tag: u8)
         110 => big(msg, at, 1),
         111 => big(msg, at, 4),
         70 => float(msg, at),
-        100 => atom(msg, at, 2, true),
-        115 => atom(msg, at, 1, true),
-        118 => atom(msg, at, 2, false),
-        119 => atom(msg, at, 1, false),
+        100 => atom(msg, at, 2, false),
+        115 => atom(msg, at, 1, false),
+        118 => atom(msg, at, 2, true),
+        119 => atom(msg, at, 1, true),
         82 => cached_atom(msg, n, places, lengths, at),
         104 => tuple(msg, at, 1),
         105 => tuple(msg, at, 4),
@@ -895,7 +876,7 @@ fn leaf_word(msg: &[u8], at: usize, tag: u8) -> u64
         97 => word_of(integer(msg, at, 1)),
         98 => word_of(integer(msg, at, 4)),
         70 => word_of(float(msg, at)),
-        119 => word_of(atom(msg, at, 1, false)),
+        119 => word_of(atom(msg, at, 1, true)),
         109 => word_of(binary(msg, at)),
         106 => word_of(Head::Characters {
             count: 0,
@@ -916,9 +897,9 @@ fn common_word(msg: &[u8], n: u8, places: &[u8], lengths: &[u16], at: usize, tag
         108 => word_of(list(msg, at)),
         116 => word_of(map(msg, at)),
         82 => word_of(cached_atom(msg, n, places, lengths, at)),
-        100 => word_of(atom(msg, at, 2, true)),
-        115 => word_of(atom(msg, at, 1, true)),
-        118 => word_of(atom(msg, at, 2, false)),
+        100 => word_of(atom(msg, at, 2, false)),
+        115 => word_of(atom(msg, at, 1, false)),
+        118 => word_of(atom(msg, at, 2, true)),
         110 => word_of(big(msg, at, 1)),
         _ => leaf_word(msg, at, tag),
     }

@@ -19,7 +19,7 @@ use Rattle.format.proofs.Backed.{Backed, Backeds, term-backed}
 use Rattle.format.proofs.Backed as backing
 use Rattle.format.proofs.RoundTrip.{join-none}
 use Rattle.format.proofs.Rows.{Each-node, Each-nodes, size-positive, each-nodes-join, sizes-join, count-join, count-le-sizes, length-rows}
-use Rattle.format.proofs.Text.{Under}
+use Rattle.format.proofs.Text.{under-all}
 use Rattle.format.proofs.Words.{Placed, small-rows, Here, sets-here, length-words-of}
 use Rattle.heads.specs.declared.Wanted.the-variants.{Any}
 use Rattle.heads.specs.Code.{lent, wanted-of}
@@ -44,14 +44,10 @@ Told m cap atoms places lengths first =
     (S : List ℕ) (us : Terms) (u : Located) (ks : List Term) → Keys-of us ks → Held-rows m cap atoms S (whole-of first) first (us ▹▹ (u ▹ none))
     → among-rows m places lengths S first (first + sizes us) ≡ among (meaning u) ks
 
-pub bytes-under : (m : List ℕ) → ((i : ℕ) → getD m i 0 < 256) → Under 256 m
-bytes-under [] h = tt
-bytes-under (b ∷ m) h = (h 0, bytes-under m (λ i. h (suc i)))
-
 pub keys-told : (n : ℕ) (places lengths m : List ℕ) (cap first : ℕ) → of-size (lent n places lengths) ≡ true → n < 256 → ((i : ℕ) → getD m i 0 < 256)
     → Told m cap (atoms-of (lent n places lengths)) places lengths first
 keys-told n places lengths m cap first sized few under S us u ks k h =
-    last-among (lent n places lengths) m (record { sized = sized; few = omega arith; under = bytes-under m under }) cap S us u k h
+    last-among (lent n places lengths) m (record { sized = sized; few = omega arith; under = under-all m (λ i _. under i) }) cap S us u k h
 
 -- a term that was read has a row
 pub term-inside : (m : List ℕ) (cap row whole : ℕ) (T : List ℕ) (o : Answer (Located × Position)) (r : Step) (T′ : List ℕ) (next end : ℕ) → r ≡ step.Got next end

@@ -1,8 +1,7 @@
 -- `heads::common_word` meets its contract. Assumes nothing.
 use mathlib.Core.Path.{refl, ap, _∙_}
 use Rattle.format.specs.Head.{forms, form-in, atom-cache-ref, atom-ext, big-ext, list-ext, map-ext, tuple-ext}
-use Rattle.format.specs.Text.{latin-1, utf-8}
-use Rattle.heads.specs.Code.{coding-of}
+use Rattle.format.specs.Text.{latin-1, utf-8, coding-of}
 use Rattle.heads.specs.Quick.{quick-word}
 use Rattle.heads.proofs.Tags.{at-tag}
 use borrow.Author.Needs.{needs}

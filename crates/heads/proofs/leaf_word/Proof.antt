@@ -3,8 +3,8 @@ use mathlib.Core.Path.{refl, ap, _∙_}
 use lib.IntN.{pos}
 use Rattle.format.specs.Head.{forms, form-in, fields, atom-ext, binary-ext, integer-ext, new-float-ext, nil-ext, small-integer-ext}
 use Rattle.format.specs.Numbers.{signed32}
-use Rattle.format.specs.Text.{utf-8}
-use Rattle.heads.specs.Code.{fields-of, coding-of}
+use Rattle.format.specs.Text.{utf-8, coding-of}
+use Rattle.heads.specs.Code.{fields-of}
 use Rattle.heads.specs.Quick.{quick-word}
 use Rattle.heads.proofs.Tags.{at-tag, nil-head}
 use borrow.Author.Needs.{needs}
