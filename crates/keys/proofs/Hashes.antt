@@ -1,12 +1,12 @@
 -- Hashes of terms: one law for each way through the functions that make them; terms that mean the same have the same hash, so a key that is not met is new.
-use mathlib.Core.Path.{_≡_, refl, sym, _∙_, ap, ap₂}
+use mathlib.Core.Path.{_≡_, refl, sym, _∙_, ap}
 use mathlib.Core.Bool.{Bool, true, false}
 use mathlib.Core.List.{List, [], _∷_}
 use Prim.Native.Nat.{ℕ, zero, suc, _+_, _*_, _-_, _≤_, _<_}
 use native.Mathlib.Omega.{arith}
 use lib.Dec.{eqb, leb}
 use lib.ListN.{length, getD}
-use borrow.Author.Tests.{eqb-true, leb-true, leb-false, ne-eqb}
+use borrow.Author.Tests.{eqb-true, leb-false}
 use Rattle.format.specs.Rows.{kind-in, offset-in, parts-in, size-in}
 use Rattle.format.proofs.Words.{Here, here-word, here-rest}
 use Rattle.contents.specs.declared.Content.{Content}
@@ -94,10 +94,10 @@ module _ (m places lengths : List ℕ) where
 
     module _ (first key : ℕ) (L : List ℕ) (u : Unmet m places lengths T key L (term-hash m places lengths T first key)) where
       not-same : (at : ℕ) → Known L (term-hash m places lengths T first at) at → same-terms-raw m places lengths T key at ≡ true → ⊥
-      unfolding Unmet
+      unfolding Known Unmet
       not-same at k e =
           let f : term-hash m places lengths T first key ≡ term-hash m places lengths T first at = terms-alike first key at e in
-          let w = (rw (← f) at k) .stands (u .0) (u .1) (u .2) in
+          let w = (rw (← f) at k) (u .0) (u .1) (u .2) in
           let q : slot L (term-hash m places lengths T first key) (w .0) ≡ at + 1 = w .2 in
           let s : slot L (term-hash m places lengths T first key) (w .0) - 1 ≡ at = omega arith in
           let d : same-terms-raw m places lengths T key at ≡ false = ap (same-terms-raw m places lengths T key) (sym s) ∙ u .3 (w .0) (w .1) in

@@ -3,7 +3,7 @@ use mathlib.Core.Path.{_≡_, refl, ap}
 use Prim.Native.Nat.{_-_}
 use native.Mathlib.Omega.{arith}
 use lib.ListN.{length, length-set}
-use Rattle.keys.proofs.Slots.{Taken, Probe, probe-start, probe-next, remembered-now, remembered-none}
+use Rattle.keys.proofs.Seen.{Taken, Probe, probe-start, probe-next, remembered-now, remembered-none}
 use Rattle.keys.proofs.remember.Statement.{statement}
 use Rattle.keys.proofs.remember.Tie as tie
 
@@ -41,7 +41,7 @@ same-length : tie.Need-same-length Inv-loop μ-loop
 same-length c = simp length-set (ap length (c .before .before .before .loop .inv .0))
 
 returns : tie.Need-returns Inv-loop μ-loop
-returns c = remembered-now _ _ _ _ (c .before .before .before .loop .inv .0) (c .before .before .before .loop .inv .1) (c .before .before .loop-test .taken) (c .if1 .taken)
+returns c = remembered-now _ _ _ _ (c .before .before .before .loop .inv .0) (c .before .before .before .loop .inv .1) (c .if1 .taken)
 
 next-slot-requires : tie.Need-next-slot-requires Inv-loop μ-loop
 next-slot-requires c κs = omega arith
