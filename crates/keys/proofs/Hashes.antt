@@ -94,10 +94,10 @@ module _ (m places lengths : List ℕ) where
 
     module _ (first key : ℕ) (L : List ℕ) (u : Unmet m places lengths T key L (term-hash m places lengths T first key)) where
       not-same : (at : ℕ) → Known L (term-hash m places lengths T first at) at → same-terms-raw m places lengths T key at ≡ true → ⊥
-      unfolding Known Unmet
+      unfolding Unmet
       not-same at k e =
           let f : term-hash m places lengths T first key ≡ term-hash m places lengths T first at = terms-alike first key at e in
-          let w = (rw (← f) at k) (u .0) (u .1) (u .2) in
+          let w = (rw (← f) at k) .stands (u .0) (u .1) (u .2) in
           let q : slot L (term-hash m places lengths T first key) (w .0) ≡ at + 1 = w .2 in
           let s : slot L (term-hash m places lengths T first key) (w .0) - 1 ≡ at = omega arith in
           let d : same-terms-raw m places lengths T key at ≡ false = ap (same-terms-raw m places lengths T key) (sym s) ∙ u .3 (w .0) (w .1) in

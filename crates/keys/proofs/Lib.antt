@@ -1,7 +1,7 @@
 pub mod Compare
 pub mod Steps
-pub mod Seen
+pub mod Slots
 pub mod Hashes
 pub mod Held
-pub mod Remembered
+pub mod Seen
 pub mod Accepted

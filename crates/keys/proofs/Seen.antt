@@ -1,143 +1,77 @@
--- Slots of remembered keys: one law for each way through the functions that walk them, and that taken slots stay.
+-- Remembered keys, over the terms whose rows stand in the table.
 use mathlib.Core.Path.{_≡_, refl, sym, _∙_, ap, subst}
-use mathlib.Core.Bool.{Bool, true, false}
 use mathlib.Core.List.{List}
-use Prim.Native.Nat.{ℕ, _+_, _-_, _%_, _≤_, _<_}
-use native.Mathlib.Nat.{mod-lt, mod-eq-of-lt, mod-self, mod-add-mod}
+use mathlib.Core.Option.{Option}
+use Prim.Native.Nat.{ℕ, zero, suc, _+_, _-_}
 use native.Mathlib.Omega.{arith}
-use lib.Dec.{eqb}
-use lib.ListN.{length, getD, set, length-set}
-use lib.Seq.{getD-set-same, getD-set-other}
-use borrow.Author.Count.{below-none, below-more}
-use borrow.Author.Tests.{eqb-true, eqb-false}
-use Rattle.format.proofs.Opening.{by-less}
-use Rattle.keys.specs.Compare.{same-terms-raw}
-use Rattle.keys.specs.Seen.{slot, Known, Keeps, Unmet}
+use lib.ListN.{length, getD}
+use Rattle.format.specs.Tree.{none, _▹_, _▹▹_, size, sizes}
+use Rattle.format.specs.Head.{Atoms}
+use Rattle.format.specs.Reading.{Located}
+use Rattle.format.specs.Message.{Terms}
+use Rattle.format.specs.Rows.{tree-rows, words-of, size-in}
+use Rattle.format.proofs.Rows.{length-tree-rows}
+use Rattle.format.proofs.Words.{Small-row, length-words-of}
+use Rattle.contents.specs.Hash.{mix}
+use Rattle.keys.specs.Compare.{pair-size}
+use Rattle.keys.specs.Seen.{Known, Keeps, hash-words, term-hash, Recalls-from, Recalls}
+use Rattle.keys.proofs.Compare.{Known-tree, Known-rows, first-known, others-known, tree-size, pair-sizes}
+use Rattle.keys.proofs.Slots.{known-as, known-kept}
+use Rattle.keys.proofs.Hashes.{hash-here}
+use Rattle.keys.proofs.Held.{Held-rows, held-left, held-right}
 
--- ---- the slot after a slot
+-- the keys of these pairs, from the row `row` on, are known; their hashes start from the row `first`
+pub data Remembered (m places lengths : List ℕ) (whole : Option ℕ) (first : ℕ) : ℕ → Terms → List ℕ → Type 0 where
+  no-key : {row : ℕ} {L : List ℕ} → Remembered m places lengths whole first row none L
+  a-key : {row : ℕ} {k v : Located} {ts : Terms} {L : List ℕ} → Known L (hash-words m places lengths first (words-of (tree-rows whole row k))) row
+      → Remembered m places lengths whole first (row + size k + size v) ts L → Remembered m places lengths whole first row (k ▹ v ▹ ts) L
 
-pub wraps : (i n : ℕ) → i + 1 ≡ n → 0 ≡ (i + 1) % n
-wraps i n e = rw e (sym (mod-self n))
+module _ {m places lengths : List ℕ} {whole : Option ℕ} {first : ℕ} where
+  -- where taken slots stay, keys stay known
+  pub remembered-kept : {row : ℕ} {ts : Terms} {L L′ : List ℕ} → Keeps L L′ → Remembered m places lengths whole first row ts L → Remembered m places lengths whole first row ts L′
+  remembered-kept h no-key = no-key
+  remembered-kept h (a-key k r) = a-key (known-kept h k) (remembered-kept h r)
 
-pub goes-on : (i n : ℕ) → i < n → (i + 1 ≡ n → ⊥) → i + 1 ≡ (i + 1) % n
-goes-on i n l e = sym (mod-eq-of-lt (omega arith))
+  -- one more key and its value at the end
+  pub remembered-more : {row : ℕ} {ts : Terms} {L : List ℕ} (k v : Located) → Remembered m places lengths whole first row ts L
+      → Known L (hash-words m places lengths first (words-of (tree-rows whole (row + sizes ts) k))) (row + sizes ts) → Remembered m places lengths whole first row (ts ▹▹ (k ▹ v ▹ none)) L
+  remembered-more {row} {L = L} k v no-key n =
+      let e : row + 0 ≡ row = omega arith in
+      a-key (subst (λ (i : ℕ). Known L (hash-words m places lengths first (words-of (tree-rows whole i k))) i) e n) no-key
+  remembered-more {row} {L = L} k v (a-key {k = j} {v = w} {ts = ts} o r) n =
+      let e : row + (size j + (size w + sizes ts)) ≡ row + size j + size w + sizes ts = omega arith in
+      a-key o (remembered-more k v r (subst (λ (i : ℕ). Known L (hash-words m places lengths first (words-of (tree-rows whole i k))) i) e n))
 
--- ---- taken slots stay
+-- ---- rows that stand in a table
 
-zero-or-not : {P : Type 0} (x : ℕ) → (x ≡ 0 → P) → ((x ≡ 0 → ⊥) → P) → P
-zero-or-not {P} x f g = go (eqb x 0) refl
-  where
-    go : (t : Bool) → eqb x 0 ≡ t → P
-    go true e = f (eqb-true x 0 e)
-    go false e = g (eqb-false x 0 e)
+module _ (m places lengths S : List ℕ) (whole : Option ℕ) (first : ℕ) where
+  hash-tree : (n : ℕ) (t : Located) → Known-tree Small-row S whole n t → term-hash m places lengths S first n ≡ hash-words m places lengths first (words-of (tree-rows whole n t))
+  unfolding term-hash hash-words
+  hash-tree n t h =
+      let ws : List ℕ = words-of (tree-rows whole n t) in
+      let e : size-in (getD S n 0) ≡ length ws = tree-size (λ r k. k) t h ∙ sym (length-words-of (tree-rows whole n t) ∙ length-tree-rows whole n t) in
+      rw e (hash-here m places lengths S (mix 0 first) n ws (h .stands .tree-words))
 
-pub keeps-refl : (L : List ℕ) → Keeps L L
-unfolding Keeps
-keeps-refl L = (refl, λ i e. refl)
+  recalled-from : (key : ℕ) {L : List ℕ} (n row : ℕ) (ts : Terms) → Remembered m places lengths whole first row ts L → key ≡ row + sizes ts → Known-rows Small-row S whole row ts
+      → Recalls-from m places lengths S first key L n row
+  unfolding Recalls-from
+  recalled-from key zero row ts r e h = tt
+  recalled-from key (suc n) row none no-key e h = λ l. absurd (omega arith)
+  recalled-from key {L} (suc n) row (k ▹ v ▹ ts) (a-key o r) e h =
+      let step : row + pair-size S row ≡ row + size k + size v = ap (λ (i : ℕ). row + i) (pair-sizes (λ r k. k) h) ∙ (omega arith) in
+      λ l. (
+        known-as (sym (hash-tree row k (first-known h))) o,
+        subst (λ (i : ℕ). Recalls-from m places lengths S first key L n i) (sym step) (recalled-from key n (row + size k + size v) ts r (omega arith) (others-known (others-known h))),
+      )
 
-pub keeps-trans : (L M N : List ℕ) → Keeps L M → Keeps M N → Keeps L N
-unfolding Keeps
-keeps-trans L M N h g = (g .0 ∙ h .0, λ i e. g .1 i (λ z. e (sym (h .1 i e) ∙ z)) ∙ h .1 i e)
+-- the rows of pairs, and of one more term, stand in the table
+module _ (m places lengths : List ℕ) (cap : ℕ) (atoms : Atoms) {S : List ℕ} {whole : Option ℕ} {first : ℕ} (us : Terms) (u : Located)
+    (h : Held-rows m cap atoms S whole first (us ▹▹ (u ▹ none))) where
+  known-small : (n : ℕ) (ts : Terms) → Held-rows m cap atoms S whole n ts → Known-rows Small-row S whole n ts
+  known-small n ts g = record { stand = g .stand; all-known = g .all-small }
 
-module _ (L L′ : List ℕ) (k : Keeps L L′) (h : ℕ) where
-  pub same-slot : (d : ℕ) → slot L′ h d ≡ getD L′ ((h + d) % length L) 0
-  unfolding Keeps
-  same-slot d = ap (λ (n : ℕ). getD L′ ((h + d) % n) 0) (k .0)
+  pub hash-held : term-hash m places lengths S first (first + sizes us) ≡ hash-words m places lengths first (words-of (tree-rows whole (first + sizes us) u))
+  hash-held = hash-tree m places lengths S whole first (first + sizes us) u (first-known (known-small (first + sizes us) (u ▹ none) (held-right m cap atoms us (u ▹ none) h)))
 
-  -- an empty slot was empty before
-  pub was-empty : (d : ℕ) → slot L′ h d ≡ 0 → slot L h d ≡ 0
-  unfolding Keeps
-  was-empty d e = zero-or-not (slot L h d) (λ z. z) (λ n. absurd (n (sym (k .1 ((h + d) % length L) n) ∙ sym (same-slot d) ∙ e)))
-
-pub known-as : (L : List ℕ) (h h′ k : ℕ) → h ≡ h′ → Known L h k → Known L h′ k
-known-as L h h′ k e f = subst (λ (h : ℕ). Known L h k) e f
-
--- ---- a walk over slots
-
--- d slots from the hash h on are passed, P holds of each; the next is slot i of n
-pub record Probe (P : ℕ → Type 0) (L : List ℕ) (h n i d : ℕ) : Type 0 where
-  pub all : n ≡ length L
-  pub few : d ≤ n
-  pub inside : i < n
-  pub here : i ≡ (h + d) % n
-  pub passed : (e : ℕ) → e < d → P (slot L h e)
-
-module _ (P : ℕ → Type 0) (L : List ℕ) (h : ℕ) where
-  pub probe-start : 0 < length L → Probe P L h (length L) (h % length L) 0
-  probe-start l =
-      let e : h + 0 ≡ h = omega arith in
-      record { all = refl; few = omega arith; inside = mod-lt h l; here = rw e; passed = below-none (λ (e : ℕ). P (slot L h e)) }
-
-  module _ {n i d : ℕ} (p : Probe P L h n i d) where
-    slot-here : slot L h d ≡ getD L i 0
-    slot-here = rw (p .here, p .all)
-
-    pub probe-next : (j : ℕ) → d < n → P (getD L i 0) → j ≡ (i + 1) % n → j < n → Probe P L h n j (d + 1)
-    probe-next j l x e b =
-        let s : h + d + 1 ≡ h + (d + 1) = omega arith in
-        record {
-          all = p .all;
-          few = omega arith;
-          inside = b;
-          here = e ∙ ap (λ (x : ℕ). (x + 1) % n) (p .here) ∙ mod-add-mod (h + d) n 1 ∙ ap (λ (x : ℕ). x % n) s;
-          passed = below-more (λ (e : ℕ). P (slot L h e)) d (p .passed) (subst P (sym slot-here) x);
-        }
-
--- ---- met
-
-module _ (m places lengths T : List ℕ) (key : ℕ) where
-  -- what a row in a slot is compared for
-  abbrev pub Other : ℕ → Type 0
-  Other x = same-terms-raw m places lengths T key (x - 1) ≡ false
-
-  pub probe-empty : (L : List ℕ) (h : ℕ) {n i d : ℕ} (x : ℕ) → Probe Other L h n i d → d < n → x ≡ getD L i 0 → x ≡ 0 → Unmet m places lengths T key L h
-  unfolding Unmet
-  probe-empty L h {d = d} x p l e z = (d, omega (arith, p .all), slot-here Other L h p ∙ sym e ∙ z, p .passed)
-
-  pub probe-other : (L : List ℕ) (h : ℕ) {n i d : ℕ} (j x : ℕ) (s : Bool) → Probe Other L h n i d → d < n → x ≡ getD L i 0 → s ≡ same-terms-raw m places lengths T key (x - 1) → s ≡ false
-      → j ≡ (i + 1) % n → j < n → Probe Other L h n j (d + 1)
-  probe-other L h j x s p l e f z g b =
-      probe-next Other L h p j l (ap (λ (y : ℕ). same-terms-raw m places lengths T key (y - 1)) (sym e) ∙ sym f ∙ z) g b
-
--- ---- remember
-
-abbrev pub Taken : ℕ → Type 0
-Taken x = x ≡ 0 → ⊥
-
-module _ (L : List ℕ) (h k : ℕ) {n i d : ℕ} (p : Probe Taken L h n i d) where
-  -- no slot is empty
-  known-full : n ≤ d → Known L h k
-  unfolding Known
-  known-full l e b z = absurd (p .passed e (omega (arith, p .all)) z)
-
-  module _ (z : getD L i 0 ≡ 0) where
-    keeps-set : Keeps L (set L i (k + 1))
-    unfolding Keeps
-    keeps-set = (length-set L i (k + 1), λ j e. getD-set-other L i j (k + 1) 0 (λ q. e (ap (λ (x : ℕ). getD L x 0) q ∙ z)))
-
-    taken-now : slot (set L i (k + 1)) h d ≡ k + 1
-    taken-now =
-        let at : (h + d) % length L ≡ i = rw (← p .all) (sym (p .here)) in
-        same-slot L (set L i (k + 1)) keeps-set h d ∙ ap (λ (x : ℕ). getD (set L i (k + 1)) x 0) at ∙ getD-set-same L i (k + 1) 0 (omega (arith, p .inside, p .all))
-
-    -- the first empty slot is taken, so an empty one comes later
-    later-empty : (e : ℕ) → slot (set L i (k + 1)) h e ≡ 0 → d < e
-    later-empty e y =
-        by-less d e (λ x. x)
-        (λ x. by-less e d (λ w. absurd (p .passed e w (was-empty L (set L i (k + 1)) keeps-set h e y)))
-        (λ w.
-        let q : e ≡ d = omega arith in
-        let f : slot (set L i (k + 1)) h e ≡ k + 1 = ap (slot (set L i (k + 1)) h) q ∙ taken-now in
-        absurd (omega arith)))
-
-    known-set : Known (set L i (k + 1)) h k
-    unfolding Known
-    known-set e b y = (d, later-empty e y, taken-now)
-
--- slots S that are still as they were, L
-module _ (L S : List ℕ) (h k : ℕ) {n i d : ℕ} (e : S ≡ L) (p : Probe Taken S h n i d) where
-  pub remembered-now : getD S i 0 ≡ 0 → Keeps L (set S i (k + 1)) × Known (set S i (k + 1)) h k
-  remembered-now z = (subst (λ (l : List ℕ). Keeps l (set S i (k + 1))) e (keeps-set S h k p z), known-set S h k p z)
-
-  pub remembered-none : n ≤ d → Keeps L S × Known S h k
-  remembered-none l = (subst (λ (l : List ℕ). Keeps l S) e (keeps-refl S), known-full S h k p l)
+  pub recalled : {L : List ℕ} → Remembered m places lengths whole first first us L → Recalls m places lengths S first (first + sizes us) L
+  recalled r = recalled-from m places lengths S whole first (first + sizes us) (first + sizes us - first) first us r refl (known-small first us (held-left m cap atoms us (u ▹ none) h))

@@ -15,12 +15,13 @@ abbrev pub slot : List ℕ → ℕ → ℕ → ℕ
 slot L h d = getD L ((h + d) % length L) 0
 
 -- the key at the row k, whose hash is h, stands in a slot before the first empty one, if one is empty
-unfoldable pub Known : List ℕ → ℕ → ℕ → Type 0
-Known L h k = (d : ℕ) → d < length L → slot L h d ≡ 0 → (e : ℕ) × (e < d) × (slot L h e ≡ k + 1)
+pub record Known (L : List ℕ) (h k : ℕ) : Type 0 where
+  pub stands : (d : ℕ) → d < length L → slot L h d ≡ 0 → (e : ℕ) × (e < d) × (slot L h e ≡ k + 1)
 
 -- taken slots stay as they are, and so does the number of slots
-unfoldable pub Keeps : List ℕ → List ℕ → Type 0
-Keeps L L′ = (length L′ ≡ length L) × ((i : ℕ) → (getD L i 0 ≡ 0 → ⊥) → getD L′ i 0 ≡ getD L i 0)
+pub record Keeps (L L′ : List ℕ) : Type 0 where
+  pub as-many : length L′ ≡ length L
+  pub taken : (i : ℕ) → (getD L i 0 ≡ 0 → ⊥) → getD L′ i 0 ≡ getD L i 0
 
 -- hashes of terms, over the words of their rows
 module _ (m places lengths : List ℕ) where

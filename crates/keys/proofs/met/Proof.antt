@@ -4,7 +4,7 @@ use Prim.Native.Nat.{_-_}
 use native.Mathlib.Omega.{arith}
 use borrow.Author.Needs.{needs}
 use Rattle.contents.proofs.Alike.{never}
-use Rattle.keys.proofs.Seen.{Other, Probe, probe-start, probe-empty, probe-other}
+use Rattle.keys.proofs.Slots.{Other, Probe, probe-start, probe-empty, probe-other}
 use Rattle.keys.proofs.met.Statement.{statement}
 use Rattle.keys.proofs.met.Tie as tie
 

@@ -1,7 +1,7 @@
 -- `keys::repeats` meets its contract.
 use mathlib.Core.Path.{sym, _∙_}
 use Rattle.contents.proofs.Alike.{never}
-use Rattle.keys.proofs.Seen.{keeps-refl, known-as}
+use Rattle.keys.proofs.Slots.{keeps-refl, known-as}
 use borrow.Author.Needs.{needs}
 use Rattle.keys.proofs.repeats.Statement.{statement}
 use Rattle.keys.proofs.repeats.Tie as tie
@@ -25,7 +25,7 @@ same-length-2 : tie.Need-same-length-2
 same-length-2 c = search needs
 
 returns-2 : tie.Need-returns-2
-returns-2 c = (c .before .before .remember .ensures .0, (λ g. sym (c .before .before .before .before .if1 .left) ∙ c .before .before .before .before .before .equals-earlier .ensures g, λ _. known-as _ _ _ _ (c .before .before .before .before .before .before .before .term-hash .ensures) (c .before .before .remember .ensures .1)))
+returns-2 c = (c .before .before .remember .ensures .0, (λ g. sym (c .before .before .before .before .if1 .left) ∙ c .before .before .before .before .before .equals-earlier .ensures g, λ _. known-as (c .before .before .before .before .before .before .before .term-hash .ensures) (c .before .before .remember .ensures .1)))
 
 pub repeats-spec : {M : Type 1} → statement M
 repeats-spec =
