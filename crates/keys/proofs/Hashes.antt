@@ -1,12 +1,12 @@
 -- Hashes of terms: one law for each way through the functions that make them; terms that mean the same have the same hash, so a key that is not met is new.
-use mathlib.Core.Path.{_≡_, refl, sym, _∙_, ap, ap₂}
+use mathlib.Core.Path.{_≡_, refl, sym, _∙_, ap}
 use mathlib.Core.Bool.{Bool, true, false}
 use mathlib.Core.List.{List, [], _∷_}
 use Prim.Native.Nat.{ℕ, zero, suc, _+_, _*_, _-_, _≤_, _<_}
 use native.Mathlib.Omega.{arith}
 use lib.Dec.{eqb, leb}
 use lib.ListN.{length, getD}
-use borrow.Author.Tests.{eqb-true, leb-true, leb-false, ne-eqb}
+use borrow.Author.Tests.{eqb-true, leb-false}
 use Rattle.format.specs.Rows.{kind-in, offset-in, parts-in, size-in}
 use Rattle.format.proofs.Words.{Here, here-word, here-rest}
 use Rattle.contents.specs.declared.Content.{Content}

@@ -2,7 +2,7 @@
 use mathlib.Core.Path.{_≡_, refl, sym, _∙_, ap, subst}
 use mathlib.Core.List.{List}
 use mathlib.Core.Option.{Option}
-use Prim.Native.Nat.{ℕ, zero, suc, _+_, _-_, _<_}
+use Prim.Native.Nat.{ℕ, zero, suc, _+_, _-_}
 use native.Mathlib.Omega.{arith}
 use lib.ListN.{length, getD}
 use Rattle.format.specs.Tree.{none, _▹_, _▹▹_, size, sizes}
@@ -14,7 +14,7 @@ use Rattle.format.proofs.Rows.{length-tree-rows}
 use Rattle.format.proofs.Words.{Small-row, length-words-of}
 use Rattle.contents.specs.Hash.{mix}
 use Rattle.keys.specs.Compare.{pair-size}
-use Rattle.keys.specs.Seen.{Known, Keeps, hash-words, hash-rows, term-hash, Recalls-from, Recalls}
+use Rattle.keys.specs.Seen.{Known, Keeps, hash-words, term-hash, Recalls-from, Recalls}
 use Rattle.keys.proofs.Compare.{Known-tree, Known-rows, first-known, others-known, tree-size, pair-sizes}
 use Rattle.keys.proofs.Slots.{known-as, known-kept}
 use Rattle.keys.proofs.Hashes.{hash-here}

@@ -122,28 +122,28 @@ module _ (L : List ℕ) (h k : ℕ) {n i d : ℕ} (p : Probe Taken L h n i d) wh
     keeps-set : Keeps L (set L i (k + 1))
     keeps-set = record { as-many = length-set L i (k + 1); taken = λ j e. getD-set-other L i j (k + 1) 0 (λ q. e (ap (λ (x : ℕ). getD L x 0) q ∙ z)) }
 
-    taken-now : d < n → slot (set L i (k + 1)) h d ≡ k + 1
-    taken-now l =
+    taken-now : slot (set L i (k + 1)) h d ≡ k + 1
+    taken-now =
         let at : (h + d) % length L ≡ i = rw (← p .all) (sym (p .here)) in
         same-slot keeps-set h d ∙ ap (λ (x : ℕ). getD (set L i (k + 1)) x 0) at ∙ getD-set-same L i (k + 1) 0 (omega (arith, p .inside, p .all))
 
     -- the first empty slot is taken, so the next empty one comes later
-    later-empty : d < n → (e : ℕ) → slot (set L i (k + 1)) h e ≡ 0 → d < e
-    later-empty l e y =
+    later-empty : (e : ℕ) → slot (set L i (k + 1)) h e ≡ 0 → d < e
+    later-empty e y =
         by-less d e (λ x. x)
         (λ x. by-less e d (λ w. absurd (p .passed e w (slot-was-empty keeps-set h e y)))
         (λ w.
         let q : e ≡ d = omega arith in
-        let f : slot (set L i (k + 1)) h e ≡ k + 1 = ap (slot (set L i (k + 1)) h) q ∙ taken-now l in
+        let f : slot (set L i (k + 1)) h e ≡ k + 1 = ap (slot (set L i (k + 1)) h) q ∙ taken-now in
         absurd (omega arith)))
 
-    known-set : d < n → Known (set L i (k + 1)) h k
-    known-set l = record { stands = λ e b y. (d, later-empty l e y, taken-now l) }
+    known-set : Known (set L i (k + 1)) h k
+    known-set = record { stands = λ e b y. (d, later-empty e y, taken-now) }
 
 -- slots S that are still as they were, L
 module _ (L S : List ℕ) (h k : ℕ) {n i d : ℕ} (e : S ≡ L) (p : Probe Taken S h n i d) where
-  pub remembered-now : d < n → getD S i 0 ≡ 0 → Keeps L (set S i (k + 1)) × Known (set S i (k + 1)) h k
-  remembered-now l z = (subst (λ (l : List ℕ). Keeps l (set S i (k + 1))) e (keeps-set S h k p z), known-set S h k p z l)
+  pub remembered-now : getD S i 0 ≡ 0 → Keeps L (set S i (k + 1)) × Known (set S i (k + 1)) h k
+  remembered-now z = (subst (λ (l : List ℕ). Keeps l (set S i (k + 1))) e (keeps-set S h k p z), known-set S h k p z)
 
   pub remembered-none : n ≤ d → Keeps L S × Known S h k
   remembered-none l = (subst (λ (l : List ℕ). Keeps l S) e (keeps-refl S), known-full S h k p l)
