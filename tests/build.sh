@@ -3,6 +3,8 @@
 out=target/tests
 archive=target/staticlib/libfirmware.a
 mkdir -p "$out"
+# where Rust's own installer puts it
+command -v rustc >/dev/null || PATH=$PATH:${HOME:-}/.cargo/bin
 
 # The archive, proved first.
 build_archive() {

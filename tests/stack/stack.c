@@ -101,11 +101,19 @@ static void equal_keys(void)
     tuples(62);
     PUT(106);
 }
-static void pids_62(void)
+static void pid_in(int depth)
 {
-    for (int i = 0; i < 62; i++)
+    for (int i = 0; i < depth; i++)
         PUT(104, 1);
     PUT(88, 100, 0, 1, 'n', 0, 0, 0, 1, 0, 0, 0, 2, 0, 0, 0, 3);
+}
+static void pids_62(void) { pid_in(62); }
+static void long_62(void) /* over 1,024 bytes: the reader then has more slots for keys */
+{
+    PUT(104, 2, 109, 0, 0, 4, 0);
+    for (int i = 0; i < 1024; i++)
+        PUT(0);
+    pid_in(61);
 }
 static void joined(void)
 {
@@ -128,7 +136,8 @@ static void wide(void)
 
 static const struct { const char *name; void (*build)(void); } builds[] = {
     {"63 tuples", tuples_63}, {"63 lists", lists_63}, {"63 improper tails", tails_63}, {"63 maps by value", maps_63}, {"63 maps by key", keys_63},
-    {"two equal keys", equal_keys}, {"a pid in 62 tuples", pids_62}, {"8,191 joined tails", joined}, {"13,000 empty wrappers", wrapped}, {"8,191 parts", wide},
+    {"two equal keys", equal_keys}, {"a pid in 62 tuples", pids_62}, {"the same after a long binary", long_62},
+    {"8,191 joined tails", joined}, {"13,000 empty wrappers", wrapped}, {"8,191 parts", wide},
 };
 static const struct { const char *name; void (*run)(void); } calls[] = {
     {"ik_read", read_it}, {"ik_write", write_it}, {"ik_number", number_it}, {"ik_text", text_it}, {"ik_mark", mark_it},

@@ -1,4 +1,4 @@
-"""Cases as lines of hex words; the form of a line: src/lib.rt of crate casebook."""
+"""Cases as lines: a verb and hex words; the form of a line: src/lib.rt of crate casebook."""
 
 
 def big(width, number):
@@ -19,7 +19,7 @@ def repetition(data, at):
 
 
 def words(data):
-    """The words of a line that stand for the bytes: hex, and COUNT*HEX for a repetition of 40 bytes or more."""
+    """The words that stand for the bytes: hex, and COUNT*HEX for a repetition of 40 bytes or more."""
     out, plain, at = [], b'', 0
     while at < len(data):
         period, count = repetition(data, at)
@@ -42,8 +42,8 @@ class Case:
         self.form, self.message, self.answer = form, message, answer
         self.rows, self.room, self.n, self.places = rows, room, n, places
 
-    def line(self):
+    def line(self, verb):
         head = self.form.encode() + big(2, self.rows) + big(3, self.room) + big(1, self.n) + big(1, len(self.places))
         for length, text in self.places:
             head += big(2, length) + big(1, len(text)) + text
-        return words(head + self.message)
+        return verb + ' ' + words(head + self.message)

@@ -1,10 +1,9 @@
 #!/usr/bin/env python3
-"""Writes the stdin and the stdout of the program crates that run vectors.
+"""Writes the stdin and the stdout of the program crate that runs the vectors.
 
-    make.py VECTORS FOLDER [NAME ..]
+    make.py VECTORS FOLDER
 
-VECTORS holds standalone.jsonl, payload.jsonl and rows.jsonl. FOLDER/NAME/stdin and FOLDER/NAME/stdout are written for each NAME
-(cases_reading, cases_writing, cases_asking; without a NAME, those of them that have a folder in FOLDER). The same input gives the same files.
+VECTORS holds standalone.jsonl, payload.jsonl and rows.jsonl. FOLDER/stdin and FOLDER/stdout are written. The same input gives the same files.
 
 Where the answers come from (never from the code of this repository):
 - The vectors have their own answers, worked out from document 01 by an implementation of other hands.
@@ -15,12 +14,12 @@ Where the answers come from (never from the code of this repository):
   document 01. A refusal is stated with its number and its place. Of an accepted case the rows are those of `rows_of`, and the number of
   rows is stated where it is the point.
 
-A line of stdin: src/lib.rt of crate casebook. Where a program does not lend rows or output, these two fields say for cases_asking how
-many rows and how many offsets it asks for. A line of stdout:
-- cases_reading: `refused N P`, or `ok TERMS ROWS` and, up to 100 rows, ` KIND,OFFSET,WHOLE` for each; ` dirty` never.
-- cases_writing: `refused N P` or `ok HEX`. Of boundaries.py only the refused cases: the writer refuses what the reader refuses; the ends of the
+A line of stdin: src/lib.rt of crate casebook. Asking lends no rows and no output: these two fields say how many rows and how many offsets are
+asked for. A line of stdout, by the verb:
+- read: `refused N P`, or `ok TERMS ROWS` and, up to 100 rows, ` KIND,OFFSET,WHOLE` for each; ` dirty` never.
+- write: `refused N P` or `ok HEX`. Of boundaries.py only the refused cases: the writer refuses what the reader refuses; the ends of the
   rules of the canonical form stand in canonical.py.
-- cases_asking: the numbers, the texts and the marks, all parted by spaces, each with commas where the vector has tabs.
+- ask: the numbers, the texts and the marks, all parted by spaces, each with commas where the vector has tabs.
 """
 import json
 import os
@@ -90,17 +89,15 @@ def asking(folder):
         yield Case(vector['form'][0], bytes.fromhex(vector['in']), answer, rows=len(vector['numbers']), room=len(vector['texts']), n=n, places=places)
 
 
-PROGRAMS = {'cases_reading': reading, 'cases_writing': writing, 'cases_asking': asking}
+VERBS = {'read': reading, 'write': writing, 'ask': asking}
 
 
 def main():
-    source, folder, names = sys.argv[1], sys.argv[2], sys.argv[3:]
-    for name in names or [name for name in PROGRAMS if os.path.isdir(os.path.join(folder, name))]:
-        cases = list(PROGRAMS[name](source))
-        os.makedirs(os.path.join(folder, name), exist_ok=True)
-        for file, lines in (('stdin', [case.line() for case in cases]), ('stdout', [case.answer for case in cases])):
-            with open(os.path.join(folder, name, file), 'w') as out:
-                out.write(''.join(line + '\n' for line in lines))
+    source, folder = sys.argv[1:]
+    cases = [(verb, case) for verb, cases_of in VERBS.items() for case in cases_of(source)]
+    for file, lines in (('stdin', [case.line(verb) for verb, case in cases]), ('stdout', [case.answer for verb, case in cases])):
+        with open(os.path.join(folder, file), 'w') as out:
+            out.write(''.join(line + '\n' for line in lines))
 
 
 if __name__ == '__main__':

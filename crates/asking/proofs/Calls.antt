@@ -13,15 +13,15 @@ use Rattle.format.specs.Text.{Coding, latin-1, utf-8}
 use Rattle.format.specs.Answer.{Answer, good, refused}
 use Rattle.format.specs.Answers.{read-answer, number-answer, mark-case, mark-answer}
 use Rattle.format.specs.AtomList.{AtomList, place-length}
-use Rattle.format.specs.Message.{Framing, Terms, read}
+use Rattle.format.specs.Message.{Framing, Terms, meanings, read}
 use Rattle.format.specs.Rows.{rows, table-after}
 use Rattle.format.specs.Look.{float-bits, number-at, row-number, number-in, atom-at, Stretch, of-message, of-list, text-of, atom-text, text-in, text-bytes, stretch-bytes}
 use Rattle.format.specs.declared.ReadAnswer.{ReadAnswer}
 use Rattle.format.specs.declared.NumberAnswer.{NumberAnswer}
 use Rattle.format.specs.declared.MarkAnswer.{MarkAnswer}
 use Rattle.format.proofs.Text.{Under}
+use Rattle.format.proofs.Message.{accepted-message, allowed-valid}
 use Rattle.contents.specs.Found.{choose}
-use Rattle.keys.proofs.Accepted.{accepted}
 use Rattle.asking.specs.declared.TextAt.{TextAt}
 use Rattle.asking.specs.Code.{number-found, is-latin1, stretch-at, text-at, located, mark-at, Inside, bytes-at}
 use Rattle.asking.proofs.Numbers.{float-exact}
@@ -45,7 +45,7 @@ module _ (framing : Framing) (list : AtomList) (m : List ℕ) (few : list .n ≤
     where
       go : (o : Answer Terms) → read framing list 8192 m ≡ o
           → number-found m (list .places) (list .lengths) (table-after 8192 o) (read-answer o) row ≡ number-answer (row-number row o)
-      go (good ts) f = numbers-are list m ts few under (accepted framing list 8192 m ts under f) row
+      go (good ts) f = numbers-are list m ts few under (accepted-message framing list 8192 m under ts f) row
       go (refused n p) f = refl
 
   -- where an atom's text stands
@@ -60,7 +60,7 @@ module _ (framing : Framing) (list : AtomList) (m : List ℕ) (few : list .n ≤
       go : (o : Answer Terms) → read framing list 8192 m ≡ o
           → (located m (list .places) (list .lengths) (table-after 8192 o) (read-answer o) at ≡ text-at (atom-text m list at o))
           × Inside m (list .places) (located m (list .places) (list .lengths) (table-after 8192 o) (read-answer o) at)
-      go (good ts) f = texts-are list m ts few under (accepted framing list 8192 m ts under f) at
+      go (good ts) f = texts-are list m ts few under (accepted-message framing list 8192 m under ts f) at
       go (refused n p) f = (refl, tt)
 
 -- the float that is answered has exactly the 64 bits of its term
@@ -72,7 +72,7 @@ exact framing list m under row bits e = go (read framing list 8192 m) refl e
     go : (o : Answer Terms) → read framing list 8192 m ≡ o → row-number row o ≡ good (float-bits bits) → (bits < 2 ^ 64) × (toBits binary64 (ofBits binary64 bits) ≡ bits)
     go (good ts) f g =
         let is : number-at row (rows option.none 0 ts) ≡ float-bits bits = cc in
-        let k = bits-answered ts (accepted framing list 8192 m ts under f .valid) row bits is in
+        let k = bits-answered ts (allowed-valid (meanings ts) (accepted-message framing list 8192 m under ts f .known .all-allowed)) row bits is in
         (k .0, float-exact bits (k .0) (k .1))
     go (refused n p) f g = let no-way : _≡_ {A = ℕ} 0 1 = cc in absurd (omega arith)
 

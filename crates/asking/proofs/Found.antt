@@ -25,12 +25,13 @@ use Rattle.format.proofs.Valid.{Fits, Valid, Valids}
 use Rattle.format.proofs.Rows.{length-rows}
 use Rattle.format.proofs.Words.{Each-row, each-row-join, each-row-at, Small-row, Word-of, word-packed, Here, here-word, here-rest, tag-of-kind, kind-of-tag, table-row}
 use Rattle.format.proofs.Backed.{Label-at}
+use Rattle.format.proofs.Message.{Accepted-message, allowed-valid}
 use Rattle.contents.specs.declared.Content.{Content}
 use Rattle.contents.specs.Found.{choose, content-of}
 use Rattle.contents.proofs.Says.{Lent, Says}
 use Rattle.contents.proofs.Again.{content-says}
-use Rattle.keys.proofs.Held.{Backed-row, backed-rows}
-use Rattle.keys.proofs.Accepted.{Accepted}
+use Rattle.keys.proofs.Held.{Held-rows, Backed-row, backed-rows}
+use Rattle.keys.proofs.Accepted.{held-rows}
 use Rattle.asking.specs.declared.TextAt.{TextAt}
 use Rattle.asking.specs.declared.TextAt.the-variants as texts
 use Rattle.asking.specs.Code.{content-number, number-found, atom-row, atom-among, text-at, text-said, located, Inside}
@@ -177,7 +178,7 @@ module _ (at : ℕ) where
 
 -- ---- over an accepted message
 
-module _ (list : AtomList) (m : List ℕ) (ts : Terms) (few : list .n ≤ 255) (under : Under 256 m) (a : Accepted list 8192 m ts) where
+module _ (list : AtomList) (m : List ℕ) (ts : Terms) (few : list .n ≤ 255) (under : Under 256 m) (a : Accepted-message list 8192 m ts) where
   lent : Lent list m
   lent = record { sized = a .sized; few = few; under = under }
 
@@ -187,8 +188,11 @@ module _ (list : AtomList) (m : List ℕ) (ts : Terms) (few : list .n ≤ 255) (
   abbrev T : List ℕ
   T = table-after 8192 (good ts)
 
+  held : Held-rows m (min 8192 8192) (atoms-of list) T option.none 0 ts
+  held = held-rows list 8192 m ts a
+
   all-backed : Each-row (Backed-row m (min 8192 8192) (atoms-of list)) all
-  all-backed = backed-rows m (min 8192 8192) (atoms-of list) option.none 0 ts (a .held .all-backed)
+  all-backed = backed-rows m (min 8192 8192) (atoms-of list) option.none 0 ts (held .all-backed)
 
   abbrev found-at : ℕ → Content
   found-at w = content-of m (list .places) (list .lengths) (kind-in w) (offset-in w)
@@ -199,9 +203,9 @@ module _ (list : AtomList) (m : List ℕ) (ts : Terms) (few : list .n ≤ 255) (
       let d : Row = no-row in
       let r : Row = getD all i d in
       let k : i < length all = rw (length-rows option.none 0 ts) h in
-      let small : Small-row r = each-row-at Small-row all i d k (a .held .all-small) in
+      let small : Small-row r = each-row-at Small-row all i d k (held .all-small) in
       let backed : Backed-row m (min 8192 8192) (atoms-of list) r = each-row-at (Backed-row m (min 8192 8192) (atoms-of list)) all i d k all-backed in
-      let fit : Bits-fit (r .label) = each-row-at (λ q. Bits-fit (q .label)) all i d k (fit-rows option.none 0 ts (a .valid)) in
+      let fit : Bits-fit (r .label) = each-row-at (λ q. Bits-fit (q .label)) all i d k (fit-rows option.none 0 ts (allowed-valid (meanings ts) (a .known .all-allowed))) in
       let w : Word-of r (word r) = word-packed r small in
       let kind : ℕ = kind-at (r .label) (r .place) in
       let c : Content = content-of m (list .places) (list .lengths) kind (offset-of (r .place)) in
@@ -239,7 +243,7 @@ module _ (list : AtomList) (m : List ℕ) (ts : Terms) (few : list .n ≤ 255) (
   unfolding read-answer located atom-text text-at choose Inside
   texts-are at =
       let e : atom-among T (sizes ts) 0 at ≡ atom-at at all
-      = ap (λ (n : ℕ). atom-among T n 0 at) (sym (length-rows option.none 0 ts)) ∙ among-is at T all 0 (a .held .stand .words) (a .held .all-small) in
+      = ap (λ (n : ℕ). atom-among T n 0 at) (sym (length-rows option.none 0 ts)) ∙ among-is at T all 0 (held .stand .words) (held .all-small) in
       rw e (go (atom-at at all) refl)
     where
       go : (t : Bool) → atom-at at all ≡ t

@@ -13,13 +13,12 @@ use borrow.Author.Tests.{ltb-false}
 use Rattle.format.specs.Numbers.{little-endian, signed32, with-sign}
 use Rattle.format.specs.Text.{Coding, latin-1, utf-8}
 use Rattle.format.specs.Term.{Label, integer, float, atom, tuple, list, improper-list, binary, bitstring, export}
-use Rattle.format.specs.Answer.{Answer, Position, Reading, after, rule, bytes, number}
+use Rattle.format.specs.Answer.{Answer, Position, at-offset, Reading, after, rule, bytes, number}
 use Rattle.format.specs.Head.{Atoms, Wanted, an-atom, an-arity, one-of, Form, small-integer-ext, integer-ext, big-ext, new-float-ext, atom-ext, atom-cache-ref, tuple-ext, nil-ext, string-ext, list-ext, binary-ext, bit-binary-ext, map-ext, pid-ext, port-ext, new-reference-ext, reference-ext, export-ext, form-in, forms, fields, Head, parts, Later, known, pid-fields, port-fields, reference-fields, old-reference-fields, later, words, words-rule, creation-rule, limits, finite, bits-rule, bits-meaning, clear-low, head}
 use Rattle.format.specs.Reading.{tag-at}
 use Rattle.format.specs.AtomList.{AtomList, place-length, atoms-of}
 use Rattle.format.specs.Rows.{kind-of}
 use Rattle.format.specs.Look.{Stretch, of-message, of-list, text-of}
-use Rattle.format.proofs.Bridge.{at-offset}
 use Rattle.format.proofs.Holds.{Holds, next, done-holds, weaken}
 use Rattle.format.proofs.Backed.{Allowed, Atom-form, is-82, is-100, is-115, is-118, is-119, atom-form, Agrees, Label-at}
 use Rattle.octets.proofs.Numbers.{big-one}

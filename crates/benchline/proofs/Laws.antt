@@ -14,9 +14,8 @@ use Rattle.io.specs.Digits.{glyph, digits, Fewest}
 use Rattle.io.specs.Counts.{Counts}
 use Rattle.io.proofs.Counting.{counts}
 use Rattle.format.specs.Answer.{Answer, good, refused}
-use Rattle.format.specs.AtomList.{AtomList}
-use Rattle.format.specs.Message.{Terms, standalone, read}
-use Rattle.format.specs.Writing.{written, write, output-after}
+use Rattle.format.specs.Message.{standalone}
+use Rattle.format.specs.Writing.{Written, write, output-after}
 use Rattle.format.specs.Answers.{write-answer}
 use Rattle.format.specs.declared.Refusal.{Refusal}
 use Rattle.format.specs.declared.WriteAnswer.{WriteAnswer}
@@ -25,7 +24,7 @@ use Rattle.heads.specs.Code.{lent}
 use Rattle.octets.proofs.Stores.{take-sets}
 use Rattle.layout.specs.Layout.{Put}
 use Rattle.layout.proofs.Puts.{put-then, put-same}
-use Rattle.benchline.specs.Line.{hex, Decimal, Line, Stored, ok-tab, refused-tab, empty-list, bench-answer}
+use Rattle.benchline.specs.Line.{hex, Decimal, Ok-line, Refused-line, Line, Stored, ok-tab, refused-tab, empty-list, bench-answer}
 
 hex-append : (a b : List ℕ) → hex (a ++ b) ≡ hex a ++ hex b
 unfolding hex
@@ -101,8 +100,8 @@ decimal-put {O} {P} ds {at} n k {r} f e p l few room =
     (record { text = take k ds; is = record { places = k; fewest = f; spelt = e }; put = p; inside = omega arith }, fits)
 
 pub ok-put : {O P Q R : List ℕ} (bs : List ℕ) {a b r : ℕ} → Put O 0 ok-tab a P → Put P a (hex bs) b Q → Put Q b (10 ∷ []) r R → 2 * length bs + 4 ≤ length O
-    → Stored (Line (good bs)) O 0 r R
-unfolding Line
+    → Stored (Ok-line bs) O 0 r R
+unfolding Ok-line
 ok-put {O} {P} {Q} {R} bs {a} {b} {r} p q s room =
     let x : a ≡ 3 = p .past in
     let y : b ≡ a + length (hex bs) = q .past in
@@ -111,8 +110,7 @@ ok-put {O} {P} {Q} {R} bs {a} {b} {r} p q s room =
     record { text = ok-tab ++ (hex bs ++ (10 ∷ [])); is = refl; put = put-then p (put-then q s); inside = omega arith }
 
 pub refused-put : {O P Q R S T : List ℕ} {n p a b c d r : ℕ} → Put O 0 refused-tab a P → Stored (Decimal n) P a b Q → b ≤ a + 20 → Put Q b (9 ∷ []) c R
-    → Stored (Decimal p) R c d S → d ≤ c + 20 → Put S d (10 ∷ []) r T → 50 ≤ length O → Stored (Line (refused n p)) O 0 r T
-unfolding Line
+    → Stored (Decimal p) R c d S → d ≤ c + 20 → Put S d (10 ∷ []) r T → 50 ≤ length O → Stored (Refused-line n p) O 0 r T
 refused-put {O} {P} {Q} {R} {S} {T} {n} {p} {a} {b} {c} {d} {r} first number few tab place few2 last room =
     let x : a ≡ 8 = first .past in
     let y : c ≡ b + 1 = tab .past in
@@ -137,44 +135,32 @@ refusal-of (writes.Written t n) = record { number = 0; place = 0 }
 refusal-of (writes.Refused r) = r
 
 -- the bytes that an answer counts are those in the output
-pub answer-good : (a : Answer Terms) (w : Answer (List ℕ)) (O P : List ℕ) {D E : List ℕ} {t n r : ℕ} → writes.Written t n ≡ write-answer a w → P ≡ output-after O w
-    → Stored (Line (good (take n P))) D 0 r E → Stored (Line w) D 0 r E
-unfolding write-answer output-after length-of is-written
-answer-good (good ts) (good bs) O P {D} {E} {t} {n} {r} e f s =
+pub answer-good : (w : Answer Written) (O P : List ℕ) {D E : List ℕ} {t n r : ℕ} → writes.Written t n ≡ write-answer w → P ≡ output-after O w
+    → Stored (Ok-line (take n P)) D 0 r E → Stored (Line w) D 0 r E
+unfolding write-answer output-after length-of is-written Line
+answer-good (good w) O P {D} {E} {t} {n} {r} e f s =
+    let bs : List ℕ = w .bytes in
     let k : n ≡ length bs = ap length-of e in
     let g : take n P ≡ bs = ap (λ (m : ℕ). take m P) k ∙ ap (λ (l : List ℕ). take (length bs) l) f ∙ take-append-seam bs (drop (length bs) O) in
-    subst (λ (l : List ℕ). Stored (Line (good l)) D 0 r E) g s
-answer-good (refused m p) (good bs) O P e f s = let z : _≡_ {A = ℕ} 1 0 = ap is-written e in absurd (omega arith)
-answer-good a (refused m p) O P e f s = let z : _≡_ {A = ℕ} 1 0 = ap is-written e in absurd (omega arith)
+    subst (λ (l : List ℕ). Stored (Ok-line l) D 0 r E) g s
+answer-good (refused m p) O P e f s = let z : _≡_ {A = ℕ} 1 0 = ap is-written e in absurd (omega arith)
 
-pub answer-fits : (a : Answer Terms) (w : Answer (List ℕ)) (O P : List ℕ) {t n : ℕ} → writes.Written t n ≡ write-answer a w → P ≡ output-after O w → n ≤ length P
+pub answer-fits : (w : Answer Written) (O P : List ℕ) {t n : ℕ} → writes.Written t n ≡ write-answer w → P ≡ output-after O w → n ≤ length P
 unfolding write-answer output-after length-of is-written
-answer-fits (good ts) (good bs) O P {t} {n} e f =
+answer-fits (good w) O P {t} {n} e f =
+    let bs : List ℕ = w .bytes in
     let k : n ≡ length bs = ap length-of e in
     let g : length P ≡ length bs + length (drop (length bs) O) = ap length f ∙ length-append bs (drop (length bs) O) in
     omega arith
-answer-fits (refused m p) (good bs) O P e f = let z : _≡_ {A = ℕ} 1 0 = ap is-written e in absurd (omega arith)
-answer-fits a (refused m p) O P e f = let z : _≡_ {A = ℕ} 1 0 = ap is-written e in absurd (omega arith)
+answer-fits (refused m p) O P e f = let z : _≡_ {A = ℕ} 1 0 = ap is-written e in absurd (omega arith)
 
 -- a refusal's line is the answer's
-refused-by : (ts : Terms) (w : Answer (List ℕ)) {D E : List ℕ} {x : Refusal} {r : ℕ} → writes.Refused x ≡ write-answer (good ts) w
-    → Stored (Line (refused (x .number) (x .place))) D 0 r E → Stored (Line w) D 0 r E
-unfolding write-answer is-written refusal-of
-refused-by ts (good bs) e s = let z : _≡_ {A = ℕ} 0 1 = ap is-written e in absurd (omega arith)
-refused-by ts (refused m p) {D} {E} {x} {r} e s = subst (λ (y : Refusal). Stored (Line (refused (y .number) (y .place))) D 0 r E) (ap refusal-of e) s
-
-refused-of : (a : Answer Terms) (room : ℕ) {D E : List ℕ} {x : Refusal} {r : ℕ} → writes.Refused x ≡ write-answer a (written room a)
-    → Stored (Line (refused (x .number) (x .place))) D 0 r E → Stored (Line (written room a)) D 0 r E
-unfolding write-answer written refusal-of
-refused-of (good ts) room e s = refused-by ts (written room (good ts)) e s
-refused-of (refused m p) room {D} {E} {x} {r} e s = subst (λ (y : Refusal). Stored (Line (refused (y .number) (y .place))) D 0 r E) (ap refusal-of e) s
-
-pub answer-refused : (list : AtomList) (rows room : ℕ) (m : List ℕ) {D E : List ℕ} {x : Refusal} {k r : ℕ} → k ≡ x .number
-    → writes.Refused x ≡ write-answer (read standalone list rows m) (write standalone list rows room m)
-    → Stored (Line (refused k (x .place))) D 0 r E → Stored (Line (write standalone list rows room m)) D 0 r E
-unfolding write
-answer-refused list rows room m {D} {E} {x} {k} {r} n e s =
-    refused-of (read standalone list rows m) room e (subst (λ (j : ℕ). Stored (Line (refused j (x .place))) D 0 r E) n s)
+pub answer-refused : (w : Answer Written) {D E : List ℕ} {x : Refusal} {k r : ℕ} → k ≡ x .number → writes.Refused x ≡ write-answer w
+    → Stored (Refused-line k (x .place)) D 0 r E → Stored (Line w) D 0 r E
+unfolding write-answer is-written refusal-of Line
+answer-refused (good w) n e s = let z : _≡_ {A = ℕ} 0 1 = ap is-written e in absurd (omega arith)
+answer-refused (refused m p) {D} {E} {x} {k} {r} n e s =
+    subst (λ (y : Refusal). Stored (Refused-line (y .number) (y .place)) D 0 r E) (ap refusal-of e) (subst (λ (j : ℕ). Stored (Refused-line j (x .place)) D 0 r E) n s)
 
 -- the line at the start of the buffer, with the bench's list, rows and output
 pub bench-line : (m : List ℕ) {places lengths D E : List ℕ} {rows room r : ℕ} → places ≡ replicate 8160 0 → lengths ≡ replicate 255 0 → rows ≡ 8192 → room ≡ 65536
@@ -191,4 +177,4 @@ bench-line m {places} {lengths} {D} {E} {rows} {room} {r} p l n o s =
     let fits : r ≤ length D = s .inside in
     let g : take r E ≡ s .text = ap (λ (x : List ℕ). take r x) (s .put .stored) ∙ take-sets D (s .text) r long fits in
     let size : length E ≡ length D = ap length (s .put .stored) ∙ length-sets D 0 (s .text) in
-    (subst (λ (x : List ℕ). Line (bench-answer m) x) (sym g) (subst (λ (a : Answer (List ℕ)). Line a (s .text)) w (s .is)), counts r E (omega arith))
+    (subst (λ (x : List ℕ). Line (bench-answer m) x) (sym g) (subst (λ (a : Answer Written). Line a (s .text)) w (s .is)), counts r E (omega arith))

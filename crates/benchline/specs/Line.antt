@@ -7,7 +7,7 @@ use Rattle.io.specs.Digits.{glyph, digits, Fewest}
 use Rattle.format.specs.Answer.{Answer, good, refused}
 use Rattle.format.specs.AtomList.{AtomList}
 use Rattle.format.specs.Message.{standalone}
-use Rattle.format.specs.Writing.{write}
+use Rattle.format.specs.Writing.{Written, write}
 use Rattle.layout.specs.Layout.{Put}
 
 -- two hexadecimal digits for each byte, in lower case
@@ -29,7 +29,11 @@ ok-tab = 111 ∷ 107 ∷ 9 ∷ []
 abbrev pub refused-tab : List ℕ
 refused-tab = 114 ∷ 101 ∷ 102 ∷ 117 ∷ 115 ∷ 101 ∷ 100 ∷ 9 ∷ []
 
--- a refusal's line
+-- `ok`, tab, hex, line end
+unfoldable pub Ok-line : List ℕ → List ℕ → Type 0
+Ok-line bs line = line ≡ ok-tab ++ (hex bs ++ (10 ∷ []))
+
+-- `refused`, tab, number, tab, place, line end
 pub record Refused-line (n p : ℕ) (line : List ℕ) : Type 0 where
   pub number : List ℕ
   pub place : List ℕ
@@ -37,9 +41,9 @@ pub record Refused-line (n p : ℕ) (line : List ℕ) : Type 0 where
   pub place-spelt : Decimal p place
   pub whole : line ≡ refused-tab ++ (number ++ (9 ∷ (place ++ (10 ∷ []))))
 
--- `ok`, tab, hex, line end; or `refused`, tab, number, tab, place, line end
-unfoldable pub Line : Answer (List ℕ) → List ℕ → Type 0
-Line (good bs) line = line ≡ ok-tab ++ (hex bs ++ (10 ∷ []))
+-- the line of what the writer answers
+unfoldable pub Line : Answer Written → List ℕ → Type 0
+Line (good w) line = Ok-line (w .bytes) line
 Line (refused n p) line = Refused-line n p line
 
 -- the empty atom list, of its stated size
@@ -47,7 +51,7 @@ unfoldable pub empty-list : AtomList
 empty-list = record { n = 0; places = replicate 8160 0; lengths = replicate 255 0 }
 
 -- the bench's answer: 8,192 scratch rows and 65,536 bytes of output
-unfoldable pub bench-answer : List ℕ → Answer (List ℕ)
+unfoldable pub bench-answer : List ℕ → Answer Written
 bench-answer input = write standalone empty-list 8192 65536 input
 
 -- a text with this property is stored from `at` on, up to r, and nothing else

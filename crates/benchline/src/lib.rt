@@ -9,10 +9,9 @@ ghost use Rattle.io.specs.Counts.{Counts};
 ghost use Rattle.io.specs.Digits.{glyph};
 ghost use Rattle.format.specs.Message.{standalone};
 ghost use Rattle.format.specs.Writing.{write};
-ghost use Rattle.format.specs.Answer.{good, refused};
 ghost use Rattle.heads.specs.Code.{lent};
 ghost use Rattle.layout.specs.Layout.{Put};
-ghost use Rattle.benchline.specs.Line.{hex, Decimal, Line, Stored, bench-answer};
+ghost use Rattle.benchline.specs.Line.{hex, Decimal, Ok-line, Refused-line, Line, Stored, bench-answer};
 
 // A hexadecimal digit, in lower case.
 fn digit(d: u8) -> u8
@@ -61,7 +60,7 @@ fn put_decimal(dst: &mut [u8], at: usize, n: u64) -> usize
 // The line of bytes written.
 fn put_ok(dst: &mut [u8], bytes: &[u8]) -> usize
     requires { ⌜ 2 * length (now bytes) + 4 ≤ length (now dst) ⌝ }
-    ensures { λ r. ⌜ Stored (Line (good (now (bytes .entry)))) (now (dst .entry)) 0 r (now (dst .exit)) ⌝ }
+    ensures { λ r. ⌜ Stored (Ok-line (now (bytes .entry))) (now (dst .entry)) 0 r (now (dst .exit)) ⌝ }
 {
     let a = put_text(dst, 0, b"ok\t");
     let b = put_hex(dst, a, bytes);
@@ -71,7 +70,7 @@ fn put_ok(dst: &mut [u8], bytes: &[u8]) -> usize
 // The line of a refusal.
 fn put_refused(dst: &mut [u8], number: usize, place: usize) -> usize
     requires { ⌜ 50 ≤ length (now dst) ⌝ }
-    ensures { λ r. ⌜ Stored (Line (refused number place)) (now (dst .entry)) 0 r (now (dst .exit)) ⌝ }
+    ensures { λ r. ⌜ Stored (Refused-line number place) (now (dst .entry)) 0 r (now (dst .exit)) ⌝ }
 {
     let a = put_text(dst, 0, b"refused\t");
     let b = put_decimal(dst, a, number as u64);

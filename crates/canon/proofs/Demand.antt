@@ -1,5 +1,5 @@
 -- Demand 3 over the promises of the calls `write_standalone`, `write_payload` and `read_standalone`, as one statement: `demand-3`, at the end.
-use mathlib.Core.Path.{_≡_, _∙_, ap, ap₂}
+use mathlib.Core.Path.{_≡_, _∙_, ap}
 use mathlib.Core.Logic.{_↔_}
 use mathlib.Core.Bool.{true}
 use mathlib.Core.List.{List, _++_}
@@ -12,16 +12,15 @@ use Rattle.format.specs.Term.{Term}
 use Rattle.format.specs.Answer.{good}
 use Rattle.format.specs.AtomList.{AtomList, of-size}
 use Rattle.format.specs.Reading.{Located, meaning}
-use Rattle.format.specs.Message.{Framing, standalone, payload, Terms, meanings, read}
+use Rattle.format.specs.Message.{Framing, standalone, payload, meanings, read}
 use Rattle.format.specs.Rows.{table-after}
 use Rattle.format.specs.Canonical.{canonical-standalone, standalones}
-use Rattle.format.specs.Writing.{write, output-after, scratch-after}
+use Rattle.format.specs.Writing.{Written, write, output-after, scratch-after}
 use Rattle.format.specs.Answers.{read-answer, write-answer}
 use Rattle.format.specs.declared.ReadAnswer.{ReadAnswer}
 use Rattle.format.specs.declared.ReadAnswer.the-variants as reads
 use Rattle.format.specs.declared.WriteAnswer.{WriteAnswer}
 use Rattle.format.specs.declared.WriteAnswer.the-variants as writes
-use Rattle.format.proofs.Capacity.{enough}
 use Rattle.format.proofs.Rows.{size-meaning}
 use Rattle.format.proofs.Demand as definitions
 use Rattle.format.proofs.Demand.{Accepted-term, Read-again}
@@ -37,7 +36,7 @@ pub record Read-call (framing : Framing) (list : AtomList) (message table : List
 
 -- A call of the writer: also the lent scratch table and output
 pub record Write-call (framing : Framing) (list : AtomList) (message scratch output : List ℕ) (answer : WriteAnswer) (scratch-is output-is : List ℕ) : Type 0 where
-  pub write-answered : answer ≡ write-answer (read framing list (length scratch) message) (write framing list (length scratch) (length output) message)
+  pub write-answered : answer ≡ write-answer (write framing list (length scratch) (length output) message)
   pub scratch-left : scratch-is ≡ scratch-after (length scratch)
   pub output-left : output-is ≡ output-after output (write framing list (length scratch) (length output) message)
 
@@ -56,8 +55,8 @@ pub promised-read-standalone : (κs : Lfts 4) (a : _) (r : _) (s : _) → read-s
     → Read-call standalone (lent (a .1 .0) (a .1 .1 .0 .now) (a .1 .1 .1 .0 .now)) (a .0 .now) (a .1 .1 .1 .1 .0 .now) r (s .1 .1 .1 .1 .0 .now)
 promised-read-standalone κs a r s p = record { read-answered = p .0; table-left = p .1 }
 
--- What is written: so many terms, these bytes at the front of the output, the others as they were, the scratch table all zero
-pub record Written (terms : ℕ) (bs scratch output : List ℕ) (answer : WriteAnswer) (scratch-is output-is : List ℕ) : Type 0 where
+-- What a call that writes leaves: so many terms, these bytes at the front of the output, the others as they were, the scratch table all zero
+pub record Written-out (terms : ℕ) (bs scratch output : List ℕ) (answer : WriteAnswer) (scratch-is output-is : List ℕ) : Type 0 where
   pub answer-is : answer ≡ writes.Written terms (length bs)
   pub output-holds : output-is ≡ bs ++ drop (length bs) output
   pub scratch-zero : scratch-is ≡ replicate (length scratch) 0
@@ -70,16 +69,16 @@ pub record Means (t : Term) (table : List ℕ) (answer : ReadAnswer) (left : Lis
   pub rows-are : left ≡ table-after (length table) (good (tree ▹ Forest.none))
 
 -- What the calls come to where the definitions' answers are known
-written-by : {framing : Framing} {list : AtomList} {message scratch output : List ℕ} {answer : WriteAnswer} {scratch-is output-is : List ℕ} (ts : Terms)
-    → read framing list (length scratch) message ≡ good ts → (bs : List ℕ) → write framing list (length scratch) (length output) message ≡ good bs
+written-by : {framing : Framing} {list : AtomList} {message scratch output : List ℕ} {answer : WriteAnswer} {scratch-is output-is : List ℕ} (w : Written)
+    → write framing list (length scratch) (length output) message ≡ good w
     → Write-call framing list message scratch output answer scratch-is output-is
-    → Written (count ts) bs scratch output answer scratch-is output-is
+    → Written-out (w .terms) (w .bytes) scratch output answer scratch-is output-is
 unfolding write-answer output-after scratch-after
-written-by {output = output} ts e bs f w =
+written-by {output = output} w e c =
     record {
-      answer-is = w .write-answered ∙ ap₂ write-answer e f;
-      output-holds = w .output-left ∙ ap (output-after output) f;
-      scratch-zero = w .scratch-left;
+      answer-is = c .write-answered ∙ ap write-answer e;
+      output-holds = c .output-left ∙ ap (output-after output) e;
+      scratch-zero = c .scratch-left;
     }
 
 means-by : (t : Term) (list : AtomList) (table : List ℕ) (answer : ReadAnswer) (left : List ℕ) → Read-again t list (length table)
@@ -100,7 +99,7 @@ pub record Demand-3 (t u : Term) (a : Accepted-term t) : Type 0 where
   -- terms, one after the other, the bytes past them as they were, and the scratch table all zero
   pub canonical-written : (scratch output : List ℕ) → sizes (a .terms) ≤ length scratch → length (standalones (meanings (a .terms))) ≤ length output
       → (answer : WriteAnswer) (scratch-is output-is : List ℕ) → Write-call (a .framing) (a .list) (a .message) scratch output answer scratch-is output-is
-      → Written (count (a .terms)) (standalones (meanings (a .terms))) scratch output answer scratch-is output-is
+      → Written-out (count (a .terms)) (standalones (meanings (a .terms))) scratch output answer scratch-is output-is
   -- the two have the same bytes there exactly when they mean the same
   pub same-output : (canonical-standalone t ≡ canonical-standalone u) ↔ (t ≡ u)
   -- its bytes, where they are at most 65,536, are accepted by the reader's call, with any atom list of the stated size, so with an empty one, and any table of
@@ -111,19 +110,18 @@ pub record Demand-3 (t u : Term) (a : Accepted-term t) : Type 0 where
   pub written-again : (list : AtomList) → of-size list ≡ true → length (canonical-standalone t) ≤ 65536
       → (scratch output : List ℕ) → size t ≤ length scratch → length (canonical-standalone t) ≤ length output
       → (answer : WriteAnswer) (scratch-is output-is : List ℕ) → Write-call standalone list (canonical-standalone t) scratch output answer scratch-is output-is
-      → Written 1 (canonical-standalone t) scratch output answer scratch-is output-is
+      → Written-out 1 (canonical-standalone t) scratch output answer scratch-is output-is
 
 pub demand-3 : (t u : Term) (a : Accepted-term t) → Accepted-term u → Demand-3 t u a
 demand-3 t u a b =
     let d = definitions.demand-3 t u a b in
     record {
       canonical-written = λ scratch output rows fits answer s o w.
-          written-by (a .terms) (enough (a .framing) (a .list) (a .message) 8192 (length scratch) (a .terms) (a .accepted) rows)
-          (standalones (meanings (a .terms)))
+          written-by (record { terms = count (a .terms); bytes = standalones (meanings (a .terms)) })
           (d .canonical-written (length scratch) (length output) rows fits) w;
       same-output = d .same-output;
       read-again = λ list sized short table rows answer left w. means-by t list table answer left (d .read-and-written-again list sized (length table) rows short) w;
       written-again = λ list sized short scratch output rows fits answer s o w.
-          let again = d .read-and-written-again list sized (length scratch) rows short in
-          written-by (again .tree ▹ Forest.none) (again .accepted) (canonical-standalone t) (again .again (length output) fits) w;
+          written-by (record { terms = 1; bytes = canonical-standalone t })
+          (d .read-and-written-again list sized (length scratch) rows short .again (length output) fits) w;
     }

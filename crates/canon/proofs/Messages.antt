@@ -16,7 +16,7 @@ use Rattle.format.specs.AtomList.{AtomList}
 use Rattle.format.specs.Message.{Framing, Terms, meanings, read}
 use Rattle.format.specs.Rows.{table-after}
 use Rattle.format.specs.Canonical.{canonical, canonicals, canonical-standalone, standalones}
-use Rattle.format.specs.Writing.{written, write, output-after, scratch-after}
+use Rattle.format.specs.Writing.{Written, written, write, output-after, scratch-after}
 use Rattle.format.specs.Answers.{read-answer, write-answer}
 use Rattle.format.specs.declared.Refusal.{Refusal}
 use Rattle.format.specs.declared.ReadAnswer.{ReadAnswer}
@@ -76,7 +76,8 @@ length-standalones (t ▹ ts) =
 written-short : (room : ℕ) (ts : Terms) → room < length (standalones (meanings ts)) → written room (good ts) ≡ refused 11 0
 unfolding written
 written-short room ts h =
-    ap (λ (z : Bool). elim z as (λ _. Answer (List ℕ)) [ true ↦ good (standalones (meanings ts)) | false ↦ refused 11 0 ]) (lt-leb (length (standalones (meanings ts))) room h)
+    ap (λ (z : Bool). elim z as (λ _. Answer Written) [ true ↦ good (record { terms = count ts; bytes = standalones (meanings ts) }) | false ↦ refused 11 0 ])
+    (lt-leb (length (standalones (meanings ts))) room h)
 
 front-stored : (O bs : List ℕ) → take 0 O ++ bs ++ drop (0 + length bs) O ≡ bs ++ drop (length bs) O
 front-stored O bs = let e : 0 + length bs ≡ length bs = omega arith in rw e
@@ -109,7 +110,7 @@ module _ {m places lengths T : List ℕ} where
   rows-short {O} {n} {inner} w less ts h c =
       let e = rows-length w ts h c in
       let x : written (length O) (good ts) ≡ refused 11 0 = written-short (length O) ts (omega arith) in
-      (sym (ap (λ (a : Answer (List ℕ)). write-answer (good ts) a) x), sym (ap (λ (a : Answer (List ℕ)). output-after O a) x))
+      (sym (ap write-answer x), sym (ap (output-after O) x))
 
   pub rows-fit : (room : ℕ) {n inner : ℕ} → Run-length m places lengths T 0 canonicals n inner → n + inner ≤ room → Some-run m places lengths T 0 n
       → Run-fits m places lengths T 0 standalones n room 0
@@ -123,9 +124,9 @@ module _ {m places lengths T : List ℕ} where
   rows-put {O} {P} {n} {inner} {r} w fit p ts h c =
       let bs : List ℕ = standalones (meanings ts) in
       let e : n + inner ≡ length bs = rows-length w ts h c in
-      let x : written (length O) (good ts) ≡ good bs = written-good ts bs refl (length O) (omega arith) in (
-        ap₂ (λ (a b : ℕ). writes.Written a b) (sym c) e ∙ sym (ap (λ (a : Answer (List ℕ)). write-answer (good ts) a) x),
-        p ts h c .stored ∙ sets-eq bs O 0 (omega arith) ∙ front-stored O bs ∙ sym (ap (λ (a : Answer (List ℕ)). output-after O a) x),
+      let x : written (length O) (good ts) ≡ good (record { terms = count ts; bytes = bs }) = written-good ts bs refl (length O) (omega arith) in (
+        ap₂ (λ (a b : ℕ). writes.Written a b) (sym c) e ∙ sym (ap write-answer x),
+        p ts h c .stored ∙ sets-eq bs O 0 (omega arith) ∙ front-stored O bs ∙ sym (ap (output-after O) x),
       )
 
 -- ---- a message written
@@ -160,22 +161,22 @@ module _ (framing : Framing) (atoms : AtomList) (lent : ℕ) (m : List ℕ) (few
     message-run = record { terms = terms-are .0; held = terms-held; counted = terms-are .2 }
 
     pub message-written : (O P : List ℕ) (w : WriteAnswer) → Rows-written m (atoms .places) (atoms .lengths) T k O w P
-        → (w ≡ write-answer answer (write framing atoms lent (length O) m)) × (P ≡ output-after O (write framing atoms lent (length O) m))
+        → (w ≡ write-answer (write framing atoms lent (length O) m)) × (P ≡ output-after O (write framing atoms lent (length O) m))
     unfolding write
     message-written O P w g =
         let i = g (terms-are .0) terms-held (terms-are .2) in
         let x : good (terms-are .0) ≡ answer = sym (terms-are .1) in
-        (i .0 ∙ ap (λ (o : Answer Terms). write-answer o (written (length O) o)) x, i .1 ∙ ap (λ (o : Answer Terms). output-after O (written (length O) o)) x)
+        (i .0 ∙ ap (λ (o : Answer Terms). write-answer (written (length O) o)) x, i .1 ∙ ap (λ (o : Answer Terms). output-after O (written (length O) o)) x)
 
   module _ {r : ReadAnswer} {q : Refusal} {T : List ℕ} (e : r ≡ read-answer answer) (f : r ≡ reads.Refused q) (t : T ≡ table-after lent answer) where
     is-refused : answer ≡ refused (q .number) (q .place)
     is-refused = refusal-read answer r q e f
 
-    pub message-refused : (O : List ℕ) → (writes.Refused q ≡ write-answer answer (write framing atoms lent (length O) m)) × (O ≡ output-after O (write framing atoms lent (length O) m))
+    pub message-refused : (O : List ℕ) → (writes.Refused q ≡ write-answer (write framing atoms lent (length O) m)) × (O ≡ output-after O (write framing atoms lent (length O) m))
     unfolding write written write-answer output-after
     message-refused O =
         let x : refused (q .number) (q .place) ≡ answer = sym is-refused in
-        (ap (λ (o : Answer Terms). write-answer o (written (length O) o)) x, ap (λ (o : Answer Terms). output-after O (written (length O) o)) x)
+        (ap (λ (o : Answer Terms). write-answer (written (length O) o)) x, ap (λ (o : Answer Terms). output-after O (written (length O) o)) x)
 
     pub table-cleared : T ≡ scratch-after lent
     unfolding scratch-after table-after

@@ -1,34 +1,28 @@
 -- The terms of an accepted message stand in the table after reading, and every field of theirs is found again.
-use mathlib.Core.Path.{_≡_, refl, sym, _∙_, ap, subst}
+use mathlib.Core.Path.{_≡_, refl, _∙_, ap, subst}
 use mathlib.Core.Bool.{Bool, true, false, _&&_}
 use mathlib.Core.List.{List, [], _∷_}
 use mathlib.Core.Option.{none}
-use Prim.Native.Nat.{ℕ, zero, suc, _+_, _≤_, _<_, min}
+use Prim.Native.Nat.{ℕ, zero, suc, _≤_, _<_, min}
 use native.Mathlib.Omega.{arith}
-use lib.Dec.{eqb, leb}
+use lib.Dec.{eqb}
 use lib.ListN.{length}
-use borrow.Author.Tests.{leb-true, eqb-true}
-use Rattle.format.specs.Tree.{Forest, node, _▹_, size, sizes}
-use Rattle.format.specs.Text.{Checked, valid, encodes}
+use borrow.Author.Tests.{eqb-true}
+use Rattle.format.specs.Tree.{Forest, node, _▹_, sizes}
+use Rattle.format.specs.Text.{Checked, encodes}
 use Rattle.format.specs.Term.{Label, list, bitstring}
-use Rattle.format.specs.Answer.{Answer, good, refused, Position, Reading, after, done}
-use Rattle.format.specs.Head.{Atoms, Head, any, bits-rule, bits-meaning, clear-low, head}
-use Rattle.format.specs.Reading.{Place, tag-at, character-at, Located, meaning, term}
+use Rattle.format.specs.Answer.{good}
+use Rattle.format.specs.Head.{Atoms, bits-rule, bits-meaning, clear-low}
+use Rattle.format.specs.Reading.{Place, tag-at, character-at, Located, meaning}
 use Rattle.format.specs.AtomList.{AtomList, of-size, atoms-of}
-use Rattle.format.specs.Message.{Framing, standalone, payload, Terms, meanings, ending, found, first-check, standalone-term, payload-terms, terms-framed, read}
+use Rattle.format.specs.Message.{Framing, Terms, meanings, read}
 use Rattle.format.specs.Rows.{kind-of, kind-at, offset-of, whole-code, table-after}
-use Rattle.format.proofs.Steps.{spot}
 use Rattle.format.proofs.Text.{Under, utf8-spelt}
 use Rattle.format.proofs.Valid.{Fits, Valid, Valids}
-use Rattle.format.proofs.Holds.{Holds, Fine, bind, done-holds, next, version-holds, ending-holds}
-use Rattle.format.proofs.Heads.{True-atoms, for-any}
-use Rattle.format.proofs.Accepted.{Found, term-holds}
-use Rattle.format.proofs.Bridge.{at-offset}
-use Rattle.format.proofs.Invariant.{In-step, on-byte}
-use Rattle.format.proofs.Backed.{Head-at, Label-at, Backed, Backeds, term-backed}
-use Rattle.format.proofs.Rows.{Each-node, Each-nodes, size-meaning}
+use Rattle.format.proofs.Backed.{Label-at, Backed, Backeds}
+use Rattle.format.proofs.Rows.{Each-node, Each-nodes}
 use Rattle.format.proofs.Words.{table-rows}
-use Rattle.format.proofs.Demand.{list-true}
+use Rattle.format.proofs.Message.{Accepted-message, accepted-message, allowed-valid}
 use Rattle.contents.specs.declared.Content.{Content}
 use Rattle.contents.specs.declared.Content.the-variants.{Nothing, Whole, Big, Float, Text, Bytes, Bits, Pid, Port, Reference}
 use Rattle.contents.specs.Found.{choose, content-of}
@@ -36,91 +30,16 @@ use Rattle.contents.specs.Meaning.{characters-of, label-of}
 use Rattle.contents.proofs.Says as contents
 use Rattle.contents.proofs.Says.{Readable, Lent, Says}
 use Rattle.contents.proofs.Again.{content-says}
-use Rattle.contents.proofs.Read.{position-is, head-here}
-use Rattle.layout.specs.Layout.{source, stretch, Inside}
+use Rattle.contents.proofs.Read.{label-inside}
+use Rattle.octets.specs.Parts.{stretch}
+use Rattle.layout.specs.Layout.{Inside}
 use Rattle.layout.proofs.Bodies.{length-bits}
 use Rattle.fields.specs.Sound.{Spelt, Sound, listed-in}
 use Rattle.canon.specs.Held.{Writable, Held-run}
 
--- ---- the terms of an accepted message
-
-pub record Accepted-run (m : List ℕ) (cap : ℕ) (atoms : Atoms) (ts : Terms) : Type 0 where
-  pub all-valid : Valids (meanings ts)
-  pub few : sizes ts ≤ cap
-  pub all-backed : Backeds m cap atoms ts
-
-both : {A : Type 0} {o : Answer (A × Position)} {P Q : A → Position → Type 0} → Holds o P → Holds o Q → Holds o (λ a s. P a s × Q a s)
-both h g = record { known = λ a s e. (h .known a s e, g .known a s e) }
-
-module _ (atoms : Atoms) (true-atoms : True-atoms atoms) (cap : ℕ) (few : cap ≤ 8192) (m : List ℕ) (u : Under 256 m) where
-  abbrev Outer : ℕ → Located → Position → Type 0
-  Outer r x t = Found cap for-any 64 r x t × (In-step m cap t × Backed m cap atoms x)
-
-  outer : (r : ℕ) (s : Position) → Fine r s → r ≤ cap → In-step m cap s → Holds (term atoms cap 64 any s) (Outer r)
-  outer r s g h i = both (term-holds cap atoms true-atoms (omega arith) 64 for-any r s g h) (term-backed m cap atoms 64 any s i)
-
-  start : In-step m cap (spot 0 m 0)
-  start = record { bytes-are = refl; inside = omega arith; room = omega arith }
-
-  one-run : (x : Located) (t : Position) → Outer 0 x t → Accepted-run m cap atoms (x ▹ Forest.none)
-  one-run x t f =
-      let e = size-meaning x in
-      let r : 0 + size (meaning x) ≤ cap = f .0 .room in
-      record { all-valid = (f .0 .valid, tt); few = omega arith; all-backed = (f .1 .1, tt) }
-
-  two-run : (x y : Located) (t s : Position) → Outer 0 x t → Outer (0 + size (meaning x)) y s → Accepted-run m cap atoms (x ▹ y ▹ Forest.none)
-  two-run x y t s f g =
-      let e = size-meaning x in
-      let d = size-meaning y in
-      let r : 0 + size (meaning x) + size (meaning y) ≤ cap = g .0 .room in
-      record { all-valid = (f .0 .valid, (g .0 .valid, tt)); few = omega arith; all-backed = (f .1 .1, (g .1 .1, tt)) }
-
-  standalone-run : Holds (standalone-term atoms cap (spot 0 m 0)) (λ ts t. Accepted-run m cap atoms ts)
-  unfolding standalone-term
-  standalone-run =
-      bind (version-holds (spot 0 m 0) λ b bs e.
-      next (Outer 0)
-      (outer 0 (spot 1 bs 0) (record { bytes-under = subst (Under 256) e u .1; rows-are = refl }) (omega arith) (on-byte m cap (spot 0 m 0) b bs e start)) λ x t f.
-      bind (ending-holds (t .left) t (done-holds _ t (one-run x t f))))
-
-  payload-run : Holds (payload-terms atoms cap (spot 0 m 0)) (λ ts t. Accepted-run m cap atoms ts)
-  unfolding payload-terms
-  payload-run = next (Outer 0) (outer 0 (spot 0 m 0) (record { bytes-under = u; rows-are = refl }) (omega arith) start) λ x t f. go x t f (t .left)
-    where
-      go : (x : Located) (t : Position) → Outer 0 x t → (left : List ℕ)
-          → Holds ((elim left as (λ _. Reading Terms) [
-            | [] ↦ done (x ▹ Forest.none)
-            | b ∷ bs ↦ λ t. after (term atoms cap 64 any t) (λ u. λ t. after (ending (t .left) t) (λ _. done (x ▹ u ▹ Forest.none)))
-          ]) t) (λ ts t. Accepted-run m cap atoms ts)
-      go x t f [] = done-holds _ t (one-run x t f)
-      go x t f (b ∷ bs) =
-          next (Outer (0 + size (meaning x))) (outer (0 + size (meaning x)) t (f .0 .fine) (f .0 .room) (f .1 .0)) λ y s g.
-          bind (ending-holds (s .left) s (done-holds _ s (two-run x y t s f g)))
-
-  pub framed-run : (framing : Framing) → Holds (terms-framed atoms cap framing (spot 0 m 0)) (λ ts t. Accepted-run m cap atoms ts)
-  framed-run standalone = standalone-run
-  framed-run payload = payload-run
-
 -- ---- every node is found again
 
--- a tag is a byte of the message
 module _ (m : List ℕ) (cap : ℕ) (atoms : Atoms) where
-  head-inside : (p : ℕ) (h : Head) → Head-at m cap atoms p h → p < length m
-  head-inside p h a =
-      let s : Position = a .start in
-      let r : ℕ = s .rows in
-      let i : s .at ≤ length m = a .in-step .inside in
-      let k : s .at ≡ p = a .is-at in
-      let inside : p ≤ length m = omega arith in
-      let here : s ≡ at-offset m p r = position-is m s (a .in-step .bytes-are) ∙ ap (λ (n : ℕ). at-offset m n r) k in
-      let told : Holds (head atoms (a .wanted) (at-offset m p r)) (λ _ _. p < length m) = head-here m atoms (a .wanted) p r inside (λ less f k _. record { known = λ _ _ _. less }) in
-      told .known h (a .stop) (ap (head atoms (a .wanted)) (sym here) ∙ a .reads)
-
-  pub label-inside : (place : Place) (x : Label) → Label-at m cap atoms place x → offset-of place < length m
-  unfolding offset-of
-  label-inside (tag-at p) x h = head-inside p (h .0) (h .1)
-  label-inside (character-at p) x h = h .0
-
   -- a list's place is its tag
   pub label-tag : (place : Place) (x : Label) → Label-at m cap atoms place x → x ≡ list → kind-at x place ≡ 5
   unfolding kind-at kind-of
@@ -147,7 +66,7 @@ not-zero negative (suc n) h e = omega arith
 
 module _ (m : List ℕ) (atoms : AtomList) (short : length m ≤ 65536) (fits : length (atoms .places) ≤ 65536) where
   text-sound : (latin1 listed : Bool) (start n : ℕ) → contents.Sound m (atoms .places) (Text latin1 listed start n) → Sound m (atoms .places) (Text latin1 listed start n)
-  unfolding Sound source choose
+  unfolding Sound choose
   text-sound latin1 true start n (h, r) = (record { there = h; few = omega arith }, λ e. spelt-by _ (subst (λ (z : Bool). Readable z (stretch (atoms .places) start n)) e r))
   text-sound latin1 false start n (h, r) = (record { there = h; few = omega arith }, λ e. spelt-by _ (subst (λ (z : Bool). Readable z (stretch m start n)) e r))
 
@@ -209,15 +128,6 @@ module _ (m : List ℕ) (atoms : AtomList) (short : length m ≤ 65536) (fits : 
 
 -- ---- after reading
 
--- a good answer has passed the first checks
-checked : {A : Type 0} (t : Bool) (n : ℕ) (o : Answer A) (a : A) → first-check t n o ≡ good a → (t ≡ true) × (o ≡ good a)
-checked true n o a e = (refl, e)
-checked false n o a e = let no-way : _≡_ {A = ℕ} 0 1 = cc in absurd (omega arith)
-
-ended : {A : Type 0} (o : Answer (A × Position)) (a : A) → found o ≡ good a → (s : Position) × (o ≡ good (a, s))
-ended (good r) a e = let is : r .0 ≡ a = cc in (r .1, ap (λ x. good (x, r .1)) is)
-ended (refused n p) a e = let no-way : _≡_ {A = ℕ} 0 1 = cc in absurd (omega arith)
-
 places-few : (atoms : AtomList) → of-size atoms ≡ true → length (atoms .places) ≤ 65536
 unfolding of-size
 places-few atoms e = go (eqb (length (atoms .places)) 8160) refl e
@@ -229,20 +139,15 @@ places-few atoms e = go (eqb (length (atoms .places)) 8160) refl e
 -- the rows of an accepted message's terms stand in the table, and each can be written
 pub read-held : (framing : Framing) (atoms : AtomList) (lent : ℕ) (m : List ℕ) → atoms .n ≤ 255 → Under 256 m → (ts : Terms) → read framing atoms lent m ≡ good ts
     → Held-run m (atoms .places) (atoms .lengths) (table-after lent (good ts)) 0 ts
-unfolding read whole-code
+unfolding whole-code
 read-held framing atoms lent m n u ts e =
-    let cap : ℕ = min 8192 lent in
-    let o : Answer (Terms × Position) = terms-framed (atoms-of atoms) cap framing (spot 0 m 0) in
-    let a = checked (of-size atoms) 13 _ ts e in
-    let b = checked (leb (length m) 65536) 12 (found o) ts (a .1) in
-    let short : length m ≤ 65536 = leb-true (length m) 65536 (b .0) in
-    let g = ended o ts (b .1) in
-    let r = framed-run (atoms-of atoms) (list-true atoms) cap (omega arith) m u framing .known ts (g .0) (g .1) in
-    let f : sizes ts ≤ cap = r .few in
+    let a : Accepted-message atoms lent m ts = accepted-message framing atoms lent m u ts e in
+    let f : sizes ts ≤ min 8192 lent = a .known .few in
     record {
       run-whole = none;
       run-above = omega arith;
       run-stands = table-rows lent ts;
       run-few = omega arith;
-      run-nodes = run-writable m atoms short (places-few atoms (a .0)) (record { sized = a .0; few = n; under = u }) cap ts (r .all-backed) (r .all-valid);
+      run-nodes = run-writable m atoms (a .short) (places-few atoms (a .sized)) (record { sized = a .sized; few = n; under = u }) (min 8192 lent) ts (a .known .all-backed)
+          (allowed-valid (meanings ts) (a .known .all-allowed));
     }

@@ -85,4 +85,4 @@ module _ (m places lengths T : List ℕ) where
   abbrev pub Rows-written : ℕ → List ℕ → WriteAnswer → List ℕ → Type 0
   Rows-written n O r P =
       (ts : Terms) → Held-run m places lengths T 0 ts → count ts ≡ n
-      → (r ≡ write-answer (good ts) (written (length O) (good ts))) × (P ≡ output-after O (written (length O) (good ts)))
+      → (r ≡ write-answer (written (length O) (good ts))) × (P ≡ output-after O (written (length O) (good ts)))

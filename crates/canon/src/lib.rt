@@ -6,7 +6,7 @@ ghost use mathlib.Core.Path.{_≡_};
 ghost use Prim.Native.Nat.{_+_, _≤_, _<_};
 ghost use lib.ListN.{length};
 ghost use Rattle.format.specs.Canonical.{canonical, canonicals, canonical-standalone, standalones};
-ghost use Rattle.format.specs.Message.{standalone, payload, read};
+ghost use Rattle.format.specs.Message.{standalone, payload};
 ghost use Rattle.format.specs.Writing.{write, output-after, scratch-after};
 ghost use Rattle.format.specs.Answers.{write-answer};
 ghost use Rattle.heads.specs.Code.{lent};
@@ -278,7 +278,7 @@ pub fn write_standalone(
     scratch: &mut [u64],
     output: &mut [u8],
 ) -> WriteAnswer
-    ensures { λ r. ⌜ r ≡ write-answer (read standalone (lent n (now (places .entry)) (now (lengths .entry))) (length (now (scratch .entry))) (now (msg .entry))) (write standalone (lent n (now (places .entry)) (now (lengths .entry))) (length (now (scratch .entry))) (length (now (output .entry))) (now (msg .entry))) ⌝ }
+    ensures { λ r. ⌜ r ≡ write-answer (write standalone (lent n (now (places .entry)) (now (lengths .entry))) (length (now (scratch .entry))) (length (now (output .entry))) (now (msg .entry))) ⌝ }
     ensures { λ _. ⌜ now (scratch .exit) ≡ scratch-after (length (now (scratch .entry))) ⌝ }
     ensures { λ _. ⌜ now (output .exit) ≡ output-after (now (output .entry)) (write standalone (lent n (now (places .entry)) (now (lengths .entry))) (length (now (scratch .entry))) (length (now (output .entry))) (now (msg .entry))) ⌝ }
 {
@@ -304,7 +304,7 @@ pub fn write_payload(
     scratch: &mut [u64],
     output: &mut [u8],
 ) -> WriteAnswer
-    ensures { λ r. ⌜ r ≡ write-answer (read payload (lent n (now (places .entry)) (now (lengths .entry))) (length (now (scratch .entry))) (now (msg .entry))) (write payload (lent n (now (places .entry)) (now (lengths .entry))) (length (now (scratch .entry))) (length (now (output .entry))) (now (msg .entry))) ⌝ }
+    ensures { λ r. ⌜ r ≡ write-answer (write payload (lent n (now (places .entry)) (now (lengths .entry))) (length (now (scratch .entry))) (length (now (output .entry))) (now (msg .entry))) ⌝ }
     ensures { λ _. ⌜ now (scratch .exit) ≡ scratch-after (length (now (scratch .entry))) ⌝ }
     ensures { λ _. ⌜ now (output .exit) ≡ output-after (now (output .entry)) (write payload (lent n (now (places .entry)) (now (lengths .entry))) (length (now (scratch .entry))) (length (now (output .entry))) (now (msg .entry))) ⌝ }
 {

@@ -1,13 +1,19 @@
-// A book of cases. A line is one case: words parted by single spaces, each word hex, or COUNT*HEX for a repetition. The bytes of a case:
-// form (1 byte), rows lent (2), output room (3), n of the atom list (1), number of places given (1), for each of them its length (2), a
+// A book of cases. A line is one case: a verb, which says what is asked (`read`, `write`, `ask`; its first letter decides), and words, each hex
+// or COUNT*HEX for a repetition, all parted by single spaces. The bytes that the words stand for: form (1 byte), rows lent (2), output room (3), n of the atom list (1), number of places given (1), for each of them its length (2), a
 // count (1) and that many bytes of text, then the message. Forms: 's' standalone, 'p' payload; 'S', 'P' the same with the places lent a
 // byte short, 't', 'q' with a length too many. No function has a `requires`: what is missing counts as 0, what has no room is left out.
-ghost use mathlib.Core.Path.{_≡_};
 ghost use Prim.Native.Nat.{_≤_, _<_, min};
 ghost use lib.ListN.{length};
 ghost use Rattle.io.specs.Counts.{Counts};
 use format::ReadAnswer;
 use format::Refusal;
+
+pub enum Verb {
+    Read,
+    Write,
+    Ask,
+    Unknown,
+}
 
 // Puts x after the first `at` bytes of dst, and answers how many bytes it then has; so do all functions `put_..`.
 pub fn put_byte(dst: &mut [u8], at: usize, x: u8) -> usize
@@ -44,7 +50,7 @@ pub fn put_decimal(dst: &mut [u8], at: usize, n: u64) -> usize
 }
 
 // A space, and n in decimal.
-pub fn put_number(dst: &mut [u8], at: usize, n: usize) -> usize
+fn put_number(dst: &mut [u8], at: usize, n: usize) -> usize
     ensures { λ r. ⌜ Counts r (now (dst .exit)) ⌝ }
 {
     let next = put_byte(dst, at, 32);
@@ -168,7 +174,7 @@ fn put_rows(dst: &mut [u8], at: usize, table: &[u64], n: usize) -> usize
 }
 
 // Whether all words from `from` on are 0.
-pub fn clean(table: &[u64], from: usize) -> bool {
+fn clean(table: &[u64], from: usize) -> bool {
     let mut i = from;
     while i < table.len() {
         if table[i] != 0 {
@@ -340,12 +346,25 @@ fn decode_word(dst: &mut [u8], at: usize, word: &[u8]) -> usize
     repeat(dst, at, next, decimal(&word[..star]))
 }
 
-// The bytes of a line.
+// What a line asks.
+pub fn verb_of(line: &[u8]) -> Verb {
+    if line.len() == 0 {
+        return Verb::Unknown;
+    }
+    match line[0] {
+        b'r' => Verb::Read,
+        b'w' => Verb::Write,
+        b'a' => Verb::Ask,
+        _ => Verb::Unknown,
+    }
+}
+
+// The bytes of a line's words after its verb.
 pub fn decode_line(dst: &mut [u8], line: &[u8]) -> usize
     ensures { λ r. ⌜ Counts r (now (dst .exit)) ⌝ }
 {
     let mut next = 0usize;
-    let mut i = 0usize;
+    let mut i = index_of(line, 0, 32) + 1;
     while i < line.len() {
         let end = index_of(line, i, 32);
         next = decode_word(dst, next, &line[i..end]);
@@ -355,7 +374,7 @@ pub fn decode_line(dst: &mut [u8], line: &[u8]) -> usize
 }
 
 // The byte of a case at `at`.
-pub fn number1(case: &[u8], at: usize) -> usize
+fn number1(case: &[u8], at: usize) -> usize
     ensures { λ r. ⌜ r < 256 ⌝ }
 {
     if case.len() <= at {
@@ -387,6 +406,16 @@ pub fn is_payload(case: &[u8]) -> bool {
     form == 112 || form == 80 || form == 113
 }
 
+// n, but at most all the bytes.
+pub fn inside(bytes: &[u8], n: usize) -> usize
+    ensures { λ r. ⌜ Counts r (now (bytes .entry)) ⌝ }
+{
+    if bytes.len() < n {
+        return bytes.len();
+    }
+    n
+}
+
 // How many words of the table are lent.
 pub fn rows_lent(case: &[u8], table: &[u64]) -> usize
     ensures { λ r. ⌜ Counts r (now (table .entry)) ⌝ }
@@ -402,11 +431,7 @@ pub fn rows_lent(case: &[u8], table: &[u64]) -> usize
 pub fn room_lent(case: &[u8], out: &[u8]) -> usize
     ensures { λ r. ⌜ Counts r (now (out .entry)) ⌝ }
 {
-    let n = number3(case, 3);
-    if out.len() < n {
-        return out.len();
-    }
-    n
+    inside(out, number3(case, 3))
 }
 
 // n of the atom list.
@@ -431,11 +456,7 @@ fn places_size(form: usize) -> usize {
 pub fn places_lent(case: &[u8], places: &[u8]) -> usize
     ensures { λ r. ⌜ Counts r (now (places .entry)) ⌝ }
 {
-    let n = places_size(number1(case, 0));
-    if places.len() < n {
-        return places.len();
-    }
-    n
+    inside(places, places_size(number1(case, 0)))
 }
 
 fn lengths_size(form: usize) -> usize {

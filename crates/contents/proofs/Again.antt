@@ -10,12 +10,11 @@ use lib.IntN.{pos}
 use lib.ListN.{length, getD}
 use Rattle.format.specs.Numbers.{with-sign}
 use Rattle.format.specs.Term.{Label, integer}
-use Rattle.format.specs.Answer.{Position}
+use Rattle.format.specs.Answer.{Position, at-offset}
 use Rattle.format.specs.Head.{head}
 use Rattle.format.specs.Reading.{Place, tag-at, character-at}
 use Rattle.format.specs.AtomList.{AtomList, atoms-of}
 use Rattle.format.specs.Rows.{kind-of, kind-at, offset-of}
-use Rattle.format.proofs.Bridge.{at-offset}
 use Rattle.format.proofs.Holds.{Holds}
 use Rattle.format.proofs.Invariant.{In-step}
 use Rattle.format.proofs.Backed.{Agrees, Label-at}

@@ -18,7 +18,9 @@ use Rattle.format.specs.Head.{clear-low}
 use Rattle.format.specs.AtomList.{AtomList}
 use Rattle.format.proofs.Text.{Under, utf8-spelt, utf8-encodes, latin1-characters}
 use Rattle.format.proofs.Opening.{by-less}
-use Rattle.octets.proofs.Parts.{length-part}
+use Rattle.format.proofs.Heads.{length-clear}
+use Rattle.octets.proofs.Parts.{length-part, part-last}
+use Rattle.octets.proofs.Bits.{clear-last}
 use Rattle.contents.specs.declared.Flat.{Flat}
 use Rattle.contents.specs.declared.Content.{Content}
 use Rattle.contents.specs.declared.Content.the-variants.{Nothing, Whole, Big, Float, Text, Bytes, Bits, Pid, Port, Reference}
@@ -26,7 +28,7 @@ use Rattle.contents.specs.Found.{choose, value}
 use Rattle.contents.specs.Meaning.{stretch, sign, words-at, characters-of, coded, bare, label-of}
 use Rattle.contents.specs.Same.{same-bool, same-list, high, same-part, same-stretch, same-spelling, same-text, same-last, same-bits, same-words, numbers-of, stretch-of, text-of, flat-of, same-numbers, source, same-texts, same-atoms, same-stretches, same-flat, same-contents}
 use Rattle.contents.proofs.Lists.{same-true, same-self}
-use Rattle.contents.proofs.Values.{under-part, big-same, little-small, little-same, little-least, top-digit}
+use Rattle.contents.proofs.Values.{under-part, big-same, little-small, little-same, little-least}
 use Rattle.contents.proofs.Says.{Readable, Sound}
 
 -- a test and the equality that it stands for
@@ -34,7 +36,7 @@ pub record Agree (t : Bool) (A : Type 0) : Type 0 where
   pub sure : t ≡ true → A
   pub back : A → t ≡ true
 
-never : {A : Type 0} → false ≡ true → A
+pub never : {A : Type 0} → false ≡ true → A
 never e = let z : _≡_ {A = ℕ} 0 1 = cc in absurd (omega arith)
 
 -- one test and then another
@@ -126,25 +128,13 @@ parts-equal a b c d e f =
 
 -- ---- bits
 
-length-clear : (bits : ℕ) (xs : List ℕ) → length (clear-low bits xs) ≡ length xs
-unfolding clear-low
-length-clear bits [] = refl
-length-clear bits (x ∷ []) = refl
-length-clear bits (x ∷ y ∷ xs) = ap suc (length-clear bits (y ∷ xs))
-
-clear-snoc : (bits : ℕ) (xs : List ℕ) (x : ℕ) → clear-low bits (xs ++ (x ∷ [])) ≡ xs ++ (high x bits ∷ [])
-unfolding clear-low
-clear-snoc bits [] x = refl
-clear-snoc bits (y ∷ []) x = refl
-clear-snoc bits (y ∷ z ∷ xs) x = ap (λ (l : List ℕ). y ∷ l) (clear-snoc bits (z ∷ xs) x)
-
 module _ (m : List ℕ) (bits i j : ℕ) where
   cleared : (n at : ℕ) → 0 < n → at + n ≤ length m → clear-low bits (stretch m at n) ≡ stretch m at (n - 1) ++ (high (getD m (at + (n - 1)) 0) bits ∷ [])
   cleared n at h k =
       let e : suc (n - 1) ≡ n = omega arith in
       ap (λ (x : ℕ). clear-low bits (take x (drop at m))) (sym e)
-      ∙ ap (clear-low bits) (top-digit m at (n - 1) (omega arith))
-      ∙ clear-snoc bits (stretch m at (n - 1)) (getD m (at + (n - 1)) 0)
+      ∙ ap (clear-low bits) (part-last 0 m at (n - 1) (omega arith))
+      ∙ clear-last bits (stretch m at (n - 1)) (getD m (at + (n - 1)) 0)
 
   last-agrees : (n : ℕ) → i + n < length m → j + n < length m
       → Agree (same-last m bits i j n) (stretch m i n ++ (high (getD m (i + n) 0) bits ∷ []) ≡ stretch m j n ++ (high (getD m (j + n) 0) bits ∷ []))
@@ -376,7 +366,7 @@ pub record Numbers (a b : Flat) : Type 0 where
   pub second : a .second ≡ b .second
   pub third : a .third ≡ b .third
 
-flats-agree : (m places : List ℕ) (a b : Flat) {A : Type 0} → Agree (same-stretches m places (a .code) a b) A → Agree (same-flat m places a b) (Numbers a b × A)
+pub flats-agree : (m places : List ℕ) (a b : Flat) {A : Type 0} → Agree (same-stretches m places (a .code) a b) A → Agree (same-flat m places a b) (Numbers a b × A)
 unfolding same-flat same-numbers
 flats-agree m places a b p =
     through (λ x. (record { code = x .0 .0; negative = x .0 .1 .0; first = x .0 .1 .1 .0; second = x .0 .1 .1 .1 .0; third = x .0 .1 .1 .1 .1 }, x .1))
@@ -386,7 +376,7 @@ flats-agree m places a b p =
 yes-agrees : Agree true (Unit {0})
 yes-agrees = record { sure = λ _. tt; back = λ _. refl }
 
-self-agrees : (t : Bool) → Agree t (t ≡ true)
+pub self-agrees : (t : Bool) → Agree t (t ≡ true)
 self-agrees t = record { sure = λ e. e; back = λ e. e }
 
 -- the kinds k and k′ are equal where neither term has fields of its own

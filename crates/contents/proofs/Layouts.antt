@@ -12,11 +12,10 @@ use borrow.Author.Tests.{ltb-true, leb-true, eqb-true}
 use Rattle.format.specs.Numbers.{little-endian, with-sign}
 use Rattle.format.specs.Text.{Checked, valid, invalid-at, Coding, latin-1, utf-8, check}
 use Rattle.format.specs.Term.{Label, integer, tuple, list, improper-list, binary, bitstring, map, pid, reference, export}
-use Rattle.format.specs.Answer.{Answer, good, Position}
+use Rattle.format.specs.Answer.{Answer, good, Position, at-offset}
 use Rattle.format.specs.Head.{Wanted, an-atom, an-arity, Form, small-integer-ext, integer-ext, big-ext, new-float-ext, atom-ext, atom-cache-ref, tuple-ext, nil-ext, string-ext, list-ext, binary-ext, bit-binary-ext, map-ext, pid-ext, port-ext, new-reference-ext, reference-ext, export-ext, form-in, forms, fields, Head, parts, characters, elements, pairs, leaf, Later, known, pid-fields, port-fields, reference-fields, old-reference-fields, later, head, finite, bits-rule, bits-meaning, clear-low, limits, creation-rule, words-rule}
 use Rattle.format.specs.AtomList.{AtomList, of-size, place-length, place-bytes, place-text, atoms-of}
 use Rattle.format.specs.Rows.{kind-of}
-use Rattle.format.proofs.Bridge.{at-offset}
 use Rattle.format.proofs.Holds.{Holds, bind, done-holds, rule-holds, text-holds}
 use Rattle.format.proofs.Invariant.{In-step}
 use Rattle.format.proofs.Backed.{Atom-form, is-82, is-100, is-115, is-118, is-119, atom-form, Agrees}

@@ -10,3 +10,4 @@ pub mod Says
 pub mod Layouts
 pub mod Alike
 pub mod Again
+pub mod Hashes

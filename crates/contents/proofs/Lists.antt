@@ -57,11 +57,11 @@ differ-cons x xs y ys e = rw (ne-eqb x y e)
 
 -- ---- characters under 256 in UTF-8
 
-encode-low : (c : ℕ) → c < 128 → encode c ≡ c ∷ []
+pub encode-low : (c : ℕ) → c < 128 → encode c ≡ c ∷ []
 unfolding encode
 encode-low c h = rw (lt-ltb c 0x80 h)
 
-encode-high : (c : ℕ) → 128 ≤ c → c < 256 → encode c ≡ (192 + c / 64) ∷ (128 + c % 64) ∷ []
+pub encode-high : (c : ℕ) → 128 ≤ c → c < 256 → encode c ≡ (192 + c / 64) ∷ (128 + c % 64) ∷ []
 unfolding encode
 encode-high c h k = rw (le-ltb c 0x80 h, lt-ltb c 0x800 (omega arith))
 

@@ -1,5 +1,5 @@
 -- What the steps of reading find at an offset of the message, if they find anything. Assumes nothing.
-use mathlib.Core.Path.{_≡_, refl, sym, ap, subst}
+use mathlib.Core.Path.{_≡_, refl, sym, _∙_, ap, subst}
 use mathlib.Core.Bool.{Bool, true, false}
 use mathlib.Core.List.{List, [], _∷_}
 use mathlib.Core.Option.{Option, some}
@@ -8,13 +8,16 @@ use native.Mathlib.Omega.{arith}
 use lib.Dec.{eqb}
 use lib.ListN.{length, getD, take, drop}
 use borrow.Author.Tests.{eqb-true}
-use Rattle.format.specs.Answer.{Position, bytes, number}
+use Rattle.format.specs.Answer.{Position, at-offset, bytes, number}
+use Rattle.format.specs.Term.{Label}
 use Rattle.format.specs.Head.{Atoms, Wanted, Form, form-in, forms, fields, Head, head, words}
+use Rattle.format.specs.Reading.{Place, tag-at, character-at}
+use Rattle.format.specs.Rows.{offset-of}
 use Rattle.format.proofs.Steps.{spot}
-use Rattle.format.proofs.Bridge.{at-offset, byte-at, byte-end, bytes-at, bytes-end, number-at, number-end}
+use Rattle.format.proofs.Bridge.{byte-at, byte-end, bytes-at, bytes-end, number-at, number-end}
 use Rattle.format.proofs.Holds.{Holds, bind, next, done-holds, refused-holds}
 use Rattle.format.proofs.Opening.{by-less}
-use Rattle.format.proofs.Backed.{Allowed, form-found}
+use Rattle.format.proofs.Backed.{Allowed, form-found, Head-at, Label-at}
 use Rattle.contents.specs.Found.{value}
 use Rattle.contents.specs.Meaning.{words-at}
 
@@ -75,3 +78,21 @@ module _ (m : List ℕ) where
         (next (λ f t. (t ≡ at-offset m (p + 1) r) × (form-in forms (getD m p 0) ≡ some f) × Allowed w (getD m p 0)) (form-found p w (getD m p 0) (at-offset m (p + 1) r)) λ f t e.
         subst (λ (t : Position). Holds (fields atoms p f t) Q) (sym (e .0)) (k less f (e .1) (e .2))))
         (λ over. rw (byte-end m p p r over) (refused-holds 2 p))
+
+-- a tag is a byte of the message
+module _ (m : List ℕ) (cap : ℕ) (atoms : Atoms) where
+  head-inside : (p : ℕ) (h : Head) → Head-at m cap atoms p h → p < length m
+  head-inside p h a =
+      let s : Position = a .start in
+      let r : ℕ = s .rows in
+      let i : s .at ≤ length m = a .in-step .inside in
+      let k : s .at ≡ p = a .is-at in
+      let inside : p ≤ length m = omega arith in
+      let here : s ≡ at-offset m p r = position-is m s (a .in-step .bytes-are) ∙ ap (λ (n : ℕ). at-offset m n r) k in
+      let told : Holds (head atoms (a .wanted) (at-offset m p r)) (λ _ _. p < length m) = head-here m atoms (a .wanted) p r inside (λ less f k _. record { known = λ _ _ _. less }) in
+      told .known h (a .stop) (ap (head atoms (a .wanted)) (sym here) ∙ a .reads)
+
+  pub label-inside : (place : Place) (x : Label) → Label-at m cap atoms place x → offset-of place < length m
+  unfolding offset-of
+  label-inside (tag-at p) x h = head-inside p (h .0) (h .1)
+  label-inside (character-at p) x h = h .0

@@ -46,10 +46,3 @@ leb-moved at n l h = go (leb n (l - at)) refl
     go : (t : Bool) → leb n (l - at) ≡ t → leb n (l - at) ≡ leb (at + n) l
     go true e = let k : n ≤ l - at = leb-true n (l - at) e in e ∙ sym (le-leb (at + n) l (omega arith))
     go false e = let k : l - at < n = leb-false n (l - at) e in e ∙ sym (lt-leb (at + n) l (omega arith))
-
--- a number that is not k
-pub past : (n k : ℕ) → (n ≡ k → ⊥) → k ≤ n → k + 1 ≤ n
-past n k h l = omega arith
-
-pub eight-less : (n : ℕ) → 8 ≤ n → 8 - n ≡ 0
-eight-less n h = omega arith

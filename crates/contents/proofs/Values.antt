@@ -7,13 +7,12 @@ use native.Mathlib.Nat.{pow-succ', one-le-pow, mul-left-comm, mul-le-mul-right}
 use native.Mathlib.Omega.{arith}
 use lib.Arith.{digits-div, digits-mod}
 use lib.Dec.{eqb, lit<}
-use lib.ListN.{length, getD, take, drop, length-drop}
-use lib.Seq.{take-suc, getD-drop}
+use lib.ListN.{length, getD, take, drop}
 use borrow.Author.Tests.{eqb-true, eqb-false}
 use Rattle.format.specs.Numbers.{big-endian, little-endian}
 use Rattle.format.proofs.Text.{Under}
 use Rattle.format.proofs.Holds.{big-under}
-use Rattle.octets.proofs.Parts.{length-part}
+use Rattle.octets.proofs.Parts.{length-part, part-last}
 use Rattle.contents.specs.Found.{choose, value, stripped}
 
 -- ---- bytes under 256
@@ -80,15 +79,10 @@ little-snoc (x ∷ ds) d =
     rw (little-snoc ds d, p, q) (omega arith)
 
 module _ (m : List ℕ) (start : ℕ) where
-  pub top-digit : (n : ℕ) → start + suc n ≤ length m → take (suc n) (drop start m) ≡ take n (drop start m) ++ (getD m (start + n) 0 ∷ [])
-  top-digit n h =
-      take-suc (drop start m) n 0 (omega (arith, length-drop start m))
-      ∙ ap (λ (x : ℕ). take n (drop start m) ++ (x ∷ [])) (getD-drop start m n 0)
-
   little-more : (n : ℕ) → start + suc n ≤ length m
       → little-endian (take (suc n) (drop start m)) ≡ little-endian (take n (drop start m)) + getD m (start + n) 0 * 256 ^ n
   little-more n h =
-      ap little-endian (top-digit n h)
+      ap little-endian (part-last 0 m start n (omega arith))
       ∙ little-snoc (take n (drop start m)) (getD m (start + n) 0)
       ∙ ap (λ (x : ℕ). little-endian (take n (drop start m)) + getD m (start + n) 0 * 256 ^ x) (length-part m start n (omega arith))
 

@@ -1,3 +1,4 @@
 pub mod Found
 pub mod Meaning
 pub mod Same
+pub mod Hash

@@ -3,19 +3,15 @@ use mathlib.Core.Bool.{Bool}
 use mathlib.Core.List.{List, [], _∷_}
 use Prim.Native.Nat.{ℕ, zero, suc, _+_}
 use lib.Dec.{eqb}
-use lib.ListN.{take, drop}
 use Rattle.format.specs.Numbers.{little-endian, with-sign}
 use Rattle.format.specs.Text.{Checked, valid, invalid-at, utf-8, check}
 use Rattle.format.specs.Term.{Label, integer, float, atom, tuple, list, improper-list, binary, bitstring, map, pid, port, reference, export}
 use Rattle.format.specs.Head.{clear-low}
 use Rattle.format.specs.AtomList.{AtomList}
+pub use Rattle.octets.specs.Parts.{stretch}
 use Rattle.contents.specs.Found.{choose, value}
 use Rattle.contents.specs.declared.Content.{Content}
 use Rattle.contents.specs.declared.Content.the-variants.{Nothing, Whole, Big, Float, Text, Bytes, Bits, Pid, Port, Reference}
-
--- the n bytes from `start` on
-abbrev pub stretch : List ℕ → ℕ → ℕ → List ℕ
-stretch m start n = take n (drop start m)
 
 abbrev pub sign : Bool → ℕ
 sign negative = choose negative 1 0

@@ -2,12 +2,13 @@
 use mathlib.Core.Path.{_≡_}
 use mathlib.Core.Bool.{Bool, true, false, not}
 use mathlib.Core.List.{List, [], _∷_, _++_}
-use Prim.Native.Nat.{ℕ, _+_, _*_, _-_, _/_, _%_, _^_, _≤_}
+use Prim.Native.Nat.{ℕ, _+_, _*_, _-_, _/_, _≤_}
 use lib.Dec.{eqb, leb, ltb}
 use lib.ListN.{length, getD, drop}
 use Rattle.format.specs.Text.{encode, encodes}
+use Rattle.octets.specs.Parts.{stretch}
+pub use Rattle.octets.specs.Parts.{source, high}
 use Rattle.contents.specs.Found.{choose}
-use Rattle.contents.specs.Meaning.{stretch}
 use Rattle.contents.specs.declared.Flat.{Flat}
 use Rattle.contents.specs.declared.Content.{Content}
 use Rattle.contents.specs.declared.Content.the-variants.{Nothing, Whole, Big, Float, Text, Bytes, Bits, Pid, Port, Reference}
@@ -21,10 +22,6 @@ same-list [] [] = true
 same-list [] (y ∷ ys) = false
 same-list (x ∷ xs) [] = false
 same-list (x ∷ xs) (y ∷ ys) = choose (eqb x y) (same-list xs ys) false
-
--- a byte, all but its first `bits` bits zero
-abbrev pub high : ℕ → ℕ → ℕ
-high x bits = x - x % 2 ^ (8 - bits)
 
 -- the n bytes of a from i on are those of b from j on
 unfoldable pub same-part : List ℕ → ℕ → List ℕ → ℕ → ℕ → Bool
@@ -106,9 +103,6 @@ same-numbers a b =
     false
 
 -- the texts of two atoms, in the message or in the list's places
-abbrev pub source : List ℕ → List ℕ → Bool → List ℕ
-source m places listed = choose listed places m
-
 unfoldable pub same-texts : List ℕ → List ℕ → Flat → Flat → Bool
 same-texts x y a b = same-text x (a .start) (a .length) (a .latin1) y (b .start) (b .length) (b .latin1)
 

@@ -1,14 +1,15 @@
 // The own fields of a row's term, found again in the message and the atom list. The message was read before: only bounds are tested.
 ghost use mathlib.Core.Path.{_≡_};
 ghost use mathlib.Core.Bool.{true, false};
-ghost use mathlib.Core.List.{_++_};
-ghost use Prim.Native.Nat.{ℕ, _+_, _*_, _-_, _^_, _≤_, _<_};
+ghost use mathlib.Core.List.{[], _∷_, _++_};
+ghost use Prim.Native.Nat.{ℕ, _+_, _*_, _-_, _≤_, _<_};
 ghost use lib.Dec.{leb};
 ghost use lib.ListN.{length, getD, take, drop};
 ghost use Rattle.format.specs.Numbers.{little-endian};
-ghost use Rattle.format.specs.Text.{encode, encodes};
+ghost use Rattle.format.specs.Text.{encodes};
 ghost use Rattle.contents.specs.Found.{Width, value, stripped, byte-found, signed-whole, signed-found, whole-of, stripped-found, big-found, integer-found, float-found, text-width, text-found, place-found, listed-found, atom-found, text-end, atom-end, bytes-found, bits-of, bits-found, binary-found, pid-found, port-found, words-found, word-found, counted-found, pids-found, ports-found, references-found, content-of};
-ghost use Rattle.contents.specs.Same.{same-bool, same-list, high, same-part, same-stretch, same-spelling, same-text, same-texts, same-last, same-bits, same-words, Spelling, numbers-of, stretch-of, text-of, flat-of, same-numbers, same-atoms, same-stretches, same-flat, same-contents};
+ghost use Rattle.contents.specs.Same.{same-bool, same-list, same-part, same-stretch, same-spelling, same-text, same-texts, same-last, same-bits, same-words, Spelling, numbers-of, stretch-of, text-of, flat-of, same-numbers, same-atoms, same-stretches, same-flat, same-contents};
+ghost use Rattle.contents.specs.Hash.{mix, mix-all, as-utf8, hash-part, hashed, hash-stretch, hash-flat, hash-contents};
 
 // A term's own fields.
 pub enum Content {
@@ -272,7 +273,8 @@ fn length_at(lengths: &[u16], i: usize) -> usize
     wide16(lengths[i])
 }
 
-fn wide16(x: u16) -> usize
+// A number of 16 bits as one of a machine word.
+pub fn wide16(x: u16) -> usize
     ensures { λ r. ⌜ r ≡ x ⌝ }
 {
     x as usize
@@ -776,31 +778,6 @@ fn same_text(
     same_stretch(a, i, n, b, j, k)
 }
 
-// 2 to the number of bits of a byte that do not count.
-fn unit(bits: usize) -> usize
-    ensures { λ r. ⌜ (r ≡ 2 ^ (8 - bits)) × (0 < r) ⌝ }
-{
-    match bits {
-        0 => 256,
-        1 => 128,
-        2 => 64,
-        3 => 32,
-        4 => 16,
-        5 => 8,
-        6 => 4,
-        7 => 2,
-        _ => 1,
-    }
-}
-
-// A byte with the bits zero that do not count.
-fn high_bits(x: u8, bits: usize) -> usize
-    ensures { λ r. ⌜ r ≡ high x bits ⌝ }
-{
-    let n = octets::wide(x);
-    n - n % unit(bits)
-}
-
 // Whether n bytes from i and from j on are the same, and then the bits that count of one byte more.
 fn same_last(msg: &[u8], bits: usize, i: usize, j: usize, n: usize) -> bool
     requires { ⌜ (i + n < length (now msg)) × (j + n < length (now msg)) ⌝ }
@@ -809,7 +786,7 @@ fn same_last(msg: &[u8], bits: usize, i: usize, j: usize, n: usize) -> bool
     if !same_part(msg, i, msg, j, n) {
         return false;
     }
-    high_bits(msg[i + n], bits) == high_bits(msg[j + n], bits)
+    octets::high_bits(msg[i + n], bits) == octets::high_bits(msg[j + n], bits)
 }
 
 fn same_bits(msg: &[u8], bits: usize, i: usize, n: usize, j: usize, k: usize) -> bool
@@ -918,4 +895,107 @@ pub fn same_content(msg: &[u8], places: &[u8], a: Content, b: Content) -> bool
     ensures { λ r. ⌜ r ≡ same-contents (now (msg .entry)) (now (places .entry)) a b ⌝ }
 {
     same_flat(msg, places, flatten(a), flatten(b))
+}
+
+// A hash after one number more.
+pub fn mix(h: u64, x: u64) -> u64
+    requires { ⌜ h < 65521 ⌝ }
+    ensures { λ r. ⌜ (r ≡ mix h x) × (r < 65521) ⌝ }
+{
+    (h * 257 + x % 65521) % 65521
+}
+
+// A hash after the byte c, or after the Latin-1 character c in UTF-8.
+fn mix_byte(latin1: bool, h: u64, c: usize) -> u64
+    requires { ⌜ (h < 65521) × (c < 256) ⌝ }
+    ensures { λ r. ⌜ (r ≡ mix-all h (as-utf8 latin1 (c ∷ []))) × (r < 65521) ⌝ }
+{
+    if !latin1 {
+        return mix(h, c as u64);
+    }
+    if c < 128 {
+        return mix(h, c as u64);
+    }
+    let lead = mix(h, (192 + c / 64) as u64);
+    mix(lead, (128 + c % 64) as u64)
+}
+
+// A hash after the n bytes of s from `at` on.
+fn mix_bytes(s: &[u8], at: usize, n: usize, latin1: bool, h: u64) -> u64
+    requires { ⌜ (at + n ≤ length (now s)) × (h < 65521) ⌝ }
+    ensures { λ r. ⌜ (r ≡ mix-all h (as-utf8 latin1 (take n (drop at (now (s .entry)))))) × (r < 65521) ⌝ }
+{
+    let mut sum = h;
+    let mut i = 0usize;
+    while i < n {
+        sum = mix_byte(latin1, sum, octets::wide(s[at + i]));
+        i += 1;
+    }
+    sum
+}
+
+fn hash_part(s: &[u8], at: usize, n: usize, latin1: bool, h: u64) -> u64
+    requires { ⌜ h < 65521 ⌝ }
+    ensures { λ r. ⌜ (r ≡ hash-part (now (s .entry)) at n latin1 h) × (r < 65521) ⌝ }
+{
+    if !inside(s, at, n) {
+        return h;
+    }
+    mix_bytes(s, at, n, latin1, h)
+}
+
+// How many bytes of a stretch that is no text count in a hash.
+fn hashed(msg: &[u8], code: usize, n: usize) -> usize
+    ensures { λ r. ⌜ r ≡ hashed (now (msg .entry)) code n ⌝ }
+{
+    if code == 2 {
+        return n;
+    }
+    if code == 5 {
+        return n;
+    }
+    if code == 6 {
+        if n == 0 {
+            return 0;
+        }
+        return n - 1;
+    }
+    if code == 9 {
+        if msg.len() / 4 < n {
+            return 0;
+        }
+        return 4 * n;
+    }
+    0
+}
+
+// A hash after the bytes that a content says.
+fn hash_stretch(msg: &[u8], places: &[u8], h: u64, code: usize, f: Flat) -> u64
+    requires { ⌜ h < 65521 ⌝ }
+    ensures { λ r. ⌜ (r ≡ hash-stretch (now (msg .entry)) (now (places .entry)) h code f) × (r < 65521) ⌝ }
+{
+    if code != 4 {
+        let n = hashed(msg, code, f.length);
+        return hash_part(msg, f.start, n, false, h);
+    }
+    if f.listed {
+        return hash_part(places, f.start, f.length, f.latin1, h);
+    }
+    hash_part(msg, f.start, f.length, f.latin1, h)
+}
+
+fn hash_flat(msg: &[u8], places: &[u8], h: u64, f: Flat) -> u64
+    requires { ⌜ h < 65521 ⌝ }
+    ensures { λ r. ⌜ (r ≡ hash-flat (now (msg .entry)) (now (places .entry)) h f) × (r < 65521) ⌝ }
+{
+    let sum = mix(mix(h, f.first), f.second);
+    hash_stretch(msg, places, sum, f.code, f)
+}
+
+// A hash after what a content says: the same for contents that say the same.
+pub fn hash_content(msg: &[u8], places: &[u8], h: u64, c: Content) -> u64
+    requires { ⌜ h < 65521 ⌝ }
+    ensures { λ r. ⌜ (r ≡ hash-contents (now (msg .entry)) (now (places .entry)) h c) × (r < 65521) ⌝ }
+{
+    hash_flat(msg, places, h, flatten(c))
 }

@@ -9,8 +9,7 @@ use lib.ListN.{length, getD, take, drop, replicate, set, length-append, length-r
 use lib.Seq.{sets, sets-eq, length-sets, take-at, drop-at, take-append-seam, drop-append-add, length-take-le, take-take}
 use borrow.Author.Tests.{leb-true}
 use Rattle.format.specs.Text.{Coding, valid, invalid-at, check, encodes, utf-8}
-use Rattle.format.specs.Answer.{Answer, good, refused, Position}
-use Rattle.format.proofs.Bridge.{at-offset}
+use Rattle.format.specs.Answer.{Answer, good, refused, Position, at-offset}
 use Rattle.format.specs.Text as texts
 use Rattle.packets.specs.declared.Place.{Place}
 use Rattle.packets.specs.Memory.{Cache, cache-of, Held, nothing, no-text, text, text-if, held-as, held}
@@ -18,7 +17,8 @@ use Rattle.packets.specs.Header.{Reference}
 use Rattle.packets.specs.Calls.{zeros-to, enter}
 use Rattle.packets.proofs.Stores.{length-zeros-to}
 use Rattle.headers.specs.Code.{TextFits, Spells}
-use Rattle.headers.proofs.Texts.{getD-any, part-long}
+use Rattle.octets.proofs.Parts.{length-part}
+use Rattle.headers.proofs.Texts.{getD-any}
 use Rattle.headers.proofs.Good.{GoodNew, GoodCached, good-new, good-cached}
 use Rattle.headers.specs.declared.Spelled.the-variants as spelled
 use Rattle.entries.specs.declared.Stored.{Stored}
@@ -102,7 +102,7 @@ held-bytes places lengths p n bs h is there e =
     let f : held-as n (take 32 (drop (32 * p) places)) ≡ text bs = ap (λ (k : ℕ). held-as k (take 32 (drop (32 * p) places))) (is ∙ getD-any lengths p 0 65535 h) ∙ e in
     let k : (bs ≡ take n (take 32 (drop (32 * p) places))) × (n ≤ 32) = as-text n (take 32 (drop (32 * p) places)) bs f in
     let b : bs ≡ take n (drop (32 * p) places) = k .0 ∙ take-take n 32 (drop (32 * p) places) (k .1) in
-    (b, k .1, ap length b ∙ part-long places (32 * p) n (omega (arith, k .1)))
+    (b, k .1, ap length b ∙ length-part places (32 * p) n (omega (arith, k .1)))
 
 -- ---- one reference into a list
 

@@ -6,8 +6,7 @@ use Prim.Native.Nat.{ℕ, _≤_}
 use lib.ListN.{length}
 use lib.Seq.{sets}
 use Rattle.format.specs.Text.{Coding, valid, check, encodes}
-use Rattle.format.specs.Answer.{good, Position}
-use Rattle.format.proofs.Bridge.{at-offset}
+use Rattle.format.specs.Answer.{good, Position, at-offset}
 use Rattle.packets.specs.Memory.{Cache, Held, held}
 use Rattle.packets.specs.Header.{Reference, reference, references}
 use Rattle.packets.specs.Calls.{enter, entered, list-of}

@@ -1,10 +1,9 @@
 // What an accepted header leaves: the atom list of its references' texts, and the cache with its new entries.
 ghost use mathlib.Core.Path.{_≡_};
-ghost use mathlib.Core.List.{List};
-ghost use Prim.Native.Nat.{ℕ, _+_, _*_, _≤_, _<_};
+ghost use Prim.Native.Nat.{_+_, _*_, _≤_, _<_};
 ghost use lib.ListN.{length, take, drop, replicate};
 ghost use Rattle.packets.specs.Memory.{cache-of, held};
-ghost use Rattle.packets.specs.Answers.{coding-of};
+ghost use Rattle.format.specs.Text.{coding-of};
 ghost use Rattle.headers.specs.Code.{TextFits, GoodHeader};
 ghost use Rattle.entries.specs.Code.{Stands, StandsSome, StoresText, Lists, Enters, Listed, Entered};
 use headers::Spelled;

@@ -6,7 +6,8 @@ use Prim.Native.Nat.{ℕ}
 use lib.Dec.{eqb}
 use lib.ListN.{getD}
 use borrow.Author.Tests.{eqb-true}
-use Rattle.contents.specs.Found.{choose, byte-found, signed-whole, signed-found, whole-of, stripped-found, big-found, integer-found, float-found, text-found, place-found, listed-found, atom-found, bytes-found, bits-of, bits-found, binary-found, pids-found, ports-found, references-found, kind-found, content-of}
+use Rattle.octets.specs.Parts.{choose}
+use Rattle.contents.specs.Found.{byte-found, signed-whole, signed-found, whole-of, stripped-found, big-found, integer-found, float-found, text-found, place-found, listed-found, atom-found, bytes-found, bits-of, bits-found, binary-found, pids-found, ports-found, references-found, kind-found, content-of}
 use Rattle.contents.specs.declared.Content.{Content}
 use Rattle.contents.specs.declared.Content.the-variants.{Nothing, Whole, Big, Float, Text, Bytes, Bits}
 

@@ -17,11 +17,11 @@ use Rattle.format.specs.Term.{integer, tuple, list, improper-list, binary, bits
 use Rattle.format.specs.Canonical.{big-bytes, integer-bytes, atom-bytes, tuple-bytes, words-bytes, small}
 use Rattle.format.proofs.Numbers.{length-digits}
 use Rattle.format.proofs.Holds.{big-under}
-use Rattle.format.proofs.Text.{Under}
+use Rattle.format.proofs.Text.{Under, under-all}
 use Rattle.format.specs.Rows.{kind-in, parts-in}
+use Rattle.octets.specs.Parts.{choose, stretch, source}
 use Rattle.octets.proofs.Numbers.{bytes-one, bytes-mod}
-use Rattle.octets.proofs.Parts.{getD-part, length-part}
-use Rattle.contents.specs.Found.{choose}
+use Rattle.octets.proofs.Parts.{getD-part, length-part, part-last}
 use Rattle.contents.specs.Meaning.{sign, coded, words-at, bare, label-of}
 use Rattle.contents.specs.declared.Content.{Content}
 use Rattle.contents.specs.declared.Content.the-variants as fields
@@ -29,10 +29,10 @@ use Rattle.contents.specs.declared.Content.the-variants.{Whole, Big, Text, Byte
 use Rattle.layout.specs.declared.Body.{Body}
 use Rattle.layout.specs.declared.Body.the-variants.{Empty, Part, Latin1, Digits, Bits}
 use Rattle.layout.specs.declared.Layout.{Layout}
-use Rattle.layout.specs.Layout.{source, stretch, body-bytes, layout-bytes, Inside, Body-inside, Lays, Put, laid-of}
+use Rattle.layout.specs.Layout.{body-bytes, layout-bytes, Inside, Body-inside, Lays, Put, laid-of}
 use Rattle.layout.proofs.Digits.{digits-of}
 use Rattle.layout.proofs.Puts.{put-same}
-use Rattle.layout.proofs.Bodies.{lays, stretch-last, length-stretch, length-bits}
+use Rattle.layout.proofs.Bodies.{lays, length-stretch, length-bits}
 use Rattle.fields.specs.Shape.{tagged-bytes, list-start, list-end, before, after}
 use Rattle.fields.specs.Sound.{High, Bytes-only, Spelt, Sound-text, Sound, listed-in, content-in, before-in, after-in, Sound-word, character-code}
 
@@ -93,10 +93,6 @@ module _ (n : ℕ) where
       simp (le-ltb (n - 1) 2147483648 g) (ap (λ (k : ℕ). big-bytes 1 (digits k)) e)
 
 -- bytes of a part are bytes
-pub under-all : (s : List ℕ) → ((i : ℕ) → i < length s → getD s i 0 < 256) → Under 256 s
-under-all [] h = tt
-under-all (x ∷ s) h = (h 0 (omega arith), under-all s (λ i l. h (suc i) (omega arith)))
-
 pub under-part : (m : List ℕ) (start n : ℕ) → Bytes-only m → start + n ≤ length m → Under 256 (stretch m start n)
 under-part m start n b h =
     let k : length (stretch m start n) ≡ n = length-part m start n h in
@@ -117,9 +113,9 @@ module _ (m : List ℕ) (start n : ℕ) (h : High m start n) (b : Bytes-only m) 
       let there : start + n ≤ length m = h .there .there in
       let many : 8 < n = h .many in
       let high : 0 < getD m (start + (n - 1)) 0 = h .high in
-      let e : n - 1 + 1 ≡ n = omega arith in
+      let e : suc (n - 1) ≡ n = omega arith in
       let f : stretch m start n ≡ stretch m start (n - 1) ++ (getD m (start + (n - 1)) 0 ∷ [])
-      = ap (λ (k : ℕ). stretch m start k) (sym e) ∙ stretch-last m start (n - 1) (omega arith) in
+      = ap (λ (k : ℕ). stretch m start k) (sym e) ∙ part-last 0 m start (n - 1) (omega arith) in
       rw f (digits-of (stretch m start (n - 1)) (getD m (start + (n - 1)) 0) (under-part m start (n - 1) b (omega arith)) (b (start + (n - 1))) high)
 
   big-large : 4294967296 ≤ little-endian (stretch m start n)
@@ -144,7 +140,7 @@ module _ (m : List ℕ) (start n : ℕ) (h : High m start n) (b : Bytes-only m) 
   pub big-lays : (s : Bool) (places : List ℕ) (w tag sg : ℕ) {l : Layout} → l ≡ laid-of 1 tag w n 1 sg (Part false start n) → tag < 256 → w ≤ 8 → sg ≡ sign s
       → big-bytes (sign s) (stretch m start n) ≡ tag ∷ (in-bytes w n ++ (in-bytes 1 (sign s) ++ stretch m start n))
       → Lays m places (integer-bytes (with-sign (sign s) (little-endian (stretch m start n)))) l
-  unfolding body-bytes Body-inside source
+  unfolding body-bytes Body-inside choose
   big-lays s places w tag sg e t k g f =
       says
       (ap₂ (λ (x : List ℕ) (y : ℕ). x ++ (in-bytes w n ++ (in-bytes 1 y ++ stretch m start n))) (bytes-one tag t) g
@@ -272,7 +268,7 @@ numbers-lay v a w b x c e f g h s m places =
 
 pub words-lay : (m places : List ℕ) (creation start words n : ℕ) {l : Layout} → l ≡ laid-of 4 creation 0 0 0 0 (Part false start (4 * words))
     → Inside m start (4 * words) → Bytes-only m → Lays m places (after (reference creation (words-at m start words)) n) l
-unfolding body-bytes Body-inside source after in-bytes
+unfolding body-bytes Body-inside choose after in-bytes
 words-lay m places creation start words n e i b =
     lays 4 creation 0 0 0 0 (Part false start (4 * words)) e (omega arith) (omega arith) (omega arith) i
     (ap (λ (y : List ℕ). in-bytes 4 creation ++ y) (sym (words-stand m start words b (i .there))))
@@ -286,7 +282,7 @@ bits-lay m places bits start n e i one =
 
 pub bytes-lay : (m places : List ℕ) (start n : ℕ) {l : Layout} → Tagged 109 4 n (Part false start n) l → Inside m start n
     → Lays m places (before (binary (stretch m start n)) 0) l
-unfolding body-bytes Body-inside source before tagged-bytes
+unfolding body-bytes Body-inside choose before tagged-bytes
 bytes-lay m places start n t i =
     says (ap (λ (k : ℕ). 109 ∷ (in-bytes 4 k ++ stretch m start n)) (sym (length-stretch m start n i))) (t m places i)
 
@@ -294,34 +290,29 @@ bytes-lay m places start n t i =
 
 pub latin1-lays : (m places : List ℕ) (latin1 listed : Bool) (start n : ℕ) {l : Layout} → latin1 ≡ true
     → Lays m places (atom-bytes (body-bytes m places (Latin1 listed start n))) l
-    → Lays m places (atom-bytes (encodes (coded latin1 (stretch (source listed m places) start n)))) l
+    → Lays m places (atom-bytes (encodes (coded latin1 (stretch (source m places listed) start n)))) l
 unfolding body-bytes coded choose
 latin1-lays m places latin1 listed start n e h = rw e h
 
-pub utf8-lays : (m places : List ℕ) (latin1 listed : Bool) (start n : ℕ) {l : Layout} → latin1 ≡ false → Spelt (stretch (source listed m places) start n)
+pub utf8-lays : (m places : List ℕ) (latin1 listed : Bool) (start n : ℕ) {l : Layout} → latin1 ≡ false → Spelt (stretch (source m places listed) start n)
     → Lays m places (atom-bytes (body-bytes m places (Part listed start n))) l
-    → Lays m places (atom-bytes (encodes (coded latin1 (stretch (source listed m places) start n)))) l
+    → Lays m places (atom-bytes (encodes (coded latin1 (stretch (source m places listed) start n)))) l
 unfolding body-bytes coded choose
 utf8-lays m places latin1 listed start n e s h = rw e (says (ap atom-bytes (sym (s .spelt))) h)
 
-pub latin1-there : (m places : List ℕ) (listed : Bool) (start n : ℕ) → Inside (source listed m places) start n → Body-inside m places (Latin1 listed start n)
+pub latin1-there : (m places : List ℕ) (listed : Bool) (start n : ℕ) → Inside (source m places listed) start n → Body-inside m places (Latin1 listed start n)
 unfolding Body-inside
 latin1-there m places listed start n i = i
 
-pub part-there : (m places : List ℕ) (listed : Bool) (start n : ℕ) → Inside (source listed m places) start n → Body-inside m places (Part listed start n)
+pub part-there : (m places : List ℕ) (listed : Bool) (start n : ℕ) → Inside (source m places listed) start n → Body-inside m places (Part listed start n)
 unfolding Body-inside
 part-there m places listed start n i = i
 
-pub part-length : (m places : List ℕ) (listed : Bool) (start n : ℕ) → Inside (source listed m places) start n → n ≡ length (body-bytes m places (Part listed start n))
+pub part-length : (m places : List ℕ) (listed : Bool) (start n : ℕ) → Inside (source m places listed) start n → n ≡ length (body-bytes m places (Part listed start n))
 unfolding body-bytes
-part-length m places listed start n i = sym (length-stretch (source listed m places) start n i)
+part-length m places listed start n i = sym (length-stretch (source m places listed) start n i)
 
 -- ---- contents
-
-pub source-is : (listed : Bool) (m places : List ℕ) → source listed m places ≡ choose listed places m
-unfolding source choose
-source-is true m places = refl
-source-is false m places = refl
 
 pub signed-below : (z : Bool) (n : ℕ) → z ≡ true → 0 < n → negsuc (n - 1) ≡ with-sign (sign z) n
 unfolding with-sign choose

@@ -15,12 +15,13 @@ use Rattle.format.specs.Canonical.{integer-bytes, atom-bytes, small}
 use Rattle.format.specs.Rows.{kind-in, offset-in, parts-in}
 use Rattle.octets.proofs.Numbers.{big-one}
 use Rattle.octets.proofs.Parts.{length-part}
-use Rattle.contents.specs.Found.{choose, value, byte-found, signed-whole, signed-found, integer-found, float-found, text-width, text-found, atom-found, bytes-found, binary-found, kind-found, content-of}
+use Rattle.octets.specs.Parts.{choose}
+use Rattle.contents.specs.Found.{value, byte-found, signed-whole, signed-found, integer-found, float-found, text-width, text-found, atom-found, bytes-found, binary-found, kind-found, content-of}
 use Rattle.contents.specs.Meaning.{sign, coded, bare, label-of}
 use Rattle.contents.specs.declared.Content.{Content}
 use Rattle.contents.specs.declared.Content.the-variants.{Nothing, Whole, Float, Text, Bytes}
 use Rattle.contents.proofs.ByKind.{kind-1, kind-2, kind-3, kind-7, kind-14}
-use Rattle.layout.specs.Layout.{source, Put}
+use Rattle.layout.specs.Layout.{Put}
 use Rattle.layout.proofs.Puts.{put-none, put-same}
 use Rattle.fields.specs.Shape.{tagged-bytes, before, after}
 use Rattle.fields.specs.Sound.{Bytes-only, listed-in, label-in, before-in, after-in, Sound, Sound-word, Stands, character-code}
@@ -193,7 +194,7 @@ module _ (m places lengths : List ℕ) (at parts : ℕ) (b : Bytes-only m) where
 
   pub stands-119 : (v : ℕ) → getD m at 0 ≡ 119 → v ≡ value m 1 (at + 1) → v < 256 → at + (2 + v) ≤ length m
       → Sound m places (content-of m places lengths 3 at) → Stands m places lengths 3 at parts (2 + v)
-  unfolding label-of before after coded choose source tagged-bytes
+  unfolding label-of before after coded choose tagged-bytes
   stands-119 v e f l h s =
       let start : ℕ = at + 1 + 1 in
       let bs : List ℕ = take v (drop start m) in

@@ -9,11 +9,12 @@ use Rattle.format.specs.Text.{utf-8, check, encodes}
 use Rattle.format.specs.Term.{Label}
 use Rattle.format.specs.AtomList.{AtomList}
 use Rattle.format.specs.Rows.{kind-in, offset-in, parts-in}
+use Rattle.octets.specs.Parts.{stretch, source}
 use Rattle.contents.specs.Found.{content-of}
 use Rattle.contents.specs.Meaning.{characters-of, label-of}
 use Rattle.contents.specs.declared.Content.{Content}
 use Rattle.contents.specs.declared.Content.the-variants.{Nothing, Whole, Big, Float, Text, Bytes, Bits, Pid, Port, Reference}
-use Rattle.layout.specs.Layout.{source, stretch, Inside}
+use Rattle.layout.specs.Layout.{Inside}
 use Rattle.fields.specs.Shape.{before, after}
 
 -- a text in UTF-8 is the spelling of its characters
@@ -27,7 +28,7 @@ pub record High (m : List ℕ) (start n : ℕ) : Type 0 where
   pub high : 0 < getD m (start + (n - 1)) 0
 
 abbrev pub Sound-text : List ℕ → List ℕ → Bool → Bool → ℕ → ℕ → Type 0
-Sound-text m places latin1 listed start n = Inside (source listed m places) start n × (latin1 ≡ false → Spelt (stretch (source listed m places) start n))
+Sound-text m places latin1 listed start n = Inside (source m places listed) start n × (latin1 ≡ false → Spelt (stretch (source m places listed) start n))
 
 -- every element is a byte
 abbrev pub Bytes-only : List ℕ → Type 0

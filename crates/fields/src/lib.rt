@@ -3,7 +3,7 @@ use contents::Content;
 use layout::Body;
 use layout::Layout;
 ghost use mathlib.Core.Path.{_≡_};
-ghost use mathlib.Core.Bool.{Bool, true, false};
+ghost use mathlib.Core.Bool.{true, false};
 ghost use mathlib.Core.List.{List, []};
 ghost use Prim.Native.Nat.{ℕ, _+_, _*_, _-_, _≤_, _<_};
 ghost use lib.ListN.{length, getD};
@@ -16,7 +16,8 @@ ghost use Rattle.format.specs.Rows.{kind-in, offset-in, parts-in};
 ghost use Rattle.format.specs.Canonical.{big-bytes, integer-bytes, atom-bytes, small};
 ghost use Rattle.contents.specs.Found.{content-of};
 ghost use Rattle.contents.specs.Meaning.{sign, coded, words-at, bare, label-of};
-ghost use Rattle.layout.specs.Layout.{source, stretch, body-bytes, Inside, Body-inside, Lays, Put};
+ghost use Rattle.octets.specs.Parts.{stretch, source};
+ghost use Rattle.layout.specs.Layout.{body-bytes, Inside, Body-inside, Lays, Put};
 ghost use Rattle.fields.specs.Shape.{tagged-bytes, before, after};
 ghost use Rattle.fields.specs.Sound.{High, Bytes-only, Sound-text, Sound, listed-in, content-in, label-in, before-in, after-in, Sound-word, Stands, character-code};
 
@@ -98,7 +99,7 @@ fn text_lead(n: usize, body: Body) -> Layout
 // An atom whose text stands in the message or in the list, in Latin-1 or UTF-8.
 fn text(msg: &[u8], places: &[u8], latin1: bool, listed: bool, start: usize, n: usize) -> Layout
     requires { ⌜ Sound-text (now msg) (now places) latin1 listed start n ⌝ }
-    ensures { λ r. ⌜ Lays (now (msg .entry)) (now (places .entry)) (atom-bytes (encodes (coded latin1 (stretch (source listed (now (msg .entry)) (now (places .entry))) start n)))) r ⌝ }
+    ensures { λ r. ⌜ Lays (now (msg .entry)) (now (places .entry)) (atom-bytes (encodes (coded latin1 (stretch (source (now (msg .entry)) (now (places .entry)) listed) start n)))) r ⌝ }
 {
     if latin1 {
         let body = Body::Latin1 {

@@ -17,10 +17,11 @@ ghost use Rattle.format.specs.Answers.{read-answer, write-answer, number-answer
 ghost use Rattle.format.specs.Look.{number-in, text-in};
 ghost use Rattle.format.specs.Message.{standalone, payload, read};
 ghost use Rattle.format.specs.Rows.{table-after};
+ghost use Rattle.format.specs.Text.{coding-of};
 ghost use Rattle.format.specs.Writing.{write, output-after, scratch-after};
 ghost use Rattle.heads.specs.Code.{lent};
 ghost use Rattle.asking.specs.Code.{text-at};
-ghost use Rattle.packets.specs.Answers.{coding-of, place-answer, text-answer, drop-answer, reset-answer, taken-answer};
+ghost use Rattle.packets.specs.Answers.{place-answer, text-answer, drop-answer, reset-answer, taken-answer};
 ghost use Rattle.packets.specs.Calls.{after-packet, cache-after-reset};
 ghost use Rattle.packets.specs.Look.{place-of-reference, text-of-place};
 ghost use Rattle.packets.specs.Memory.{cache-of, list-lent, memory-of};
@@ -123,7 +124,7 @@ pub extern "C" fn ik_write_standalone(
     scratch: &mut [u64],
     output: &mut [u8],
 ) -> WriteReply
-    ensures { λ r. ⌜ r ≡ flat-written (write-answer (read standalone (lent n (now (places .entry)) (now (lengths .entry))) (length (now (scratch .entry))) (now (msg .entry))) (write standalone (lent n (now (places .entry)) (now (lengths .entry))) (length (now (scratch .entry))) (length (now (output .entry))) (now (msg .entry)))) ⌝ }
+    ensures { λ r. ⌜ r ≡ flat-written (write-answer (write standalone (lent n (now (places .entry)) (now (lengths .entry))) (length (now (scratch .entry))) (length (now (output .entry))) (now (msg .entry)))) ⌝ }
     ensures { λ _. ⌜ now (scratch .exit) ≡ scratch-after (length (now (scratch .entry))) ⌝ }
     ensures { λ _. ⌜ now (output .exit) ≡ output-after (now (output .entry)) (write standalone (lent n (now (places .entry)) (now (lengths .entry))) (length (now (scratch .entry))) (length (now (output .entry))) (now (msg .entry))) ⌝ }
 {
@@ -140,7 +141,7 @@ pub extern "C" fn ik_write_payload(
     scratch: &mut [u64],
     output: &mut [u8],
 ) -> WriteReply
-    ensures { λ r. ⌜ r ≡ flat-written (write-answer (read payload (lent n (now (places .entry)) (now (lengths .entry))) (length (now (scratch .entry))) (now (msg .entry))) (write payload (lent n (now (places .entry)) (now (lengths .entry))) (length (now (scratch .entry))) (length (now (output .entry))) (now (msg .entry)))) ⌝ }
+    ensures { λ r. ⌜ r ≡ flat-written (write-answer (write payload (lent n (now (places .entry)) (now (lengths .entry))) (length (now (scratch .entry))) (length (now (output .entry))) (now (msg .entry)))) ⌝ }
     ensures { λ _. ⌜ now (scratch .exit) ≡ scratch-after (length (now (scratch .entry))) ⌝ }
     ensures { λ _. ⌜ now (output .exit) ≡ output-after (now (output .entry)) (write payload (lent n (now (places .entry)) (now (lengths .entry))) (length (now (scratch .entry))) (length (now (output .entry))) (now (msg .entry))) ⌝ }
 {

@@ -1,6 +1,4 @@
 -- The answers of the calls, as the code has them: for each answer of document 01 the case of the enum, with the refusal's number and place.
-use mathlib.Core.List.{List}
-use Prim.Native.Nat.{ℕ}
 use lib.Ieee.{binary64, ofBits}
 use lib.ListN.{length}
 use Rattle.format.specs.declared.Refusal.{Refusal}
@@ -16,6 +14,7 @@ use Rattle.format.specs.Tree.{count, sizes}
 use Rattle.format.specs.Text.{Coding, latin-1, utf-8}
 use Rattle.format.specs.Answer.{Answer, good, refused}
 use Rattle.format.specs.Message.{Terms}
+use Rattle.format.specs.Writing.{Written}
 use Rattle.format.specs.Look.{Number, whole, float-bits, neither, Stretch}
 
 -- reading: the number of terms and of rows
@@ -23,11 +22,10 @@ unfoldable pub read-answer : Answer Terms → ReadAnswer
 read-answer (good ts) = reads.Terms (count ts) (sizes ts)
 read-answer (refused n p) = reads.Refused (record { number = n; place = p })
 
--- writing: the number of terms and of bytes; `read` is the reader's answer, from which the terms are counted
-unfoldable pub write-answer : Answer Terms → Answer (List ℕ) → WriteAnswer
-write-answer read (refused n p) = writes.Refused (record { number = n; place = p })
-write-answer (good ts) (good bs) = writes.Written (count ts) (length bs)
-write-answer (refused n p) (good bs) = writes.Refused (record { number = n; place = p })
+-- writing: the number of terms and of bytes
+unfoldable pub write-answer : Answer Written → WriteAnswer
+write-answer (good w) = writes.Written (w .terms) (length (w .bytes))
+write-answer (refused n p) = writes.Refused (record { number = n; place = p })
 
 -- a row's number: a whole number, the float that has exactly those 64 bits, or neither
 unfoldable pub number-case : Number → NumberAnswer

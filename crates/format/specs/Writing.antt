@@ -4,25 +4,31 @@ use mathlib.Core.List.{List, _++_}
 use Prim.Native.Nat.{ℕ}
 use lib.Dec.{leb}
 use lib.ListN.{length, drop, replicate}
+use Rattle.format.specs.Tree.{count}
 use Rattle.format.specs.Answer.{Answer, good, refused}
 use Rattle.format.specs.AtomList.{AtomList}
 use Rattle.format.specs.Message.{Framing, Terms, meanings, read}
 use Rattle.format.specs.Canonical.{standalones}
 
--- The writer's output, of a reading's answer. Refusal 11, last: output shorter than the canonical form
-unfoldable pub written : ℕ → Answer Terms → Answer (List ℕ)
+-- what is written: the number of terms, and the canonical standalone form of each, one after the other
+pub record Written : Type 0 where
+  pub terms : ℕ
+  pub bytes : List ℕ
+
+-- The writer's answer, of a reading's. Refusal 11, last: output shorter than the canonical form
+unfoldable pub written : ℕ → Answer Terms → Answer Written
 written room (refused n p) = refused n p
 written room (good ts) =
     let bs : List ℕ = standalones (meanings ts) in
-    elim (leb (length bs) room) [ true ↦ good bs | false ↦ refused 11 0 ]
+    elim (leb (length bs) room) [ true ↦ good (record { terms = count ts; bytes = bs }) | false ↦ refused 11 0 ]
 
 -- with this atom list, so many scratch rows and so many bytes of output lent
-unfoldable pub write : Framing → AtomList → ℕ → ℕ → List ℕ → Answer (List ℕ)
+unfoldable pub write : Framing → AtomList → ℕ → ℕ → List ℕ → Answer Written
 write framing list scratch room message = written room (read framing list scratch message)
 
 -- the lent output after it: bytes past those written stay, and all stay where it is refused
-unfoldable pub output-after : List ℕ → Answer (List ℕ) → List ℕ
-output-after before (good bs) = bs ++ drop (length bs) before
+unfoldable pub output-after : List ℕ → Answer Written → List ℕ
+output-after before (good w) = w .bytes ++ drop (length (w .bytes)) before
 output-after before (refused n p) = before
 
 -- the scratch table always ends all zero

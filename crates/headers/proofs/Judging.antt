@@ -6,29 +6,17 @@ use Prim.Native.Nat.{ℕ, _≤_, _<_}
 use native.Mathlib.Omega.{arith}
 use lib.ListN.{length, getD, set}
 use borrow.Author.Tests.{le-leb, lt-leb}
-use Rattle.format.specs.Text.{Coding, valid, invalid-at, check, encodes}
+use Rattle.format.specs.Text.{Coding, valid, check, encodes}
 use Rattle.format.specs.Answer.{refused, Position}
 use Rattle.format.specs.Head.{text-or}
-use Rattle.format.specs.Text as texts
+use Rattle.text.specs.Shown.{is-valid}
+use Rattle.text.proofs.Valid.{found, failed}
 use Rattle.packets.specs.Memory.{Held, nothing, no-text, text}
 use Rattle.packets.specs.Header.{Reference, held-or, new-reference, cached-reference}
-use Rattle.headers.specs.Code.{is-valid, held-case, Marked, Went, Judges, JudgesNew, JudgesCached}
+use Rattle.headers.specs.Code.{held-case, Marked, Went, Judges, JudgesNew, JudgesCached}
 use Rattle.headers.proofs.Marks.{not-named, is-named, is-filled, not-filled, marked-new, marked-cached}
 use Rattle.headers.specs.declared.Held.the-variants as holds
 use Rattle.headers.specs.declared.Judged.the-variants as judged
-
--- the characters of what is a text
-pub record Found (agreed : Coding) (bs : List ℕ) : Type 0 where
-  pub characters : List ℕ
-  pub is : check agreed bs ≡ valid characters
-
-pub valid-found : (agreed : Coding) (bs : List ℕ) → is-valid (check agreed bs) ≡ true → Found agreed bs
-unfolding is-valid
-valid-found agreed bs e = go (check agreed bs) refl e
-  where
-    go : (o : texts.Checked) → check agreed bs ≡ o → is-valid o ≡ true → Found agreed bs
-    go (valid cs) g f = record { characters = cs; is = g }
-    go (invalid-at k) g f = let no-way : _≡_ {A = ℕ} 0 1 = cc in absurd (omega arith)
 
 module _ (agreed : Coding) (p : ℕ) (bs marks : List ℕ) (small : p < 2048) where
   pub new-again : (getD marks p 0 ≡ 0 → ⊥) → JudgesNew agreed p bs marks marks (judged.Refused 22)
@@ -47,27 +35,23 @@ module _ (agreed : Coding) (p : ℕ) (bs marks : List ℕ) (small : p < 2048) wh
 
   module _ (z : getD marks p 0 ≡ 0) (b : Bool) (e : b ≡ is-valid (check agreed bs)) where
     pub new-bad : b ≡ false → JudgesNew agreed p bs marks marks (judged.Refused 5)
-    unfolding JudgesNew Judges new-reference text-or is-valid
-    new-bad f holding t earlier i m = go (check agreed bs) refl (sym e ∙ f)
-      where
-        go : (o : texts.Checked) → check agreed bs ≡ o → is-valid o ≡ false → new-reference agreed holding earlier i p bs t ≡ refused 5 i
-        go (valid cs) g f = let no-way : _≡_ {A = ℕ} 0 1 = cc in absurd (omega arith)
-        go (invalid-at k) g f = rw (not-named marks earlier p m small z, g)
+    unfolding JudgesNew Judges new-reference text-or
+    new-bad f holding t earlier i m = let k = failed _ (sym e ∙ f) in rw (not-named marks earlier p m small z, k .1)
 
     module _ (f : b ≡ true) (n : ℕ) (long : (cs : List ℕ) → check agreed bs ≡ valid cs → n ≡ length (encodes cs)) where
       pub new-long : 32 < n → JudgesNew agreed p bs marks marks (judged.Refused 23)
       unfolding JudgesNew Judges new-reference text-or
       new-long l holding t earlier i m =
-          let c : Found agreed bs = valid-found agreed bs (sym e ∙ f) in
-          let k : n ≡ length (encodes (c .characters)) = long (c .characters) (c .is) in
-          rw (not-named marks earlier p m small z, c .is, lt-leb (length (encodes (c .characters))) 32 (omega arith))
+          let c = found _ (sym e ∙ f) in
+          let k : n ≡ length (encodes (c .0)) = long (c .0) (c .1) in
+          rw (not-named marks earlier p m small z, c .1, lt-leb (length (encodes (c .0))) 32 (omega arith))
 
       pub new-good : n ≤ 32 → length marks ≡ 2048 → JudgesNew agreed p bs marks (set marks p 2) judged.Good
       unfolding JudgesNew Judges
       new-good l size holding t earlier i m =
-          let c : Found agreed bs = valid-found agreed bs (sym e ∙ f) in
-          let k : n ≡ length (encodes (c .characters)) = long (c .characters) (c .is) in
-          new-is holding t earlier i (c .characters) (c .is) m z (omega arith) size
+          let c = found _ (sym e ∙ f) in
+          let k : n ≡ length (encodes (c .0)) = long (c .0) (c .1) in
+          new-is holding t earlier i (c .0) (c .1) m z (omega arith) size
 
 module _ (holding : ℕ → Held) (p : ℕ) (marks : List ℕ) (small : p < 2048) where
   pub cached-again : getD marks p 0 ≡ 2 → JudgesCached holding p marks marks (judged.Refused 22)

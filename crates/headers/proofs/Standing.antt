@@ -8,8 +8,8 @@ use lib.Seq.{getD-take, getD-drop}
 use borrow.Author.Tests.{eq-eqb, ne-eqb, le-leb, lt-leb}
 use Rattle.format.specs.Numbers.{big-endian}
 use Rattle.format.specs.Text.{Coding}
-use Rattle.format.specs.Answer.{Answer, good, refused, Position, after}
-use Rattle.format.proofs.Bridge.{at-offset, byte-at, byte-end, bytes-at, bytes-end, number-at, number-end}
+use Rattle.format.specs.Answer.{Answer, good, refused, Position, at-offset, after}
+use Rattle.format.proofs.Bridge.{byte-at, byte-end, bytes-at, bytes-end, number-at, number-end}
 use Rattle.packets.specs.Memory.{Held}
 use Rattle.packets.specs.Header.{Reference, flag-bytes, half, is-new, place-at, length-width, text-field, new-reference, reference, references, header}
 use Rattle.headers.specs.Code.{flags-of, Opens, Spells}

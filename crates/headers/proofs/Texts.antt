@@ -4,64 +4,37 @@ use mathlib.Core.Bool.{Bool, true, false}
 use mathlib.Core.List.{List, [], _∷_}
 use Prim.Native.Nat.{ℕ, zero, suc, _+_, _*_, _-_, _≤_, _<_}
 use native.Mathlib.Omega.{arith}
-use lib.ListN.{length, getD, take, drop, length-drop}
-use lib.Seq.{length-take-le, take-take}
+use lib.ListN.{length, getD, take, drop}
+use lib.Seq.{take-take}
 use borrow.Author.Tests.{eq-eqb, ne-eqb, le-leb, lt-leb}
-use Rattle.format.specs.Text.{Coding, latin-1, utf-8, valid, invalid-at, check, encodes}
+use Rattle.format.specs.Text.{Coding, utf-8, coding-of, valid, check, encodes}
 use Rattle.format.proofs.Text.{utf8-spelt, latin1-is}
-use Rattle.format.specs.Text as texts
-use Rattle.text.specs.declared.Checked.{Checked}
-use Rattle.text.specs.Shown.{shown}
+use Rattle.octets.proofs.Parts.{length-part}
+use Rattle.text.specs.Shown.{is-valid}
+use Rattle.text.proofs.Valid.{coding-utf8, coding-latin1, found, failed}
 use Rattle.packets.specs.Memory.{Cache, cache-of, text-if, held-as, held}
-use Rattle.packets.specs.Answers.{coding-of}
 use Rattle.headers.specs.declared.Held.{Held}
-use Rattle.headers.specs.Code.{found-valid, is-valid, held-case, holding-when, TextFits}
+use Rattle.headers.specs.Code.{held-case, holding-when, TextFits}
 use Rattle.headers.specs.declared.Held.the-variants as holds
 
 -- a part of a slice, by its length
 pub part : (s : List ℕ) (from size : ℕ) → take (from + size - from) (drop from s) ≡ take size (drop from s)
 part s from size = let e : from + size - from ≡ size = omega arith in ap (λ (n : ℕ). take n (drop from s)) e
 
-pub part-long : (s : List ℕ) (from size : ℕ) → from + size ≤ length s → length (take size (drop from s)) ≡ size
-part-long s from size h = length-take-le size (drop from s) (rw (length-drop from s) (omega arith))
-
-found-same : (o : texts.Checked) → found-valid (shown o) ≡ is-valid o
-unfolding found-valid shown is-valid
-found-same (valid cs) = refl
-found-same (invalid-at k) = refl
-
-coding-utf8 : (utf8 : Bool) → utf8 ≡ true → coding-of utf8 ≡ utf-8
-unfolding coding-of
-coding-utf8 true e = refl
-coding-utf8 false e = let no-way : _≡_ {A = ℕ} 0 1 = cc in absurd (omega arith)
-
-coding-latin : (utf8 : Bool) → utf8 ≡ false → coding-of utf8 ≡ latin-1
-unfolding coding-of
-coding-latin false e = refl
-coding-latin true e = let no-way : _≡_ {A = ℕ} 0 1 = cc in absurd (omega arith)
-
-module _ (coding : Coding) (s : List ℕ) (from size : ℕ) (o : Checked) (b : Bool) where
-  found : o ≡ shown (check coding (take (from + size - from) (drop from s))) → b ≡ found-valid o → b ≡ is-valid (check coding (take size (drop from s)))
-  found e f = f ∙ ap found-valid e ∙ found-same _ ∙ ap (λ (bs : List ℕ). is-valid (check coding bs)) (part s from size)
+-- whether such a part is a text
+pub text-part : (coding : Coding) (s : List ℕ) (from size : ℕ) (b : Bool) → b ≡ is-valid (check coding (take (from + size - from) (drop from s))) → b ≡ is-valid (check coding (take size (drop from s)))
+text-part coding s from size b e = e ∙ ap (λ (bs : List ℕ). is-valid (check coding bs)) (part s from size)
 
 module _ (utf8 : Bool) (s : List ℕ) (from size : ℕ) where
-  pub text-utf8 : (o : Checked) (b : Bool) → utf8 ≡ true → o ≡ shown (check utf-8 (take (from + size - from) (drop from s))) → b ≡ found-valid o
-      → b ≡ is-valid (check (coding-of utf8) (take size (drop from s)))
-  text-utf8 o b u e f = rw (coding-utf8 utf8 u) (found utf-8 s from size o b e f)
-
-  pub text-latin : (o : Checked) (b : Bool) → utf8 ≡ false → o ≡ shown (check latin-1 (take (from + size - from) (drop from s))) → b ≡ found-valid o
-      → b ≡ is-valid (check (coding-of utf8) (take size (drop from s)))
-  text-latin o b u e f = rw (coding-latin utf8 u) (found latin-1 s from size o b e f)
-
   -- where UTF-8 was agreed, the bytes stored are the bytes that came; in Latin-1 the bytes are the characters
   pub same-bytes : (cs : List ℕ) → utf8 ≡ true → check (coding-of utf8) (take size (drop from s)) ≡ valid cs → take size (drop from s) ≡ encodes cs
   same-bytes cs u e = sym (utf8-spelt _ cs (rw (coding-utf8 utf8 u) at e))
 
   pub same-characters : (cs : List ℕ) → utf8 ≡ false → check (coding-of utf8) (take size (drop from s)) ≡ valid cs → take size (drop from s) ≡ cs
-  same-characters cs u e = latin1-is _ cs (rw (coding-latin utf8 u) at e) .0
+  same-characters cs u e = latin1-is _ cs (rw (coding-latin1 utf8 u) at e) .0
 
   pub stored-utf8 : utf8 ≡ true → from + size ≤ length s → (cs : List ℕ) → check (coding-of utf8) (take size (drop from s)) ≡ valid cs → size ≡ length (encodes cs)
-  stored-utf8 u h cs e = sym (part-long s from size h) ∙ ap length (same-bytes cs u e)
+  stored-utf8 u h cs e = sym (length-part s from size h) ∙ ap length (same-bytes cs u e)
 
   pub stored-latin : (r : ℕ) → utf8 ≡ false → r ≡ length (encodes (take size (drop from s))) → (cs : List ℕ) → check (coding-of utf8) (take size (drop from s)) ≡ valid cs
       → r ≡ length (encodes cs)
@@ -95,29 +68,24 @@ module _ (places lengths : List ℕ) (p n : ℕ) (h : p < length lengths) (is : 
   unfolding held-as held-case
   held-long e l = rw (held-is, held-as, ne-eqb n 65535 e, lt-leb n 32 l)
 
-  module _ (e : n ≡ 65535 → ⊥) (l : n ≤ 32) (o : Checked) (b : Bool) (is-o : o ≡ shown (check utf-8 (take (32 * p + n - 32 * p) (drop (32 * p) places)))) (is-b : b ≡ found-valid o) where
+  module _ (e : n ≡ 65535 → ⊥) (l : n ≤ 32) (b : Bool) (is-b : b ≡ is-valid (check (coding-of true) (take (32 * p + n - 32 * p) (drop (32 * p) places)))) where
     held-text : held (cache-of places lengths) p ≡ text-if (take n (drop (32 * p) places)) (check utf-8 (take n (drop (32 * p) places)))
     unfolding held-as
     held-text = rw (held-is, held-as, ne-eqb n 65535 e, le-leb n 32 l) (ap (λ (bs : List ℕ). text-if bs (check utf-8 bs)) (take-take n 32 (drop (32 * p) places) l))
 
     valid-is : b ≡ is-valid (check utf-8 (take n (drop (32 * p) places)))
-    valid-is = found utf-8 places (32 * p) n o b is-o is-b
+    unfolding coding-of
+    valid-is = text-part utf-8 places (32 * p) n b is-b
 
     pub held-good : b ≡ true → 32 * p + n ≤ length places → holds.Text n ≡ held-case (held (cache-of places lengths) p)
-    unfolding held-case text-if is-valid
-    held-good t there = rw held-text (go (check utf-8 (take n (drop (32 * p) places))) (sym valid-is ∙ t))
-      where
-        go : (o : texts.Checked) → is-valid o ≡ true → holds.Text n ≡ held-case (text-if (take n (drop (32 * p) places)) o)
-        go (valid cs) f = ap holds.Text (sym (part-long places (32 * p) n there))
-        go (invalid-at k) f = let no-way : _≡_ {A = ℕ} 0 1 = cc in absurd (omega arith)
+    unfolding held-case text-if
+    held-good t there =
+        let f = found _ (sym valid-is ∙ t) in
+        rw (held-text, f .1) (ap holds.Text (sym (length-part places (32 * p) n there)))
 
     pub held-bad : b ≡ false → holds.NoText ≡ held-case (held (cache-of places lengths) p)
-    unfolding held-case text-if is-valid
-    held-bad t = rw held-text (go (check utf-8 (take n (drop (32 * p) places))) (sym valid-is ∙ t))
-      where
-        go : (o : texts.Checked) → is-valid o ≡ false → holds.NoText ≡ held-case (text-if (take n (drop (32 * p) places)) o)
-        go (valid cs) f = let no-way : _≡_ {A = ℕ} 0 1 = cc in absurd (omega arith)
-        go (invalid-at k) f = refl
+    unfolding held-case text-if
+    held-bad t = let f = failed _ (sym valid-is ∙ t) in rw (held-text, f .1)
 
 -- where the cache is looked at, what it holds; else a text
 pub looked : (look : Bool) (c : Cache) (p : ℕ) (r : Held) → look ≡ true → r ≡ held-case (held c p) → r ≡ held-case (holding-when look c p)

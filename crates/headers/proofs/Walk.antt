@@ -5,8 +5,7 @@ use Prim.Native.Nat.{ℕ, suc, _+_, _-_, _≤_, _<_}
 use native.Mathlib.Omega.{arith}
 use lib.ListN.{length, take, drop, replicate}
 use Rattle.format.specs.Text.{Coding}
-use Rattle.format.specs.Answer.{Answer, good, refused, Position, after}
-use Rattle.format.proofs.Bridge.{at-offset}
+use Rattle.format.specs.Answer.{Answer, good, refused, Position, at-offset, after}
 use Rattle.packets.specs.declared.Place.{Place}
 use Rattle.packets.specs.Memory.{Held}
 use Rattle.packets.specs.Header.{Reference, flag-bytes, half, reference, references}

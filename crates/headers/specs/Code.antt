@@ -4,12 +4,8 @@ use mathlib.Core.Bool.{Bool, true, false, cond}
 use mathlib.Core.List.{List, [], _∷_}
 use Prim.Native.Nat.{ℕ, _+_, _≤_, _<_}
 use lib.ListN.{length, getD, take, drop}
-use Rattle.format.specs.Text.{Coding, valid, invalid-at, check, encodes}
-use Rattle.format.specs.Answer.{Answer, good, refused, Position}
-use Rattle.format.proofs.Bridge.{at-offset}
-use Rattle.format.specs.Text as texts
-use Rattle.text.specs.declared.Checked.{Checked}
-use Rattle.text.specs.declared.Checked.the-variants as checked
+use Rattle.format.specs.Text.{Coding, valid, check, encodes}
+use Rattle.format.specs.Answer.{Answer, good, refused, Position, at-offset}
 use Rattle.packets.specs.Memory.{Cache, held, nothing, no-text, text}
 use Rattle.packets.specs.Header.{Reference, flag-bytes, named, filled, new-reference, cached-reference, reference, references, header}
 use Rattle.packets.specs.Memory as memory
@@ -57,16 +53,6 @@ Spells s h width at (spelled.Cached p) =
     ((agreed : Coding) (holding : ℕ → memory.Held) (earlier : List Reference) (i : ℕ)
     → reference agreed holding width earlier i h (at-offset s at 0) ≡ cached-reference agreed holding earlier i (p .0) (at-offset s (at + 1) 0))
     × (p .0 < 2048) × (at < length s)
-
--- did the check of a text find one?
-unfoldable pub found-valid : Checked → Bool
-found-valid (checked.Characters n) = true
-found-valid (checked.Bad k) = false
-
--- is it a text?
-unfoldable pub is-valid : texts.Checked → Bool
-is-valid (valid cs) = true
-is-valid (invalid-at k) = false
 
 -- these bytes are a text, and as UTF-8 it fits from `at` on
 pub record TextFits (agreed : Coding) (bs : List ℕ) (at room : ℕ) : Type 0 where

@@ -6,16 +6,14 @@ ghost use Prim.Native.Nat.{ℕ, _+_, _*_, _/_, _≤_, _<_};
 ghost use lib.ListN.{length, take, drop};
 ghost use lib.Seq.{sets};
 ghost use Rattle.format.specs.Numbers.{big-endian};
-ghost use Rattle.format.specs.Text.{check, valid, encodes};
+ghost use Rattle.format.specs.Text.{coding-of, check, valid, encodes};
 ghost use Rattle.packets.specs.Memory.{cache-of, held};
 ghost use Rattle.packets.specs.Header.{flag-bytes, half, references};
-ghost use Rattle.format.proofs.Bridge.{at-offset};
-ghost use Rattle.packets.specs.Answers.{coding-of};
-ghost use Rattle.headers.specs.Code.{flags-of, holding-when, Opens, Spells, found-valid, is-valid, TextFits, held-case, JudgesNew, JudgesCached, Steps, Ends, HeaderIs};
+ghost use Rattle.format.specs.Answer.{at-offset};
+ghost use Rattle.headers.specs.Code.{flags-of, holding-when, Opens, Spells, TextFits, held-case, JudgesNew, JudgesCached, Steps, Ends, HeaderIs};
 use format::Refusal;
 use packets::Place;
 use packets::ReferenceIndex;
-use text::Checked;
 
 // What stands before the references: their number, the width of lengths, the offset of the first.
 pub enum Opened {
@@ -76,20 +74,13 @@ pub enum HeaderAnswer {
     },
 }
 
-// A byte as a number of a machine word.
-fn wide(x: u8) -> usize
-    ensures { λ r. ⌜ (r ≡ x) × (r < 256) ⌝ }
-{
-    x as usize
-}
-
 // Half i of the flag bytes of the header at `at`, which has n references.
 pub fn half_of(packet: &[u8], at: usize, n: usize, i: ReferenceIndex) -> usize
     requires { ⌜ (0 < n) × (i .0 ≤ n) × (at + n / 2 + 2 ≤ length (now packet)) ⌝ }
     ensures { λ r. ⌜ (r ≡ half (flags-of (now (packet .entry)) at n) (i .0)) × (r < 16) ⌝ }
 {
     let k = i.0;
-    let flags = wide(packet[at + 1 + k / 2]);
+    let flags = octets::wide(packet[at + 1 + k / 2]);
     if k % 2 == 0 {
         return flags % 16;
     }
@@ -104,7 +95,7 @@ pub fn open_header(packet: &[u8], at: usize) -> Opened
     if packet.len() <= at {
         return Opened::Cut;
     }
-    let n = wide(packet[at]);
+    let n = octets::wide(packet[at]);
     if n == 0 {
         return Opened::Header {
             n: 0,
@@ -143,7 +134,7 @@ pub fn read_reference(packet: &[u8], half: usize, width: usize, at: usize) -> Sp
     if packet.len() <= at {
         return Spelled::Cut;
     }
-    let place = Place(256 * (half % 8) + wide(packet[at]));
+    let place = Place(256 * (half % 8) + octets::wide(packet[at]));
     if half < 8 {
         return Spelled::Cached { place: place };
     }
@@ -169,29 +160,7 @@ pub fn wide_length(x: u16) -> usize
     x as usize
 }
 
-// Whether a text was found.
-fn is_valid(c: Checked) -> bool
-    ensures { λ r. ⌜ r ≡ found-valid c ⌝ }
-{
-    match c {
-        Checked::Characters(_) => true,
-        Checked::Bad(_) => false,
-    }
-}
-
-// Whether the bytes from `from` on are a text in the coding agreed.
-fn is_text(utf8: bool, packet: &[u8], from: usize, size: usize) -> bool
-    requires { ⌜ from + size ≤ length (now packet) ⌝ }
-    ensures { λ r. ⌜ r ≡ is-valid (check (coding-of utf8) (take size (drop from (now (packet .entry))))) ⌝ }
-{
-    let end = from + size;
-    if utf8 {
-        return is_valid(text::check_utf8(&packet[from..end]));
-    }
-    is_valid(text::check_latin1(&packet[from..end]))
-}
-
-// The length of that text as UTF-8.
+// The length as UTF-8 of the text, in the coding agreed, from `from` on.
 fn stored_length(utf8: bool, packet: &[u8], from: usize, size: usize) -> usize
     requires { ⌜ (from + size ≤ length (now packet)) × (size < 65536) ⌝ }
     ensures { λ r. ⌜ ((cs : List ℕ) → check (coding-of utf8) (take size (drop from (now (packet .entry)))) ≡ valid cs → r ≡ length (encodes cs)) ⌝ }
@@ -236,7 +205,7 @@ pub fn held_at(places: &[u8], lengths: &[u16], place: Place) -> Held
     }
     let from = 32 * k;
     let end = from + size;
-    if is_valid(text::check_utf8(&places[from..end])) {
+    if text::is_text(&places[from..end], true) {
         return Held::Text(size);
     }
     Held::NoText
@@ -269,7 +238,8 @@ fn judge_new(
     if marks[k] != 0 {
         return Judged::Refused(22);
     }
-    if !is_text(utf8, packet, from, size) {
+    let end = from + size;
+    if !text::is_text(&packet[from..end], utf8) {
         return Judged::Refused(5);
     }
     if 32 < stored_length(utf8, packet, from, size) {

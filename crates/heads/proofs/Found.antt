@@ -9,11 +9,11 @@ use lib.Dec.{eqb, leb, ltb}
 use lib.ListN.{length, getD}
 use borrow.Author.Tests.{eqb-true}
 use Rattle.format.specs.Text.{check}
-use Rattle.format.specs.Answer.{Answer, Position, Reading, after, rule, byte, bytes, number}
+use Rattle.format.specs.Answer.{Answer, Position, at-offset, Reading, after, rule, byte, bytes, number}
 use Rattle.format.specs.Head.{Atoms, an-atom, an-arity, Form, small-integer-ext, integer-ext, new-float-ext, atom-cache-ref, nil-ext, string-ext, list-ext, binary-ext, bit-binary-ext, map-ext, reference-ext, export-ext, big-ext, tuple-ext, pid-ext, new-reference-ext, atom-ext, port-ext, text-or, finite, bits-rule, forms, form-in, form-or, form, fields, head, later, known, parts, characters, elements, pairs}
 use Rattle.format.specs.Head as format
 use Rattle.format.specs.Reading.{empty-108}
-use Rattle.format.proofs.Bridge.{at-offset, byte-at, byte-end}
+use Rattle.format.proofs.Bridge.{byte-at, byte-end}
 use Rattle.format.proofs.Opening.{by-less}
 use Rattle.format.proofs.Holds.{Holds, next, weaken, bind, done-holds, refused-holds}
 use Rattle.format.proofs.Invariant.{In-step, on-byte, fields-kept, form-kept}

@@ -9,10 +9,10 @@ use lib.Dec.{eqb, leb, ltb, lit<}
 use lib.ListN.{length, getD, take, drop}
 use borrow.Author.Tests.{lt-ltb, le-ltb, le-leb, lt-leb, eq-eqb, ne-eqb, not-true, not-false}
 use Rattle.format.specs.Numbers.{big-endian}
-use Rattle.format.specs.Answer.{good, refused}
+use Rattle.format.specs.Answer.{good, refused, at-offset}
 use Rattle.format.specs.Head.{known, pid-fields, port-fields, reference-fields, old-reference-fields, later, words, words-rule, creation-rule}
 use Rattle.format.specs.Head as format
-use Rattle.format.proofs.Bridge.{at-offset, number-at, number-end}
+use Rattle.format.proofs.Bridge.{number-at, number-end}
 use Rattle.format.proofs.Opening.{by-less}
 use Rattle.octets.proofs.Numbers.{big-halves, big-one}
 use Rattle.heads.specs.declared.Later.{Later}

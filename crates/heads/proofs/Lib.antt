@@ -5,3 +5,5 @@ mod Tags
 pub mod Found
 mod Openings
 pub mod OpeningFacts
+mod Words
+pub mod Common

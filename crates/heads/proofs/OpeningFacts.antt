@@ -7,12 +7,11 @@ use native.Mathlib.Omega.{arith}
 use lib.Dec.{eqb, ltb}
 use lib.ListN.{length}
 use Rattle.format.specs.Term.{Label, integer, float, atom, tuple, list, improper-list, binary, bitstring, map, pid, port, reference, export}
-use Rattle.format.specs.Answer.{Answer, good, refused, Position, Reading, done, rule, number}
+use Rattle.format.specs.Answer.{Answer, good, refused, Position, at-offset, Reading, done, rule, number}
 use Rattle.format.specs.Head.{Atoms, any, an-atom, an-arity, later, words, creation-rule, words-rule, known, pid-fields, port-fields, reference-fields, old-reference-fields, parts, characters, elements, pairs}
 use Rattle.format.specs.Head as format
 use Rattle.format.specs.Reading.{empty-108, opening}
 use Rattle.format.specs.Rows.{kind-of}
-use Rattle.format.proofs.Bridge.{at-offset}
 use Rattle.format.proofs.Holds.{Holds, bind, weaken, done-holds, refused-holds}
 use Rattle.heads.specs.declared.Later.{Later}
 use Rattle.heads.specs.declared.Head.the-variants.{Refused, Parts, Characters, Elements, Pairs}

@@ -8,11 +8,11 @@ use lib.Dec.{eqb, leb}
 use lib.ListN.{length, getD, take, drop, length-drop}
 use borrow.Author.Tests.{eqb-true, eqb-false, leb-true, le-leb, lt-leb, eq-eqb, ne-eqb}
 use Rattle.format.specs.Numbers.{big-endian}
-use Rattle.format.specs.Answer.{Answer, good, refused, Position, Reading, after, done}
+use Rattle.format.specs.Answer.{Answer, good, refused, Position, at-offset, Reading, after, done}
 use Rattle.format.specs.Head.{Atoms, any, forms, form-in, form-or, form, fields, list-ext, head, parts, characters, elements, pairs}
 use Rattle.format.specs.Head as format
 use Rattle.format.specs.Reading.{empty-108, opening}
-use Rattle.format.proofs.Bridge.{at-offset, byte-at, byte-end, number-at, number-end}
+use Rattle.format.proofs.Bridge.{byte-at, byte-end, number-at, number-end}
 use Rattle.format.proofs.Opening.{by-less}
 use Rattle.format.proofs.Holds.{Holds, done-holds, refused-holds}
 use Rattle.heads.specs.declared.Wanted.{Wanted}

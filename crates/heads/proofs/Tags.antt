@@ -9,10 +9,10 @@ use lib.Dec.{eqb}
 use lib.ListN.{length, getD}
 use borrow.Author.Tests.{eqb-true, ne-eqb}
 use Rattle.format.specs.Text.{latin-1, utf-8}
-use Rattle.format.specs.Answer.{refused, Position, Reading, refuse}
+use Rattle.format.specs.Answer.{refused, Position, at-offset, Reading, refuse}
 use Rattle.format.specs.Head.{Atoms, Form, forms, form-in, form-or, form, fields, head, tagged, one-of, small-integer-ext, atom-ext, atom-cache-ref, nil-ext, pid-ext, port-ext, reference-ext, export-ext}
 use Rattle.format.specs.Rows.{kind-of}
-use Rattle.format.proofs.Bridge.{at-offset, byte-at, byte-end}
+use Rattle.format.proofs.Bridge.{byte-at, byte-end}
 use Rattle.heads.specs.declared.Wanted.{Wanted}
 use Rattle.heads.specs.declared.Wanted.the-variants.{Any, Atom, Arity}
 use Rattle.heads.specs.declared.Later.the-variants.{Known, Pid, Port, OldReference}

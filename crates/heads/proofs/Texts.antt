@@ -8,36 +8,16 @@ use lib.Dec.{eqb}
 use lib.ListN.{length, getD, take, drop}
 use borrow.Author.Tests.{lt-ltb, le-ltb, le-leb, lt-leb, eqb-true}
 use Rattle.format.specs.Numbers.{big-endian}
-use Rattle.format.specs.Text.{Checked, valid, invalid-at, latin-1, utf-8, check}
+use Rattle.format.specs.Text.{invalid-at, utf-8, coding-of, check}
 use Rattle.format.specs.Head.{Atoms, fields, text-or, atom-ext, atom-cache-ref}
 use Rattle.format.specs.AtomList.{AtomList, of-size, place-length, place-bytes, place-text, atoms-of}
 use Rattle.format.specs.Rows.{kind-of}
 use Rattle.format.proofs.Bridge.{number-at, number-end, bytes-at, bytes-end}
-use Rattle.text.specs.declared.Checked as code
-use Rattle.text.specs.Shown.{shown}
+use Rattle.text.specs.Shown.{is-valid}
+use Rattle.text.proofs.Valid.{found, failed}
 use Rattle.heads.specs.declared.Later.the-variants.{Known}
 use Rattle.heads.specs.declared.Head.the-variants.{Refused, Parts}
-use Rattle.heads.specs.Code.{head-of, head-at, fields-of, kind-later, later-of, lent, coding-of, found-valid, is-text}
-
--- a text's characters, or the offset at which it fails
-found : (c : Checked) → found-valid (shown c) ≡ true → (cs : List ℕ) × (c ≡ valid cs)
-unfolding found-valid shown
-found (valid cs) e = (cs, refl)
-found (invalid-at k) e = let z : _≡_ {A = ℕ} 0 1 = cc in absurd (omega arith)
-
-failed : (c : Checked) → found-valid (shown c) ≡ false → (k : ℕ) × (c ≡ invalid-at k)
-unfolding found-valid shown
-failed (valid cs) e = let z : _≡_ {A = ℕ} 0 1 = cc in absurd (omega arith)
-failed (invalid-at k) e = (k, refl)
-
--- the coding that is asked for
-pub text-latin : (latin : Bool) (bs : List ℕ) (c : code.Checked) (r : Bool) → latin ≡ true → c ≡ shown (check latin-1 bs) → r ≡ found-valid c → r ≡ is-text latin bs
-unfolding is-text coding-of
-text-latin latin bs c r e f g = rw (g, f, e)
-
-pub text-utf8 : (latin : Bool) (bs : List ℕ) (c : code.Checked) (r : Bool) → latin ≡ false → c ≡ shown (check utf-8 bs) → r ≡ found-valid c → r ≡ is-text latin bs
-unfolding is-text coding-of
-text-utf8 latin bs c r e f g = rw (g, f, e)
+use Rattle.heads.specs.Code.{head-of, head-at, fields-of, kind-later, later-of, lent}
 
 pub both : (s t : Bool) → (s && t) ≡ true → (s ≡ true) × (t ≡ true)
 both true t e = (refl, e)
@@ -50,30 +30,30 @@ sizes-of list e =
     let b = both (eqb (length (list .places)) 8160) (eqb (length (list .lengths)) 255) e in
     (eqb-true _ _ (b .0), eqb-true _ _ (b .1))
 
-module _ (atoms : Atoms) (m : List ℕ) (at rows : ℕ) (inside : at < length m) (latin : Bool) (w : ℕ) where
-  pub atom-short : length m - at - 1 < w → Refused 2 at ≡ fields-of atoms m at (atom-ext (coding-of latin) w) rows
+module _ (atoms : Atoms) (m : List ℕ) (at rows : ℕ) (inside : at < length m) (utf8 : Bool) (w : ℕ) where
+  pub atom-short : length m - at - 1 < w → Refused 2 at ≡ fields-of atoms m at (atom-ext (coding-of utf8) w) rows
   unfolding fields-of fields head-of
   atom-short h = rw (number-end m at w (at + 1) rows (omega arith) (omega arith))
 
   module _ (n : ℕ) (there : w ≤ length m - at - 1) (e : n ≡ big-endian (take w (drop (at + 1) m))) where
-    pub atom-cut : length m - at - 1 - w < n → Refused 2 at ≡ fields-of atoms m at (atom-ext (coding-of latin) w) rows
+    pub atom-cut : length m - at - 1 - w < n → Refused 2 at ≡ fields-of atoms m at (atom-ext (coding-of utf8) w) rows
     unfolding fields-of fields head-of
     atom-cut k = rw (number-at m at w (at + 1) rows (omega arith), ← e, bytes-end m at n (at + 1 + w) rows (omega arith) (omega arith))
 
     module _ (whole : n ≤ length m - at - 1 - w) where
-      pub atom-bad : is-text latin (take (at + 1 + w + n - (at + 1 + w)) (drop (at + 1 + w) m)) ≡ false → Refused 5 at ≡ fields-of atoms m at (atom-ext (coding-of latin) w) rows
-      unfolding fields-of fields head-of is-text text-or
+      pub atom-bad : is-valid (check (coding-of utf8) (take (at + 1 + w + n - (at + 1 + w)) (drop (at + 1 + w) m))) ≡ false → Refused 5 at ≡ fields-of atoms m at (atom-ext (coding-of utf8) w) rows
+      unfolding fields-of fields head-of text-or
       atom-bad f =
           let same : at + 1 + w + n - (at + 1 + w) ≡ n = omega arith in
-          let b = failed (check (coding-of latin) (take n (drop (at + 1 + w) m))) (rw same at f) in
+          let b = failed (check (coding-of utf8) (take n (drop (at + 1 + w) m))) (rw same at f) in
           rw (number-at m at w (at + 1) rows (omega arith), ← e, bytes-at m at n (at + 1 + w) rows (omega arith), b .1)
 
-      pub atom-there : is-text latin (take (at + 1 + w + n - (at + 1 + w)) (drop (at + 1 + w) m)) ≡ true
-          → Parts 3 0 0 Known (at + 1 + w + n) ≡ fields-of atoms m at (atom-ext (coding-of latin) w) rows
-      unfolding fields-of fields head-of head-at kind-later kind-of later-of is-text text-or
+      pub atom-there : is-valid (check (coding-of utf8) (take (at + 1 + w + n - (at + 1 + w)) (drop (at + 1 + w) m))) ≡ true
+          → Parts 3 0 0 Known (at + 1 + w + n) ≡ fields-of atoms m at (atom-ext (coding-of utf8) w) rows
+      unfolding fields-of fields head-of head-at kind-later kind-of later-of text-or
       atom-there f =
           let same : at + 1 + w + n - (at + 1 + w) ≡ n = omega arith in
-          let b = found (check (coding-of latin) (take n (drop (at + 1 + w) m))) (rw same at f) in
+          let b = found (check (coding-of utf8) (take n (drop (at + 1 + w) m))) (rw same at f) in
           rw (number-at m at w (at + 1) rows (omega arith), ← e, bytes-at m at n (at + 1 + w) rows (omega arith), b .1)
 
 -- the text of a place
@@ -101,16 +81,16 @@ module _ (n : ℕ) (places lengths : List ℕ) (m : List ℕ) (at rows : ℕ) (i
       cached-long h = rw (number-at m at 1 (at + 1) rows (omega arith), ← e, lt-ltb i n below, long-text (lent n places lengths) i h)
 
       module _ (short : getD lengths i 0 ≤ 32) where
-        pub cached-bad : is-text false (take (32 * i + getD lengths i 0 - 32 * i) (drop (32 * i) places)) ≡ false → Refused 14 0 ≡ fields-of (atoms-of (lent n places lengths)) m at atom-cache-ref rows
-        unfolding fields-of fields head-of atoms-of text-or is-text coding-of
+        pub cached-bad : is-valid (check (coding-of true) (take (32 * i + getD lengths i 0 - 32 * i) (drop (32 * i) places))) ≡ false → Refused 14 0 ≡ fields-of (atoms-of (lent n places lengths)) m at atom-cache-ref rows
+        unfolding fields-of fields head-of atoms-of text-or coding-of
         cached-bad f =
             let same : 32 * i + getD lengths i 0 - 32 * i ≡ getD lengths i 0 = omega arith in
             let b = failed (check utf-8 (take (getD lengths i 0) (drop (32 * i) places))) (rw same at f) in
             rw (number-at m at 1 (at + 1) rows (omega arith), ← e, lt-ltb i n below, short-text (lent n places lengths) i short, b .1)
 
-        pub cached-there : is-text false (take (32 * i + getD lengths i 0 - 32 * i) (drop (32 * i) places)) ≡ true
+        pub cached-there : is-valid (check (coding-of true) (take (32 * i + getD lengths i 0 - 32 * i) (drop (32 * i) places))) ≡ true
             → Parts 3 0 0 Known (at + 1 + 1) ≡ fields-of (atoms-of (lent n places lengths)) m at atom-cache-ref rows
-        unfolding fields-of fields head-of head-at kind-later kind-of later-of atoms-of text-or is-text coding-of
+        unfolding fields-of fields head-of head-at kind-later kind-of later-of atoms-of text-or coding-of
         cached-there f =
             let same : 32 * i + getD lengths i 0 - 32 * i ≡ getD lengths i 0 = omega arith in
             let b = found (check utf-8 (take (getD lengths i 0) (drop (32 * i) places))) (rw same at f) in

@@ -5,20 +5,15 @@ use mathlib.Core.List.{List, [], _∷_}
 use Prim.Native.Nat.{ℕ, zero, suc, _+_, _-_, _≤_}
 use lib.Dec.{eqb, leb}
 use lib.ListN.{length, getD, take, drop}
-use Rattle.format.specs.Answer.{Answer, good, refused, Position, after}
+use Rattle.format.specs.Answer.{Answer, good, refused, Position, at-offset, after}
 use Rattle.format.specs.Term.{Label}
 use Rattle.format.specs.Head.{any, an-atom, an-arity, parts, characters, elements, pairs, known, pid-fields, port-fields, reference-fields, old-reference-fields}
 use Rattle.format.specs.Head as format
 use Rattle.format.specs.Head.{bits-rule, bits-meaning, fields, later, form-or, form-in, forms, one-of}
-use Rattle.format.specs.Text.{Coding, latin-1, utf-8, check}
 use Rattle.format.specs.AtomList.{AtomList}
 use Rattle.format.specs.Numbers.{big-endian}
-use Rattle.text.specs.declared.Checked.{Checked}
-use Rattle.text.specs.declared.Checked.the-variants as checked
-use Rattle.text.specs.Shown.{shown}
 use Rattle.format.specs.Reading.{opening}
 use Rattle.format.specs.Rows.{kind-of}
-use Rattle.format.proofs.Bridge.{at-offset}
 use Rattle.heads.specs.declared.Wanted.{Wanted}
 use Rattle.heads.specs.declared.Wanted.the-variants.{Any, Atom, Arity}
 use Rattle.heads.specs.declared.Later.{Later}
@@ -97,18 +92,6 @@ words-at m (suc k) at = big-endian (take 4 (drop at m)) ∷ words-at m k (at + 4
 -- the atom list as it is lent
 abbrev pub lent : ℕ → List ℕ → List ℕ → AtomList
 lent n places lengths = record { n = n; places = places; lengths = lengths }
-
-unfoldable pub coding-of : Bool → Coding
-coding-of true = latin-1
-coding-of false = utf-8
-
-unfoldable pub found-valid : Checked → Bool
-found-valid (checked.Characters n) = true
-found-valid (checked.Bad k) = false
-
--- whether bytes are a text
-unfoldable pub is-text : Bool → List ℕ → Bool
-is-text latin bs = found-valid (shown (check (coding-of latin) bs))
 
 -- the fields that a tag has; refusal 3: a tag not in the table
 unfoldable pub tag-fields : format.Atoms → List ℕ → ℕ → ℕ → ℕ → Head

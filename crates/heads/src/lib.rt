@@ -7,16 +7,17 @@ ghost use lib.Dec.{eqb, ltb};
 ghost use lib.IntN.{ℤ};
 ghost use lib.ListN.{length, take, drop};
 ghost use Rattle.format.specs.Numbers.{big-endian};
+ghost use Rattle.format.specs.Text.{coding-of};
 ghost use Rattle.format.specs.Term.{integer};
-ghost use Rattle.format.specs.Answer.{after, done};
+ghost use Rattle.format.specs.Answer.{after, done, at-offset};
 ghost use Rattle.format.specs.Answer as answer;
 ghost use Rattle.format.specs.Head.{Atoms, leaf, tuple-ext, list-ext, map-ext, string-ext, binary-ext, bit-binary-ext, big-ext, new-float-ext, new-reference-ext, atom-ext, atom-cache-ref};
-ghost use Rattle.format.specs.Head.{pid-fields, port-fields, reference-fields, old-reference-fields, creation-rule, words-rule, one-of, head};
+ghost use Rattle.format.specs.Head.{any, pid-fields, port-fields, reference-fields, old-reference-fields, creation-rule, words-rule, one-of, head};
 ghost use Rattle.format.specs.Head as format;
 ghost use Rattle.format.specs.Reading.{opening};
 ghost use Rattle.format.specs.AtomList.{of-size, atoms-of};
-ghost use Rattle.format.proofs.Bridge.{at-offset};
-ghost use Rattle.heads.specs.Code.{Width, Bits, head-of, fields-of, later-of, step-of, lent, found-valid, coding-of, is-text, words-at, later-fields, tag-fields, allowed, wanted-of, empty-at, Skipped, opened-at, opening-of};
+ghost use Rattle.heads.specs.Quick.{only-if, fit, quick-later, quick-word};
+ghost use Rattle.heads.specs.Code.{Width, Bits, head-of, fields-of, later-of, step-of, lent, words-at, later-fields, tag-fields, allowed, wanted-of, empty-at, Skipped, opened-at, opening-of};
 
 // Which terms may stand at a place.
 pub enum Wanted {
@@ -363,30 +364,10 @@ fn reference(msg: &[u8], at: usize, width: usize) -> Head
     }
 }
 
-// Whether a text was found.
-fn is_valid(c: text::Checked) -> bool
-    ensures { λ r. ⌜ r ≡ found-valid c ⌝ }
-{
-    match c {
-        text::Checked::Characters(_) => true,
-        text::Checked::Bad(_) => false,
-    }
-}
-
-// Whether bytes are a text, in Latin-1 or in UTF-8.
-fn is_text(s: &[u8], latin: bool) -> bool
-    ensures { λ r. ⌜ r ≡ is-text latin (now (s .entry)) ⌝ }
-{
-    if latin {
-        return is_valid(text::check_latin1(s));
-    }
-    is_valid(text::check_utf8(s))
-}
-
 // Tags 100 and 115 (Latin-1), 118 and 119 (UTF-8): a count of bytes, the bytes of a text.
-fn atom(msg: &[u8], at: usize, width: usize, latin: bool) -> Head
+fn atom(msg: &[u8], at: usize, width: usize, utf8: bool) -> Head
     requires { ⌜ (at < length (now msg)) × Width width ⌝ }
-    ensures { λ r. ⌜ ((atoms : Atoms) (rows : ℕ) → r ≡ fields-of atoms (now (msg .entry)) at (atom-ext (coding-of latin) width) rows) ⌝ }
+    ensures { λ r. ⌜ ((atoms : Atoms) (rows : ℕ) → r ≡ fields-of atoms (now (msg .entry)) at (atom-ext (coding-of utf8) width) rows) ⌝ }
 {
     let left = msg.len() - at - 1;
     if left < width {
@@ -404,7 +385,7 @@ fn atom(msg: &[u8], at: usize, width: usize, latin: bool) -> Head
     }
     let from = at + 1 + width;
     let end = from + n;
-    if !is_text(&msg[from..end], latin) {
+    if !text::is_text(&msg[from..end], utf8) {
         return Head::Refused {
             number: 5,
             place: at,
@@ -446,7 +427,7 @@ fn cached_atom(msg: &[u8], n: u8, places: &[u8], lengths: &[u16], at: usize) -> 
     }
     let from = 32 * i;
     let end = from + length as usize;
-    if !is_text(&places[from..end], false) {
+    if !text::is_text(&places[from..end], true) {
         return Head::Refused {
             number: 14,
             place: 0,
@@ -642,10 +623,10 @@ fn by_tag(msg: &[u8], n: u8, places: &[u8], lengths: &[u16], at: usize, tag: u8)
         110 => big(msg, at, 1),
         111 => big(msg, at, 4),
         70 => float(msg, at),
-        100 => atom(msg, at, 2, true),
-        115 => atom(msg, at, 1, true),
-        118 => atom(msg, at, 2, false),
-        119 => atom(msg, at, 1, false),
+        100 => atom(msg, at, 2, false),
+        115 => atom(msg, at, 1, false),
+        118 => atom(msg, at, 2, true),
+        119 => atom(msg, at, 1, true),
         82 => cached_atom(msg, n, places, lengths, at),
         104 => tuple(msg, at, 1),
         105 => tuple(msg, at, 4),
@@ -815,5 +796,139 @@ pub fn read_opening(
         }
         Wanted::Atom => opened(at, read_head(msg, n, places, lengths, at, Wanted::Atom)),
         Wanted::Arity => opened(at, read_head(msg, n, places, lengths, at, Wanted::Arity)),
+    }
+}
+
+// A kind, the offset past a head and a number of parts in one word; 0 where they do not fit.
+fn fit(kind: usize, next: usize, count: usize) -> u64
+    ensures { λ r. ⌜ r ≡ fit kind next count ⌝ }
+{
+    if 16 <= kind {
+        return 0;
+    }
+    if 131072 <= next {
+        return 0;
+    }
+    if 4294967296 <= count {
+        return 0;
+    }
+    (kind + 16 * next + 2097152 * count) as u64
+}
+
+// A head without wanted parts in one word, if it has no later fields either.
+fn word_of_parts(kind: usize, count: usize, later: Later, next: usize) -> u64
+    ensures { λ r. ⌜ r ≡ quick-later later (fit kind next count) ⌝ }
+{
+    match later {
+        Later::Known => fit(kind, next, count),
+        Later::Pid { width } => 0,
+        Later::Port { id, width } => 0,
+        Later::Reference { words, width } => 0,
+        Later::OldReference => 0,
+    }
+}
+
+// The head of a common term in one word, or 0.
+fn word_of(head: Head) -> u64
+    ensures { λ r. ⌜ r ≡ quick-word head ⌝ }
+{
+    match head {
+        Head::Refused { number, place } => 0,
+        Head::Parts {
+            kind,
+            wanted,
+            count,
+            later,
+            next,
+        } => {
+            if wanted != 0 {
+                return 0;
+            }
+            word_of_parts(kind, count, later, next)
+        }
+        Head::Characters { count, next } => {
+            if count != 0 {
+                return 0;
+            }
+            fit(5, next, 0)
+        }
+        Head::Elements { count, next } => {
+            if count == 0 {
+                return 0;
+            }
+            fit(14, next, count)
+        }
+        Head::Pairs { count, next } => {
+            if count == 0 {
+                return 0;
+            }
+            fit(15, next, count)
+        }
+    }
+}
+
+// The commonest terms without parts.
+fn leaf_word(msg: &[u8], at: usize, tag: u8) -> u64
+    requires { ⌜ (at < length (now msg)) × (length (now msg) ≤ 65536) ⌝ }
+    ensures { λ r. ⌜ ((r ≡ 0 → ⊥) → (atoms : Atoms) (rows : ℕ) → r ≡ quick-word (tag-fields atoms (now (msg .entry)) at tag rows)) ⌝ }
+{
+    match tag {
+        97 => word_of(integer(msg, at, 1)),
+        98 => word_of(integer(msg, at, 4)),
+        70 => word_of(float(msg, at)),
+        119 => word_of(atom(msg, at, 1, true)),
+        109 => word_of(binary(msg, at)),
+        106 => word_of(Head::Characters {
+            count: 0,
+            next: at + 1,
+        }),
+        _ => 0,
+    }
+}
+
+// Common terms, with parts and without.
+fn common_word(msg: &[u8], n: u8, places: &[u8], lengths: &[u16], at: usize, tag: u8) -> u64
+    requires { ⌜ (at < length (now msg)) × (length (now msg) ≤ 65536) × (of-size (lent n (now places) (now lengths)) ≡ true) ⌝ }
+    ensures { λ r. ⌜ ((r ≡ 0 → ⊥) → (rows : ℕ) → r ≡ quick-word (tag-fields (atoms-of (lent n (now (places .entry)) (now (lengths .entry)))) (now (msg .entry)) at tag rows)) ⌝ }
+{
+    match tag {
+        104 => word_of(tuple(msg, at, 1)),
+        105 => word_of(tuple(msg, at, 4)),
+        108 => word_of(list(msg, at)),
+        116 => word_of(map(msg, at)),
+        82 => word_of(cached_atom(msg, n, places, lengths, at)),
+        100 => word_of(atom(msg, at, 2, false)),
+        115 => word_of(atom(msg, at, 1, false)),
+        118 => word_of(atom(msg, at, 2, true)),
+        110 => word_of(big(msg, at, 1)),
+        _ => leaf_word(msg, at, tag),
+    }
+}
+
+// The head of one of the commonest terms without parts in one word; 0 of any other, and where not any term is wanted.
+pub fn leaf_at(msg: &[u8], at: usize, wanted: Wanted) -> u64
+    requires { ⌜ (at ≤ length (now msg)) × (length (now msg) ≤ 65536) ⌝ }
+    ensures { λ r. ⌜ ((r ≡ 0 → ⊥) → (wanted-of wanted ≡ any) × ((atoms : Atoms) (rows : ℕ) → r ≡ quick-word (head-of (head atoms any (at-offset (now (msg .entry)) at rows))))) ⌝ }
+{
+    if msg.len() <= at {
+        return 0;
+    }
+    match wanted {
+        Wanted::Any => leaf_word(msg, at, msg[at]),
+        _ => 0,
+    }
+}
+
+// The head of a common term in one word; 0 of any other, and where not any term is wanted.
+pub fn quick_at(msg: &[u8], n: u8, places: &[u8], lengths: &[u16], at: usize, wanted: Wanted) -> u64
+    requires { ⌜ (at ≤ length (now msg)) × (length (now msg) ≤ 65536) × (of-size (lent n (now places) (now lengths)) ≡ true) ⌝ }
+    ensures { λ r. ⌜ ((r ≡ 0 → ⊥) → (wanted-of wanted ≡ any) × ((rows : ℕ) → r ≡ quick-word (head-of (head (atoms-of (lent n (now (places .entry)) (now (lengths .entry)))) any (at-offset (now (msg .entry)) at rows))))) ⌝ }
+{
+    if msg.len() <= at {
+        return 0;
+    }
+    match wanted {
+        Wanted::Any => common_word(msg, n, places, lengths, at, msg[at]),
+        _ => 0,
     }
 }

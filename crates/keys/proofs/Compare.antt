@@ -111,9 +111,16 @@ module _ {Known : Row → Type 0} {T : List ℕ} {whole : Option ℕ} {n : ℕ} 
   tree-below : (t : Located) → Known-tree Known T whole n t → n < length T
   tree-below (node l ts) k = node-below (k .stands)
 
-  tree-size : (small : (r : Row) → Known r → Small-row r) (t : Located) → Known-tree Known T whole n t → size-in (getD T n 0) ≡ size t
+  pub tree-size : (small : (r : Row) → Known r → Small-row r) (t : Located) → Known-tree Known T whole n t → size-in (getD T n 0) ≡ size t
   unfolding tree-rows Each-row
   tree-size small (node l ts) k = node-packed (k .stands) (small (row-of whole l ts) (k .known .0)) .size-is
+
+pub pair-sizes : {Known : Row → Type 0} {T : List ℕ} {whole : Option ℕ} {n : ℕ} {k v : Located} {ts : Terms} → ((r : Row) → Known r → Small-row r) → Known-rows Known T whole n (k ▹ v ▹ ts)
+    → pair-size T n ≡ size k + size v
+unfolding pair-size
+pair-sizes {T = T} {n = n} {k = k} {v = v} small h =
+    let e : size-in (getD T n 0) ≡ size k = tree-size small k (first-known h) in
+    rw e (ap (λ (i : ℕ). size k + i) (tree-size small v (first-known (others-known h))))
 
 -- ---- keys and values in turn
 
@@ -197,12 +204,6 @@ module _
 
   -- a term whose rows stand at `key`, past the rows of pairs
   module _ (whole whole′ : Option ℕ) (key : ℕ) (u : Located) (m : Known-tree Known T whole′ key u) where
-    pair-sizes : {n : ℕ} {k v : Located} {ts : Terms} → Known-rows Known T whole n (k ▹ v ▹ ts) → pair-size T n ≡ size k + size v
-    unfolding pair-size
-    pair-sizes {n} {k} {v} h =
-        let e : size-in (getD T n 0) ≡ size k = tree-size small k (first-known h) in
-        rw e (ap (λ (i : ℕ). size k + i) (tree-size small v (first-known (others-known h))))
-
     pairs-agree : (n at : ℕ) {ts : Terms} {ks ls : List Term} → Pairs ts ks ls → key ≡ at + sizes ts → sizes ts ≤ n → Known-rows Known T whole at ts
         → (among (meaning u) ks || among-steps alike T n at key) ≡ among (meaning u) ls
     unfolding among-steps among choose
@@ -215,7 +216,7 @@ module _
         rw (
           lt-leb key at (omega arith),
           same-from-same whole′ whole key at u k m (first-known g),
-          pair-sizes g,
+          pair-sizes small g,
           ne-eqb (size k + size v) 0 (λ z. omega arith),
         )
         (or-later (among (meaning u) ks) (same (meaning u) (meaning k)) (among-steps alike T n (at + (size k + size v)) key)

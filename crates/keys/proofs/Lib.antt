@@ -1,4 +1,7 @@
 pub mod Compare
 pub mod Steps
+pub mod Slots
+pub mod Hashes
 pub mod Held
+pub mod Seen
 pub mod Accepted

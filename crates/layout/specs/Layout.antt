@@ -1,31 +1,22 @@
 -- The bytes that a layout says: numbers in their widths, then a body.
 use mathlib.Core.Path.{_≡_}
-use mathlib.Core.Bool.{Bool, true, false}
 use mathlib.Core.List.{List, [], _++_}
 use Prim.Native.Nat.{ℕ, _+_, _≤_}
-use lib.ListN.{length, take, drop}
+use lib.ListN.{length}
 use lib.Seq.{sets}
 use Rattle.format.specs.Numbers.{in-bytes, digits}
 use Rattle.format.specs.Text.{encodes}
 use Rattle.format.specs.Head.{clear-low}
+use Rattle.octets.specs.Parts.{stretch, source}
 use Rattle.layout.specs.declared.Body.{Body}
 use Rattle.layout.specs.declared.Body.the-variants.{Empty, Part, Latin1, Digits, Bits}
 use Rattle.layout.specs.declared.Number.{Number}
 use Rattle.layout.specs.declared.Layout.{Layout}
 
--- the message, or the list's places
-unfoldable pub source : Bool → List ℕ → List ℕ → List ℕ
-source true m places = places
-source false m places = m
-
--- n bytes from `start` on
-abbrev pub stretch : List ℕ → ℕ → ℕ → List ℕ
-stretch s start n = take n (drop start s)
-
 unfoldable pub body-bytes : List ℕ → List ℕ → Body → List ℕ
 body-bytes m places Empty = []
-body-bytes m places (Part listed start n) = stretch (source listed m places) start n
-body-bytes m places (Latin1 listed start n) = encodes (stretch (source listed m places) start n)
+body-bytes m places (Part listed start n) = stretch (source m places listed) start n
+body-bytes m places (Latin1 listed start n) = encodes (stretch (source m places listed) start n)
 body-bytes m places (Digits n) = digits n
 body-bytes m places (Bits bits start n) = clear-low bits (stretch m start n)
 
@@ -43,8 +34,8 @@ pub record Inside (s : List ℕ) (start n : ℕ) : Type 0 where
 
 unfoldable pub Body-inside : List ℕ → List ℕ → Body → Type 0
 Body-inside m places Empty = Unit {0}
-Body-inside m places (Part listed start n) = Inside (source listed m places) start n
-Body-inside m places (Latin1 listed start n) = Inside (source listed m places) start n
+Body-inside m places (Part listed start n) = Inside (source m places listed) start n
+Body-inside m places (Latin1 listed start n) = Inside (source m places listed) start n
 Body-inside m places (Digits n) = Unit {0}
 Body-inside m places (Bits bits start n) = Inside m start n × (1 ≤ n)
 

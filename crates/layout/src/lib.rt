@@ -1,12 +1,12 @@
 // Layouts of terms' own fields: numbers in their widths and a body, measured and written.
 ghost use mathlib.Core.Path.{_≡_};
-ghost use Prim.Native.Nat.{_+_, _-_, _^_, _≤_};
-ghost use lib.ListN.{length, take, drop};
-ghost use lib.Seq.{sets};
+ghost use Prim.Native.Nat.{_+_, _-_, _≤_};
+ghost use lib.ListN.{length};
 ghost use Rattle.format.specs.Numbers.{in-bytes, digits};
 ghost use Rattle.format.specs.Text.{encodes};
 ghost use Rattle.format.specs.Head.{clear-low};
-ghost use Rattle.layout.specs.Layout.{source, stretch, body-bytes, layout-bytes, Inside, Body-inside, Layout-inside, Put, laid-of};
+ghost use Rattle.octets.specs.Parts.{stretch};
+ghost use Rattle.layout.specs.Layout.{body-bytes, layout-bytes, Inside, Body-inside, Layout-inside, Put, laid-of};
 
 // What follows the numbers: nothing, bytes as they stand, Latin-1 characters in UTF-8, the digits of a number, or bytes of whose last one some bits count.
 pub enum Body {
@@ -100,23 +100,6 @@ fn put_digits(out: &mut [u8], at: usize, n: u64) -> usize
     next
 }
 
-// 2 to the number of a byte's bits that do not count, where the first `bits` count.
-fn unit(bits: usize) -> usize
-    ensures { λ r. ⌜ (r ≡ 2 ^ (8 - bits)) × (1 ≤ r) ⌝ }
-{
-    match bits {
-        0 => 256,
-        1 => 128,
-        2 => 64,
-        3 => 32,
-        4 => 16,
-        5 => 8,
-        6 => 4,
-        7 => 2,
-        _ => 1,
-    }
-}
-
 // Writes the n bytes of `s` from `start` on into `out` from `at` on; the offset past them.
 fn put_part(s: &[u8], start: usize, n: usize, out: &mut [u8], at: usize) -> usize
     requires { ⌜ Inside (now s) start n × (at + n ≤ length (now out)) ⌝ }
@@ -142,8 +125,8 @@ fn put_bits(msg: &[u8], bits: usize, start: usize, n: usize, out: &mut [u8], at:
 {
     let before = n - 1;
     octets::copy(msg, start, out, at, before);
-    let last = octets::wide(msg[start + before]);
-    octets::put1(out, at + before, last - last % unit(bits));
+    let last = octets::high_bits(msg[start + before], bits);
+    octets::put1(out, at + before, last);
     at + n
 }
 

@@ -6,9 +6,8 @@ use Prim.Native.Nat.{ℕ, zero, suc, _+_, _≤_, _<_}
 use native.Mathlib.Omega.{arith}
 use lib.ListN.{length}
 use Rattle.format.specs.Text.{Coding}
-use Rattle.format.specs.Answer.{Answer, good, refused, Position, after}
+use Rattle.format.specs.Answer.{Answer, good, refused, Position, at-offset, after}
 use Rattle.format.specs.Message.{found}
-use Rattle.format.proofs.Bridge.{at-offset}
 use Rattle.format.proofs.Holds.{Holds, next, done-holds}
 use Rattle.packets.specs.Memory.{Cache, Held}
 use Rattle.packets.specs.Header.{Reference, half, reference, references, header}

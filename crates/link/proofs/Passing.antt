@@ -5,8 +5,7 @@ use Prim.Native.Nat.{ℕ, zero, suc, _+_, _≤_, _<_}
 use native.Mathlib.Omega.{arith}
 use lib.ListN.{length, take, drop, length-append}
 use Rattle.format.specs.Text.{Coding}
-use Rattle.format.specs.Answer.{Answer, good, refused, Position}
-use Rattle.format.proofs.Bridge.{at-offset}
+use Rattle.format.specs.Answer.{Answer, good, refused, Position, at-offset}
 use Rattle.packets.specs.declared.Place.{Place}
 use Rattle.packets.specs.Memory.{Held}
 use Rattle.packets.specs.Header.{Reference, named, half, references}

@@ -7,10 +7,9 @@ use lib.ListN.{length, take, drop, length-drop}
 use lib.Seq.{sets}
 use borrow.Author.Tests.{eq-eqb, ne-eqb, le-leb, lt-leb}
 use Rattle.format.specs.Text.{Coding}
-use Rattle.format.specs.Answer.{Answer, good, refused, Position, after}
+use Rattle.format.specs.Answer.{Answer, good, refused, Position, at-offset, after}
 use Rattle.format.specs.AtomList.{AtomList}
 use Rattle.format.specs.Message.{found}
-use Rattle.format.proofs.Bridge.{at-offset}
 use Rattle.packets.specs.declared.Pending.{Pending}
 use Rattle.packets.specs.declared.Taken.{Taken}
 use Rattle.packets.specs.declared.PacketAnswer.{PacketAnswer}

@@ -8,9 +8,8 @@ use lib.Dec.{eqb}
 use lib.ListN.{length, drop, length-drop}
 use borrow.Author.Tests.{eq-eqb, ne-eqb, le-leb, lt-leb}
 use Rattle.format.specs.Text.{Coding}
-use Rattle.format.specs.Answer.{good, after}
+use Rattle.format.specs.Answer.{good, after, at-offset}
 use Rattle.format.specs.AtomList.{AtomList, of-size}
-use Rattle.format.proofs.Bridge.{at-offset}
 use Rattle.packets.specs.declared.Pending.{Pending}
 use Rattle.packets.specs.Memory.{Cache, cache-of, list-lent, cache-of-size, none-pending, held}
 use Rattle.packets.specs.Header.{Reference}

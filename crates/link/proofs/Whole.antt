@@ -7,10 +7,9 @@ use lib.Dec.{eqb}
 use lib.ListN.{length}
 use borrow.Author.Tests.{eqb-true, eq-eqb, ne-eqb, le-leb, lt-leb}
 use Rattle.format.specs.Text.{Coding}
-use Rattle.format.specs.Answer.{Answer, good, refused, Position, after}
+use Rattle.format.specs.Answer.{Answer, good, refused, Position, at-offset, after}
 use Rattle.format.specs.AtomList.{of-size}
 use Rattle.format.specs.Message.{found}
-use Rattle.format.proofs.Bridge.{at-offset}
 use Rattle.packets.specs.declared.Pending.{Pending}
 use Rattle.packets.specs.declared.Taken.{Taken}
 use Rattle.packets.specs.declared.PacketAnswer.{PacketAnswer}

@@ -4,8 +4,7 @@ use mathlib.Core.List.{List, []}
 use Prim.Native.Nat.{ℕ, _+_, _≤_, _<_}
 use lib.ListN.{length, drop}
 use Rattle.format.specs.Text.{Coding}
-use Rattle.format.specs.Answer.{Answer, good, refused, Position, Reading, _>>=_, _>>_, done, here, after}
-use Rattle.format.proofs.Bridge.{at-offset}
+use Rattle.format.specs.Answer.{Answer, good, refused, Position, at-offset, Reading, _>>=_, _>>_, done, here, after}
 use Rattle.format.specs.AtomList.{AtomList}
 use Rattle.format.specs.Message.{found as result-of}
 use Rattle.packets.specs.declared.Pending.{Pending}

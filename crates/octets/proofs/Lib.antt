@@ -2,3 +2,4 @@ pub mod Parts
 pub mod Stores
 pub mod Cleared
 pub mod Numbers
+pub mod Bits

@@ -1,17 +1,43 @@
 // Numbers in bytes, copies, clearing and comparison of parts of slices.
 ghost use mathlib.Core.Path.{_≡_};
 ghost use mathlib.Core.Bool.{true, false};
-ghost use Prim.Native.Nat.{_+_, _≤_, _<_};
+ghost use Prim.Native.Nat.{_+_, _-_, _^_, _≤_, _<_};
 ghost use lib.ListN.{length, take, drop};
 ghost use lib.Seq.{sets};
 ghost use Rattle.format.specs.Numbers.{big-endian, in-bytes};
 ghost use Rattle.octets.specs.Cleared.{cleared};
+ghost use Rattle.octets.specs.Parts.{high};
 
 // A byte as a number of a machine word.
 pub fn wide(x: u8) -> usize
     ensures { λ r. ⌜ (r ≡ x) × (r < 256) ⌝ }
 {
     x as usize
+}
+
+// 2 to the number of a byte's bits that do not count, where the first `bits` count.
+fn unit(bits: usize) -> usize
+    ensures { λ r. ⌜ (r ≡ 2 ^ (8 - bits)) × (1 ≤ r) ⌝ }
+{
+    match bits {
+        0 => 256,
+        1 => 128,
+        2 => 64,
+        3 => 32,
+        4 => 16,
+        5 => 8,
+        6 => 4,
+        7 => 2,
+        _ => 1,
+    }
+}
+
+// A byte with the bits zero that do not count, where the first `bits` count.
+pub fn high_bits(x: u8, bits: usize) -> usize
+    ensures { λ r. ⌜ (r ≡ high x bits) × (r < 256) ⌝ }
+{
+    let n = wide(x);
+    n - n % unit(bits)
 }
 
 // The number in the byte at `at`.

@@ -13,7 +13,7 @@ use Rattle.format.specs.Reading.{opening as term-opening, each, run, entries, r
 use Rattle.format.specs.AtomList.{of-size, place-length, place-bytes, place-text, atoms-of}
 use Rattle.format.specs.Message.{payload, ending, version, standalone-term, payload-terms, read}
 use Rattle.format.specs.Canonical.{big-bytes, integer-bytes, atom-bytes, tuple-bytes, port-bytes, words-bytes, small, all-small, long-list, list-bytes, term-bytes, canonical, canonical-standalone, standalones}
-use Rattle.format.specs.Writing.{written, write}
+use Rattle.format.specs.Writing.{Written, written, write}
 use Rattle.format.proofs.Cases.{empty-list}
 use Rattle.packets.specs.declared.Pending.{Pending}
 use Rattle.packets.specs.Memory.{Memory, cache-of-size, memory-of-size, record-true, none-pending, empty-cache, text-if, held-as, held, text}
@@ -71,7 +71,7 @@ pub record Seen : Type 0 where
   pub gathered : List ℕ
   pub texts : List (List ℕ)
   pub record-then : Pending
-  pub terms : Answer (List ℕ)
+  pub payload-written : Answer Written
 
 abbrev seen-of : Answer Outcome → Answer Outcome → Answer Outcome → Memory → Seen
 seen-of a b c m =
@@ -80,7 +80,7 @@ seen-of a b c m =
       gathered = take 30 (m .gather);
       texts = place-bytes (m .pending-list) 0 ∷ place-bytes (m .pending-list) 2 ∷ place-bytes (m .pending-list) 4 ∷ [];
       record-then = m .pending;
-      terms = write payload (m .pending-list) 8192 65536 (take 173 (m .gather));
+      payload-written = write payload (m .pending-list) 8192 65536 (take 173 (m .gather));
     }
 
 unfoldable pub example : Seen
@@ -102,7 +102,7 @@ pub record Cases : Type 0 where
     texts = (114 ∷ 101 ∷ 99 ∷ 118 ∷ 64 ∷ 104 ∷ 111 ∷ 115 ∷ 116 ∷ []) ∷ (114 ∷ 101 ∷ 103 ∷ [])
         ∷ (115 ∷ 101 ∷ 116 ∷ 95 ∷ 103 ∷ 101 ∷ 116 ∷ 95 ∷ 115 ∷ 116 ∷ 97 ∷ 116 ∷ 101 ∷ []) ∷ [];
     record-then = none-pending;
-    terms = good (131 ∷ 104 ∷ 4 ∷ 97 ∷ 6 ∷ 88 ∷ 119 ∷ 9 ∷ 114 ∷ 101 ∷ 99 ∷ 118 ∷ 64 ∷ 104 ∷ 111 ∷ 115 ∷ 116 ∷ 0 ∷ 0 ∷ 0 ∷ 85 ∷ 0 ∷ 0 ∷ 0 ∷ 0 ∷ 0 ∷ 0 ∷ 0 ∷ 2 ∷ 119 ∷ 9 ∷ 115 ∷ 101 ∷ 110 ∷ 100 ∷ 64 ∷ 104 ∷ 111 ∷ 115 ∷ 116 ∷ 119 ∷ 3 ∷ 114 ∷ 101 ∷ 103 ∷ 131 ∷ 104 ∷ 3 ∷ 119 ∷ 4 ∷ 99 ∷ 97 ∷ 108 ∷ 108 ∷ 88 ∷ 119 ∷ 9 ∷ 114 ∷ 101 ∷ 99 ∷ 118 ∷ 64 ∷ 104 ∷ 111 ∷ 115 ∷ 116 ∷ 0 ∷ 0 ∷ 0 ∷ 245 ∷ 0 ∷ 0 ∷ 0 ∷ 2 ∷ 0 ∷ 0 ∷ 0 ∷ 2 ∷ 104 ∷ 2 ∷ 119 ∷ 13 ∷ 115 ∷ 101 ∷ 116 ∷ 95 ∷ 103 ∷ 101 ∷ 116 ∷ 95 ∷ 115 ∷ 116 ∷ 97 ∷ 116 ∷ 101 ∷ 109 ∷ 0 ∷ 0 ∷ 0 ∷ 128 ∷ replicate 128 0);
+    payload-written = good (record { terms = 2; bytes = 131 ∷ 104 ∷ 4 ∷ 97 ∷ 6 ∷ 88 ∷ 119 ∷ 9 ∷ 114 ∷ 101 ∷ 99 ∷ 118 ∷ 64 ∷ 104 ∷ 111 ∷ 115 ∷ 116 ∷ 0 ∷ 0 ∷ 0 ∷ 85 ∷ 0 ∷ 0 ∷ 0 ∷ 0 ∷ 0 ∷ 0 ∷ 0 ∷ 2 ∷ 119 ∷ 9 ∷ 115 ∷ 101 ∷ 110 ∷ 100 ∷ 64 ∷ 104 ∷ 111 ∷ 115 ∷ 116 ∷ 119 ∷ 3 ∷ 114 ∷ 101 ∷ 103 ∷ 131 ∷ 104 ∷ 3 ∷ 119 ∷ 4 ∷ 99 ∷ 97 ∷ 108 ∷ 108 ∷ 88 ∷ 119 ∷ 9 ∷ 114 ∷ 101 ∷ 99 ∷ 118 ∷ 64 ∷ 104 ∷ 111 ∷ 115 ∷ 116 ∷ 0 ∷ 0 ∷ 0 ∷ 245 ∷ 0 ∷ 0 ∷ 0 ∷ 2 ∷ 0 ∷ 0 ∷ 0 ∷ 2 ∷ 104 ∷ 2 ∷ 119 ∷ 13 ∷ 115 ∷ 101 ∷ 116 ∷ 95 ∷ 103 ∷ 101 ∷ 116 ∷ 95 ∷ 115 ∷ 116 ∷ 97 ∷ 116 ∷ 101 ∷ 109 ∷ 0 ∷ 0 ∷ 0 ∷ 128 ∷ replicate 128 0 });
   }
 
 pub cases : Cases

@@ -9,7 +9,7 @@ use lib.Seq.{sets, length-sets}
 use Rattle.format.specs.Tree.{none, _▹_, _▹▹_, count, size, sizes}
 use Rattle.format.specs.Term.{Term}
 use Rattle.format.specs.Equal.{among}
-use Rattle.format.specs.Answer.{good, Reading, after, done, rule}
+use Rattle.format.specs.Answer.{Answer, good, Position, Reading, after, done, rule, at-offset}
 use Rattle.format.specs.Head.{Atoms, Wanted, any, pairs}
 use Rattle.format.specs.AtomList.{AtomList, of-size, atoms-of}
 use Rattle.format.specs.Reading.{Located, meaning, entries, term}
@@ -17,16 +17,18 @@ use Rattle.format.specs.Message.{Terms}
 use Rattle.format.specs.Rows.{Row, tree-rows, rows, kind-of, whole-code, words-of}
 use Rattle.format.proofs.Backed.{Backed, Backeds, term-backed}
 use Rattle.format.proofs.Backed as backing
-use Rattle.format.proofs.Bridge.{at-offset}
 use Rattle.format.proofs.RoundTrip.{join-none}
-use Rattle.format.proofs.Rows.{Each-node, Each-nodes, each-nodes-join, sizes-join, count-join, count-le-sizes, length-rows}
-use Rattle.format.proofs.Text.{Under}
+use Rattle.format.proofs.Rows.{Each-node, Each-nodes, size-positive, each-nodes-join, sizes-join, count-join, count-le-sizes, length-rows}
+use Rattle.format.proofs.Text.{under-all}
 use Rattle.format.proofs.Words.{Placed, small-rows, Here, sets-here, length-words-of}
 use Rattle.heads.specs.declared.Wanted.the-variants.{Any}
 use Rattle.heads.specs.Code.{lent, wanted-of}
 use Rattle.keys.specs.Compare.{among-rows}
+use Rattle.keys.specs.Seen.{Known, Keeps, term-hash, Recalls}
 use Rattle.keys.proofs.Compare.{Keys-of, no-keys, one-more-key}
 use Rattle.keys.proofs.Held.{Held-rows, last-among}
+use Rattle.keys.proofs.Slots.{keeps-trans, known-as, known-kept}
+use Rattle.keys.proofs.Seen.{Remembered, no-key, remembered-kept, remembered-more, recalled, hash-held}
 use Rattle.terms.specs.declared.Step.{Step}
 use Rattle.terms.specs.declared.Step.the-variants as step
 use Rattle.terms.specs.declared.Parts.{Parts}
@@ -42,14 +44,17 @@ Told m cap atoms places lengths first =
     (S : List ℕ) (us : Terms) (u : Located) (ks : List Term) → Keys-of us ks → Held-rows m cap atoms S (whole-of first) first (us ▹▹ (u ▹ none))
     → among-rows m places lengths S first (first + sizes us) ≡ among (meaning u) ks
 
-pub bytes-under : (m : List ℕ) → ((i : ℕ) → getD m i 0 < 256) → Under 256 m
-bytes-under [] h = tt
-bytes-under (b ∷ m) h = (h 0, bytes-under m (λ i. h (suc i)))
-
 pub keys-told : (n : ℕ) (places lengths m : List ℕ) (cap first : ℕ) → of-size (lent n places lengths) ≡ true → n < 256 → ((i : ℕ) → getD m i 0 < 256)
     → Told m cap (atoms-of (lent n places lengths)) places lengths first
 keys-told n places lengths m cap first sized few under S us u ks k h =
-    last-among (lent n places lengths) m (record { sized = sized; few = omega arith; under = bytes-under m under }) cap S us u k h
+    last-among (lent n places lengths) m (record { sized = sized; few = omega arith; under = under-all m (λ i _. under i) }) cap S us u k h
+
+-- a term that was read has a row
+pub term-inside : (m : List ℕ) (cap row whole : ℕ) (T : List ℕ) (o : Answer (Located × Position)) (r : Step) (T′ : List ℕ) (next end : ℕ) → r ≡ step.Got next end
+    → TermDone m cap row whole T o r T′ → row < cap
+term-inside m cap row whole T o r T′ next end e d =
+    let f = step-found size (λ t. words-of (tree-rows (whole-of whole) row t)) (Each-node (Placed 65536)) m cap row T o r T′ next end e d in
+    omega (arith, f .rows-are, f .room, size-positive (f .x))
 
 -- ts ▹▹ the two, and then the others
 two-more : (ts us : Terms) (k v : Located) → ts ▹▹ (k ▹ v ▹ us) ≡ (ts ▹▹ (k ▹ v ▹ none)) ▹▹ us
@@ -57,7 +62,7 @@ two-more none us k v = refl
 two-more (t ▹ ts) us k v = ap (λ (x : Terms). t ▹ x) (two-more ts us k v)
 
 -- the pairs read so far, with more to read from `at` on, in a map of `all` pairs whose parts start at the row `first` and the offset `start`
-pub record Entered (atoms : Atoms) (cap deep : ℕ) (m : List ℕ) (start first all : ℕ) (T₀ : List ℕ) (at row more : ℕ) (T : List ℕ) : Type 0 where
+pub record Entered (atoms : Atoms) (cap deep : ℕ) (m places lengths : List ℕ) (start first all : ℕ) (T₀ : List ℕ) (at row more : ℕ) (T L : List ℕ) : Type 0 where
   pub ts : Terms
   pub earlier : List Term
   pub keys : Keys-of ts earlier
@@ -67,10 +72,11 @@ pub record Entered (atoms : Atoms) (cap deep : ℕ) (m : List ℕ) (start first 
   pub backed : Backeds m cap atoms ts
   pub placed : Each-nodes (Placed 65536) ts
   pub goes : entries (term atoms cap deep) [] all (at-offset m start first) ≡ after (entries (term atoms cap deep) earlier more (at-offset m at row)) (λ us. done (ts ▹▹ us))
+  pub remembered : Remembered m places lengths (whole-of first) first first ts L
 
-pub entered-none : (atoms : Atoms) (cap deep : ℕ) (m : List ℕ) (start first all : ℕ) (T : List ℕ) → Entered atoms cap deep m start first all T start first all T
+pub entered-none : (atoms : Atoms) (cap deep : ℕ) (m places lengths : List ℕ) (start first all : ℕ) (T L : List ℕ) → Entered atoms cap deep m places lengths start first all T start first all T L
 unfolding rows words-of Each-node
-entered-none atoms cap deep m start first all T =
+entered-none atoms cap deep m places lengths start first all T L =
     record {
       ts = none;
       earlier = [];
@@ -81,9 +87,11 @@ entered-none atoms cap deep m start first all T =
       backed = tt;
       placed = tt;
       goes = after-done (entries (term atoms cap deep) [] all (at-offset m start first));
+      remembered = no-key;
     }
 
-module _ (atoms : Atoms) (cap deep : ℕ) (m : List ℕ) (start first all : ℕ) (T₀ : List ℕ) (at row more : ℕ) (T : List ℕ) (i : Entered atoms cap deep m start first all T₀ at row more T) where
+module _ (atoms : Atoms) (cap deep : ℕ) (m places lengths : List ℕ) (start first all : ℕ) (T₀ : List ℕ) (at row more : ℕ) (T L : List ℕ)
+    (i : Entered atoms cap deep m places lengths start first all T₀ at row more T L) where
   abbrev Map-done : ℕ → Parts → List ℕ → Type 0
   Map-done place r U = PartsDone m 0 cap first first T₀ (inner atoms cap deep place (pairs all) (at-offset m start first)) r U
 
@@ -131,9 +139,9 @@ module _ (atoms : Atoms) (cap deep : ℕ) (m : List ℕ) (start first all : ℕ)
       key-refused k p place U e =
           rw (i .goes, next-pair, step-refused _ _ _ m cap row T (Part any (at-offset m at row)) r T′ k p e d)
 
-      module _ (list : AtomList) (places lengths : List ℕ) (room : Room m list T cap at row first) (next end : ℕ) (e : r ≡ step.Got next end)
+      module _ (list : AtomList) (room : Room m list T cap at row first) (next end : ℕ) (e : r ≡ step.Got next end)
           (tell : Told m cap atoms places lengths first)
-          (b : Bool) (judged : b ≡ among-rows m places lengths T′ first row) where
+          (b : Bool) (L₁ : List ℕ) (kept₁ : Keeps L L₁) (judged : Recalls m places lengths T′ first row L₁ → b ≡ among-rows m places lengths T′ first row) where
         abbrev key : Found size (λ t. words-of (tree-rows (whole-of first) row t)) (Each-node (Placed 65536)) m cap row T (Part (wanted-of Any) (at-offset m at row)) next end T′
         key = step-found size _ _ m cap row T (Part (wanted-of Any) (at-offset m at row)) r T′ next end e d
 
@@ -169,8 +177,13 @@ module _ (atoms : Atoms) (cap deep : ℕ) (m : List ℕ) (start first all : ℕ)
               all-backed = backing.joined m cap atoms (i .ts) (key .x ▹ none) (i .backed) (backed-key, tt);
             }
 
+        recalls-keys : Recalls m places lengths T′ first row L₁
+        recalls-keys =
+            subst (λ (k : ℕ). Recalls m places lengths T′ first k L₁) (sym (i .rows-are))
+            (recalled m places lengths cap atoms (i .ts) (key .x) held (remembered-kept kept₁ (i .remembered)))
+
         is-among : b ≡ among (meaning (key .x)) (i .earlier)
-        is-among = judged ∙ ap (λ (k : ℕ). among-rows m places lengths T′ first k) (i .rows-are) ∙ tell T′ (i .ts) (key .x) (i .earlier) (i .keys) held
+        is-among = judged recalls-keys ∙ ap (λ (k : ℕ). among-rows m places lengths T′ first k) (i .rows-are) ∙ tell T′ (i .ts) (key .x) (i .earlier) (i .keys) held
 
         pub key-twice : (place : ℕ) (U : List ℕ) → b ≡ true → Map-done place (found.Refused 7 at) U
         unfolding inner Done wanted-of
@@ -182,9 +195,18 @@ module _ (atoms : Atoms) (cap deep : ℕ) (m : List ℕ) (start first all : ℕ)
           value-refused k p place U f =
               rw (i .goes, next-pair, key .is, sym is-among ∙ new, step-refused _ _ _ m cap end T′ (Part any (at-offset m next end)) r′ T″ k p f d′)
 
-          pub entered-more : (next′ end′ : ℕ) → r′ ≡ step.Got next′ end′ → Entered atoms cap deep m start first all T₀ next′ end′ (more - 1) T″
+          -- the new key is remembered, and so are the others
+          remembered-key : (v : Located) (L₂ L₃ : List ℕ) → Keeps L₁ L₂ → Keeps L₂ L₃ → Known L₂ (term-hash m places lengths T′ first row) row
+              → Remembered m places lengths (whole-of first) first first (i .ts ▹▹ (key .x ▹ v ▹ none)) L₃
+          remembered-key v L₂ L₃ kept₂ kept₃ known =
+              remembered-more (key .x) v (remembered-kept (keeps-trans kept₁ (keeps-trans kept₂ kept₃)) (i .remembered))
+              (known-as (hash-held m places lengths cap atoms (i .ts) (key .x) held)
+              (subst (λ (k : ℕ). Known L₃ (term-hash m places lengths T′ first k) k) (i .rows-are) (known-kept kept₃ known)))
+
+          pub entered-more : (next′ end′ : ℕ) → r′ ≡ step.Got next′ end′ → (L₂ L₃ : List ℕ) → Keeps L₁ L₂ → Keeps L₂ L₃ → (b ≡ false → Known L₂ (term-hash m places lengths T′ first row) row)
+              → Entered atoms cap deep m places lengths start first all T₀ next′ end′ (more - 1) T″ L₃
           unfolding rows Each-node wanted-of
-          entered-more next′ end′ f =
+          entered-more next′ end′ f L₂ L₃ kept₂ kept₃ known =
               let value : Found size (λ t. words-of (tree-rows (whole-of first) end t)) (Each-node (Placed 65536)) m cap end T′ (Part any (at-offset m next end)) next′ end′ T″
               = step-found size _ _ m cap end T′ (Part any (at-offset m next end)) r′ T″ next′ end′ f d′ in
               let ts : Terms = i .ts in
@@ -210,4 +232,5 @@ module _ (atoms : Atoms) (cap deep : ℕ) (m : List ℕ) (start first all : ℕ)
                 backed = backing.joined m cap atoms ts (k ▹ v ▹ none) (i .backed) (backed-key, (bv, tt));
                 placed = each-nodes-join (Placed 65536) ts (k ▹ v ▹ none) (i .placed) (key .from, (value .from, tt));
                 goes = pair-read k v next end next′ end′ (key .is) (sym is-among ∙ new) (value .is);
+                remembered = remembered-key v L₂ L₃ kept₂ kept₃ (known new);
               }

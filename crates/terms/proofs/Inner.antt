@@ -7,12 +7,11 @@ use lib.ListN.{length, drop, replicate, length-drop, drop-of-length-le}
 use lib.Seq.{sets}
 use Rattle.format.specs.Tree.{none, _▹_, _▹▹_, count, size, sizes}
 use Rattle.format.specs.Term.{Label, list, improper-list}
-use Rattle.format.specs.Answer.{Answer, good, refused, Position, Reading, after, done}
+use Rattle.format.specs.Answer.{Answer, good, refused, Position, at-offset, Reading, after, done}
 use Rattle.format.specs.Head.{Atoms, Wanted, Head, parts, characters, elements, pairs, Later, later}
 use Rattle.format.specs.Reading.{Located, each, run, string, tail, opening, body, term}
 use Rattle.format.specs.Message.{Terms}
 use Rattle.format.specs.Rows.{Row, tree-rows, rows, kind-of, words-of}
-use Rattle.format.proofs.Bridge.{at-offset}
 use Rattle.format.proofs.Holds.{Holds}
 use Rattle.format.proofs.Invariant.{run-kept, term-kept}
 use Rattle.format.proofs.Rows.{Each-node, Each-nodes, each-nodes-join, sizes-join, count-join, count-le-sizes}

@@ -4,5 +4,6 @@ pub mod Openings
 pub mod Runs
 pub mod Bodies
 pub mod Inner
+pub mod Quick
 pub mod Entries
 pub mod Message

@@ -10,24 +10,26 @@ use lib.ListN.{length, getD, drop, replicate, drop-of-length-le}
 use lib.Seq.{sets, drop-cons}
 use borrow.Author.Tests.{eq-eqb, ne-eqb, le-leb, lt-leb, leb-true}
 use Rattle.format.specs.Tree.{none, _▹_, count, size, sizes}
-use Rattle.format.specs.Answer.{Answer, good, refused, Position, Reading, after, done}
+use Rattle.format.specs.Answer.{Answer, good, refused, Position, at-offset, Reading, after, done}
 use Rattle.format.specs.Answers.{read-answer}
 use Rattle.format.specs.AtomList.{AtomList, of-size, atoms-of}
 use Rattle.format.specs.Head.{Atoms, any}
-use Rattle.format.specs.Message.{Framing, Terms, version, ending, standalone-term, payload-terms, terms-framed, found, first-check, read}
+use Rattle.format.specs.Message as message
+use Rattle.format.specs.Message.{Terms, version, ending, standalone-term, payload-terms, terms-framed, found, first-check, read}
 use Rattle.format.specs.Reading.{Located, term}
 use Rattle.format.specs.Rows.{Row, tree-rows, rows, words-of, table-after}
 use Rattle.format.specs.declared.Refusal.{Refusal}
 use Rattle.format.specs.declared.ReadAnswer.{ReadAnswer}
 use Rattle.format.specs.declared.ReadAnswer.the-variants as reads
-use Rattle.format.proofs.Bridge.{at-offset}
 use Rattle.format.proofs.Rows.{Each-node, length-rows}
 use Rattle.format.proofs.Words.{Placed, length-words-of}
 use Rattle.octets.specs.Cleared.{cleared}
 use Rattle.octets.proofs.Cleared.{cleared-all, cleared-sets}
 use Rattle.terms.specs.declared.Step.{Step}
 use Rattle.terms.specs.declared.Step.the-variants.{Got, Refused}
-use Rattle.terms.specs.Code.{whole-of, Room, Done, TermDone, MessageDone, first-number, first-refusal, rows-in}
+use Rattle.terms.specs.declared.Framing.{Framing}
+use Rattle.terms.specs.declared.Framing.the-variants.{Standalone, Payload}
+use Rattle.terms.specs.Code.{whole-of, framing-of, Room, Done, TermDone, MessageDone, first-number, first-refusal, rows-in}
 use Rattle.terms.proofs.Runs.{after-same}
 use Rattle.terms.proofs.Found.{Found, step-found, step-refused, joined-words}
 
@@ -185,6 +187,20 @@ module _ (atoms : Atoms) (cap : ℕ) (m : List ℕ) (T : List ℕ) (r : Step) (T
               },
             )
 
+-- ---- either
+
+module _ (atoms : Atoms) (cap : ℕ) (m T : List ℕ) (framing : Framing) (r : ReadAnswer) (U : List ℕ) where
+  abbrev Framed-done : Type 0
+  Framed-done = MessageDone m cap T (terms-framed atoms cap (framing-of framing) (at-offset m 0 0)) r U
+
+  pub framed-standalone : framing ≡ Standalone → MessageDone m cap T (standalone-term atoms cap (at-offset m 0 0)) r U → Framed-done
+  unfolding framing-of
+  framed-standalone e d = rw e d
+
+  pub framed-payload : framing ≡ Payload → MessageDone m cap T (payload-terms atoms cap (at-offset m 0 0)) r U → Framed-done
+  unfolding framing-of
+  framed-payload e d = rw e d
+
 -- ---- `first_refusal`
 
 module _ (list : AtomList) (m : List ℕ) where
@@ -205,7 +221,7 @@ module _ (list : AtomList) (m : List ℕ) where
   first-none e f h = rw (eq-eqb (length (list .places)) 8160 e, eq-eqb (length (list .lengths)) 255 f, le-leb (length m) 65536 h)
 
   -- what reading answers after it
-  pub read-refused : (framing : Framing) (lent k : ℕ) → k ≡ first-refusal list m → (k ≡ 0 → ⊥) → read framing list lent m ≡ refused k 0
+  pub read-refused : (framing : message.Framing) (lent k : ℕ) → k ≡ first-refusal list m → (k ≡ 0 → ⊥) → read framing list lent m ≡ refused k 0
   unfolding first-refusal first-number read
   read-refused framing lent k e h = go (of-size list) (leb (length m) 65536) e
     where
@@ -225,7 +241,7 @@ module _ (list : AtomList) (m : List ℕ) where
       go true false x y e = absurd (omega arith)
       go true true x y e = (x, leb-true (length m) 65536 y)
 
-  pub read-goes : (framing : Framing) (lent : ℕ) → 0 ≡ first-refusal list m
+  pub read-goes : (framing : message.Framing) (lent : ℕ) → 0 ≡ first-refusal list m
       → read framing list lent m ≡ found (terms-framed (atoms-of list) (min 8192 lent) framing (at-offset m 0 0))
   unfolding read
   read-goes framing lent e = let h = read-first e in rw (h .0, le-leb (length m) 65536 (h .1))
@@ -258,13 +274,13 @@ settled m cap T (good y) a T′ U wide long d e =
       e ∙ ap₂ cleared f (d .1 .table-is) ∙ cleared-sets T ws (sizes ts) n (omega (arith, d .1 .room)) ∙ ap (λ (k : ℕ). ws ++ replicate (length T - k) 0) (sym n),
     )
 
-pub refused-first : (framing : Framing) (list : AtomList) (m T : List ℕ) (k : ℕ) (a : ReadAnswer) (U : List ℕ) → k ≡ first-refusal list m → (k ≡ 0 → ⊥)
+pub refused-first : (framing : message.Framing) (list : AtomList) (m T : List ℕ) (k : ℕ) (a : ReadAnswer) (U : List ℕ) → k ≡ first-refusal list m → (k ≡ 0 → ⊥)
     → (a ≡ refusal k 0) × (U ≡ cleared (rows-in (refusal k 0)) T) → (a ≡ read-answer (read framing list (length T) m)) × (U ≡ table-after (length T) (read framing list (length T) m))
 unfolding rows-in read-answer table-after
 refused-first framing list m T k a U e h d =
     rw (read-refused list m framing (length T) k e h) (d .0, d .1 ∙ cleared-all T)
 
-pub read-whole : (framing : Framing) (list : AtomList) (m T : List ℕ) (k cap : ℕ) (r a : ReadAnswer) (T′ U : List ℕ) → k ≡ first-refusal list m → k ≡ 0 → cap ≡ min (length T) 8192 → length T′ ≡ length T
+pub read-whole : (framing : message.Framing) (list : AtomList) (m T : List ℕ) (k cap : ℕ) (r a : ReadAnswer) (T′ U : List ℕ) → k ≡ first-refusal list m → k ≡ 0 → cap ≡ min (length T) 8192 → length T′ ≡ length T
     → MessageDone m cap T (terms-framed (atoms-of list) cap framing (at-offset m 0 0)) r T′ → (a ≡ r) × (U ≡ cleared (rows-in r) T′)
     → (a ≡ read-answer (read framing list (length T) m)) × (U ≡ table-after (length T) (read framing list (length T) m))
 read-whole framing list m T k cap r a T′ U e z c long d f =

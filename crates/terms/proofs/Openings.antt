@@ -4,12 +4,11 @@ use mathlib.Core.List.{List, [], _∷_}
 use Prim.Native.Nat.{ℕ, _+_, _≤_, _<_}
 use native.Mathlib.Omega.{arith}
 use lib.ListN.{length, drop}
-use Rattle.format.specs.Answer.{Answer, good, refused, Position}
+use Rattle.format.specs.Answer.{Answer, good, refused, Position, at-offset}
 use Rattle.format.specs.Head.{Atoms, Wanted, Head, parts, characters, elements, pairs, Later, later}
 use Rattle.format.specs.Reading.{opening}
 use Rattle.format.proofs.Backed.{Chars-at, On-chars, Opened, opening-backed}
 use Rattle.format.proofs.Backed as backing
-use Rattle.format.proofs.Bridge.{at-offset}
 use Rattle.format.proofs.Holds.{Holds}
 use Rattle.format.proofs.Invariant.{later-kept}
 use Rattle.heads.specs.declared.Head as code

@@ -9,15 +9,15 @@ use lib.ListN.{length, replicate}
 use lib.Seq.{sets}
 use Rattle.format.specs.Tree.{Forest, _▹_, _▹▹_, count, size, sizes}
 use Rattle.format.specs.Term.{Label, list, improper-list, map}
-use Rattle.format.specs.Answer.{Answer, good, refused, Position, Reading, _>>=_, done}
+use Rattle.format.specs.Answer.{Answer, good, refused, Position, at-offset, Reading, _>>=_, done}
 use Rattle.format.specs.Head.{Atoms, Wanted, an-atom, an-arity, Head, parts, characters, elements, pairs, later}
 use Rattle.format.specs.AtomList.{AtomList, of-size}
 use Rattle.format.specs.Reading.{Located, bytes-left, each, run, entries, string, tail, body, term}
+use Rattle.format.specs.Message as message
 use Rattle.format.specs.Message.{Terms}
 use Rattle.format.specs.Rows.{tree-rows, rows, kind-of, pack, words-of}
 use Rattle.format.specs.declared.ReadAnswer.{ReadAnswer}
 use Rattle.format.specs.declared.ReadAnswer.the-variants as reads
-use Rattle.format.proofs.Bridge.{at-offset}
 use Rattle.format.proofs.Rows.{Each-node, Each-nodes}
 use Rattle.format.proofs.Words.{Placed}
 use Rattle.heads.specs.declared.Head as code
@@ -26,6 +26,8 @@ use Rattle.terms.specs.declared.Step.{Step}
 use Rattle.terms.specs.declared.Step.the-variants as step
 use Rattle.terms.specs.declared.Parts.{Parts}
 use Rattle.terms.specs.declared.Parts.the-variants as found
+use Rattle.terms.specs.declared.Framing.{Framing}
+use Rattle.terms.specs.declared.Framing.the-variants as framing
 
 -- the whole that a number in a row's word stands for: its row plus 1, or 0
 unfoldable pub whole-of : ℕ → Option ℕ
@@ -140,6 +142,11 @@ PartsDone m before cap row whole =
 abbrev pub MessageDone : List ℕ → ℕ → List ℕ → Answer (Terms × Position) → ReadAnswer → List ℕ → Type 0
 MessageDone m cap =
     Done (λ ts next end. reads.Terms (count ts) end) (λ n p. reads.Refused (record { number = n; place = p })) sizes (λ ts. words-of (rows none 0 ts)) (λ ts. Unit {0}) m cap 0
+
+-- how the terms of a message are set
+unfoldable pub framing-of : Framing → message.Framing
+framing-of framing.Standalone = message.standalone
+framing-of framing.Payload = message.payload
 
 -- the refusal before any byte is read: 13, then 12; 0 for none
 unfoldable pub first-number : Bool → Bool → ℕ

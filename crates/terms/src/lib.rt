@@ -5,21 +5,25 @@ use heads::Head;
 use heads::Later;
 use heads::Wanted;
 ghost use mathlib.Core.Path.{_≡_};
+ghost use mathlib.Core.Bool.{true};
 ghost use mathlib.Core.List.{List};
-ghost use Prim.Native.Nat.{ℕ, _+_, _≤_, _<_, min};
+ghost use Prim.Native.Nat.{ℕ, _+_, _/_, _%_, _≤_, _<_, min};
 ghost use lib.ListN.{length, drop, replicate};
 ghost use lib.Seq.{sets};
 ghost use Rattle.format.specs.Answers.{read-answer};
 ghost use Rattle.format.specs.AtomList.{atoms-of};
 ghost use Rattle.format.specs.Head as format;
-ghost use Rattle.format.specs.Head.{characters, elements, pairs, parts};
-ghost use Rattle.format.specs.Message.{standalone, payload, read, outermost, standalone-term, payload-terms};
+ghost use Rattle.format.specs.Head.{any, characters, elements, pairs, parts, head};
+ghost use Rattle.format.specs.Message.{standalone, payload, read, outermost, standalone-term, payload-terms, terms-framed};
 ghost use Rattle.format.specs.Reading.{each, tail, body, term};
 ghost use Rattle.format.specs.Rows.{table-after};
-ghost use Rattle.format.proofs.Bridge.{at-offset};
+ghost use Rattle.format.specs.Answer.{at-offset};
 ghost use Rattle.octets.specs.Cleared.{cleared};
-ghost use Rattle.heads.specs.Code.{lent, wanted-of, later-of, kind-later, head-at};
-ghost use Rattle.terms.specs.Code.{first-refusal, rows-in, asked, character-words, Room, Sound, Opens, inner, last, TermDone, RunDone, PartsDone, MessageDone};
+ghost use Rattle.heads.specs.Code.{lent, wanted-of, later-of, kind-later, head-at, head-of};
+ghost use Rattle.heads.specs.Quick.{quick-word};
+ghost use Rattle.heads.proofs.Common.{Told};
+ghost use Rattle.keys.specs.Seen.{Keeps};
+ghost use Rattle.terms.specs.Code.{first-refusal, rows-in, asked, character-words, framing-of, Room, Sound, Opens, inner, last, TermDone, RunDone, PartsDone, MessageDone};
 
 // What reading a term, or some terms in turn, comes to: the offset and the row past it, or a refusal.
 pub enum Step {
@@ -41,6 +45,12 @@ pub enum Parts {
     },
 }
 
+// How the terms of a message are set: as a standalone term, or as a payload.
+pub enum Framing {
+    Standalone,
+    Payload,
+}
+
 fn at_most(n: usize, most: usize) -> usize
     ensures { λ r. ⌜ r ≡ min n most ⌝ }
 {
@@ -54,6 +64,7 @@ fn read_term(
     places: &[u8],
     lengths: &[u16],
     table: &mut [u64],
+    seen: &mut [u16],
     at: usize,
     row: usize,
     whole: usize,
@@ -62,8 +73,27 @@ fn read_term(
     wanted: Wanted,
 ) -> Step
     requires { ⌜ Room (now msg) (lent n (now places) (now lengths)) (now table) cap at row whole ⌝ }
+    requires { ⌜ 0 < length (now seen) ⌝ }
     ensures { λ r. ⌜ TermDone (now (msg .entry)) cap row whole (now (table .entry)) (term (atoms-of (lent n (now (places .entry)) (now (lengths .entry)))) cap left (wanted-of wanted) (at-offset (now (msg .entry)) at row)) r (now (table .exit)) ⌝ }
+    ensures { λ _. ⌜ Keeps (now (seen .entry)) (now (seen .exit)) ⌝ }
 {
+    let word = heads::quick_at(msg, n, places, lengths, at, wanted);
+    if word != 0 {
+        return read_quick(
+            msg,
+            n,
+            places,
+            lengths,
+            table,
+            seen,
+            at,
+            row,
+            whole,
+            left,
+            cap,
+            word,
+        );
+    }
     let opening = heads::read_opening(msg, n, places, lengths, at, wanted);
     let place = opening.place;
     let head = opening.head;
@@ -75,6 +105,7 @@ fn read_term(
             places,
             lengths,
             table,
+            seen,
             place,
             head,
             row,
@@ -85,6 +116,147 @@ fn read_term(
     }
 }
 
+// A common term, whose head is in `word`. Its own row is stored after its parts.
+fn read_quick(
+    msg: &[u8],
+    n: u8,
+    places: &[u8],
+    lengths: &[u16],
+    table: &mut [u64],
+    seen: &mut [u16],
+    at: usize,
+    row: usize,
+    whole: usize,
+    left: usize,
+    cap: usize,
+    word: u64,
+) -> Step
+    requires { ⌜ Room (now msg) (lent n (now places) (now lengths)) (now table) cap at row whole × (word ≡ 0 → ⊥) × ((rows : ℕ) → word ≡ quick-word (head-of (head (atoms-of (lent n (now places) (now lengths))) any (at-offset (now msg) at rows)))) ⌝ }
+    requires { ⌜ 0 < length (now seen) ⌝ }
+    ensures { λ r. ⌜ TermDone (now (msg .entry)) cap row whole (now (table .entry)) (term (atoms-of (lent n (now (places .entry)) (now (lengths .entry)))) cap left any (at-offset (now (msg .entry)) at row)) r (now (table .exit)) ⌝ }
+    ensures { λ _. ⌜ Keeps (now (seen .entry)) (now (seen .exit)) ⌝ }
+{
+    if left == 0 {
+        return Step::Refused {
+            number: 8,
+            place: at,
+        };
+    }
+    if cap <= row {
+        return Step::Refused {
+            number: 9,
+            place: at,
+        };
+    }
+    match read_common(
+        msg,
+        n,
+        places,
+        lengths,
+        table,
+        seen,
+        row + 1,
+        left - 1,
+        cap,
+        word,
+    ) {
+        Parts::Refused { number, place } => Step::Refused { number, place },
+        Parts::Got {
+            next,
+            rows,
+            parts,
+            kind,
+        } => {
+            table[row] = row::pack(kind, at, whole, parts, rows - row);
+            Step::Got { next, rows }
+        }
+    }
+}
+
+// The parts of a common term, whose head is in `word`, from `row` on; their whole is the row before.
+fn read_common(
+    msg: &[u8],
+    n: u8,
+    places: &[u8],
+    lengths: &[u16],
+    table: &mut [u64],
+    seen: &mut [u16],
+    row: usize,
+    deep: usize,
+    cap: usize,
+    word: u64,
+) -> Parts
+    requires { ⌜ Room (now msg) (lent n (now places) (now lengths)) (now table) cap (word / 16 % 131072) row row ⌝ }
+    requires { ⌜ 0 < length (now seen) ⌝ }
+    ensures { λ r. ⌜ ((place : ℕ) (h : format.Head) (next : ℕ) → Told word h next → PartsDone (now (msg .entry)) 0 cap row row (now (table .entry)) (inner (atoms-of (lent n (now (places .entry)) (now (lengths .entry)))) cap deep place h (at-offset (now (msg .entry)) next row)) r (now (table .exit))) ⌝ }
+    ensures { λ _. ⌜ Keeps (now (seen .entry)) (now (seen .exit)) ⌝ }
+{
+    let kind = (word % 16) as usize;
+    let at = (word / 16 % 131072) as usize;
+    let count = (word / 2097152) as usize;
+    if count == 0 {
+        return Parts::Got {
+            next: at,
+            rows: row,
+            parts: 0,
+            kind,
+        };
+    }
+    if kind == 14 {
+        return read_list(
+            msg,
+            n,
+            places,
+            lengths,
+            table,
+            seen,
+            at,
+            row,
+            deep,
+            cap,
+            count,
+        );
+    }
+    if kind == 15 {
+        return read_pairs(
+            msg,
+            n,
+            places,
+            lengths,
+            table,
+            seen,
+            at,
+            row,
+            deep,
+            cap,
+            count,
+        );
+    }
+    match read_run(
+        msg,
+        n,
+        places,
+        lengths,
+        table,
+        seen,
+        at,
+        row,
+        row,
+        deep,
+        cap,
+        Wanted::Any,
+        count,
+    ) {
+        Step::Refused { number, place } => Parts::Refused { number, place },
+        Step::Got { next, rows } => Parts::Got {
+            next,
+            rows,
+            parts: count,
+            kind,
+        },
+    }
+}
+
 // The term at `place`, whose tag and fields are read. Its own row is stored after its parts.
 fn read_body(
     msg: &[u8],
@@ -92,6 +264,7 @@ fn read_body(
     places: &[u8],
     lengths: &[u16],
     table: &mut [u64],
+    seen: &mut [u16],
     place: usize,
     head: Head,
     row: usize,
@@ -100,7 +273,9 @@ fn read_body(
     cap: usize,
 ) -> Step
     requires { ⌜ Room (now msg) (lent n (now places) (now lengths)) (now table) cap place row whole × Opens (now msg) place head ⌝ }
+    requires { ⌜ 0 < length (now seen) ⌝ }
     ensures { λ r. ⌜ ((h : format.Head) (next : ℕ) → head ≡ head-at h next → Sound (now (msg .entry)) place next h → TermDone (now (msg .entry)) cap row whole (now (table .entry)) (body (atoms-of (lent n (now (places .entry)) (now (lengths .entry)))) cap left place h (at-offset (now (msg .entry)) next row)) r (now (table .exit))) ⌝ }
+    ensures { λ _. ⌜ Keeps (now (seen .entry)) (now (seen .exit)) ⌝ }
 {
     if left == 0 {
         return Step::Refused { number: 8, place };
@@ -114,6 +289,7 @@ fn read_body(
         places,
         lengths,
         table,
+        seen,
         place,
         head,
         row + 1,
@@ -140,6 +316,7 @@ fn read_inner(
     places: &[u8],
     lengths: &[u16],
     table: &mut [u64],
+    seen: &mut [u16],
     place: usize,
     head: Head,
     row: usize,
@@ -147,7 +324,9 @@ fn read_inner(
     cap: usize,
 ) -> Parts
     requires { ⌜ Room (now msg) (lent n (now places) (now lengths)) (now table) cap place row row × Opens (now msg) place head ⌝ }
+    requires { ⌜ 0 < length (now seen) ⌝ }
     ensures { λ r. ⌜ ((h : format.Head) (next : ℕ) → head ≡ head-at h next → Sound (now (msg .entry)) place next h → PartsDone (now (msg .entry)) 0 cap row row (now (table .entry)) (inner (atoms-of (lent n (now (places .entry)) (now (lengths .entry)))) cap deep place h (at-offset (now (msg .entry)) next row)) r (now (table .exit))) ⌝ }
+    ensures { λ _. ⌜ Keeps (now (seen .entry)) (now (seen .exit)) ⌝ }
 {
     match head {
         Head::Refused { number, place } => Parts::Refused { number, place },
@@ -163,6 +342,7 @@ fn read_inner(
             places,
             lengths,
             table,
+            seen,
             place,
             next,
             row,
@@ -177,10 +357,34 @@ fn read_inner(
             read_characters(table, place, count, next, row, row, deep, cap, 0)
         }
         Head::Elements { count, next } => {
-            read_list(msg, n, places, lengths, table, next, row, deep, cap, count)
+            read_list(
+                msg,
+                n,
+                places,
+                lengths,
+                table,
+                seen,
+                next,
+                row,
+                deep,
+                cap,
+                count,
+            )
         }
         Head::Pairs { count, next } => {
-            read_pairs(msg, n, places, lengths, table, next, row, deep, cap, count)
+            read_pairs(
+                msg,
+                n,
+                places,
+                lengths,
+                table,
+                seen,
+                next,
+                row,
+                deep,
+                cap,
+                count,
+            )
         }
     }
 }
@@ -192,6 +396,7 @@ fn read_parts(
     places: &[u8],
     lengths: &[u16],
     table: &mut [u64],
+    seen: &mut [u16],
     place: usize,
     at: usize,
     row: usize,
@@ -203,7 +408,9 @@ fn read_parts(
     later: Later,
 ) -> Parts
     requires { ⌜ Room (now msg) (lent n (now places) (now lengths)) (now table) cap at row row ⌝ }
+    requires { ⌜ 0 < length (now seen) ⌝ }
     ensures { λ r. ⌜ ((l : format.Later) → kind ≡ kind-later l → later-of l ≡ later → PartsDone (now (msg .entry)) 0 cap row row (now (table .entry)) (inner (atoms-of (lent n (now (places .entry)) (now (lengths .entry)))) cap deep place (parts (asked wanted) count l) (at-offset (now (msg .entry)) at row)) r (now (table .exit))) ⌝ }
+    ensures { λ _. ⌜ Keeps (now (seen .entry)) (now (seen .exit)) ⌝ }
 {
     match read_wanted(
         msg,
@@ -211,6 +418,7 @@ fn read_parts(
         places,
         lengths,
         table,
+        seen,
         at,
         row,
         row,
@@ -225,6 +433,7 @@ fn read_parts(
             places,
             lengths,
             table,
+            seen,
             next,
             rows,
             row,
@@ -254,6 +463,7 @@ fn read_wanted(
     places: &[u8],
     lengths: &[u16],
     table: &mut [u64],
+    seen: &mut [u16],
     at: usize,
     row: usize,
     whole: usize,
@@ -262,7 +472,9 @@ fn read_wanted(
     wanted: usize,
 ) -> Step
     requires { ⌜ Room (now msg) (lent n (now places) (now lengths)) (now table) cap at row whole ⌝ }
+    requires { ⌜ 0 < length (now seen) ⌝ }
     ensures { λ r. ⌜ RunDone (now (msg .entry)) wanted cap row whole (now (table .entry)) (each (term (atoms-of (lent n (now (places .entry)) (now (lengths .entry)))) cap deep) (asked wanted) (at-offset (now (msg .entry)) at row)) r (now (table .exit)) ⌝ }
+    ensures { λ _. ⌜ Keeps (now (seen .entry)) (now (seen .exit)) ⌝ }
 {
     let atoms = at_most(wanted, 2);
     match read_run(
@@ -271,6 +483,7 @@ fn read_wanted(
         places,
         lengths,
         table,
+        seen,
         at,
         row,
         whole,
@@ -286,6 +499,7 @@ fn read_wanted(
             places,
             lengths,
             table,
+            seen,
             next,
             rows,
             whole,
@@ -297,6 +511,22 @@ fn read_wanted(
     }
 }
 
+// Whether a word is the head of a term without parts, and there are a level and a row for it.
+fn is_leaf(word: u64, deep: usize, row: usize, cap: usize) -> bool
+    ensures { λ r. ⌜ (r ≡ true → (word ≡ 0 → ⊥) × (word < 2097152) × (deep ≡ 0 → ⊥) × (row < cap)) ⌝ }
+{
+    if word == 0 {
+        return false;
+    }
+    if 2097152 <= word {
+        return false;
+    }
+    if deep == 0 {
+        return false;
+    }
+    row < cap
+}
+
 // `count` terms in turn.
 fn read_run(
     msg: &[u8],
@@ -304,6 +534,7 @@ fn read_run(
     places: &[u8],
     lengths: &[u16],
     table: &mut [u64],
+    seen: &mut [u16],
     at: usize,
     row: usize,
     whole: usize,
@@ -313,18 +544,29 @@ fn read_run(
     count: usize,
 ) -> Step
     requires { ⌜ Room (now msg) (lent n (now places) (now lengths)) (now table) cap at row whole ⌝ }
+    requires { ⌜ 0 < length (now seen) ⌝ }
     ensures { λ r. ⌜ RunDone (now (msg .entry)) count cap row whole (now (table .entry)) (each (term (atoms-of (lent n (now (places .entry)) (now (lengths .entry)))) cap deep) (replicate count (wanted-of wanted)) (at-offset (now (msg .entry)) at row)) r (now (table .exit)) ⌝ }
+    ensures { λ _. ⌜ Keeps (now (seen .entry)) (now (seen .exit)) ⌝ }
 {
     let mut at_now = at;
     let mut row_now = row;
     let mut more = count;
     while more > 0 {
+        let word = heads::leaf_at(msg, at_now, wanted);
+        if is_leaf(word, deep, row_now, cap) {
+            table[row_now] = row::pack((word % 16) as usize, at_now, whole, 0, 1);
+            at_now = (word / 16) as usize;
+            row_now += 1;
+            more -= 1;
+            continue;
+        }
         match read_term(
             msg,
             n,
             places,
             lengths,
             table,
+            seen,
             at_now,
             row_now,
             whole,
@@ -403,6 +645,7 @@ fn read_list(
     places: &[u8],
     lengths: &[u16],
     table: &mut [u64],
+    seen: &mut [u16],
     at: usize,
     row: usize,
     deep: usize,
@@ -410,7 +653,9 @@ fn read_list(
     count: usize,
 ) -> Parts
     requires { ⌜ Room (now msg) (lent n (now places) (now lengths)) (now table) cap at row row ⌝ }
+    requires { ⌜ 0 < length (now seen) ⌝ }
     ensures { λ r. ⌜ ((place : ℕ) → PartsDone (now (msg .entry)) 0 cap row row (now (table .entry)) (inner (atoms-of (lent n (now (places .entry)) (now (lengths .entry)))) cap deep place (elements count) (at-offset (now (msg .entry)) at row)) r (now (table .exit))) ⌝ }
+    ensures { λ _. ⌜ Keeps (now (seen .entry)) (now (seen .exit)) ⌝ }
 {
     match read_run(
         msg,
@@ -418,6 +663,7 @@ fn read_list(
         places,
         lengths,
         table,
+        seen,
         at,
         row,
         row,
@@ -433,6 +679,7 @@ fn read_list(
             places,
             lengths,
             table,
+            seen,
             next,
             rows,
             row,
@@ -450,6 +697,7 @@ fn read_tail(
     places: &[u8],
     lengths: &[u16],
     table: &mut [u64],
+    seen: &mut [u16],
     at: usize,
     row: usize,
     whole: usize,
@@ -458,7 +706,9 @@ fn read_tail(
     before: usize,
 ) -> Parts
     requires { ⌜ Room (now msg) (lent n (now places) (now lengths)) (now table) cap at row whole × (before ≤ row) ⌝ }
+    requires { ⌜ 0 < length (now seen) ⌝ }
     ensures { λ r. ⌜ PartsDone (now (msg .entry)) before cap row whole (now (table .entry)) (tail (atoms-of (lent n (now (places .entry)) (now (lengths .entry)))) cap deep (body (atoms-of (lent n (now (places .entry)) (now (lengths .entry)))) cap deep) (drop at (now (msg .entry))) (at-offset (now (msg .entry)) at row)) r (now (table .exit)) ⌝ }
+    ensures { λ _. ⌜ Keeps (now (seen .entry)) (now (seen .exit)) ⌝ }
 {
     let mut at_now = at;
     let mut row_now = row;
@@ -474,6 +724,7 @@ fn read_tail(
                 places,
                 lengths,
                 table,
+                seen,
                 next,
                 row_now,
                 whole,
@@ -497,6 +748,7 @@ fn read_tail(
                     places,
                     lengths,
                     table,
+                    seen,
                     place,
                     head,
                     row_now,
@@ -517,6 +769,7 @@ fn read_last(
     places: &[u8],
     lengths: &[u16],
     table: &mut [u64],
+    seen: &mut [u16],
     place: usize,
     head: Head,
     row: usize,
@@ -526,7 +779,9 @@ fn read_last(
     before: usize,
 ) -> Parts
     requires { ⌜ Room (now msg) (lent n (now places) (now lengths)) (now table) cap place row whole × Opens (now msg) place head × (before ≤ row) ⌝ }
+    requires { ⌜ 0 < length (now seen) ⌝ }
     ensures { λ r. ⌜ ((h : format.Head) (next : ℕ) → head ≡ head-at h next → Sound (now (msg .entry)) place next h → PartsDone (now (msg .entry)) before cap row whole (now (table .entry)) (last (atoms-of (lent n (now (places .entry)) (now (lengths .entry)))) cap deep place h (at-offset (now (msg .entry)) next row)) r (now (table .exit))) ⌝ }
+    ensures { λ _. ⌜ Keeps (now (seen .entry)) (now (seen .exit)) ⌝ }
 {
     match head {
         Head::Characters { count, next } => {
@@ -538,6 +793,7 @@ fn read_last(
             places,
             lengths,
             table,
+            seen,
             place,
             head,
             row,
@@ -563,6 +819,7 @@ fn read_pairs(
     places: &[u8],
     lengths: &[u16],
     table: &mut [u64],
+    seen: &mut [u16],
     at: usize,
     row: usize,
     deep: usize,
@@ -570,7 +827,9 @@ fn read_pairs(
     count: usize,
 ) -> Parts
     requires { ⌜ Room (now msg) (lent n (now places) (now lengths)) (now table) cap at row row ⌝ }
+    requires { ⌜ 0 < length (now seen) ⌝ }
     ensures { λ r. ⌜ ((place : ℕ) → PartsDone (now (msg .entry)) 0 cap row row (now (table .entry)) (inner (atoms-of (lent n (now (places .entry)) (now (lengths .entry)))) cap deep place (pairs count) (at-offset (now (msg .entry)) at row)) r (now (table .exit))) ⌝ }
+    ensures { λ _. ⌜ Keeps (now (seen .entry)) (now (seen .exit)) ⌝ }
 {
     let mut at_now = at;
     let mut row_now = row;
@@ -582,6 +841,7 @@ fn read_pairs(
             places,
             lengths,
             table,
+            seen,
             at_now,
             row_now,
             row,
@@ -591,7 +851,7 @@ fn read_pairs(
         ) {
             Step::Refused { number, place } => return Parts::Refused { number, place },
             Step::Got { next, rows } => {
-                if keys::key_among(msg, places, lengths, table, row, row_now) {
+                if keys::repeats(msg, places, lengths, table, seen, row, row_now) {
                     return Parts::Refused {
                         number: 7,
                         place: at_now,
@@ -603,6 +863,7 @@ fn read_pairs(
                     places,
                     lengths,
                     table,
+                    seen,
                     next,
                     rows,
                     row,
@@ -635,11 +896,13 @@ fn read_outermost(
     places: &[u8],
     lengths: &[u16],
     table: &mut [u64],
+    seen: &mut [u16],
     at: usize,
     row: usize,
     cap: usize,
 ) -> Step
     requires { ⌜ Room (now msg) (lent n (now places) (now lengths)) (now table) cap at row 0 ⌝ }
+    requires { ⌜ 0 < length (now seen) ⌝ }
     ensures { λ r. ⌜ TermDone (now (msg .entry)) cap row 0 (now (table .entry)) (outermost (atoms-of (lent n (now (places .entry)) (now (lengths .entry)))) cap (at-offset (now (msg .entry)) at row)) r (now (table .exit)) ⌝ }
 {
     read_term(
@@ -648,6 +911,7 @@ fn read_outermost(
         places,
         lengths,
         table,
+        seen,
         at,
         row,
         0,
@@ -664,9 +928,11 @@ fn standalone_terms(
     places: &[u8],
     lengths: &[u16],
     table: &mut [u64],
+    seen: &mut [u16],
     cap: usize,
 ) -> ReadAnswer
     requires { ⌜ Room (now msg) (lent n (now places) (now lengths)) (now table) cap 0 0 0 ⌝ }
+    requires { ⌜ 0 < length (now seen) ⌝ }
     ensures { λ r. ⌜ MessageDone (now (msg .entry)) cap (now (table .entry)) (standalone-term (atoms-of (lent n (now (places .entry)) (now (lengths .entry)))) cap (at-offset (now (msg .entry)) 0 0)) r (now (table .exit)) ⌝ }
 {
     if msg.len() == 0 {
@@ -681,7 +947,7 @@ fn standalone_terms(
             place: 0,
         });
     }
-    match read_outermost(msg, n, places, lengths, table, 1, 0, cap) {
+    match read_outermost(msg, n, places, lengths, table, seen, 1, 0, cap) {
         Step::Refused { number, place } => ReadAnswer::Refused(Refusal { number, place }),
         Step::Got { next, rows } => {
             if next < msg.len() {
@@ -702,18 +968,20 @@ fn payload_terms(
     places: &[u8],
     lengths: &[u16],
     table: &mut [u64],
+    seen: &mut [u16],
     cap: usize,
 ) -> ReadAnswer
     requires { ⌜ Room (now msg) (lent n (now places) (now lengths)) (now table) cap 0 0 0 ⌝ }
+    requires { ⌜ 0 < length (now seen) ⌝ }
     ensures { λ r. ⌜ MessageDone (now (msg .entry)) cap (now (table .entry)) (payload-terms (atoms-of (lent n (now (places .entry)) (now (lengths .entry)))) cap (at-offset (now (msg .entry)) 0 0)) r (now (table .exit)) ⌝ }
 {
-    match read_outermost(msg, n, places, lengths, table, 0, 0, cap) {
+    match read_outermost(msg, n, places, lengths, table, seen, 0, 0, cap) {
         Step::Refused { number, place } => ReadAnswer::Refused(Refusal { number, place }),
         Step::Got { next, rows } => {
             if msg.len() <= next {
                 return ReadAnswer::Terms { terms: 1, rows };
             }
-            match read_outermost(msg, n, places, lengths, table, next, rows, cap) {
+            match read_outermost(msg, n, places, lengths, table, seen, next, rows, cap) {
                 Step::Refused { number, place } => ReadAnswer::Refused(Refusal { number, place }),
                 Step::Got { next, rows } => {
                     if next < msg.len() {
@@ -727,6 +995,61 @@ fn payload_terms(
             }
         }
     }
+}
+
+// The terms of a message that are set so.
+fn framed_terms(
+    msg: &[u8],
+    n: u8,
+    places: &[u8],
+    lengths: &[u16],
+    table: &mut [u64],
+    seen: &mut [u16],
+    cap: usize,
+    framing: Framing,
+) -> ReadAnswer
+    requires { ⌜ Room (now msg) (lent n (now places) (now lengths)) (now table) cap 0 0 0 ⌝ }
+    requires { ⌜ 0 < length (now seen) ⌝ }
+    ensures { λ r. ⌜ MessageDone (now (msg .entry)) cap (now (table .entry)) (terms-framed (atoms-of (lent n (now (places .entry)) (now (lengths .entry)))) cap (framing-of framing) (at-offset (now (msg .entry)) 0 0)) r (now (table .exit)) ⌝ }
+{
+    match framing {
+        Framing::Standalone => standalone_terms(msg, n, places, lengths, table, seen, cap),
+        Framing::Payload => payload_terms(msg, n, places, lengths, table, seen, cap),
+    }
+}
+
+// The terms of a short message: few slots for its keys, which are cleared in little time.
+fn short_terms(
+    msg: &[u8],
+    n: u8,
+    places: &[u8],
+    lengths: &[u16],
+    table: &mut [u64],
+    cap: usize,
+    framing: Framing,
+) -> ReadAnswer
+    requires { ⌜ Room (now msg) (lent n (now places) (now lengths)) (now table) cap 0 0 0 ⌝ }
+    ensures { λ r. ⌜ MessageDone (now (msg .entry)) cap (now (table .entry)) (terms-framed (atoms-of (lent n (now (places .entry)) (now (lengths .entry)))) cap (framing-of framing) (at-offset (now (msg .entry)) 0 0)) r (now (table .exit)) ⌝ }
+{
+    let mut seen = [0u16; 512];
+    framed_terms(msg, n, places, lengths, table, &mut seen, cap, framing)
+}
+
+// The terms of a long message: twice as many slots as there are keys at most.
+fn long_terms(
+    msg: &[u8],
+    n: u8,
+    places: &[u8],
+    lengths: &[u16],
+    table: &mut [u64],
+    cap: usize,
+    framing: Framing,
+) -> ReadAnswer
+    requires { ⌜ Room (now msg) (lent n (now places) (now lengths)) (now table) cap 0 0 0 ⌝ }
+    ensures { λ r. ⌜ MessageDone (now (msg .entry)) cap (now (table .entry)) (terms-framed (atoms-of (lent n (now (places .entry)) (now (lengths .entry)))) cap (framing-of framing) (at-offset (now (msg .entry)) 0 0)) r (now (table .exit)) ⌝ }
+{
+    let mut seen = [0u16; 8192];
+    framed_terms(msg, n, places, lengths, table, &mut seen, cap, framing)
 }
 
 // The refusal that comes before any byte is read: 13 for an atom list not of its size, 12 for a message too long, or 0.
@@ -761,6 +1084,31 @@ fn settle(table: &mut [u64], answer: ReadAnswer) -> ReadAnswer
     }
 }
 
+// Reads the terms of a message that are set so into the table, with this atom list.
+fn read_framed(
+    msg: &[u8],
+    n: u8,
+    places: &[u8],
+    lengths: &[u16],
+    table: &mut [u64],
+    framing: Framing,
+) -> ReadAnswer
+    ensures { λ r. ⌜ r ≡ read-answer (read (framing-of framing) (lent n (now (places .entry)) (now (lengths .entry))) (length (now (table .entry))) (now (msg .entry))) ⌝ }
+    ensures { λ _. ⌜ now (table .exit) ≡ table-after (length (now (table .entry))) (read (framing-of framing) (lent n (now (places .entry)) (now (lengths .entry))) (length (now (table .entry))) (now (msg .entry))) ⌝ }
+{
+    let number = first_refusal(msg, places, lengths);
+    if number != 0 {
+        return settle(table, ReadAnswer::Refused(Refusal { number, place: 0 }));
+    }
+    let cap = at_most(table.len(), 8192);
+    if 1024 < msg.len() {
+        let answer = long_terms(msg, n, places, lengths, table, cap, framing);
+        return settle(table, answer);
+    }
+    let answer = short_terms(msg, n, places, lengths, table, cap, framing);
+    settle(table, answer)
+}
+
 // Reads a standalone term into the table, with this atom list.
 pub fn read_standalone(
     msg: &[u8],
@@ -772,13 +1120,7 @@ pub fn read_standalone(
     ensures { λ r. ⌜ r ≡ read-answer (read standalone (lent n (now (places .entry)) (now (lengths .entry))) (length (now (table .entry))) (now (msg .entry))) ⌝ }
     ensures { λ _. ⌜ now (table .exit) ≡ table-after (length (now (table .entry))) (read standalone (lent n (now (places .entry)) (now (lengths .entry))) (length (now (table .entry))) (now (msg .entry))) ⌝ }
 {
-    let number = first_refusal(msg, places, lengths);
-    if number != 0 {
-        return settle(table, ReadAnswer::Refused(Refusal { number, place: 0 }));
-    }
-    let cap = at_most(table.len(), 8192);
-    let answer = standalone_terms(msg, n, places, lengths, table, cap);
-    settle(table, answer)
+    read_framed(msg, n, places, lengths, table, Framing::Standalone)
 }
 
 // Reads the terms of a payload into the table, with this atom list.
@@ -792,11 +1134,5 @@ pub fn read_payload(
     ensures { λ r. ⌜ r ≡ read-answer (read payload (lent n (now (places .entry)) (now (lengths .entry))) (length (now (table .entry))) (now (msg .entry))) ⌝ }
     ensures { λ _. ⌜ now (table .exit) ≡ table-after (length (now (table .entry))) (read payload (lent n (now (places .entry)) (now (lengths .entry))) (length (now (table .entry))) (now (msg .entry))) ⌝ }
 {
-    let number = first_refusal(msg, places, lengths);
-    if number != 0 {
-        return settle(table, ReadAnswer::Refused(Refusal { number, place: 0 }));
-    }
-    let cap = at_most(table.len(), 8192);
-    let answer = payload_terms(msg, n, places, lengths, table, cap);
-    settle(table, answer)
+    read_framed(msg, n, places, lengths, table, Framing::Payload)
 }

@@ -1,2 +1,3 @@
 mod Characters
 mod Latin1
+pub mod Valid

@@ -1,4 +1,5 @@
--- What the code answers for a text: the number of its characters, or the offset at which it fails.
+-- What the code answers for a text: the number of its characters, or the offset at which it fails; or whether it is one.
+use mathlib.Core.Bool.{Bool, true, false}
 use lib.ListN.{length}
 use Rattle.format.specs.Text as text
 use Rattle.format.specs.Text.{valid, invalid-at}
@@ -8,3 +9,8 @@ use Rattle.text.specs.declared.Checked.the-variants.{Characters, Bad}
 unfoldable pub shown : text.Checked → Checked
 shown (valid cs) = Characters (length cs)
 shown (invalid-at k) = Bad k
+
+-- is it a text?
+unfoldable pub is-valid : text.Checked → Bool
+is-valid (valid cs) = true
+is-valid (invalid-at k) = false

@@ -3,8 +3,9 @@ ghost use mathlib.Core.Path.{_≡_};
 ghost use Prim.Native.Nat.{_+_, _*_, _≤_, _<_};
 ghost use lib.ListN.{length, take, drop};
 ghost use lib.Seq.{sets};
-ghost use Rattle.format.specs.Text.{_to_, holds, utf-8, latin-1, check, encode, encodes};
-ghost use Rattle.text.specs.Shown.{shown};
+ghost use Rattle.format.specs.Text.{_to_, holds, utf-8, latin-1, coding-of, check, encode, encodes};
+ghost use Rattle.format.specs.Text as format;
+ghost use Rattle.text.specs.Shown.{shown, is-valid};
 ghost use Rattle.text.specs.Characters.{due, Completes, CharacterAt};
 
 // The number of a text's characters, or the offset at which it fails.
@@ -120,6 +121,26 @@ pub fn check_latin1(s: &[u8]) -> Checked
         return Checked::Bad(255);
     }
     Checked::Characters(s.len())
+}
+
+// Whether a text was found.
+fn is_valid(c: Checked) -> bool
+    ensures { λ r. ⌜ ((o : format.Checked) → c ≡ shown o → r ≡ is-valid o) ⌝ }
+{
+    match c {
+        Checked::Characters(_) => true,
+        Checked::Bad(_) => false,
+    }
+}
+
+// Whether `s` is a text of at most 255 characters, in UTF-8 or else in Latin-1.
+pub fn is_text(s: &[u8], utf8: bool) -> bool
+    ensures { λ r. ⌜ r ≡ is-valid (check (coding-of utf8) (now (s .entry))) ⌝ }
+{
+    if utf8 {
+        return is_valid(check_utf8(s));
+    }
+    is_valid(check_latin1(s))
 }
 
 // The number of bytes that a Latin-1 character has in UTF-8.

@@ -4,7 +4,7 @@ use native.Mathlib.Omega.{arith}
 use borrow.Author.Needs.{needs}
 use Rattle.format.specs.Message.{standalone}
 use Rattle.heads.specs.Code.{lent}
-use Rattle.terms.proofs.Entries.{bytes-under}
+use Rattle.format.proofs.Text.{under-all}
 use Rattle.asking.proofs.Calls.{number-told}
 use Rattle.asking.proofs.number_standalone.Statement.{statement}
 use Rattle.asking.proofs.number_standalone.Tie as tie
@@ -24,7 +24,7 @@ number-found-requires c κs = search needs
 returns : tie.Need-returns
 returns c =
     let a = c .before .before .before .before .before .before .before .before .args in
-    number-told standalone (lent (a .n) (a .places .now) (a .lengths .now)) (a .msg .now) (omega arith) (bytes-under (a .msg .now) (λ i. omega (arith, c .before .before .before .before .before .before .before .shared-slice-known .given i))) _ _ _ refl (c .before .before .before .read-standalone .ensures .0) (c .before .before .before .read-standalone .ensures .1) _ _ (c .number-found .ensures)
+    number-told standalone (lent (a .n) (a .places .now) (a .lengths .now)) (a .msg .now) (omega arith) (under-all (a .msg .now) (λ i _. omega (arith, c .before .before .before .before .before .before .before .shared-slice-known .given i))) _ _ _ refl (c .before .before .before .read-standalone .ensures .0) (c .before .before .before .read-standalone .ensures .1) _ _ (c .number-found .ensures)
 
 pub number-standalone-spec : {M : Type 1} → statement M
 number-standalone-spec =

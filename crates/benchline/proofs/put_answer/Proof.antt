@@ -4,7 +4,7 @@ use Prim.Native.Nat.{_+_, _*_, _≤_}
 use native.Mathlib.Omega.{arith}
 use lib.ListN.{length, take}
 use Rattle.io.proofs.Counting.{front}
-use Rattle.format.specs.Message.{standalone, read}
+use Rattle.format.specs.Message.{standalone}
 use Rattle.format.specs.Writing.{write}
 use Rattle.heads.specs.Code.{lent}
 use Rattle.benchline.proofs.Laws.{answer-good, answer-fits, answer-refused}
@@ -24,10 +24,9 @@ slice-reshare-prefix-put-ok c =
     let x = c .before .before .terms .given in
     let a = c .before .before .before .before .before .before .before .before .before .before .before .before .before .before .before .before .before .args in
     let list = lent 0 (a .places .now) (a .lengths .now) in
-    let read-as = read standalone list (length (a .scratch .now)) (a .msg .now) in
     let wrote = write standalone list (length (a .scratch .now)) (length (a .output .now)) (a .msg .now) in
     let is = sym (x .1) ∙ w .ensures .0 in
-    let fits = answer-fits read-as wrote (a .output .now) _ is (w .ensures .1 .1) in
+    let fits = answer-fits wrote (a .output .now) _ is (w .ensures .1 .1) in
     fits
 
 slice-aggregate-put-ok : tie.Need-slice-aggregate-put-ok
@@ -36,10 +35,9 @@ slice-aggregate-put-ok c =
     let x = c .before .before .before .terms .given in
     let a = c .before .before .before .before .before .before .before .before .before .before .before .before .before .before .before .before .before .before .args in
     let list = lent 0 (a .places .now) (a .lengths .now) in
-    let read-as = read standalone list (length (a .scratch .now)) (a .msg .now) in
     let wrote = write standalone list (length (a .scratch .now)) (length (a .output .now)) (a .msg .now) in
     let is = sym (x .1) ∙ w .ensures .0 in
-    let fits = answer-fits read-as wrote (a .output .now) _ is (w .ensures .1 .1) in
+    let fits = answer-fits wrote (a .output .now) _ is (w .ensures .1 .1) in
     front _ _ fits
 
 put-ok-requires : tie.Need-put-ok-requires
@@ -48,10 +46,9 @@ put-ok-requires c κs =
     let x = c .before .before .before .terms .given in
     let a = c .before .before .before .before .before .before .before .before .before .before .before .before .before .before .before .before .before .before .args in
     let list = lent 0 (a .places .now) (a .lengths .now) in
-    let read-as = read standalone list (length (a .scratch .now)) (a .msg .now) in
     let wrote = write standalone list (length (a .scratch .now)) (length (a .output .now)) (a .msg .now) in
     let is = sym (x .1) ∙ w .ensures .0 in
-    let fits = answer-fits read-as wrote (a .output .now) _ is (w .ensures .1 .1) in
+    let fits = answer-fits wrote (a .output .now) _ is (w .ensures .1 .1) in
     let after = w .last .1 .1 .1 .1 .1 .0 in
     let n = x .0 .1 .0 in
     let there : n ≡ length (take n after) = front n after fits in
@@ -85,10 +82,9 @@ returns c =
     let x = c .before .before .before .before .before .before .terms .given in
     let a = c .before .before .before .before .before .before .before .before .before .before .before .before .before .before .before .before .before .before .before .before .before .args in
     let list = lent 0 (a .places .now) (a .lengths .now) in
-    let read-as = read standalone list (length (a .scratch .now)) (a .msg .now) in
     let wrote = write standalone list (length (a .scratch .now)) (length (a .output .now)) (a .msg .now) in
     let is = sym (x .1) ∙ w .ensures .0 in
-    answer-good read-as wrote (a .output .now) _ is (w .ensures .1 .1) (c .before .before .put-ok .ensures)
+    answer-good wrote (a .output .now) _ is (w .ensures .1 .1) (c .before .before .put-ok .ensures)
 
 same-length-4 : tie.Need-same-length-4
 same-length-4 c = search needs
@@ -105,7 +101,7 @@ returns-2 c =
     let x = c .before .before .before .before .before .before .r .given in
     let a = c .before .before .before .before .before .before .before .before .before .before .before .before .before .before .before .before .before .before .before .before .before .args in
     let list = lent 0 (a .places .now) (a .lengths .now) in
-    answer-refused list (length (a .scratch .now)) (length (a .output .now)) (a .msg .now) (c .before .before .before .wide .ensures .0) (sym (x .1) ∙ w .ensures .0) (c .before .before .put-refused .ensures)
+    answer-refused (write standalone list (length (a .scratch .now)) (length (a .output .now)) (a .msg .now)) (c .before .before .before .wide .ensures .0) (sym (x .1) ∙ w .ensures .0) (c .before .before .put-refused .ensures)
 
 pub put-answer-spec : {M : Type 1} → statement M
 put-answer-spec =

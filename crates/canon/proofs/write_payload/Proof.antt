@@ -1,6 +1,6 @@
 -- `canon::write_payload` meets its contract. The table after reading holds the terms that were read, by `message-run`; the rest is what writing them answers. Assumes nothing.
 use Rattle.canon.proofs.Messages.{message-run, message-written, message-refused, table-cleared}
-use Rattle.fields.proofs.Leads.{under-all}
+use Rattle.format.proofs.Text.{under-all}
 use Rattle.heads.specs.Code.{lent}
 use Rattle.format.specs.Writing.{scratch-after}
 use Rattle.format.specs.Message.{payload}

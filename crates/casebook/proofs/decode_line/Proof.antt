@@ -14,11 +14,17 @@ Inv-loop dst₀ line next₀ i₀ dst next i = (next ≤ length dst) × (length 
 abbrev μ-loop : tie.MeasureT-loop
 μ-loop dst₀ line next₀ i₀ dst next i = length line - i
 
+index-of-requires : tie.Need-index-of-requires Inv-loop μ-loop
+index-of-requires c κs = search needs
+
+add-i : tie.Need-add-i Inv-loop μ-loop
+add-i c = search needs
+
 loop-holds : tie.Need-loop-holds Inv-loop μ-loop
 loop-holds c = search needs
 
-index-of-requires : tie.Need-index-of-requires Inv-loop μ-loop
-index-of-requires c κs = search needs
+index-of-requires-2 : tie.Need-index-of-requires-2 Inv-loop μ-loop
+index-of-requires-2 c κs = search needs
 
 sub-decode-word : tie.Need-sub-decode-word Inv-loop μ-loop
 sub-decode-word c = search needs
@@ -32,8 +38,8 @@ part-decode-word-end c = search needs
 decode-word-requires : tie.Need-decode-word-requires Inv-loop μ-loop
 decode-word-requires c κs = search needs
 
-add-i : tie.Need-add-i Inv-loop μ-loop
-add-i c = search needs
+add-i-2 : tie.Need-add-i-2 Inv-loop μ-loop
+add-i-2 c = search needs
 
 loop-less : tie.Need-loop-less Inv-loop μ-loop
 loop-less c = search needs
@@ -53,13 +59,15 @@ decode-line-spec =
     (tie.spec
     Inv-loop
     μ-loop
-    loop-holds
     index-of-requires
+    add-i
+    loop-holds
+    index-of-requires-2
     sub-decode-word
     part-decode-word-start
     part-decode-word-end
     decode-word-requires
-    add-i
+    add-i-2
     loop-less
     loop-again
     same-length

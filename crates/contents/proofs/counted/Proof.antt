@@ -2,7 +2,7 @@
 use mathlib.Core.Path.{refl, _∙_, ap₂}
 use Prim.Native.Nat.{ℕ}
 use borrow.Author.Needs.{needs}
-use Rattle.contents.specs.Found.{atom-end, words-found, counted-found}
+use Rattle.contents.specs.Found.{words-found, counted-found}
 use Rattle.contents.proofs.Tests.{below, not-below}
 use Rattle.contents.proofs.counted.Statement.{statement}
 use Rattle.contents.proofs.counted.Tie as tie

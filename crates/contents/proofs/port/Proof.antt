@@ -1,7 +1,7 @@
 -- `contents::port` meets its contract. Assumes nothing.
 use mathlib.Core.Path.{refl, _∙_, ap}
 use borrow.Author.Needs.{needs}
-use Rattle.contents.specs.Found.{atom-end, port-found, ports-found}
+use Rattle.contents.specs.Found.{port-found, ports-found}
 use Rattle.contents.proofs.Widths.{width-1, width-4, width-8}
 use Rattle.contents.proofs.Tests.{equal, unequal}
 use Rattle.contents.proofs.port.Statement.{statement}

@@ -1,7 +1,7 @@
 -- `contents::reference` meets its contract. Assumes nothing.
 use mathlib.Core.Path.{refl, _∙_, ap}
 use borrow.Author.Needs.{needs}
-use Rattle.contents.specs.Found.{atom-end, word-found, references-found}
+use Rattle.contents.specs.Found.{word-found, references-found}
 use Rattle.contents.proofs.Widths.{width-1, width-4}
 use Rattle.contents.proofs.Tests.{equal, unequal}
 use Rattle.contents.proofs.reference.Statement.{statement}

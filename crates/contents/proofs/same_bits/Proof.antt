@@ -3,7 +3,7 @@ use mathlib.Core.Path.{refl}
 use native.Mathlib.Omega.{arith}
 use borrow.Author.Tests.{not-true, not-false}
 use borrow.Author.Needs.{needs}
-use Rattle.contents.specs.Same.{same-last, same-bits}
+use Rattle.contents.specs.Same.{same-bits}
 use Rattle.contents.proofs.Tests.{yes-way, no-way, equal, unequal}
 use Rattle.contents.proofs.same_bits.Statement.{statement}
 use Rattle.contents.proofs.same_bits.Tie as tie

@@ -2,7 +2,7 @@
 use mathlib.Core.Path.{refl}
 use borrow.Author.Tests.{not-true, not-false}
 use borrow.Author.Needs.{needs}
-use Rattle.contents.specs.Same.{same-numbers, same-stretches, same-flat}
+use Rattle.contents.specs.Same.{same-flat}
 use Rattle.contents.proofs.Tests.{yes-way, no-way}
 use Rattle.contents.proofs.same_flat.Statement.{statement}
 use Rattle.contents.proofs.same_flat.Tie as tie

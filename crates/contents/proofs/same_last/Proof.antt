@@ -3,7 +3,7 @@ use mathlib.Core.Path.{refl, ap₂}
 use lib.Dec.{eqb}
 use borrow.Author.Tests.{not-true, not-false}
 use borrow.Author.Needs.{needs}
-use Rattle.contents.specs.Same.{same-part, same-last}
+use Rattle.contents.specs.Same.{same-last}
 use Rattle.contents.proofs.Tests.{yes-way, no-way}
 use Rattle.contents.proofs.same_last.Statement.{statement}
 use Rattle.contents.proofs.same_last.Tie as tie
@@ -35,7 +35,7 @@ high-bits-requires-2 c κs = search needs
 
 returns-2 : tie.Need-returns-2
 unfolding same-last
-returns-2 c = yes-way _ (c .before .before .before .before .before .same-part .ensures) (not-false _ (c .before .before .before .before .if1 .left)) (ap₂ eqb (c .before .before .high-bits .ensures) (c .high-bits2 .ensures))
+returns-2 c = yes-way _ (c .before .before .before .before .before .same-part .ensures) (not-false _ (c .before .before .before .before .if1 .left)) (ap₂ eqb (c .before .before .high-bits .ensures .0) (c .high-bits2 .ensures .0))
 
 pub same-last-spec : {M : Type 1} → statement M
 same-last-spec =

@@ -1,7 +1,7 @@
 -- `contents::same_stretch` meets its contract. Assumes nothing.
 use mathlib.Core.Path.{refl}
 use borrow.Author.Needs.{needs}
-use Rattle.contents.specs.Same.{same-part, same-stretch}
+use Rattle.contents.specs.Same.{same-stretch}
 use Rattle.contents.proofs.Tests.{equal, unequal}
 use Rattle.contents.proofs.same_stretch.Statement.{statement}
 use Rattle.contents.proofs.same_stretch.Tie as tie

@@ -3,7 +3,7 @@ use mathlib.Core.Path.{sym, _∙_, ap}
 use Prim.Native.Nat.{ℕ}
 use borrow.Author.Tests.{ne-eqb}
 use borrow.Author.Needs.{needs}
-use Rattle.contents.specs.Same.{same-stretch, same-bits, same-words, same-atoms, same-stretches}
+use Rattle.contents.specs.Same.{same-stretches}
 use Rattle.contents.specs.Found.{choose}
 use Rattle.contents.proofs.same_stretches.Statement.{statement}
 use Rattle.contents.proofs.same_stretches.Tie as tie

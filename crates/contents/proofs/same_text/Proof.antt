@@ -1,7 +1,7 @@
 -- `contents::same_text` meets its contract. Assumes nothing.
 use mathlib.Core.Path.{refl}
 use borrow.Author.Needs.{needs}
-use Rattle.contents.specs.Same.{same-stretch, same-spelling, same-text}
+use Rattle.contents.specs.Same.{same-text}
 use Rattle.contents.proofs.Tests.{yes-way, no-way}
 use Rattle.contents.proofs.same_text.Statement.{statement}
 use Rattle.contents.proofs.same_text.Tie as tie

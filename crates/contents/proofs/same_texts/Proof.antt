@@ -1,6 +1,6 @@
 -- `contents::same_texts` meets its contract. Assumes nothing.
 use borrow.Author.Needs.{needs}
-use Rattle.contents.specs.Same.{same-texts, same-text}
+use Rattle.contents.specs.Same.{same-texts}
 use Rattle.contents.proofs.same_texts.Statement.{statement}
 use Rattle.contents.proofs.same_texts.Tie as tie
 

@@ -1,7 +1,7 @@
 -- `contents::same_words` meets its contract. Assumes nothing.
 use mathlib.Core.Path.{refl}
 use borrow.Author.Needs.{needs}
-use Rattle.contents.specs.Same.{same-part, same-words}
+use Rattle.contents.specs.Same.{same-words}
 use Rattle.contents.proofs.Tests.{below, not-below, equal, unequal}
 use Rattle.contents.proofs.same_words.Statement.{statement}
 use Rattle.contents.proofs.same_words.Tie as tie

@@ -3,7 +3,7 @@ use Prim.Native.Nat.{_*_}
 use native.Mathlib.Omega.{arith}
 use lib.ListN.{take, drop}
 use borrow.Author.Needs.{needs}
-use Rattle.packets.specs.Answers.{coding-of}
+use Rattle.format.specs.Text.{coding-of}
 use Rattle.entries.proofs.Storing.{fits-at, stored-small, text-entered}
 use Rattle.entries.proofs.enter_text.Statement.{statement}
 use Rattle.entries.proofs.enter_text.Tie as tie

@@ -2,7 +2,7 @@
 use Prim.Native.Nat.{_*_}
 use native.Mathlib.Omega.{arith}
 use borrow.Author.Needs.{needs}
-use Rattle.packets.specs.Answers.{coding-of}
+use Rattle.format.specs.Text.{coding-of}
 use Rattle.packets.specs.Memory.{cache-of, held}
 use Rattle.headers.specs.Code.{Spells}
 use Rattle.headers.proofs.Walk.{new-inside, cached-inside}

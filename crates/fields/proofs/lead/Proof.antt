@@ -1,13 +1,11 @@
 -- `fields::lead` meets its contract. By the content: each case says the label that the content says. Assumes nothing.
 use Rattle.fields.specs.Shape.{before}
-use Rattle.layout.specs.Layout.{stretch}
-use Rattle.contents.specs.Meaning.{coded, label-of}
-use Rattle.format.specs.Canonical.{integer-bytes, atom-bytes}
-use Rattle.format.specs.Text.{encodes}
+use Rattle.contents.specs.Meaning.{label-of}
+use Rattle.format.specs.Canonical.{integer-bytes}
 use Rattle.format.specs.Numbers.{in-bytes}
 use Prim.Native.Nat.{ℕ}
-use mathlib.Core.List.{List, _∷_}
-use Rattle.fields.proofs.Leads.{says, only-tagged, lead-by, signed-below, signed-above, source-is, sound-whole, sound-big, sound-text, sound-bytes, sound-bits, length-words-at}
+use mathlib.Core.List.{_∷_}
+use Rattle.fields.proofs.Leads.{says, only-tagged, lead-by, signed-below, signed-above, sound-whole, sound-big, sound-text, sound-bytes, sound-bits, length-words-at}
 use native.Mathlib.Omega.{arith}
 use mathlib.Core.Path.{refl, sym, ap}
 use borrow.Author.Needs.{needs}
@@ -115,7 +113,7 @@ returns-6 : tie.Need-returns-6
 unfolding label-of before
 returns-6 c =
     let args = c .before .before .before .before .before .before .args in
-    lead-by (args .msg .now) (args .places .now) (args .content) (args .kind) (args .n) _ (c .before .before .content4 .given .1) (says (ap (λ (s : List ℕ). atom-bytes (encodes (coded (c .before .before .content4 .given .0 .0) (stretch s (c .before .before .content4 .given .0 .1 .1 .0) (c .before .before .content4 .given .0 .1 .1 .1 .0))))) (source-is (c .before .before .content4 .given .0 .1 .0) (args .msg .now) (args .places .now))) (c .text .ensures))
+    lead-by (args .msg .now) (args .places .now) (args .content) (args .kind) (args .n) _ (c .before .before .content4 .given .1) (c .text .ensures)
 
 returns-7 : tie.Need-returns-7
 unfolding label-of before

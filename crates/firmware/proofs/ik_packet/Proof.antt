@@ -43,7 +43,8 @@ use denote.Exit.{yes}
 use Rattle.packets.specs.declared.Pending.{Pending}
 use Rattle.firmware.specs.declared.Received.{Received}
 use Rattle.firmware.specs.declared.PacketReply.{PacketReply}
-use Rattle.packets.specs.Answers.{coding-of, taken-answer}
+use Rattle.format.specs.Text.{coding-of}
+use Rattle.packets.specs.Answers.{taken-answer}
 use Rattle.packets.specs.Calls.{after-packet}
 use Rattle.packets.specs.Memory.{cache-of, list-lent, memory-of}
 use Rattle.firmware.specs.Packets.{flag, received}

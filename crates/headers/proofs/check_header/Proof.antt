@@ -1,6 +1,6 @@
 -- `headers::check_header` meets its contract. Assumes nothing.
 use borrow.Author.Needs.{needs}
-use Rattle.packets.specs.Answers.{coding-of}
+use Rattle.format.specs.Text.{coding-of}
 use Rattle.packets.specs.Memory.{cache-of}
 use Rattle.headers.specs.Code.{holding-when, Opens}
 use Rattle.headers.proofs.Walk.{opened-inside, header-cut, header-refused, header-good}

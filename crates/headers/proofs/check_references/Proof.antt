@@ -5,8 +5,8 @@ use Prim.Native.Nat.{ℕ, _-_, _≤_}
 use native.Mathlib.Omega.{arith}
 use lib.ListN.{length, length-replicate}
 use borrow.Author.Needs.{needs}
-use Rattle.format.proofs.Bridge.{at-offset}
-use Rattle.packets.specs.Answers.{coding-of}
+use Rattle.format.specs.Answer.{at-offset}
+use Rattle.format.specs.Text.{coding-of}
 use Rattle.packets.specs.Memory.{cache-of}
 use Rattle.packets.specs.Header.{half, references}
 use Rattle.headers.proofs.Standing.{flag-count}

@@ -26,30 +26,25 @@ mul-from c = search needs
 add-end : tie.Need-add-end
 add-end c = search needs
 
-sub-check-utf8 : tie.Need-sub-check-utf8
-sub-check-utf8 c = search needs
+sub-is-text : tie.Need-sub-is-text
+sub-is-text c = search needs
 
-part-check-utf8-start : tie.Need-part-check-utf8-start
-part-check-utf8-start c = search needs
+part-is-text-start : tie.Need-part-is-text-start
+part-is-text-start c = search needs
 
-part-check-utf8-end : tie.Need-part-check-utf8-end
-part-check-utf8-end c = search needs
+part-is-text-end : tie.Need-part-is-text-end
+part-is-text-end c = search needs
 
-check-utf8-requires : tie.Need-check-utf8-requires
-check-utf8-requires c κs = search needs
-
-is-valid-requires : tie.Need-is-valid-requires
-is-valid-requires c κs = search needs
+is-text-requires : tie.Need-is-text-requires
+is-text-requires c κs = search needs
 
 returns-3 : tie.Need-returns-3
-returns-3 c = let a = c .before .before .before .before .before .before .before .before .before .before .args in
-    held-good (a .places .now) (a .lengths .now) (a .place .0) (c .before .before .before .before .before .before .wide-length .result) (omega arith) (c .before .before .before .before .before .before .wide-length .ensures .0) (c .before .before .before .before .before .if1 .left) (c .before .before .before .before .if2 .left) _ _
-    (c .before .before .check-utf8 .ensures) (c .before .is-valid .ensures) (c .if3 .taken) (omega arith)
+returns-3 c = let a = c .before .before .before .before .before .before .before .before .before .args in
+    held-good (a .places .now) (a .lengths .now) (a .place .0) (c .before .before .before .before .before .wide-length .result) (omega arith) (c .before .before .before .before .before .wide-length .ensures .0) (c .before .before .before .before .if1 .left) (c .before .before .before .if2 .left) _ (c .before .is-text .ensures) (c .if3 .taken) (omega arith)
 
 returns-4 : tie.Need-returns-4
-returns-4 c = let a = c .before .before .before .before .before .before .before .before .before .before .args in
-    held-bad (a .places .now) (a .lengths .now) (a .place .0) (c .before .before .before .before .before .before .wide-length .result) (omega arith) (c .before .before .before .before .before .before .wide-length .ensures .0) (c .before .before .before .before .before .if1 .left) (c .before .before .before .before .if2 .left) _ _
-    (c .before .before .check-utf8 .ensures) (c .before .is-valid .ensures) (c .if3 .left)
+returns-4 c = let a = c .before .before .before .before .before .before .before .before .before .args in
+    held-bad (a .places .now) (a .lengths .now) (a .place .0) (c .before .before .before .before .before .wide-length .result) (omega arith) (c .before .before .before .before .before .wide-length .ensures .0) (c .before .before .before .before .if1 .left) (c .before .before .before .if2 .left) _ (c .before .is-text .ensures) (c .if3 .left)
 
 pub held-at-spec : {M : Type 1} → statement M
 held-at-spec =
@@ -62,10 +57,9 @@ held-at-spec =
     returns-2
     mul-from
     add-end
-    sub-check-utf8
-    part-check-utf8-start
-    part-check-utf8-end
-    check-utf8-requires
-    is-valid-requires
+    sub-is-text
+    part-is-text-start
+    part-is-text-end
+    is-text-requires
     returns-3
     returns-4)

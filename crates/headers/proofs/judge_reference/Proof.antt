@@ -1,7 +1,7 @@
 -- `headers::judge_reference` meets its contract. Assumes nothing.
 use native.Mathlib.Omega.{arith}
 use borrow.Author.Needs.{needs}
-use Rattle.packets.specs.Answers.{coding-of}
+use Rattle.format.specs.Text.{coding-of}
 use Rattle.packets.specs.Memory.{cache-of}
 use Rattle.headers.specs.Code.{holding-when, Spells}
 use Rattle.headers.proofs.Walk.{step-cut, step-new-refused, step-new, step-cached-refused, step-cached, new-inside, cached-inside}

@@ -1,7 +1,7 @@
 -- `heads::by_tag` meets its contract. At each tag of the table, its layout. Assumes nothing.
-use Rattle.heads.specs.Code.{fields-of, coding-of}
+use Rattle.heads.specs.Code.{fields-of}
 use Rattle.format.specs.Head.{forms, form-in, fields, atom-cache-ref, atom-ext, big-ext, binary-ext, bit-binary-ext, export-ext, integer-ext, list-ext, map-ext, new-float-ext, new-reference-ext, nil-ext, pid-ext, port-ext, reference-ext, small-integer-ext, string-ext, tuple-ext}
-use Rattle.format.specs.Text.{latin-1, utf-8}
+use Rattle.format.specs.Text.{latin-1, utf-8, coding-of}
 use Rattle.format.specs.Numbers.{signed32}
 use lib.IntN.{pos}
 use mathlib.Core.Path.{refl}

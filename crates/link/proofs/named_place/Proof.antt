@@ -5,7 +5,7 @@ use mathlib.Core.Bool.{false}
 use Prim.Native.Nat.{ℕ}
 use native.Mathlib.Omega.{arith}
 use borrow.Author.Needs.{needs}
-use Rattle.packets.specs.Answers.{coding-of}
+use Rattle.format.specs.Text.{coding-of}
 use Rattle.packets.specs.Memory.{cache-of}
 use Rattle.headers.specs.Code.{holding-when, HeaderIs}
 use Rattle.headers.specs.declared.HeaderAnswer.the-variants as headers

@@ -1,7 +1,8 @@
 -- `link::place_of_reference` meets its contract. Assumes nothing.
 use mathlib.Core.Path.{ap, _∙_}
 use borrow.Author.Needs.{needs}
-use Rattle.packets.specs.Answers.{coding-of, place-answer}
+use Rattle.format.specs.Text.{coding-of}
+use Rattle.packets.specs.Answers.{place-answer}
 use Rattle.link.proofs.Naming.{plain-there, start-there, place-refused, place-plain, place-start, place-more}
 use Rattle.link.proofs.place_of_reference.Statement.{statement}
 use Rattle.link.proofs.place_of_reference.Tie as tie

@@ -1,7 +1,7 @@
 -- `link::take_header` meets its contract. Assumes nothing.
 use native.Mathlib.Omega.{arith}
 use borrow.Author.Needs.{needs}
-use Rattle.packets.specs.Answers.{coding-of}
+use Rattle.format.specs.Text.{coding-of}
 use Rattle.packets.specs.Memory.{cache-of, list-lent, held}
 use Rattle.headers.specs.Code.{HeaderIs}
 use Rattle.headers.specs.declared.HeaderAnswer.the-variants as headers

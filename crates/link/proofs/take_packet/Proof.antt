@@ -4,7 +4,7 @@ use mathlib.Core.Path.{_≡_, refl, sym, _∙_}
 use borrow.Author.Tests.{not-true, not-false}
 use borrow.Author.Needs.{needs}
 use Rattle.packets.proofs.Sizes.{all-sized}
-use Rattle.packets.specs.Answers.{coding-of}
+use Rattle.format.specs.Text.{coding-of}
 use Rattle.packets.specs.Memory.{Memory, cache-of, list-lent, memory-of, memory-of-size}
 use Rattle.link.proofs.Naming.{plain-there, start-there, more-there}
 use Rattle.link.proofs.Whole.{list-sizes, size-done, false-done, opening-done, plain-done, start-done, more-done}

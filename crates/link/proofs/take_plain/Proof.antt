@@ -1,6 +1,6 @@
 -- `link::take_plain` meets its contract. Assumes nothing.
 use borrow.Author.Needs.{needs}
-use Rattle.packets.specs.Answers.{coding-of}
+use Rattle.format.specs.Text.{coding-of}
 use Rattle.packets.specs.Memory.{cache-of, list-lent}
 use Rattle.link.proofs.Rests.{plain-refused, plain-good}
 use Rattle.link.proofs.take_plain.Statement.{statement}

@@ -1,7 +1,7 @@
 -- `link::take_start` meets its contract. Assumes nothing.
 use native.Mathlib.Omega.{arith}
 use borrow.Author.Needs.{needs}
-use Rattle.packets.specs.Answers.{coding-of}
+use Rattle.format.specs.Text.{coding-of}
 use Rattle.packets.specs.Memory.{cache-of, list-lent}
 use Rattle.link.proofs.Rests.{start-again, start-refused, start-good, head-inside}
 use Rattle.link.proofs.take_start.Statement.{statement}

@@ -10,9 +10,18 @@ read-term-requires c κs = search needs
 same-length : tie.Need-same-length
 same-length c = search needs
 
+same-length-2 : tie.Need-same-length-2
+same-length-2 c = search needs
+
 returns : tie.Need-returns
 unfolding wanted-of
-returns c = c .before .before .read-term .ensures
+returns c = c .before .before .before .before .read-term .ensures .0
 
 pub read-outermost-spec : {M : Type 1} → statement M
-read-outermost-spec = tie.close (tie.spec read-term-requires same-length returns)
+read-outermost-spec =
+    tie.close
+    (tie.spec
+    read-term-requires
+    same-length
+    same-length-2
+    returns)

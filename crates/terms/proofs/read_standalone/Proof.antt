@@ -1,47 +1,23 @@
 -- `terms::read_standalone` meets its contract. Assumes nothing.
-use Rattle.terms.proofs.Message.{refused-first, read-whole, room-first}
-use Rattle.format.specs.Message.{standalone}
+use Rattle.terms.specs.Code.{framing-of}
 use borrow.Author.Needs.{needs}
 use Rattle.terms.proofs.read_standalone.Statement.{statement}
 use Rattle.terms.proofs.read_standalone.Tie as tie
 
-first-refusal-requires : tie.Need-first-refusal-requires
-first-refusal-requires c κs = search needs
-
-settle-requires : tie.Need-settle-requires
-settle-requires c κs = search needs
+read-framed-requires : tie.Need-read-framed-requires
+read-framed-requires c κs = search needs
 
 same-length : tie.Need-same-length
 same-length c = search needs
 
 returns : tie.Need-returns
-returns c = refused-first standalone _ _ _ _ _ _ (c .before .before .before .before .before .first-refusal .ensures _) (c .before .before .before .before .if1 .taken) (c .before .before .settle .ensures)
-
-at-most-requires : tie.Need-at-most-requires
-at-most-requires c κs = search needs
-
-standalone-terms-requires : tie.Need-standalone-terms-requires
-standalone-terms-requires c κs = room-first _ _ _ _ _ (c .before .before .before .first-refusal .ensures _) (c .before .before .if1 .left) (c .before .at-most .ensures)
-
-settle-requires-2 : tie.Need-settle-requires-2
-settle-requires-2 c κs = search needs
-
-same-length-2 : tie.Need-same-length-2
-same-length-2 c = search needs
-
-returns-2 : tie.Need-returns-2
-returns-2 c = read-whole standalone _ _ _ _ _ _ _ _ _ (c .before .before .before .before .before .before .before .before .before .before .first-refusal .ensures _) (c .before .before .before .before .before .before .before .before .before .if1 .left) (c .before .before .before .before .before .before .before .before .at-most .ensures) (c .before .before .before .before .before .before .standalone-terms .kept .1 .1 .1 .1 .0) (c .before .before .before .before .before .before .standalone-terms .ensures) (c .before .before .settle2 .ensures)
+unfolding framing-of
+returns c = c .before .before .read-framed .ensures
 
 pub read-standalone-spec : {M : Type 1} → statement M
 read-standalone-spec =
     tie.close
     (tie.spec
-    first-refusal-requires
-    settle-requires
+    read-framed-requires
     same-length
-    returns
-    at-most-requires
-    standalone-terms-requires
-    settle-requires-2
-    same-length-2
-    returns-2)
+    returns)

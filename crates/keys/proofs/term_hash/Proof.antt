@@ -1,0 +1,66 @@
+-- `keys::term_hash` meets its contract. The rows that are left give what all of them give; the measure is their number.
+use mathlib.Core.Path.{_≡_}
+use Prim.Native.Nat.{_+_, _-_, _≤_, _<_}
+use native.Mathlib.Omega.{arith}
+use borrow.Author.Needs.{needs}
+use Rattle.keys.specs.Seen.{hash-rows, term-hash}
+use Rattle.keys.proofs.Hashes.{hash-start, hash-next, hash-end}
+use Rattle.keys.proofs.term_hash.Statement.{statement}
+use Rattle.keys.proofs.term_hash.Tie as tie
+
+abbrev Inv-loop : tie.InvT-loop
+Inv-loop msg places lengths table first row n h₀ i₀ h i = (i ≤ n) × (h < 65521) × (hash-rows msg places lengths table h (n - i) (row + i) ≡ term-hash msg places lengths table first row)
+
+abbrev μ-loop : tie.MeasureT-loop
+μ-loop msg places lengths table first row n h₀ i₀ h i = n - i
+
+word-at-requires : tie.Need-word-at-requires Inv-loop μ-loop
+word-at-requires c κs = search needs
+
+size-in-requires : tie.Need-size-in-requires Inv-loop μ-loop
+size-in-requires c κs = search needs
+
+mix-requires : tie.Need-mix-requires Inv-loop μ-loop
+mix-requires c κs = omega arith
+
+loop-holds : tie.Need-loop-holds Inv-loop μ-loop
+loop-holds c = (omega arith, c .mix .ensures .1, hash-start _ _ _ _ _ _ _ _ _ (c .before .before .word-at .ensures) (c .before .size-in .ensures .0) (c .mix .ensures .0))
+
+add-word-at : tie.Need-add-word-at Inv-loop μ-loop
+add-word-at c = omega arith
+
+word-at-requires-2 : tie.Need-word-at-requires-2 Inv-loop μ-loop
+word-at-requires-2 c κs = search needs
+
+hash-row-requires : tie.Need-hash-row-requires Inv-loop μ-loop
+hash-row-requires c κs = omega arith
+
+add-i : tie.Need-add-i Inv-loop μ-loop
+add-i c = omega arith
+
+loop-less : tie.Need-loop-less Inv-loop μ-loop
+loop-less c = omega arith
+
+loop-again : tie.Need-loop-again Inv-loop μ-loop
+loop-again c = (omega arith, c .hash-row .ensures .1, hash-next _ _ _ _ _ _ _ _ _ _ _ (c .before .before .before .loop .inv .2) (c .before .before .loop-test .taken) (c .before .word-at2 .ensures) (c .hash-row .ensures .0))
+
+returns : tie.Need-returns Inv-loop μ-loop
+returns c = hash-end _ _ _ _ _ _ _ _ _ (c .before .loop .inv .2) (c .loop-test .left)
+
+pub term-hash-spec : {M : Type 1} → statement M
+term-hash-spec =
+    tie.close
+    (tie.spec
+    Inv-loop
+    μ-loop
+    word-at-requires
+    size-in-requires
+    mix-requires
+    loop-holds
+    add-word-at
+    word-at-requires-2
+    hash-row-requires
+    add-i
+    loop-less
+    loop-again
+    returns)

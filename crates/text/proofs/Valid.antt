@@ -1,0 +1,38 @@
+-- Whether a text was found, in the coding asked for. Assumes nothing.
+use mathlib.Core.Path.{_≡_, refl}
+use mathlib.Core.Bool.{Bool, true, false}
+use mathlib.Core.List.{List}
+use Prim.Native.Nat.{ℕ}
+use native.Mathlib.Omega.{arith}
+use Rattle.format.specs.Text.{Checked, valid, invalid-at, latin-1, utf-8, coding-of}
+use Rattle.text.specs.Shown.{shown, is-valid}
+use Rattle.text.specs.declared.Checked.the-variants.{Characters, Bad}
+
+pub says-valid : (o : Checked) (n : ℕ) → Characters n ≡ shown o → true ≡ is-valid o
+unfolding shown is-valid
+says-valid (valid cs) n e = refl
+says-valid (invalid-at k) n e = let no-way : _≡_ {A = ℕ} 0 1 = cc in absurd (omega arith)
+
+pub says-invalid : (o : Checked) (k : ℕ) → Bad k ≡ shown o → false ≡ is-valid o
+unfolding shown is-valid
+says-invalid (valid cs) k e = let no-way : _≡_ {A = ℕ} 0 1 = cc in absurd (omega arith)
+says-invalid (invalid-at k) j e = refl
+
+pub coding-utf8 : (utf8 : Bool) → utf8 ≡ true → coding-of utf8 ≡ utf-8
+unfolding coding-of
+coding-utf8 utf8 e = rw (e, coding-of)
+
+pub coding-latin1 : (utf8 : Bool) → utf8 ≡ false → coding-of utf8 ≡ latin-1
+unfolding coding-of
+coding-latin1 utf8 e = rw (e, coding-of)
+
+-- a text's characters, or the offset at which it fails
+pub found : (o : Checked) → is-valid o ≡ true → (cs : List ℕ) × (o ≡ valid cs)
+unfolding is-valid
+found (valid cs) e = (cs, refl)
+found (invalid-at k) e = let no-way : _≡_ {A = ℕ} 0 1 = cc in absurd (omega arith)
+
+pub failed : (o : Checked) → is-valid o ≡ false → (k : ℕ) × (o ≡ invalid-at k)
+unfolding is-valid
+failed (valid cs) e = let no-way : _≡_ {A = ℕ} 0 1 = cc in absurd (omega arith)
+failed (invalid-at k) e = (k, refl)

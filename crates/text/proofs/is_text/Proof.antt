@@ -1,0 +1,34 @@
+-- `text::is_text` meets its contract. Assumes nothing.
+use borrow.Author.Needs.{needs}
+use Rattle.text.proofs.Valid.{coding-utf8, coding-latin1}
+use Rattle.text.proofs.is_text.Statement.{statement}
+use Rattle.text.proofs.is_text.Tie as tie
+
+check-utf8-requires : tie.Need-check-utf8-requires
+check-utf8-requires c κs = search needs
+
+is-valid-requires : tie.Need-is-valid-requires
+is-valid-requires c κs = search needs
+
+returns : tie.Need-returns
+returns c = rw (coding-utf8 _ (c .before .before .if1 .taken)) (c .is-valid .ensures _ (c .before .check-utf8 .ensures))
+
+check-latin1-requires : tie.Need-check-latin1-requires
+check-latin1-requires c κs = search needs
+
+is-valid-requires-2 : tie.Need-is-valid-requires-2
+is-valid-requires-2 c κs = search needs
+
+returns-2 : tie.Need-returns-2
+returns-2 c = rw (coding-latin1 _ (c .before .before .if1 .left)) (c .is-valid2 .ensures _ (c .before .check-latin1 .ensures))
+
+pub is-text-spec : {M : Type 1} → statement M
+is-text-spec =
+    tie.close
+    (tie.spec
+    check-utf8-requires
+    is-valid-requires
+    returns
+    check-latin1-requires
+    is-valid-requires-2
+    returns-2)

@@ -1,0 +1,116 @@
+%% Canonical bytes as a value (see encodings), and values made alike where the node sees no difference.
+-module(canonical).
+-export([value/1, why_same/2, find/2]).
+
+%% The value of one canonical standalone term.
+value(<<131, Bytes/binary>>) -> {Value, <<>>} = term(Bytes), Value.
+
+term(<<97, N, Rest/binary>>) -> {{int, N}, Rest};
+term(<<98, N:32/signed, Rest/binary>>) -> {{int, N}, Rest};
+term(<<110, Size, Sign, Rest/binary>>) -> big(Size, Sign, Rest);
+term(<<111, Size:32, Sign, Rest/binary>>) -> big(Size, Sign, Rest);
+term(<<70, Bits:64, Rest/binary>>) -> {{float, Bits}, Rest};
+term(<<104, Arity, Rest/binary>>) -> tuple(Arity, Rest);
+term(<<105, Arity:32, Rest/binary>>) -> tuple(Arity, Rest);
+term(<<106, Rest/binary>>) -> {{list, [], nil}, Rest};
+term(<<107, Size:16, Bytes:Size/binary, Rest/binary>>) -> {{list, [{int, Byte} || <<Byte>> <= Bytes], nil}, Rest};
+term(<<108, Size:32, Rest/binary>>) -> list(Size, Rest);
+term(<<109, Size:32, Bytes:Size/binary, Rest/binary>>) -> {{bits, Bytes}, Rest};
+term(<<77, Size:32, Last, Rest/binary>>) -> bits(8 * (Size - 1) + Last, 8 - Last, Rest);
+term(<<116, Count:32, Rest/binary>>) -> map(Count, Rest);
+term(<<113, Rest/binary>>) -> export(Rest);
+term(<<90, Count:16, Rest/binary>>) -> reference(Count, Rest);
+term(<<Tag, _/binary>> = Bytes) when Tag =:= 118; Tag =:= 119 -> {Text, Rest} = text(Bytes), {{atom, Text}, Rest};
+term(<<Tag, Rest/binary>>) -> {Node, Fields} = text(Rest), identifier(Tag, Node, Fields).
+
+identifier(88, Node, <<Id:32, Serial:32, Creation:32, Rest/binary>>) -> {{pid, Node, Id, Serial, Creation}, Rest};
+identifier(89, Node, <<Id:32, Creation:32, Rest/binary>>) -> {{port, Node, Id, Creation}, Rest};
+identifier(120, Node, <<Id:64, Creation:32, Rest/binary>>) -> {{port, Node, Id, Creation}, Rest}.
+
+big(Size, Sign, Bytes) ->
+    <<Digits:Size/binary, Rest/binary>> = Bytes,
+    {{int, (1 - 2 * Sign) * binary:decode_unsigned(Digits, little)}, Rest}.
+
+text(<<119, Size, Text:Size/binary, Rest/binary>>) -> {unicode:characters_to_list(Text), Rest};
+text(<<118, Size:16, Text:Size/binary, Rest/binary>>) -> {unicode:characters_to_list(Text), Rest}.
+
+terms(Count, Bytes) -> lists:mapfoldl(fun(_, Rest) -> term(Rest) end, Bytes, lists:seq(1, Count)).
+
+tuple(Arity, Bytes) -> {Values, Rest} = terms(Arity, Bytes), {{tuple, Values}, Rest}.
+
+list(Size, Bytes) ->
+    {Values, Rest} = terms(Size, Bytes),
+    case term(Rest) of
+        {{list, [], nil}, After} -> {{list, Values, nil}, After};
+        {Tail, After} -> {{list, Values, Tail}, After}
+    end.
+
+bits(Size, Spare, Bytes) -> <<Bits:Size/bitstring, 0:Spare, Rest/binary>> = Bytes, {{bits, Bits}, Rest}.
+
+map(Count, Bytes) ->
+    {Values, Rest} = terms(2 * Count, Bytes),
+    {{map, pairs(Values)}, Rest}.
+pairs([Key, Value | Rest]) -> [{Key, Value} | pairs(Rest)];
+pairs([]) -> [].
+
+export(Bytes) ->
+    {Module, Rest} = text(Bytes),
+    {Function, <<97, Arity, After/binary>>} = text(Rest),
+    {{export, Module, Function, Arity}, After}.
+
+reference(Count, Bytes) ->
+    {Node, <<Creation:32, Rest/binary>>} = text(Bytes),
+    Size = 4 * Count,
+    <<Words:Size/binary, After/binary>> = Rest,
+    {{ref, Node, [Word || <<Word:32>> <= Words], Creation}, After}.
+
+%% The value with what the reasons name taken away: the sign of the float zero, zero words at a reference's end, the order of pairs.
+alike(Reasons, Value) -> here(Reasons, parts(fun(Part) -> alike(Reasons, Part) end, Value)).
+
+here(Reasons, Value = {float, 16#8000000000000000}) -> given(zero_sign, Reasons, {float, 0}, Value);
+here(Reasons, Value = {ref, Node, Words, Creation}) -> given(zero_words, Reasons, {ref, Node, without_zeros(Words), Creation}, Value);
+here(Reasons, Value = {map, Pairs}) -> given(map_order, Reasons, {map, lists:sort(Pairs)}, Value);
+here(_, Value) -> Value.
+
+given(Reason, Reasons, Changed, Value) ->
+    case lists:member(Reason, Reasons) of
+        true -> Changed;
+        false -> Value
+    end.
+
+without_zeros(Words) -> lists:reverse(lists:dropwhile(fun(Word) -> Word =:= 0 end, lists:reverse(Words))).
+
+parts(Fun, {tuple, Values}) -> {tuple, lists:map(Fun, Values)};
+parts(Fun, {list, Values, nil}) -> {list, lists:map(Fun, Values), nil};
+parts(Fun, {list, Values, Tail}) -> {list, lists:map(Fun, Values), Fun(Tail)};
+parts(Fun, {map, Pairs}) -> {map, [{Fun(Key), Fun(Value)} || {Key, Value} <- Pairs]};
+parts(_, Value) -> Value.
+
+%% The one reason, or all of them together, that makes two different values alike; none where they stay different, or never were.
+why_same(Value, Value) -> none;
+why_same(A, B) ->
+    Tries = [{zero_sign, [zero_sign]}, {zero_words, [zero_words]}, {map_order, [map_order]}, {several, [zero_sign, zero_words, map_order]}],
+    case [Name || {Name, Reasons} <- Tries, alike(Reasons, A) =:= alike(Reasons, B)] of
+        [Name | _] -> Name;
+        [] -> none
+    end.
+
+%% The first answer other than none that the function gives for a part of the value, or for the value itself.
+find(Fun, Value) ->
+    case Fun(Value) of
+        none -> first(Fun, below(Value));
+        Found -> Found
+    end.
+
+first(_, []) -> none;
+first(Fun, [Part | Rest]) ->
+    case find(Fun, Part) of
+        none -> first(Fun, Rest);
+        Found -> Found
+    end.
+
+below({tuple, Values}) -> Values;
+below({list, Values, nil}) -> Values;
+below({list, Values, Tail}) -> [Tail | Values];
+below({map, Pairs}) -> lists:append([[Key, Value] || {Key, Value} <- Pairs]);
+below(_) -> [].

@@ -1,0 +1,125 @@
+%% Standalone terms through the writer and the reader, against the node's own binary_to_term and term_to_binary.
+-module(term_tests).
+-export([run/1, parts/0, own_bytes/2]).
+
+-define(OWN, "terms of the node's term_to_binary").
+-define(OURS, "terms of our generator").
+-define(PAIRS, "pairs, canonical form against =:=").
+-define(VALUES, "values of our generator").
+-define(LISTED, "listed differences").
+
+parts() -> [?OWN, ?OURS, ?PAIRS, ?VALUES, ?LISTED].
+
+run(Program) ->
+    Drive = drive_port:open(Program),
+    pick:seed(1),
+    [one(Drive, ?OWN, node_terms:bytes()) || _ <- lists:seq(1, 6000)],
+    tally:say(?OWN, both_accept(?OWN)),
+    pick:seed(2),
+    [one(Drive, ?OURS, inputs:message()) || _ <- lists:seq(1, 10000)],
+    tally:say(?OURS, both_accept(?OURS)),
+    pick:seed(3),
+    [pair(Drive, pick_pair()) || _ <- lists:seq(1, 5000)],
+    tally:say(?PAIRS, io_lib:format("~b equal, ~b different for both", [tally:count({note, same}), tally:count({note, different})])),
+    tally:say(?VALUES, "each is accepted, and its canonical form has that value"),
+    say_differences(),
+    drive_port:close(Drive).
+
+both_accept(Part) ->
+    io_lib:format("~b accepted by both, ~b by neither, ~b by one for a listed reason",
+                  [tally:count({note, {What, Part}}) || What <- [both, neither, listed]]).
+
+say_differences() ->
+    [say_difference(Name, What, Clause, tally:count({difference, Name})) || {Name, What, Clause} <- differences:list()],
+    tally:say(?LISTED, "a reason passes where an input meets it").
+
+%% A listed reason that no input meets is not tested.
+say_difference(Name, What, Clause, Count) ->
+    io:format("  ~b times: ~ts (~ts)~n", [Count, What, Clause]),
+    tally:check(?LISTED, Count > 0, {never_met, Name}).
+
+one(Drive, Part, Bytes) -> tally:guard(Part, Bytes, false, fun() -> judged(Drive, Part, Bytes) end).
+
+%% One message: who accepts it, and do both find the same.
+judged(Drive, Part, Bytes) ->
+    Written = drive_port:write(Drive, "standalone", "empty", Bytes),
+    Read = drive_port:read(Drive, "standalone", "empty", Bytes),
+    case {Written, on_node(Bytes)} of
+        {{ok, Output}, {ok, Term, _}} -> both(Drive, Part, Bytes, Output, Term, Read);
+        {_, {ok, Term, Used}} -> listed(Part, agree(Read, Written), differences:node_only(Written, Bytes, Term, Used), Bytes, Written);
+        {{ok, Output}, refused} -> listed(Part, agree(Read, Written), differences:ours_only(Output), Bytes, Written);
+        {_, refused} -> tally:note({neither, Part}, 1), tally:check(Part, agree(Read, Written), {Bytes, Read, Written})
+    end.
+
+%% Reader and writer: both accept, or refuse alike; 11 is the writer's alone.
+agree({ok, 1, _}, {ok, _}) -> true;
+agree({ok, 1, _}, {refused, 11, 0}) -> true;
+agree(Read, Written) -> Read =:= Written.
+
+on_node(Bytes) ->
+    try binary_to_term(Bytes, [used]) of
+        {Term, Used} -> {ok, Term, Used}
+    catch error:badarg -> refused
+    end.
+
+listed(Part, Consistent, Name, Bytes, Ours) ->
+    Name =/= none andalso tally:difference(Name),
+    tally:note({listed, Part}, 1),
+    tally:check(Part, Consistent andalso Name =/= none, {one_accepts, Bytes, ours, Ours, Name}).
+
+both(Drive, Part, Bytes, Output, Term, Read) ->
+    tally:note({both, Part}, 1),
+    Found = [{same_term, same_term(Output, Term)},
+             {own_bytes, own_bytes(Output, Term)},
+             {fixed, drive_port:write(Drive, "standalone", "empty", Output) =:= {ok, Output}},
+             {rows, Read =:= {ok, 1, measure:rows(Term)}}],
+    Wrong = [What || {What, false} <- Found],
+    tally:check(Part, Wrong =:= [], {Wrong, Bytes, ours, Output, Read, node, Term}).
+
+%% =:= to the term, and the node writes both alike (which tells 0.0 from -0.0 too).
+same_term(Output, Term) ->
+    case on_node(Output) of
+        {ok, Again, Used} -> Again =:= Term andalso Used =:= byte_size(Output) andalso term_to_binary(Again) =:= term_to_binary(Term);
+        refused -> false
+    end.
+
+%% The canonical form is the node's own writing, byte for byte, but for a listed reason.
+own_bytes(Output, Term) ->
+    case term_to_binary(Term, [{minor_version, 2}]) of
+        Output -> true;
+        Own -> differs_for(differences:same_on_node(Output, Own))
+    end.
+
+differs_for(none) -> false;
+differs_for(Name) -> tally:difference(Name).
+
+%% Two encodings of one value, of a value and one changed in a place, or of a message and its changed bytes.
+pick_pair() ->
+    Value = encodings:value(pick:range(0, 3)),
+    First = encodings:standalone(Value),
+    {Value, First, pick:one_of([encodings:standalone(Value), encodings:standalone(values:altered(Value)), inputs:changed_bytes(First)])}.
+
+pair(Drive, Pair = {_, First, Second}) -> tally:guard(?PAIRS, {First, Second}, false, fun() -> compared(Drive, Pair) end).
+
+compared(Drive, {Value, First, Second}) ->
+    value_kept(drive_port:write(Drive, "standalone", "empty", First), Value, First),
+    case {canonical(Drive, First), canonical(Drive, Second)} of
+        {{Term, Output}, {Other, Output}} -> tally:note(same, 1), tally:check(?PAIRS, Term =:= Other, {equal_outputs, First, Second, Output});
+        {{Term, Output}, {Other, Another}} when Term =:= Other -> alike(Output, Another, First, Second);
+        {{_, _}, {_, _}} -> tally:note(different, 1), tally:passed(?PAIRS);
+        _ -> true
+    end.
+
+%% The output of an encoding is that of the value that was encoded.
+value_kept({ok, Output}, Value, Bytes) -> tally:check(?VALUES, canonical:value(Output) =:= Value, {Bytes, Output, Value});
+value_kept(Refused, _, Bytes) -> tally:failed(?VALUES, {Bytes, Refused}).
+
+alike(Output, Another, First, Second) ->
+    tally:check(?PAIRS, differs_for(differences:same_on_node(Output, Another)), {same_term, First, Second, Output, Another}).
+
+%% The node's term and our output, where both accept.
+canonical(Drive, Bytes) ->
+    case {on_node(Bytes), drive_port:write(Drive, "standalone", "empty", Bytes)} of
+        {{ok, Term, _}, {ok, Output}} -> {Term, Output};
+        _ -> refused
+    end.
