@@ -100,13 +100,13 @@ fn length_term(msg: &[u8], places: &[u8], lengths: &[u16], table: &[u64], row: u
 {
     let word = table[row];
     let n = row::parts_in(word);
+    if n == 0 {
+        return fields::own_length(msg, places, lengths, word);
+    }
     if is_string(msg, places, lengths, table, row) {
         return n + 3;
     }
     let own = fields::own_length(msg, places, lengths, word);
-    if n == 0 {
-        return own;
-    }
     let inner = length_run(msg, places, lengths, table, row + 1, n);
     own + inner
 }
@@ -149,13 +149,13 @@ fn write_term(
 {
     let word = table[row];
     let n = row::parts_in(word);
+    if n == 0 {
+        return fields::put_leaf(msg, places, lengths, word, out, at);
+    }
     if is_string(msg, places, lengths, table, row) {
         return put_string(msg, places, lengths, table, row + 1, n, out, at);
     }
     let first = fields::put_before(msg, places, lengths, word, out, at);
-    if n == 0 {
-        return fields::put_after(msg, places, lengths, word, out, first);
-    }
     let end = write_run(msg, places, lengths, table, row + 1, n, out, first);
     fields::put_after(msg, places, lengths, word, out, end)
 }

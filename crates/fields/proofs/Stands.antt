@@ -2,10 +2,10 @@
 use mathlib.Core.Path.{_≡_, refl, sym, _∙_, ap, ap₂}
 use mathlib.Core.Bool.{Bool, true, false}
 use mathlib.Core.List.{List, [], _∷_, _++_, append-nil}
-use Prim.Native.Nat.{ℕ, _+_, _-_, _/_, _≤_, _<_}
+use Prim.Native.Nat.{ℕ, suc, _+_, _-_, _/_, _≤_, _<_}
 use native.Mathlib.Omega.{arith}
-use lib.Dec.{ltb}
-use lib.ListN.{length, getD, take, drop}
+use lib.Dec.{leb, ltb}
+use lib.ListN.{length, getD, take, drop, length-append}
 use lib.Seq.{take-add, drop-drop, drop-cons, sets}
 use borrow.Author.Tests.{le-ltb, lt-leb, ltb-true, ltb-false}
 use Rattle.format.specs.Numbers.{in-bytes, with-sign}
@@ -13,7 +13,8 @@ use Rattle.format.specs.Text.{encodes}
 use Rattle.format.specs.Term.{tuple, list, map}
 use Rattle.format.specs.Canonical.{integer-bytes, atom-bytes, small}
 use Rattle.format.specs.Rows.{kind-in, offset-in, parts-in}
-use Rattle.octets.proofs.Numbers.{big-one}
+use Rattle.format.proofs.Numbers.{length-in-bytes}
+use Rattle.octets.proofs.Numbers.{big-one, bytes-one}
 use Rattle.octets.proofs.Parts.{length-part}
 use Rattle.octets.specs.Parts.{choose}
 use Rattle.contents.specs.Found.{value, byte-found, signed-whole, signed-found, integer-found, float-found, text-width, text-found, atom-found, bytes-found, binary-found, kind-found, content-of}
@@ -22,10 +23,10 @@ use Rattle.contents.specs.declared.Content.{Content}
 use Rattle.contents.specs.declared.Content.the-variants.{Nothing, Whole, Float, Text, Bytes}
 use Rattle.contents.proofs.ByKind.{kind-1, kind-2, kind-3, kind-7, kind-14}
 use Rattle.layout.specs.Layout.{Put}
-use Rattle.layout.proofs.Puts.{put-none, put-same}
+use Rattle.layout.proofs.Puts.{put-then, put-none, put-same}
 use Rattle.fields.specs.Shape.{tagged-bytes, before, after}
 use Rattle.fields.specs.Sound.{Bytes-only, listed-in, label-in, before-in, after-in, Sound, Sound-word, Stands, character-code}
-use Rattle.fields.proofs.Leads.{number-stands, positive-97, positive-98, negative-98, atom-119, tuple-104, list-106, list-over, signed-above, signed-below, sound-text, sound-bytes, is-small, code-by, bare-over}
+use Rattle.fields.proofs.Leads.{number-stands, positive-97, positive-98, negative-98, atom-119, tuple-104, list-106, list-108, list-over, list-closed, signed-above, signed-below, sound-text, sound-bytes, is-small, code-by, bare-over}
 use Rattle.fields.proofs.Each.{byte-each, integer-each, float-each, atom-each, binary-each, content-each}
 
 -- ---- contents that are there
@@ -310,3 +311,66 @@ module _ (m places lengths : List ℕ) (w n : ℕ) (s : Stands m places lengths 
 
   pub stands-inside : (o : ℕ) → o ≡ offset-in w → o + n ≤ length m
   stands-inside o e = rw e (s .there)
+
+  pub stands-whole : {O P : List ℕ} {at o : ℕ} → o ≡ offset-in w → P ≡ sets O at (take n (drop o m)) → Put O at (before-in m places lengths w ++ after-in m places lengths w) (at + n) P
+  stands-whole e f = put-same (sym (append-nil _) ∙ ap (λ (x : List ℕ). before-in m places lengths w ++ x) (sym (s .no-end))) (stands-put e f)
+
+  pub whole-room : (at room : ℕ) → at + length (before-in m places lengths w ++ after-in m places lengths w) ≤ room → at + n ≤ room
+  whole-room at room h = let a = length-append (before-in m places lengths w) (after-in m places lengths w) in stands-room at room (omega arith)
+
+-- ---- lists
+
+module _ (m places lengths : List ℕ) (at : ℕ) where
+  list-nothing : content-of m places lengths 5 at ≡ Nothing
+  unfolding content-of kind-found choose
+  list-nothing = go (leb (length m) at)
+    where
+      go : (z : Bool) → _≡_ {A = Content} (choose z Nothing Nothing) Nothing
+      go true = refl
+      go false = refl
+
+  list-label : label-of m (listed-in places) 5 (content-of m places lengths 5 at) ≡ list
+  unfolding label-of bare choose
+  list-label = ap (label-of m (listed-in places) 5) list-nothing
+
+module _ (m places lengths : List ℕ) (w kind n : ℕ) (e : kind ≡ kind-in w) (f : kind ≡ 5) (g : n ≡ parts-in w) where
+  list-in : label-in m places lengths w ≡ list
+  list-in = ap (λ (k : ℕ). label-of m (listed-in places) k (content-of m places lengths k (offset-in w))) (sym e ∙ f) ∙ list-label m places lengths (offset-in w)
+
+  pub list-before : before list n ≡ before-in m places lengths w
+  list-before = ap₂ before (sym list-in) g
+
+  pub list-after : after list n ≡ after-in m places lengths w
+  list-after = ap₂ after (sym list-in) g
+
+pub same-room : {bs cs : List ℕ} (at room : ℕ) → bs ≡ cs → at + length cs ≤ room → at + length bs ≤ room
+same-room at room e h = rw e h
+
+pub byte-put : {O P : List ℕ} {at b : ℕ} {bs : List ℕ} → b < 256 → b ∷ [] ≡ bs → P ≡ sets O at (in-bytes 1 b) → Put O at bs (at + 1) P
+byte-put {O} {P} {at} {b} h e p = put-same e (record { past = refl; stored = p ∙ ap (sets O at) (bytes-one b h) })
+
+module _ (n : ℕ) where
+  pub list-length-0 : n ≡ 0 → 1 ≡ length (before list n) + length (after list n)
+  list-length-0 z = ap₂ (λ (x y : List ℕ). length x + length y) (list-106 n z) (list-over n z)
+
+  pub list-length-more : (n ≡ 0 → ⊥) → 6 ≡ length (before list n) + length (after list n)
+  list-length-more h =
+      let a : length (before list n) ≡ 5 = sym (ap length (list-108 n h)) ∙ ap suc (length-in-bytes 4 n) in
+      let b : length (after list n) ≡ 1 = sym (ap length (list-closed n h)) in
+      omega arith
+
+  pub list-put : {O P Q : List ℕ} {at : ℕ} → (n ≡ 0 → ⊥) → P ≡ sets O at (in-bytes 1 108) → Q ≡ sets P (at + 1) (in-bytes 4 n) → Put O at (before list n) (at + 5) Q
+  list-put {O} {P} {Q} {at} h p q =
+      let l : length (in-bytes 4 n) ≡ 4 = length-in-bytes 4 n in
+      let first : Put O at (108 ∷ []) (at + 1) P = byte-put {b = 108} (omega arith) refl p in
+      let next : Put P (at + 1) (in-bytes 4 n) (at + 5) Q = record { past = omega arith; stored = q } in
+      put-same (list-108 n h) (put-then first next)
+
+  pub list-room : (at room : ℕ) → (n ≡ 0 → ⊥) → at + length (before list n) ≤ room → at + 5 ≤ room
+  list-room at room h k = let a : length (before list n) ≡ 5 = sym (ap length (list-108 n h)) ∙ ap suc (length-in-bytes 4 n) in omega arith
+
+  pub list-end-room : (at room : ℕ) → (n ≡ 0 → ⊥) → at + length (after list n) ≤ room → at + 1 ≤ room
+  list-end-room at room h k = let b : length (after list n) ≡ 1 = sym (ap length (list-closed n h)) in omega arith
+
+  pub empty-room : (at room : ℕ) → n ≡ 0 → at + length (before list n) ≤ room → at + 1 ≤ room
+  empty-room at room z k = let b : length (before list n) ≡ 1 = sym (ap length (list-106 n z)) in omega arith

@@ -4,7 +4,7 @@ use layout::Body;
 use layout::Layout;
 ghost use mathlib.Core.Path.{_≡_};
 ghost use mathlib.Core.Bool.{true, false};
-ghost use mathlib.Core.List.{List, []};
+ghost use mathlib.Core.List.{List, [], _++_};
 ghost use Prim.Native.Nat.{ℕ, _+_, _*_, _-_, _≤_, _<_};
 ghost use lib.ListN.{length, getD};
 ghost use Rattle.format.specs.Numbers.{digits, little-endian, with-sign};
@@ -524,6 +524,42 @@ fn found_length(msg: &[u8], places: &[u8], lengths: &[u16], word: u64) -> usize
     first + last
 }
 
+// How many bytes stand before and after the elements of a list of n that is written with them.
+fn list_length(n: usize) -> usize
+    ensures { λ r. ⌜ (r ≡ length (before list n) + length (after list n)) × (r ≤ 6) ⌝ }
+{
+    if n == 0 {
+        return 1;
+    }
+    6
+}
+
+// Writes those before them from `at` on; the offset past them.
+fn put_list_start(n: usize, out: &mut [u8], at: usize) -> usize
+    requires { ⌜ (n < 8192) × (at + length (before list n) ≤ length (now out)) ⌝ }
+    ensures { λ r. ⌜ Put (now (out .entry)) at (before list n) r (now (out .exit)) ⌝ }
+{
+    if n == 0 {
+        octets::put1(out, at, 106);
+        return at + 1;
+    }
+    octets::put1(out, at, 108);
+    octets::put4(out, at + 1, n);
+    at + 5
+}
+
+// Writes those after them from `at` on; the offset past them.
+fn put_list_end(n: usize, out: &mut [u8], at: usize) -> usize
+    requires { ⌜ at + length (after list n) ≤ length (now out) ⌝ }
+    ensures { λ r. ⌜ Put (now (out .entry)) at (after list n) r (now (out .exit)) ⌝ }
+{
+    if n == 0 {
+        return at;
+    }
+    octets::put1(out, at, 106);
+    at + 1
+}
+
 // How many bytes stand before and after the parts of the term whose row this is.
 pub fn own_length(msg: &[u8], places: &[u8], lengths: &[u16], word: u64) -> usize
     requires { ⌜ Sound-word (now msg) (now places) (now lengths) word ⌝ }
@@ -532,6 +568,9 @@ pub fn own_length(msg: &[u8], places: &[u8], lengths: &[u16], word: u64) -> usiz
     let n = as_it_stands(msg, word);
     if 0 < n {
         return n;
+    }
+    if row::kind_in(word) == 5 {
+        return list_length(row::parts_in(word));
     }
     found_length(msg, places, lengths, word)
 }
@@ -569,6 +608,9 @@ pub fn put_before(
     if 0 < n {
         octets::copy(msg, row::offset_in(word), out, at, n);
         return at + n;
+    }
+    if row::kind_in(word) == 5 {
+        return put_list_start(row::parts_in(word), out, at);
     }
     put_lead(msg, places, lengths, word, out, at)
 }
@@ -615,10 +657,35 @@ pub fn put_after(
     requires { ⌜ Sound-word (now msg) (now places) (now lengths) word × (at + length (after-in (now msg) (now places) (now lengths) word) ≤ length (now out)) ⌝ }
     ensures { λ r. ⌜ Put (now (out .entry)) at (after-in (now (msg .entry)) (now (places .entry)) (now (lengths .entry)) word) r (now (out .exit)) ⌝ }
 {
-    if !has_trail(row::kind_in(word)) {
+    let kind = row::kind_in(word);
+    if kind == 5 {
+        return put_list_end(row::parts_in(word), out, at);
+    }
+    if !has_trail(kind) {
         return at;
     }
     put_trail(msg, places, lengths, word, out, at)
+}
+
+// Writes the term whose row this is, which has no parts, from `at` on; the offset past it.
+pub fn put_leaf(
+    msg: &[u8],
+    places: &[u8],
+    lengths: &[u16],
+    word: u64,
+    out: &mut [u8],
+    at: usize,
+) -> usize
+    requires { ⌜ Sound-word (now msg) (now places) (now lengths) word × (at + length (before-in (now msg) (now places) (now lengths) word ++ after-in (now msg) (now places) (now lengths) word) ≤ length (now out)) ⌝ }
+    ensures { λ r. ⌜ Put (now (out .entry)) at (before-in (now (msg .entry)) (now (places .entry)) (now (lengths .entry)) word ++ after-in (now (msg .entry)) (now (places .entry)) (now (lengths .entry)) word) r (now (out .exit)) ⌝ }
+{
+    let n = as_it_stands(msg, word);
+    if 0 < n {
+        octets::copy(msg, row::offset_in(word), out, at, n);
+        return at + n;
+    }
+    let end = put_lead(msg, places, lengths, word, out, at);
+    put_trail(msg, places, lengths, word, out, end)
 }
 
 // A magnitude as a character; 256 where it is none.

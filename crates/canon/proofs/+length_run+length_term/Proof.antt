@@ -154,10 +154,10 @@ length-run-returns t c = λ ts h e. length-end (c .before .loop .inv .1 ts h e) 
 length-term-mul-word : (t : ℕ) → length-term-lts.Need-mul-word (
   parts-in-reads.Asked,
   parts-in-reads.Learnt,
-  is-string-reads.Asked,
-  is-string-reads.Learnt,
   own-length-reads.Asked,
   own-length-reads.Learnt,
+  is-string-reads.Asked,
+  is-string-reads.Learnt,
   length-run-below t,
   length-run.Post,
 ) (length-term-at t) length-term.Post
@@ -168,10 +168,10 @@ length-term-mul-word t c =
 length-term-shared-slice-read-word : (t : ℕ) → length-term-lts.Need-shared-slice-read-word (
   parts-in-reads.Asked,
   parts-in-reads.Learnt,
-  is-string-reads.Asked,
-  is-string-reads.Learnt,
   own-length-reads.Asked,
   own-length-reads.Learnt,
+  is-string-reads.Asked,
+  is-string-reads.Learnt,
   length-run-below t,
   length-run.Post,
 ) (length-term-at t) length-term.Post
@@ -182,84 +182,98 @@ length-term-shared-slice-read-word t c =
 length-term-parts-in-requires : (t : ℕ) → length-term-lts.Need-parts-in-requires (
   parts-in-reads.Asked,
   parts-in-reads.Learnt,
-  is-string-reads.Asked,
-  is-string-reads.Learnt,
   own-length-reads.Asked,
   own-length-reads.Learnt,
+  is-string-reads.Asked,
+  is-string-reads.Learnt,
   length-run-below t,
   length-run.Post,
 ) (length-term-at t) length-term.Post
 length-term-parts-in-requires t c κs = search needs
 
-length-term-is-string-requires : (t : ℕ) → length-term-lts.Need-is-string-requires (
+length-term-own-length-requires : (t : ℕ) → length-term-lts.Need-own-length-requires (
   parts-in-reads.Asked,
   parts-in-reads.Learnt,
-  is-string-reads.Asked,
-  is-string-reads.Learnt,
   own-length-reads.Asked,
   own-length-reads.Learnt,
+  is-string-reads.Asked,
+  is-string-reads.Learnt,
   length-run-below t,
   length-run.Post,
 ) (length-term-at t) length-term.Post
-length-term-is-string-requires t c κs = c .before .before .before .before .before .before .pre .1
+length-term-own-length-requires t c κs =
+    let asked = c .before .before .before .before .before .before .before .pre in
+    term-sound (asked .1 .term) (asked .1 .held)
+
+length-term-returns : (t : ℕ) → length-term-lts.Need-returns (
+  parts-in-reads.Asked,
+  parts-in-reads.Learnt,
+  own-length-reads.Asked,
+  own-length-reads.Learnt,
+  is-string-reads.Asked,
+  is-string-reads.Learnt,
+  length-run-below t,
+  length-run.Post,
+) (length-term-at t) length-term.Post
+length-term-returns t c = λ t h. leaf-length (c .before .before .parts-in .ensures .0) (c .before .if1 .taken) _ (c .own-length .ensures .0) (c .own-length .ensures .1) t h
+
+length-term-is-string-requires : (t : ℕ) → length-term-lts.Need-is-string-requires (
+  parts-in-reads.Asked,
+  parts-in-reads.Learnt,
+  own-length-reads.Asked,
+  own-length-reads.Learnt,
+  is-string-reads.Asked,
+  is-string-reads.Learnt,
+  length-run-below t,
+  length-run.Post,
+) (length-term-at t) length-term.Post
+length-term-is-string-requires t c κs = c .before .before .before .before .before .before .before .pre .1
 
 length-term-add-result : (t : ℕ) → length-term-lts.Need-add-result (
   parts-in-reads.Asked,
   parts-in-reads.Learnt,
-  is-string-reads.Asked,
-  is-string-reads.Learnt,
   own-length-reads.Asked,
   own-length-reads.Learnt,
+  is-string-reads.Asked,
+  is-string-reads.Learnt,
   length-run-below t,
   length-run.Post,
 ) (length-term-at t) length-term.Post
 length-term-add-result t c = omega arith
 
-length-term-returns : (t : ℕ) → length-term-lts.Need-returns (
-  parts-in-reads.Asked,
-  parts-in-reads.Learnt,
-  is-string-reads.Asked,
-  is-string-reads.Learnt,
-  own-length-reads.Asked,
-  own-length-reads.Learnt,
-  length-run-below t,
-  length-run.Post,
-) (length-term-at t) length-term.Post
-length-term-returns t c = λ t h. string-length _ (c .before .before .parts-in .ensures .0) t h (sym (c .before .is-string .ensures t h) ∙ c .if1 .taken)
-
-length-term-own-length-requires : (t : ℕ) → length-term-lts.Need-own-length-requires (
-  parts-in-reads.Asked,
-  parts-in-reads.Learnt,
-  is-string-reads.Asked,
-  is-string-reads.Learnt,
-  own-length-reads.Asked,
-  own-length-reads.Learnt,
-  length-run-below t,
-  length-run.Post,
-) (length-term-at t) length-term.Post
-length-term-own-length-requires t c κs =
-    let asked = c .before .before .before .before .before .before .before .before .pre in
-    term-sound (asked .1 .term) (asked .1 .held)
-
 length-term-returns-2 : (t : ℕ) → length-term-lts.Need-returns-2 (
   parts-in-reads.Asked,
   parts-in-reads.Learnt,
-  is-string-reads.Asked,
-  is-string-reads.Learnt,
   own-length-reads.Asked,
   own-length-reads.Learnt,
+  is-string-reads.Asked,
+  is-string-reads.Learnt,
   length-run-below t,
   length-run.Post,
 ) (length-term-at t) length-term.Post
-length-term-returns-2 t c = λ t h. leaf-length _ _ (c .before .before .before .before .parts-in .ensures .0) (c .if2 .taken) (c .before .own-length .ensures .0) (c .before .own-length .ensures .1) t h (sym (c .before .before .before .is-string .ensures t h) ∙ c .before .before .if1 .left)
+length-term-returns-2 t c = λ t h. string-length _ (c .before .before .before .parts-in .ensures .0) t h (sym (c .before .is-string .ensures t h) ∙ c .if2 .taken)
+
+length-term-own-length-requires-2 : (t : ℕ) → length-term-lts.Need-own-length-requires-2 (
+  parts-in-reads.Asked,
+  parts-in-reads.Learnt,
+  own-length-reads.Asked,
+  own-length-reads.Learnt,
+  is-string-reads.Asked,
+  is-string-reads.Learnt,
+  length-run-below t,
+  length-run.Post,
+) (length-term-at t) length-term.Post
+length-term-own-length-requires-2 t c κs =
+    let asked = c .before .before .before .before .before .before .before .before .before .pre in
+    term-sound (asked .1 .term) (asked .1 .held)
 
 length-term-add-length-run : (t : ℕ) → length-term-lts.Need-add-length-run (
   parts-in-reads.Asked,
   parts-in-reads.Learnt,
-  is-string-reads.Asked,
-  is-string-reads.Learnt,
   own-length-reads.Asked,
   own-length-reads.Learnt,
+  is-string-reads.Asked,
+  is-string-reads.Learnt,
   length-run-below t,
   length-run.Post,
 ) (length-term-at t) length-term.Post
@@ -270,10 +284,10 @@ length-term-add-length-run t c =
 length-term-length-run-requires : (t : ℕ) → length-term-lts.Need-length-run-requires (
   parts-in-reads.Asked,
   parts-in-reads.Learnt,
-  is-string-reads.Asked,
-  is-string-reads.Learnt,
   own-length-reads.Asked,
   own-length-reads.Learnt,
+  is-string-reads.Asked,
+  is-string-reads.Learnt,
   length-run-below t,
   length-run.Post,
 ) (length-term-at t) length-term.Post
@@ -284,28 +298,28 @@ length-term-length-run-requires t c κs =
 length-term-add-result-2 : (t : ℕ) → length-term-lts.Need-add-result-2 (
   parts-in-reads.Asked,
   parts-in-reads.Learnt,
-  is-string-reads.Asked,
-  is-string-reads.Learnt,
   own-length-reads.Asked,
   own-length-reads.Learnt,
+  is-string-reads.Asked,
+  is-string-reads.Learnt,
   length-run-below t,
   length-run.Post,
 ) (length-term-at t) length-term.Post
 length-term-add-result-2 t c =
     let asked = c .before .before .before .before .before .before .before .before .before .before .before .pre in
-    let p = parts-length _ _ _ (c .before .before .before .before .before .parts-in .ensures .0) (c .before .before .own-length .ensures .0) (c .before .before .own-length .ensures .1) (c .length-run .ensures) (asked .1 .term) (asked .1 .held) (sym (c .before .before .before .before .is-string .ensures (asked .1 .term) (asked .1 .held)) ∙ c .before .before .before .if1 .left) in let f = few-rows (asked .1 .term) (asked .1 .held) in omega arith
+    let p = parts-length _ _ _ (c .before .before .before .before .before .parts-in .ensures .0) (c .before .own-length2 .ensures .0) (c .before .own-length2 .ensures .1) (c .length-run .ensures) (asked .1 .term) (asked .1 .held) (sym (c .before .before .before .is-string .ensures (asked .1 .term) (asked .1 .held)) ∙ c .before .before .if2 .left) in let f = few-rows (asked .1 .term) (asked .1 .held) in omega arith
 
 length-term-returns-3 : (t : ℕ) → length-term-lts.Need-returns-3 (
   parts-in-reads.Asked,
   parts-in-reads.Learnt,
-  is-string-reads.Asked,
-  is-string-reads.Learnt,
   own-length-reads.Asked,
   own-length-reads.Learnt,
+  is-string-reads.Asked,
+  is-string-reads.Learnt,
   length-run-below t,
   length-run.Post,
 ) (length-term-at t) length-term.Post
-length-term-returns-3 t c = λ t h. parts-length _ _ _ (c .before .before .before .before .before .parts-in .ensures .0) (c .before .before .own-length .ensures .0) (c .before .before .own-length .ensures .1) (c .length-run .ensures) t h (sym (c .before .before .before .before .is-string .ensures t h) ∙ c .before .before .before .if1 .left)
+length-term-returns-3 t c = λ t h. parts-length _ _ _ (c .before .before .before .before .before .parts-in .ensures .0) (c .before .own-length2 .ensures .0) (c .before .own-length2 .ensures .1) (c .length-run .ensures) t h (sym (c .before .before .before .is-string .ensures t h) ∙ c .before .before .if2 .left)
 
 pub +length-run+length-term-spec : {M : Type 1} → statement M
 +length-run+length-term-spec = close μ-length-run μ-length-term (λ t. length-run-lts.spec (
@@ -332,10 +346,10 @@ pub +length-run+length-term-spec : {M : Type 1} → statement M
     λ t. length-term-lts.spec (
       parts-in-reads.Asked,
       parts-in-reads.Learnt,
-      is-string-reads.Asked,
-      is-string-reads.Learnt,
       own-length-reads.Asked,
       own-length-reads.Learnt,
+      is-string-reads.Asked,
+      is-string-reads.Learnt,
       length-run-below t,
       length-run.Post,
     )
@@ -344,11 +358,12 @@ pub +length-run+length-term-spec : {M : Type 1} → statement M
     (length-term-mul-word t)
     (length-term-shared-slice-read-word t)
     (length-term-parts-in-requires t)
+    (length-term-own-length-requires t)
+    (length-term-returns t)
     (length-term-is-string-requires t)
     (length-term-add-result t)
-    (length-term-returns t)
-    (length-term-own-length-requires t)
     (length-term-returns-2 t)
+    (length-term-own-length-requires-2 t)
     (length-term-add-length-run t)
     (length-term-length-run-requires t)
     (length-term-add-result-2 t)

@@ -1,5 +1,6 @@
--- `fields::put_before` meets its contract. Bytes that stand as they are written are copied. Assumes nothing.
-use Rattle.fields.proofs.Stands.{stands-inside, stands-room, stands-put}
+-- `fields::put_before` meets its contract. Bytes that stand as they are written are copied; a list is written by its number of elements. Assumes nothing.
+use Rattle.layout.proofs.Puts.{put-same}
+use Rattle.fields.proofs.Stands.{stands-inside, stands-room, stands-put, list-before, same-room}
 use borrow.Author.Needs.{needs}
 use Rattle.fields.proofs.put_before.Statement.{statement}
 use Rattle.fields.proofs.put_before.Tie as tie
@@ -22,14 +23,29 @@ same-length c = search needs
 returns : tie.Need-returns
 returns c = stands-put (c .before .before .before .before .before .before .before .before .before .before .before .args .msg .now) (c .before .before .before .before .before .before .before .before .before .before .before .args .places .now) (c .before .before .before .before .before .before .before .before .before .before .before .args .lengths .now) (c .before .before .before .before .before .before .before .before .before .before .before .args .word) _ (c .before .before .before .before .before .before .as-it-stands .ensures (c .before .before .before .before .before .before .before .before .before .before .before .args .places .now) (c .before .before .before .before .before .before .before .before .before .before .before .args .lengths .now) (c .before .before .before .before .before .before .before .before .before .before .before .pre .0) (c .before .before .before .before .before .if1 .taken)) (c .before .before .before .before .offset-in .ensures .0) (c .before .before .copy .ensures)
 
-put-lead-requires : tie.Need-put-lead-requires
-put-lead-requires c κs = search needs
+kind-in-requires : tie.Need-kind-in-requires
+kind-in-requires c κs = search needs
+
+parts-in-requires : tie.Need-parts-in-requires
+parts-in-requires c κs = search needs
+
+put-list-start-requires : tie.Need-put-list-start-requires
+put-list-start-requires c κs = (c .before .parts-in .ensures .1, same-room _ _ (list-before (c .before .before .before .before .before .before .before .before .before .before .args .msg .now) (c .before .before .before .before .before .before .before .before .before .before .args .places .now) (c .before .before .before .before .before .before .before .before .before .before .args .lengths .now) (c .before .before .before .before .before .before .before .before .before .before .args .word) _ _ (c .before .before .before .kind-in .ensures .0) (c .before .before .if2 .taken) (c .before .parts-in .ensures .0)) (c .before .before .before .before .before .before .before .before .before .before .pre .1))
 
 same-length-2 : tie.Need-same-length-2
 same-length-2 c = search needs
 
 returns-2 : tie.Need-returns-2
-returns-2 c = search needs
+returns-2 c = put-same (list-before (c .before .before .before .before .before .before .before .before .before .before .before .before .before .args .msg .now) (c .before .before .before .before .before .before .before .before .before .before .before .before .before .args .places .now) (c .before .before .before .before .before .before .before .before .before .before .before .before .before .args .lengths .now) (c .before .before .before .before .before .before .before .before .before .before .before .before .before .args .word) _ _ (c .before .before .before .before .before .before .kind-in .ensures .0) (c .before .before .before .before .before .if2 .taken) (c .before .before .before .before .parts-in .ensures .0)) (c .before .before .put-list-start .ensures)
+
+put-lead-requires : tie.Need-put-lead-requires
+put-lead-requires c κs = search needs
+
+same-length-3 : tie.Need-same-length-3
+same-length-3 c = search needs
+
+returns-3 : tie.Need-returns-3
+returns-3 c = search needs
 
 pub put-before-spec : {M : Type 1} → statement M
 put-before-spec =
@@ -41,6 +57,11 @@ put-before-spec =
     add-result
     same-length
     returns
-    put-lead-requires
+    kind-in-requires
+    parts-in-requires
+    put-list-start-requires
     same-length-2
-    returns-2)
+    returns-2
+    put-lead-requires
+    same-length-3
+    returns-3)
