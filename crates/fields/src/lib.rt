@@ -492,6 +492,20 @@ fn map_stands(msg: &[u8], at: usize, n: usize) -> usize
     5
 }
 
+// The same of an export.
+fn export_stands(msg: &[u8], at: usize) -> usize
+    requires { ⌜ at < 65536 ⌝ }
+    ensures { λ r. ⌜ ((places lengths : List ℕ) (parts : ℕ) → 0 < r → Stands (now (msg .entry)) places lengths 13 at parts r) ⌝ }
+{
+    if msg.len() < at + 1 {
+        return 0;
+    }
+    if octets::wide(msg[at]) != 113 {
+        return 0;
+    }
+    1
+}
+
 // How many bytes of the message from its tag on are the own bytes, in canonical form, of the term whose row this is; 0 where they may not be.
 fn as_it_stands(msg: &[u8], word: u64) -> usize
     ensures { λ r. ⌜ ((places lengths : List ℕ) → Sound-word (now (msg .entry)) places lengths word → 0 < r → Stands (now (msg .entry)) places lengths (kind-in word) (offset-in word) (parts-in word) r) ⌝ }
@@ -507,6 +521,7 @@ fn as_it_stands(msg: &[u8], word: u64) -> usize
         5 => list_stands(msg, at, n),
         7 => bytes_stand(msg, at),
         9 => map_stands(msg, at, n),
+        13 => export_stands(msg, at),
         _ => 0,
     }
 }
@@ -772,14 +787,29 @@ fn plain_character(msg: &[u8], kind: usize, at: usize) -> usize
     byte_at(msg, at + 1)
 }
 
+// Whether a term of this kind may be an integer.
+fn is_integer(kind: usize) -> bool
+    ensures { λ r. ⌜ (r ≡ false → (kind ≡ 1 → ⊥) × (kind ≡ 14 → ⊥)) ⌝ }
+{
+    match kind {
+        1 => true,
+        14 => true,
+        _ => false,
+    }
+}
+
 // The integer 0 to 255 that the term is whose row this is; 256 where it is none.
 pub fn character_at(msg: &[u8], places: &[u8], lengths: &[u16], word: u64) -> usize
     requires { ⌜ Sound-word (now msg) (now places) (now lengths) word ⌝ }
     ensures { λ r. ⌜ (r ≡ character-code (small (label-in (now (msg .entry)) (now (places .entry)) (now (lengths .entry)) word))) × (r ≤ 256) ⌝ }
 {
-    let c = plain_character(msg, row::kind_in(word), row::offset_in(word));
+    let kind = row::kind_in(word);
+    let c = plain_character(msg, kind, row::offset_in(word));
     if c < 256 {
         return c;
+    }
+    if !is_integer(kind) {
+        return 256;
     }
     character_found(msg, places, lengths, word)
 }
