@@ -36,7 +36,7 @@ unfolding byte-found choose
 byte-there m at h = let g : 1 ≤ length m - at = omega arith in simp (le-ltb (length m - at) 1 g) (ap (Whole false) (big-one m at h))
 
 module _ (m places lengths : List ℕ) (kind at : ℕ) (h : at < length m) where
-  there : content-of m places lengths kind at ≡ kind-found m places lengths at kind
+  pub there : content-of m places lengths kind at ≡ kind-found m places lengths at kind
   unfolding content-of choose
   there = simp (lt-leb (length m) at h)
 
@@ -118,7 +118,7 @@ nothing-put m places lengths w kind O at e t = put-same (sym (no-trail m places 
 
 -- a tag and a number after it, and bytes after these
 module _ (m : List ℕ) (tag at w : ℕ) (b : Bytes-only m) (e : getD m at 0 ≡ tag) where
-  one : at < length m → take 1 (drop at m) ≡ tag ∷ []
+  pub one : at < length m → take 1 (drop at m) ≡ tag ∷ []
   one h = ap (take 1) (drop-cons m at 0 h) ∙ ap (λ (x : ℕ). x ∷ []) e
 
   pub number-there : at + (1 + w) ≤ length m → tag ∷ in-bytes w (value m w (at + 1)) ≡ take (1 + w) (drop at m)

@@ -14,12 +14,12 @@ ghost use Rattle.format.specs.Head.{clear-low};
 ghost use Rattle.format.specs.Term.{integer, tuple, list, binary, bitstring, pid, port, reference};
 ghost use Rattle.format.specs.Rows.{kind-in, offset-in, parts-in};
 ghost use Rattle.format.specs.Canonical.{big-bytes, integer-bytes, atom-bytes, small};
-ghost use Rattle.contents.specs.Found.{content-of};
+ghost use Rattle.contents.specs.Found.{value, atom-end, content-of};
 ghost use Rattle.contents.specs.Meaning.{sign, coded, words-at, bare, label-of};
 ghost use Rattle.octets.specs.Parts.{stretch, source};
 ghost use Rattle.layout.specs.Layout.{body-bytes, Inside, Body-inside, Lays, Put};
 ghost use Rattle.fields.specs.Shape.{tagged-bytes, before, after};
-ghost use Rattle.fields.specs.Sound.{High, Bytes-only, Sound-text, Sound, listed-in, content-in, label-in, before-in, after-in, Sound-word, Stands, character-code};
+ghost use Rattle.fields.specs.Sound.{High, Bytes-only, Sound-text, Sound, listed-in, content-in, label-in, before-in, after-in, Sound-word, Stands, Around, character-code};
 
 // The layout of a tag, a number of so many bytes, and a body.
 fn tagged(tag: u64, width: usize, n: u64, body: Body) -> Layout
@@ -539,6 +539,71 @@ fn found_length(msg: &[u8], places: &[u8], lengths: &[u16], word: u64) -> usize
     first + last
 }
 
+// Where the atom ends whose tag, 119 or 82, is at `at`; 0 for any other.
+fn node_end(msg: &[u8], at: usize) -> usize
+    requires { ⌜ at < 65539 ⌝ }
+    ensures { λ r. ⌜ (0 < r → r ≡ atom-end (now (msg .entry)) at) × (r < 65798) ⌝ }
+{
+    if msg.len() < at + 2 {
+        return 0;
+    }
+    let tag = octets::wide(msg[at]);
+    if tag == 82 {
+        return at + 2;
+    }
+    if tag != 119 {
+        return 0;
+    }
+    let n = octets::big1(msg, at + 1);
+    if msg.len() < at + 2 + n {
+        return 0;
+    }
+    at + 2 + n
+}
+
+// Where the node of a pid with tag 88 ends, by its row's kind and offset; 0 for any other term.
+fn pid_node(msg: &[u8], kind: usize, at: usize) -> usize
+    requires { ⌜ at < 65536 ⌝ }
+    ensures { λ r. ⌜ ((places lengths : List ℕ) (parts : ℕ) → 0 < r → Around (now (msg .entry)) places lengths kind at parts 1 r 12) ⌝ }
+{
+    if kind != 10 {
+        return 0;
+    }
+    if msg.len() < at + 1 {
+        return 0;
+    }
+    if octets::wide(msg[at]) != 88 {
+        return 0;
+    }
+    let end = node_end(msg, at + 1);
+    if msg.len() < end + 12 {
+        return 0;
+    }
+    end
+}
+
+// The same of a reference with tag 90.
+fn reference_node(msg: &[u8], kind: usize, at: usize) -> usize
+    requires { ⌜ at < 65536 ⌝ }
+    ensures { λ r. ⌜ ((places lengths : List ℕ) (parts : ℕ) → 0 < r → Around (now (msg .entry)) places lengths kind at parts 3 r (4 + 4 * value (now (msg .entry)) 2 (at + 1))) ⌝ }
+{
+    if kind != 12 {
+        return 0;
+    }
+    if msg.len() < at + 3 {
+        return 0;
+    }
+    if octets::wide(msg[at]) != 90 {
+        return 0;
+    }
+    let end = node_end(msg, at + 3);
+    let words = octets::big2(msg, at + 1);
+    if msg.len() < end + 4 + 4 * words {
+        return 0;
+    }
+    end
+}
+
 // How many bytes stand before and after the elements of a list of n that is written with them.
 fn list_length(n: usize) -> usize
     ensures { λ r. ⌜ (r ≡ length (before list n) + length (after list n)) × (r ≤ 6) ⌝ }
@@ -584,8 +649,16 @@ pub fn own_length(msg: &[u8], places: &[u8], lengths: &[u16], word: u64) -> usiz
     if 0 < n {
         return n;
     }
-    if row::kind_in(word) == 5 {
+    let kind = row::kind_in(word);
+    if kind == 5 {
         return list_length(row::parts_in(word));
+    }
+    let tag = row::offset_in(word);
+    if 0 < pid_node(msg, kind, tag) {
+        return 13;
+    }
+    if 0 < reference_node(msg, kind, tag) {
+        return 7 + 4 * octets::big2(msg, tag + 1);
     }
     found_length(msg, places, lengths, word)
 }
@@ -624,8 +697,18 @@ pub fn put_before(
         octets::copy(msg, row::offset_in(word), out, at, n);
         return at + n;
     }
-    if row::kind_in(word) == 5 {
+    let kind = row::kind_in(word);
+    if kind == 5 {
         return put_list_start(row::parts_in(word), out, at);
+    }
+    let tag = row::offset_in(word);
+    if 0 < pid_node(msg, kind, tag) {
+        octets::copy(msg, tag, out, at, 1);
+        return at + 1;
+    }
+    if 0 < reference_node(msg, kind, tag) {
+        octets::copy(msg, tag, out, at, 3);
+        return at + 3;
     }
     put_lead(msg, places, lengths, word, out, at)
 }
@@ -678,6 +761,18 @@ pub fn put_after(
     }
     if !has_trail(kind) {
         return at;
+    }
+    let tag = row::offset_in(word);
+    let pid = pid_node(msg, kind, tag);
+    if 0 < pid {
+        octets::copy(msg, pid, out, at, 12);
+        return at + 12;
+    }
+    let reference = reference_node(msg, kind, tag);
+    if 0 < reference {
+        let n = 4 + 4 * octets::big2(msg, tag + 1);
+        octets::copy(msg, reference, out, at, n);
+        return at + n;
     }
     put_trail(msg, places, lengths, word, out, at)
 }
