@@ -4,3 +4,4 @@ pub mod Terms
 pub mod Read
 pub mod Messages
 pub mod Demand
+pub mod Scratch

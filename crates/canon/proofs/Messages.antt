@@ -26,8 +26,6 @@ use Rattle.format.specs.declared.WriteAnswer.the-variants as writes
 use Rattle.format.proofs.Text.{Under}
 use Rattle.format.proofs.Rows.{count-le-sizes}
 use Rattle.format.proofs.Demand.{written-good}
-use Rattle.octets.specs.Cleared.{cleared}
-use Rattle.octets.proofs.Cleared.{cleared-all}
 use Rattle.octets.proofs.Numbers.{bytes-one}
 use Rattle.layout.specs.Layout.{Put}
 use Rattle.layout.proofs.Puts.{put-then}
@@ -81,11 +79,6 @@ written-short room ts h =
 
 front-stored : (O bs : List ℕ) → take 0 O ++ bs ++ drop (0 + length bs) O ≡ bs ++ drop (length bs) O
 front-stored O bs = let e : 0 + length bs ≡ length bs = omega arith in rw e
-
--- a cleared table
-pub all-cleared : (T : List ℕ) → cleared 0 T ≡ scratch-after (length T)
-unfolding scratch-after
-all-cleared T = cleared-all T
 
 module _ {m places lengths T : List ℕ} where
   rows-length : {n inner : ℕ} → Run-length m places lengths T 0 canonicals n inner → (ts : Terms) → Held-run m places lengths T 0 ts → count ts ≡ n

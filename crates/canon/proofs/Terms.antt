@@ -26,7 +26,7 @@ use Rattle.fields.proofs.Shape.{canonical-parts, canonical-string}
 use Rattle.canon.specs.Held.{Held, Held-run, as-string}
 use Rattle.canon.specs.Code.{string-term, Some-term, Some-small, String-put, Run-length, Run-put, Term-length, Term-put, Run-fits, Term-fits}
 use Rattle.canon.proofs.Held.{held-parts, held-writable, held-count, held-size, held-label, held-sound}
-use Rattle.canon.proofs.Strings.{front, run-below, all-small-length, as-list, as-inverse, small-is, some-told, none-told, count-meanings}
+use Rattle.canon.proofs.Strings.{front, run-below, all-small-length, as-list, as-inverse, small-is, some-told, none-told, count-meanings, no-elements}
 
 -- ---- a string
 
@@ -336,3 +336,30 @@ canonicals-none = refl
 pub canonicals-more : (t : Term) (ts : Forest Label) → canonicals (t ▹ ts) ≡ canonical t ++ canonicals ts
 unfolding canonicals
 canonicals-more t ts = refl
+
+-- ---- no parts
+
+module _ {m places lengths T : List ℕ} {row : ℕ} {n : ℕ} (e : n ≡ parts-in (getD T row 0)) (z : n ≡ 0) where
+  leaf-bytes : (t : Located) → Held m places lengths T row t → before-in m places lengths (getD T row 0) ++ after-in m places lengths (getD T row 0) ≡ canonical (meaning t)
+  leaf-bytes (node l ts) h =
+      let c : count ts ≡ n = sym (held-count h) ∙ sym e in
+      let none : canonicals (meanings ts) ≡ [] = ap (λ (x : Terms). canonicals (meanings x)) (no-terms ts n c (omega arith)) ∙ canonicals-none in
+      sym
+      (unstrung h (sym (no-elements n e z (node l ts) h))
+      ∙ ap (λ (y : List ℕ). before-in m places lengths (getD T row 0) ++ (y ++ after-in m places lengths (getD T row 0))) none)
+
+  pub leaf-length : (own : ℕ) → own ≡ length (before-in m places lengths (getD T row 0)) + length (after-in m places lengths (getD T row 0)) → own ≤ 262192
+      → (t : Located) → Held m places lengths T row t → (own ≡ length (canonical (meaning t))) × (own ≤ 524288 * size t)
+  leaf-length own o b (node l ts) h =
+      let w : ℕ = getD T row 0 in
+      let f = length-append (before-in m places lengths w) (after-in m places lengths w) in
+      let g : length (before-in m places lengths w ++ after-in m places lengths w) ≡ length (canonical (meaning (node l ts))) = ap length (leaf-bytes (node l ts) h) in
+      (omega arith, omega arith)
+
+  pub leaf-room : (at room : ℕ) (t : Located) → Held m places lengths T row t → at + length (canonical (meaning t)) ≤ room
+      → at + length (before-in m places lengths (getD T row 0) ++ after-in m places lengths (getD T row 0)) ≤ room
+  leaf-room at room t h fit = rw (leaf-bytes t h) fit
+
+  pub leaf-put : {O P : List ℕ} {at r : ℕ} → Put O at (before-in m places lengths (getD T row 0) ++ after-in m places lengths (getD T row 0)) r P
+      → (t : Located) → Held m places lengths T row t → Put O at (canonical (meaning t)) r P
+  leaf-put p t h = put-same (leaf-bytes t h) p

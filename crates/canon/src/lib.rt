@@ -3,8 +3,8 @@ use format::ReadAnswer;
 use format::Refusal;
 use format::WriteAnswer;
 ghost use mathlib.Core.Path.{_≡_};
-ghost use Prim.Native.Nat.{_+_, _≤_, _<_};
-ghost use lib.ListN.{length};
+ghost use Prim.Native.Nat.{ℕ, _+_, _≤_, _<_};
+ghost use lib.ListN.{length, getD};
 ghost use Rattle.format.specs.Canonical.{canonical, canonicals, canonical-standalone, standalones};
 ghost use Rattle.format.specs.Message.{standalone, payload};
 ghost use Rattle.format.specs.Writing.{write, output-after, scratch-after};
@@ -100,6 +100,9 @@ fn length_term(msg: &[u8], places: &[u8], lengths: &[u16], table: &[u64], row: u
 {
     let word = table[row];
     let n = row::parts_in(word);
+    if n == 0 {
+        return fields::own_length(msg, places, lengths, word);
+    }
     if is_string(msg, places, lengths, table, row) {
         return n + 3;
     }
@@ -146,6 +149,9 @@ fn write_term(
 {
     let word = table[row];
     let n = row::parts_in(word);
+    if n == 0 {
+        return fields::put_leaf(msg, places, lengths, word, out, at);
+    }
     if is_string(msg, places, lengths, table, row) {
         return put_string(msg, places, lengths, table, row + 1, n, out, at);
     }
@@ -245,21 +251,34 @@ fn write_rows(
     }
 }
 
-// Writes them, and clears the table.
+// Clears a table whose words from index `rows` on are 0.
+fn clear_rows(table: &mut [u64], rows: usize)
+    requires { ⌜ (rows ≤ length (now table)) × ((i : ℕ) → rows ≤ i → getD (now table) i 0 ≡ 0) ⌝ }
+    ensures { λ _. ⌜ now (table .exit) ≡ scratch-after (length (now (table .entry))) ⌝ }
+{
+    let mut i = 0usize;
+    while i < rows {
+        table[i] = 0;
+        i += 1;
+    }
+}
+
+// Writes them, and clears the table, whose first `rows` words are theirs and the others 0.
 fn write_and_clear(
     msg: &[u8],
     places: &[u8],
     lengths: &[u16],
     n: usize,
+    rows: usize,
     table: &mut [u64],
     out: &mut [u8],
 ) -> WriteAnswer
-    requires { ⌜ Some-run (now msg) (now places) (now lengths) (now table) 0 n ⌝ }
+    requires { ⌜ Some-run (now msg) (now places) (now lengths) (now table) 0 n × (rows ≤ length (now table)) × ((i : ℕ) → rows ≤ i → getD (now table) i 0 ≡ 0) ⌝ }
     ensures { λ r. ⌜ Rows-written (now (msg .entry)) (now (places .entry)) (now (lengths .entry)) (now (table .entry)) n (now (out .entry)) r (now (out .exit)) ⌝ }
     ensures { λ _. ⌜ now (table .exit) ≡ scratch-after (length (now (table .entry))) ⌝ }
 {
     let answer = write_rows(msg, places, lengths, table, n, out);
-    octets::clear_words(table, 0);
+    clear_rows(table, rows);
     answer
 }
 
@@ -282,6 +301,7 @@ pub fn write_standalone(
             places,
             lengths,
             terms,
+            rows,
             scratch,
             output,
         ),
@@ -308,6 +328,7 @@ pub fn write_payload(
             places,
             lengths,
             terms,
+            rows,
             scratch,
             output,
         ),

@@ -4,10 +4,11 @@ use mathlib.Core.Bool.{Bool, true, false, cond}
 use mathlib.Core.List.{List, [], _∷_, _++_, append-nil}
 use Prim.Native.Nat.{ℕ, zero, suc, _+_, _*_, _-_, _/_, _%_, _^_, _≤_, _<_}
 use native.Mathlib.Omega.{arith}
+use lib.Arith.{digits-div, digits-mod}
 use lib.Dec.{eqb, ltb}
 use lib.IntN.{pos, negsuc}
 use lib.ListN.{length, getD, take, drop}
-use lib.Seq.{take-add, drop-drop, drop-cons}
+use lib.Seq.{take-add, drop-drop}
 use borrow.Author.Tests.{lt-ltb, le-ltb, le-leb, lt-leb, ltb-true, ltb-false, ne-eqb}
 use Rattle.format.specs.Numbers.{big-endian, in-bytes, little-endian, digits, with-sign}
 use Rattle.format.specs.Text.{encodes}
@@ -15,10 +16,11 @@ use Rattle.format.specs.Head.{clear-low}
 use Rattle.format.specs.Term.{integer, tuple, list, improper-list, binary, bitstring, map, port, reference, export}
 use Rattle.format.specs.Canonical.{big-bytes, integer-bytes, atom-bytes, tuple-bytes, words-bytes, small}
 use Rattle.format.proofs.Numbers.{length-digits}
+use Rattle.format.proofs.Holds.{big-under}
 use Rattle.format.proofs.Text.{Under, under-all}
 use Rattle.format.specs.Rows.{kind-in, parts-in}
 use Rattle.octets.specs.Parts.{choose, stretch, source}
-use Rattle.octets.proofs.Numbers.{bytes-one}
+use Rattle.octets.proofs.Numbers.{bytes-one, bytes-mod}
 use Rattle.octets.proofs.Parts.{getD-part, length-part, part-last}
 use Rattle.contents.specs.Meaning.{sign, coded, words-at, bare, label-of}
 use Rattle.contents.specs.declared.Content.{Content}
@@ -165,36 +167,27 @@ module _ (n : ℕ) (bs : List ℕ) (e : n ≡ length bs) where
   unfolding tagged-bytes atom-bytes
   atom-118 h = rw e (simp (lt-leb (length bs) 255 (rw e at h)))
 
--- words of four bytes stand as they are
-four : (n a b c d : ℕ) → n ≡ a * 16777216 + (b * 65536 + (c * 256 + d)) → a < 256 → b < 256 → c < 256 → d < 256 → in-bytes 4 n ≡ a ∷ b ∷ c ∷ d ∷ []
-unfolding in-bytes
-four n a b c d e h i j k =
-    let p : n / 256 ^ 3 % 256 ≡ a = omega arith in
-    let q : n / 256 ^ 2 % 256 ≡ b = omega arith in
-    let r : n / 256 ^ 1 % 256 ≡ c = omega arith in
-    let s : n / 256 ^ 0 % 256 ≡ d = omega arith in
-    cc
+-- numbers stand as they are written
+bytes-stand : (bs : List ℕ) → Under 256 bs → in-bytes (length bs) (big-endian bs) ≡ bs
+unfolding in-bytes big-endian
+bytes-stand [] u = refl
+bytes-stand (b ∷ bs) u =
+    let c : ℕ = 256 ^ length bs in
+    let l : big-endian bs < c = big-under bs (u .1) in
+    let h : b % 256 ≡ b = omega (arith, u .0) in
+    ap₂ (λ (x : ℕ) (y : List ℕ). x ∷ y) (ap (λ (x : ℕ). x % 256) (digits-div b l) ∙ h)
+    (sym (bytes-mod (length bs) (b * c + big-endian bs)) ∙ ap (λ (x : ℕ). in-bytes (length bs) x) (digits-mod b l) ∙ bytes-stand bs (u .1))
 
-four-bytes : (m : List ℕ) (at : ℕ) → at + 4 ≤ length m
-    → take 4 (drop at m) ≡ getD m at 0 ∷ getD m (suc at) 0 ∷ getD m (suc (suc at)) 0 ∷ getD m (suc (suc (suc at))) 0 ∷ []
-four-bytes m at h =
-    let i : at < length m = omega arith in
-    let j : suc at < length m = omega arith in
-    let k : suc (suc at) < length m = omega arith in
-    let l : suc (suc (suc at)) < length m = omega arith in
-    rw (drop-cons m at 0 i, drop-cons m (suc at) 0 j, drop-cons m (suc (suc at)) 0 k, drop-cons m (suc (suc (suc at))) 0 l)
-
-word-stands : (m : List ℕ) (at : ℕ) → Bytes-only m → at + 4 ≤ length m → in-bytes 4 (big-endian (take 4 (drop at m))) ≡ take 4 (drop at m)
-unfolding big-endian
-word-stands m at b h =
-    rw (four-bytes m at h) (four _ _ _ _ _ (omega arith) (b at) (b (suc at)) (b (suc (suc at))) (b (suc (suc (suc at)))))
+pub number-stands : (m : List ℕ) (w at : ℕ) → Bytes-only m → at + w ≤ length m → in-bytes w (big-endian (take w (drop at m))) ≡ take w (drop at m)
+number-stands m w at b h =
+    ap (λ (k : ℕ). in-bytes k (big-endian (take w (drop at m)))) (sym (length-part m at w h)) ∙ bytes-stand (take w (drop at m)) (under-part m at w b h)
 
 pub words-stand : (m : List ℕ) (start n : ℕ) → Bytes-only m → start + 4 * n ≤ length m → words-bytes (words-at m start n) ≡ stretch m start (4 * n)
 unfolding words-bytes words-at
 words-stand m start zero b h = refl
 words-stand m start (suc n) b h =
     let e : 4 + 4 * n ≡ 4 * suc n = omega arith in
-    ap₂ (λ (x y : List ℕ). x ++ y) (word-stands m start b (omega arith)) (words-stand m (start + 4) n b (omega arith))
+    ap₂ (λ (x y : List ℕ). x ++ y) (number-stands m 4 start b (omega arith)) (words-stand m (start + 4) n b (omega arith))
     ∙ ap (λ (l : List ℕ). take 4 (drop start m) ++ take (4 * n) l) (sym (drop-drop 4 start m))
     ∙ sym (take-add 4 (4 * n) (drop start m))
     ∙ ap (λ (k : ℕ). take k (drop start m)) e

@@ -4,7 +4,7 @@ use mathlib.Core.Bool.{Bool, true, false}
 use mathlib.Core.List.{List, []}
 use mathlib.Core.Option.{Option, none, some}
 use Prim.Native.Nat.{ℕ, _+_, _*_, _-_, _≤_, _<_}
-use lib.ListN.{getD}
+use lib.ListN.{length, getD}
 use Rattle.format.specs.Text.{utf-8, check, encodes}
 use Rattle.format.specs.Term.{Label}
 use Rattle.format.specs.AtomList.{AtomList}
@@ -72,3 +72,10 @@ pub record Sound-word (m places lengths : List ℕ) (w : ℕ) : Type 0 where
 unfoldable pub character-code : Option ℕ → ℕ
 character-code none = 256
 character-code (some n) = n
+
+-- a term's own bytes in canonical form are the n of the message from its tag on, and none after its parts
+pub record Stands (m places lengths : List ℕ) (kind at parts n : ℕ) : Type 0 where
+  pub there : at + n ≤ length m
+  pub few : n ≤ 262192
+  pub whole : before (label-of m (listed-in places) kind (content-of m places lengths kind at)) parts ≡ stretch m at n
+  pub no-end : after (label-of m (listed-in places) kind (content-of m places lengths kind at)) parts ≡ []

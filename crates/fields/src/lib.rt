@@ -4,20 +4,22 @@ use layout::Body;
 use layout::Layout;
 ghost use mathlib.Core.Path.{_≡_};
 ghost use mathlib.Core.Bool.{true, false};
-ghost use mathlib.Core.List.{List, []};
+ghost use mathlib.Core.List.{List, [], _++_};
 ghost use Prim.Native.Nat.{ℕ, _+_, _*_, _-_, _≤_, _<_};
-ghost use lib.ListN.{length};
+ghost use lib.ListN.{length, getD};
 ghost use Rattle.format.specs.Numbers.{digits, little-endian, with-sign};
 ghost use lib.IntN.{pos, negsuc};
 ghost use Rattle.format.specs.Text.{encodes};
 ghost use Rattle.format.specs.Head.{clear-low};
 ghost use Rattle.format.specs.Term.{integer, tuple, list, binary, bitstring, pid, port, reference};
+ghost use Rattle.format.specs.Rows.{kind-in, offset-in, parts-in};
 ghost use Rattle.format.specs.Canonical.{big-bytes, integer-bytes, atom-bytes, small};
+ghost use Rattle.contents.specs.Found.{content-of};
 ghost use Rattle.contents.specs.Meaning.{sign, coded, words-at, bare, label-of};
 ghost use Rattle.octets.specs.Parts.{stretch, source};
 ghost use Rattle.layout.specs.Layout.{body-bytes, Inside, Body-inside, Lays, Put};
 ghost use Rattle.fields.specs.Shape.{tagged-bytes, before, after};
-ghost use Rattle.fields.specs.Sound.{High, Bytes-only, Sound-text, Sound, listed-in, content-in, label-in, before-in, after-in, Sound-word, character-code};
+ghost use Rattle.fields.specs.Sound.{High, Bytes-only, Sound-text, Sound, listed-in, content-in, label-in, before-in, after-in, Sound-word, Stands, character-code};
 
 // The layout of a tag, a number of so many bytes, and a body.
 fn tagged(tag: u64, width: usize, n: u64, body: Body) -> Layout
@@ -365,8 +367,152 @@ fn content(msg: &[u8], places: &[u8], lengths: &[u16], word: u64) -> Content
     )
 }
 
-// How many bytes stand before and after the parts of the term whose row this is.
-pub fn own_length(msg: &[u8], places: &[u8], lengths: &[u16], word: u64) -> usize
+// How many bytes from its tag at `at` on are an integer's own in canonical form: a 97, or a 98 that has to be one. 0 where they are not.
+fn integer_stands(msg: &[u8], at: usize) -> usize
+    requires { ⌜ at < 65536 ⌝ }
+    ensures { λ r. ⌜ ((places lengths : List ℕ) (parts : ℕ) → 0 < r → Stands (now (msg .entry)) places lengths 1 at parts r) ⌝ }
+{
+    if msg.len() < at + 2 {
+        return 0;
+    }
+    let tag = octets::wide(msg[at]);
+    if tag == 97 {
+        return 2;
+    }
+    if tag != 98 {
+        return 0;
+    }
+    if msg.len() < at + 5 {
+        return 0;
+    }
+    if octets::big4(msg, at + 1) < 256 {
+        return 0;
+    }
+    5
+}
+
+// The same of a float.
+fn float_stands(msg: &[u8], at: usize) -> usize
+    requires { ⌜ at < 65536 ⌝ }
+    ensures { λ r. ⌜ ((places lengths : List ℕ) (parts : ℕ) → 0 < r → Stands (now (msg .entry)) places lengths 2 at parts r) ⌝ }
+{
+    if msg.len() < at + 9 {
+        return 0;
+    }
+    if octets::wide(msg[at]) != 70 {
+        return 0;
+    }
+    9
+}
+
+// The same of an atom: a 119.
+fn text_stands(msg: &[u8], at: usize) -> usize
+    requires { ⌜ at < 65536 ⌝ }
+    ensures { λ r. ⌜ ((places lengths : List ℕ) (parts : ℕ) → Sound (now (msg .entry)) places (content-of (now (msg .entry)) places lengths 3 at) → 0 < r → Stands (now (msg .entry)) places lengths 3 at parts r) ⌝ }
+{
+    if msg.len() < at + 2 {
+        return 0;
+    }
+    if octets::wide(msg[at]) != 119 {
+        return 0;
+    }
+    let n = octets::big1(msg, at + 1);
+    if msg.len() < at + 2 + n {
+        return 0;
+    }
+    2 + n
+}
+
+// The same of a tuple of n elements: a 104.
+fn tuple_stands(msg: &[u8], at: usize, n: usize) -> usize
+    requires { ⌜ at < 65536 ⌝ }
+    ensures { λ r. ⌜ ((places lengths : List ℕ) → 0 < r → Stands (now (msg .entry)) places lengths 4 at n r) ⌝ }
+{
+    if msg.len() < at + 2 {
+        return 0;
+    }
+    if octets::wide(msg[at]) != 104 {
+        return 0;
+    }
+    if octets::big1(msg, at + 1) != n {
+        return 0;
+    }
+    2
+}
+
+// The same of a list of n elements: a 106.
+fn list_stands(msg: &[u8], at: usize, n: usize) -> usize
+    requires { ⌜ at < 65536 ⌝ }
+    ensures { λ r. ⌜ ((places lengths : List ℕ) → 0 < r → Stands (now (msg .entry)) places lengths 5 at n r) ⌝ }
+{
+    if n != 0 {
+        return 0;
+    }
+    if msg.len() < at + 1 {
+        return 0;
+    }
+    if octets::wide(msg[at]) != 106 {
+        return 0;
+    }
+    1
+}
+
+// The same of a binary: a 109.
+fn bytes_stand(msg: &[u8], at: usize) -> usize
+    requires { ⌜ at < 65536 ⌝ }
+    ensures { λ r. ⌜ ((places lengths : List ℕ) (parts : ℕ) → Sound (now (msg .entry)) places (content-of (now (msg .entry)) places lengths 7 at) → 0 < r → Stands (now (msg .entry)) places lengths 7 at parts r) ⌝ }
+{
+    if msg.len() < at + 5 {
+        return 0;
+    }
+    if octets::wide(msg[at]) != 109 {
+        return 0;
+    }
+    let n = octets::big4(msg, at + 1);
+    if msg.len() < at + 5 + n {
+        return 0;
+    }
+    5 + n
+}
+
+// The same of a map with n keys and values.
+fn map_stands(msg: &[u8], at: usize, n: usize) -> usize
+    requires { ⌜ at < 65536 ⌝ }
+    ensures { λ r. ⌜ ((places lengths : List ℕ) → 0 < r → Stands (now (msg .entry)) places lengths 9 at n r) ⌝ }
+{
+    if msg.len() < at + 5 {
+        return 0;
+    }
+    if octets::wide(msg[at]) != 116 {
+        return 0;
+    }
+    if octets::big4(msg, at + 1) != n / 2 {
+        return 0;
+    }
+    5
+}
+
+// How many bytes of the message from its tag on are the own bytes, in canonical form, of the term whose row this is; 0 where they may not be.
+fn as_it_stands(msg: &[u8], word: u64) -> usize
+    ensures { λ r. ⌜ ((places lengths : List ℕ) → Sound-word (now (msg .entry)) places lengths word → 0 < r → Stands (now (msg .entry)) places lengths (kind-in word) (offset-in word) (parts-in word) r) ⌝ }
+{
+    let at = row::offset_in(word);
+    let n = row::parts_in(word);
+    let kind = row::kind_in(word);
+    match kind {
+        1 => integer_stands(msg, at),
+        2 => float_stands(msg, at),
+        3 => text_stands(msg, at),
+        4 => tuple_stands(msg, at, n),
+        5 => list_stands(msg, at, n),
+        7 => bytes_stand(msg, at),
+        9 => map_stands(msg, at, n),
+        _ => 0,
+    }
+}
+
+// How many bytes stand before and after the parts of the term whose row this is, by its content.
+fn found_length(msg: &[u8], places: &[u8], lengths: &[u16], word: u64) -> usize
     requires { ⌜ Sound-word (now msg) (now places) (now lengths) word ⌝ }
     ensures { λ r. ⌜ (r ≡ length (before-in (now (msg .entry)) (now (places .entry)) (now (lengths .entry)) word) + length (after-in (now (msg .entry)) (now (places .entry)) (now (lengths .entry)) word)) × (r ≤ 262192) ⌝ }
 {
@@ -378,8 +524,59 @@ pub fn own_length(msg: &[u8], places: &[u8], lengths: &[u16], word: u64) -> usiz
     first + last
 }
 
-// Writes the bytes before its parts from `at` on; the offset past them.
-pub fn put_before(
+// How many bytes stand before and after the elements of a list of n that is written with them.
+fn list_length(n: usize) -> usize
+    ensures { λ r. ⌜ (r ≡ length (before list n) + length (after list n)) × (r ≤ 6) ⌝ }
+{
+    if n == 0 {
+        return 1;
+    }
+    6
+}
+
+// Writes those before them from `at` on; the offset past them.
+fn put_list_start(n: usize, out: &mut [u8], at: usize) -> usize
+    requires { ⌜ (n < 8192) × (at + length (before list n) ≤ length (now out)) ⌝ }
+    ensures { λ r. ⌜ Put (now (out .entry)) at (before list n) r (now (out .exit)) ⌝ }
+{
+    if n == 0 {
+        octets::put1(out, at, 106);
+        return at + 1;
+    }
+    octets::put1(out, at, 108);
+    octets::put4(out, at + 1, n);
+    at + 5
+}
+
+// Writes those after them from `at` on; the offset past them.
+fn put_list_end(n: usize, out: &mut [u8], at: usize) -> usize
+    requires { ⌜ at + length (after list n) ≤ length (now out) ⌝ }
+    ensures { λ r. ⌜ Put (now (out .entry)) at (after list n) r (now (out .exit)) ⌝ }
+{
+    if n == 0 {
+        return at;
+    }
+    octets::put1(out, at, 106);
+    at + 1
+}
+
+// How many bytes stand before and after the parts of the term whose row this is.
+pub fn own_length(msg: &[u8], places: &[u8], lengths: &[u16], word: u64) -> usize
+    requires { ⌜ Sound-word (now msg) (now places) (now lengths) word ⌝ }
+    ensures { λ r. ⌜ (r ≡ length (before-in (now (msg .entry)) (now (places .entry)) (now (lengths .entry)) word) + length (after-in (now (msg .entry)) (now (places .entry)) (now (lengths .entry)) word)) × (r ≤ 262192) ⌝ }
+{
+    let n = as_it_stands(msg, word);
+    if 0 < n {
+        return n;
+    }
+    if row::kind_in(word) == 5 {
+        return list_length(row::parts_in(word));
+    }
+    found_length(msg, places, lengths, word)
+}
+
+// Writes the bytes before its parts, by its content, from `at` on; the offset past them.
+fn put_lead(
     msg: &[u8],
     places: &[u8],
     lengths: &[u16],
@@ -395,8 +592,31 @@ pub fn put_before(
     layout::put_layout(msg, places, first, out, at)
 }
 
-// Writes the bytes after its parts from `at` on; the offset past them.
-pub fn put_after(
+// Writes the bytes before its parts from `at` on; the offset past them.
+pub fn put_before(
+    msg: &[u8],
+    places: &[u8],
+    lengths: &[u16],
+    word: u64,
+    out: &mut [u8],
+    at: usize,
+) -> usize
+    requires { ⌜ Sound-word (now msg) (now places) (now lengths) word × (at + length (before-in (now msg) (now places) (now lengths) word) ≤ length (now out)) ⌝ }
+    ensures { λ r. ⌜ Put (now (out .entry)) at (before-in (now (msg .entry)) (now (places .entry)) (now (lengths .entry)) word) r (now (out .exit)) ⌝ }
+{
+    let n = as_it_stands(msg, word);
+    if 0 < n {
+        octets::copy(msg, row::offset_in(word), out, at, n);
+        return at + n;
+    }
+    if row::kind_in(word) == 5 {
+        return put_list_start(row::parts_in(word), out, at);
+    }
+    put_lead(msg, places, lengths, word, out, at)
+}
+
+// Writes the bytes after its parts, by its content, from `at` on; the offset past them.
+fn put_trail(
     msg: &[u8],
     places: &[u8],
     lengths: &[u16],
@@ -410,6 +630,62 @@ pub fn put_after(
     let own = content(msg, places, lengths, word);
     let last = trail(msg, places, row::kind_in(word), own, row::parts_in(word));
     layout::put_layout(msg, places, last, out, at)
+}
+
+// Whether a term of this kind may have bytes after its parts.
+fn has_trail(kind: usize) -> bool
+    ensures { λ r. ⌜ (r ≡ false → (kind ≡ 5 → ⊥) × (kind ≡ 10 → ⊥) × (kind ≡ 11 → ⊥) × (kind ≡ 12 → ⊥)) ⌝ }
+{
+    match kind {
+        5 => true,
+        10 => true,
+        11 => true,
+        12 => true,
+        _ => false,
+    }
+}
+
+// Writes the bytes after its parts from `at` on; the offset past them.
+pub fn put_after(
+    msg: &[u8],
+    places: &[u8],
+    lengths: &[u16],
+    word: u64,
+    out: &mut [u8],
+    at: usize,
+) -> usize
+    requires { ⌜ Sound-word (now msg) (now places) (now lengths) word × (at + length (after-in (now msg) (now places) (now lengths) word) ≤ length (now out)) ⌝ }
+    ensures { λ r. ⌜ Put (now (out .entry)) at (after-in (now (msg .entry)) (now (places .entry)) (now (lengths .entry)) word) r (now (out .exit)) ⌝ }
+{
+    let kind = row::kind_in(word);
+    if kind == 5 {
+        return put_list_end(row::parts_in(word), out, at);
+    }
+    if !has_trail(kind) {
+        return at;
+    }
+    put_trail(msg, places, lengths, word, out, at)
+}
+
+// Writes the term whose row this is, which has no parts, from `at` on; the offset past it.
+pub fn put_leaf(
+    msg: &[u8],
+    places: &[u8],
+    lengths: &[u16],
+    word: u64,
+    out: &mut [u8],
+    at: usize,
+) -> usize
+    requires { ⌜ Sound-word (now msg) (now places) (now lengths) word × (at + length (before-in (now msg) (now places) (now lengths) word ++ after-in (now msg) (now places) (now lengths) word) ≤ length (now out)) ⌝ }
+    ensures { λ r. ⌜ Put (now (out .entry)) at (before-in (now (msg .entry)) (now (places .entry)) (now (lengths .entry)) word ++ after-in (now (msg .entry)) (now (places .entry)) (now (lengths .entry)) word) r (now (out .exit)) ⌝ }
+{
+    let n = as_it_stands(msg, word);
+    if 0 < n {
+        octets::copy(msg, row::offset_in(word), out, at, n);
+        return at + n;
+    }
+    let end = put_lead(msg, places, lengths, word, out, at);
+    put_trail(msg, places, lengths, word, out, end)
 }
 
 // A magnitude as a character; 256 where it is none.
@@ -426,8 +702,8 @@ fn character(negative: bool, magnitude: u64) -> usize
     magnitude as usize
 }
 
-// The integer 0 to 255 that the term is whose row this is; 256 where it is none.
-pub fn character_at(msg: &[u8], places: &[u8], lengths: &[u16], word: u64) -> usize
+// The integer 0 to 255 that the term is whose row this is, by its content; 256 where it is none.
+fn character_found(msg: &[u8], places: &[u8], lengths: &[u16], word: u64) -> usize
     requires { ⌜ Sound-word (now msg) (now places) (now lengths) word ⌝ }
     ensures { λ r. ⌜ (r ≡ character-code (small (label-in (now (msg .entry)) (now (places .entry)) (now (lengths .entry)) word))) × (r ≤ 256) ⌝ }
 {
@@ -467,4 +743,43 @@ pub fn character_at(msg: &[u8], places: &[u8], lengths: &[u16], word: u64) -> us
             words,
         } => 256,
     }
+}
+
+// The byte at `at`; 256 where none is.
+fn byte_at(msg: &[u8], at: usize) -> usize
+    ensures { λ r. ⌜ (r < 256 → (at < length (now (msg .entry))) × (r ≡ getD (now (msg .entry)) at 0)) × (r ≤ 256) ⌝ }
+{
+    if msg.len() <= at {
+        return 256;
+    }
+    octets::wide(msg[at])
+}
+
+// The integer of a character or of a 97 by its row's kind and offset; 256 for any other term.
+fn plain_character(msg: &[u8], kind: usize, at: usize) -> usize
+    requires { ⌜ at < 65536 ⌝ }
+    ensures { λ r. ⌜ (r < 256 → (places lengths : List ℕ) → r ≡ character-code (small (label-of (now (msg .entry)) (listed-in places) kind (content-of (now (msg .entry)) places lengths kind at)))) × (r ≤ 256) ⌝ }
+{
+    if kind == 14 {
+        return byte_at(msg, at);
+    }
+    if kind != 1 {
+        return 256;
+    }
+    if byte_at(msg, at) != 97 {
+        return 256;
+    }
+    byte_at(msg, at + 1)
+}
+
+// The integer 0 to 255 that the term is whose row this is; 256 where it is none.
+pub fn character_at(msg: &[u8], places: &[u8], lengths: &[u16], word: u64) -> usize
+    requires { ⌜ Sound-word (now msg) (now places) (now lengths) word ⌝ }
+    ensures { λ r. ⌜ (r ≡ character-code (small (label-in (now (msg .entry)) (now (places .entry)) (now (lengths .entry)) word))) × (r ≤ 256) ⌝ }
+{
+    let c = plain_character(msg, row::kind_in(word), row::offset_in(word));
+    if c < 256 {
+        return c;
+    }
+    character_found(msg, places, lengths, word)
 }

@@ -1,5 +1,5 @@
 -- `canon::length_run` and `canon::length_term` meet their contracts. The measure is the rows from a term on, to the table's end. In the loop, the sum and what the terms left have come to the whole. Assumes nothing.
-use Rattle.canon.proofs.Terms.{Length-left, length-start, length-step, length-end, length-room, left-term, left-below, left-size, few-rows, string-length, parts-length, term-sound}
+use Rattle.canon.proofs.Terms.{Length-left, length-start, length-step, length-end, length-room, left-term, left-below, left-size, few-rows, string-length, parts-length, leaf-length, term-sound}
 use Rattle.canon.proofs.Strings.{term-below, parts-run}
 use Rattle.canon.specs.Held.{Held-run}
 use Rattle.format.specs.Message.{Terms}
@@ -154,10 +154,10 @@ length-run-returns t c = λ ts h e. length-end (c .before .loop .inv .1 ts h e) 
 length-term-mul-word : (t : ℕ) → length-term-lts.Need-mul-word (
   parts-in-reads.Asked,
   parts-in-reads.Learnt,
-  is-string-reads.Asked,
-  is-string-reads.Learnt,
   own-length-reads.Asked,
   own-length-reads.Learnt,
+  is-string-reads.Asked,
+  is-string-reads.Learnt,
   length-run-below t,
   length-run.Post,
 ) (length-term-at t) length-term.Post
@@ -168,10 +168,10 @@ length-term-mul-word t c =
 length-term-shared-slice-read-word : (t : ℕ) → length-term-lts.Need-shared-slice-read-word (
   parts-in-reads.Asked,
   parts-in-reads.Learnt,
-  is-string-reads.Asked,
-  is-string-reads.Learnt,
   own-length-reads.Asked,
   own-length-reads.Learnt,
+  is-string-reads.Asked,
+  is-string-reads.Learnt,
   length-run-below t,
   length-run.Post,
 ) (length-term-at t) length-term.Post
@@ -182,118 +182,144 @@ length-term-shared-slice-read-word t c =
 length-term-parts-in-requires : (t : ℕ) → length-term-lts.Need-parts-in-requires (
   parts-in-reads.Asked,
   parts-in-reads.Learnt,
-  is-string-reads.Asked,
-  is-string-reads.Learnt,
   own-length-reads.Asked,
   own-length-reads.Learnt,
+  is-string-reads.Asked,
+  is-string-reads.Learnt,
   length-run-below t,
   length-run.Post,
 ) (length-term-at t) length-term.Post
 length-term-parts-in-requires t c κs = search needs
 
-length-term-is-string-requires : (t : ℕ) → length-term-lts.Need-is-string-requires (
+length-term-own-length-requires : (t : ℕ) → length-term-lts.Need-own-length-requires (
   parts-in-reads.Asked,
   parts-in-reads.Learnt,
-  is-string-reads.Asked,
-  is-string-reads.Learnt,
   own-length-reads.Asked,
   own-length-reads.Learnt,
+  is-string-reads.Asked,
+  is-string-reads.Learnt,
   length-run-below t,
   length-run.Post,
 ) (length-term-at t) length-term.Post
-length-term-is-string-requires t c κs = c .before .before .before .before .before .before .pre .1
+length-term-own-length-requires t c κs =
+    let asked = c .before .before .before .before .before .before .before .pre in
+    term-sound (asked .1 .term) (asked .1 .held)
+
+length-term-returns : (t : ℕ) → length-term-lts.Need-returns (
+  parts-in-reads.Asked,
+  parts-in-reads.Learnt,
+  own-length-reads.Asked,
+  own-length-reads.Learnt,
+  is-string-reads.Asked,
+  is-string-reads.Learnt,
+  length-run-below t,
+  length-run.Post,
+) (length-term-at t) length-term.Post
+length-term-returns t c = λ t h. leaf-length (c .before .before .parts-in .ensures .0) (c .before .if1 .taken) _ (c .own-length .ensures .0) (c .own-length .ensures .1) t h
+
+length-term-is-string-requires : (t : ℕ) → length-term-lts.Need-is-string-requires (
+  parts-in-reads.Asked,
+  parts-in-reads.Learnt,
+  own-length-reads.Asked,
+  own-length-reads.Learnt,
+  is-string-reads.Asked,
+  is-string-reads.Learnt,
+  length-run-below t,
+  length-run.Post,
+) (length-term-at t) length-term.Post
+length-term-is-string-requires t c κs = c .before .before .before .before .before .before .before .pre .1
 
 length-term-add-result : (t : ℕ) → length-term-lts.Need-add-result (
   parts-in-reads.Asked,
   parts-in-reads.Learnt,
-  is-string-reads.Asked,
-  is-string-reads.Learnt,
   own-length-reads.Asked,
   own-length-reads.Learnt,
+  is-string-reads.Asked,
+  is-string-reads.Learnt,
   length-run-below t,
   length-run.Post,
 ) (length-term-at t) length-term.Post
 length-term-add-result t c = omega arith
 
-length-term-returns : (t : ℕ) → length-term-lts.Need-returns (
+length-term-returns-2 : (t : ℕ) → length-term-lts.Need-returns-2 (
   parts-in-reads.Asked,
   parts-in-reads.Learnt,
-  is-string-reads.Asked,
-  is-string-reads.Learnt,
   own-length-reads.Asked,
   own-length-reads.Learnt,
+  is-string-reads.Asked,
+  is-string-reads.Learnt,
   length-run-below t,
   length-run.Post,
 ) (length-term-at t) length-term.Post
-length-term-returns t c = λ t h. string-length _ (c .before .before .parts-in .ensures .0) t h (sym (c .before .is-string .ensures t h) ∙ c .if1 .taken)
+length-term-returns-2 t c = λ t h. string-length _ (c .before .before .before .parts-in .ensures .0) t h (sym (c .before .is-string .ensures t h) ∙ c .if2 .taken)
 
-length-term-own-length-requires : (t : ℕ) → length-term-lts.Need-own-length-requires (
+length-term-own-length-requires-2 : (t : ℕ) → length-term-lts.Need-own-length-requires-2 (
   parts-in-reads.Asked,
   parts-in-reads.Learnt,
-  is-string-reads.Asked,
-  is-string-reads.Learnt,
   own-length-reads.Asked,
   own-length-reads.Learnt,
+  is-string-reads.Asked,
+  is-string-reads.Learnt,
   length-run-below t,
   length-run.Post,
 ) (length-term-at t) length-term.Post
-length-term-own-length-requires t c κs =
-    let asked = c .before .before .before .before .before .before .before .before .pre in
+length-term-own-length-requires-2 t c κs =
+    let asked = c .before .before .before .before .before .before .before .before .before .pre in
     term-sound (asked .1 .term) (asked .1 .held)
 
 length-term-add-length-run : (t : ℕ) → length-term-lts.Need-add-length-run (
   parts-in-reads.Asked,
   parts-in-reads.Learnt,
-  is-string-reads.Asked,
-  is-string-reads.Learnt,
   own-length-reads.Asked,
   own-length-reads.Learnt,
+  is-string-reads.Asked,
+  is-string-reads.Learnt,
   length-run-below t,
   length-run.Post,
 ) (length-term-at t) length-term.Post
 length-term-add-length-run t c =
-    let asked = c .before .before .before .before .before .before .before .before .before .pre in
-    let g : c .before .before .before .before .before .before .before .before .before .args .row + size (asked .1 .term) ≤ 8192 = asked .1 .held .few in omega arith
+    let asked = c .before .before .before .before .before .before .before .before .before .before .pre in
+    let g : c .before .before .before .before .before .before .before .before .before .before .args .row + size (asked .1 .term) ≤ 8192 = asked .1 .held .few in omega arith
 
 length-term-length-run-requires : (t : ℕ) → length-term-lts.Need-length-run-requires (
   parts-in-reads.Asked,
   parts-in-reads.Learnt,
-  is-string-reads.Asked,
-  is-string-reads.Learnt,
   own-length-reads.Asked,
   own-length-reads.Learnt,
+  is-string-reads.Asked,
+  is-string-reads.Learnt,
   length-run-below t,
   length-run.Post,
 ) (length-term-at t) length-term.Post
 length-term-length-run-requires t c κs =
-    let asked = c .before .before .before .before .before .before .before .before .before .pre in
-    let b = term-below (asked .1 .term) (asked .1 .held) in (omega arith, parts-run _ (c .before .before .before .parts-in .ensures .0) (asked .1 .term) (asked .1 .held))
+    let asked = c .before .before .before .before .before .before .before .before .before .before .pre in
+    let b = term-below (asked .1 .term) (asked .1 .held) in (omega arith, parts-run _ (c .before .before .before .before .parts-in .ensures .0) (asked .1 .term) (asked .1 .held))
 
 length-term-add-result-2 : (t : ℕ) → length-term-lts.Need-add-result-2 (
   parts-in-reads.Asked,
   parts-in-reads.Learnt,
-  is-string-reads.Asked,
-  is-string-reads.Learnt,
   own-length-reads.Asked,
   own-length-reads.Learnt,
+  is-string-reads.Asked,
+  is-string-reads.Learnt,
   length-run-below t,
   length-run.Post,
 ) (length-term-at t) length-term.Post
 length-term-add-result-2 t c =
-    let asked = c .before .before .before .before .before .before .before .before .before .before .pre in
-    let p = parts-length _ _ _ (c .before .before .before .before .parts-in .ensures .0) (c .before .own-length .ensures .0) (c .before .own-length .ensures .1) (c .length-run .ensures) (asked .1 .term) (asked .1 .held) (sym (c .before .before .before .is-string .ensures (asked .1 .term) (asked .1 .held)) ∙ c .before .before .if1 .left) in let f = few-rows (asked .1 .term) (asked .1 .held) in omega arith
+    let asked = c .before .before .before .before .before .before .before .before .before .before .before .pre in
+    let p = parts-length _ _ _ (c .before .before .before .before .before .parts-in .ensures .0) (c .before .own-length2 .ensures .0) (c .before .own-length2 .ensures .1) (c .length-run .ensures) (asked .1 .term) (asked .1 .held) (sym (c .before .before .before .is-string .ensures (asked .1 .term) (asked .1 .held)) ∙ c .before .before .if2 .left) in let f = few-rows (asked .1 .term) (asked .1 .held) in omega arith
 
-length-term-returns-2 : (t : ℕ) → length-term-lts.Need-returns-2 (
+length-term-returns-3 : (t : ℕ) → length-term-lts.Need-returns-3 (
   parts-in-reads.Asked,
   parts-in-reads.Learnt,
-  is-string-reads.Asked,
-  is-string-reads.Learnt,
   own-length-reads.Asked,
   own-length-reads.Learnt,
+  is-string-reads.Asked,
+  is-string-reads.Learnt,
   length-run-below t,
   length-run.Post,
 ) (length-term-at t) length-term.Post
-length-term-returns-2 t c = λ t h. parts-length _ _ _ (c .before .before .before .before .parts-in .ensures .0) (c .before .own-length .ensures .0) (c .before .own-length .ensures .1) (c .length-run .ensures) t h (sym (c .before .before .before .is-string .ensures t h) ∙ c .before .before .if1 .left)
+length-term-returns-3 t c = λ t h. parts-length _ _ _ (c .before .before .before .before .before .parts-in .ensures .0) (c .before .own-length2 .ensures .0) (c .before .own-length2 .ensures .1) (c .length-run .ensures) t h (sym (c .before .before .before .is-string .ensures t h) ∙ c .before .before .if2 .left)
 
 pub +length-run+length-term-spec : {M : Type 1} → statement M
 +length-run+length-term-spec = close μ-length-run μ-length-term (λ t. length-run-lts.spec (
@@ -320,10 +346,10 @@ pub +length-run+length-term-spec : {M : Type 1} → statement M
     λ t. length-term-lts.spec (
       parts-in-reads.Asked,
       parts-in-reads.Learnt,
-      is-string-reads.Asked,
-      is-string-reads.Learnt,
       own-length-reads.Asked,
       own-length-reads.Learnt,
+      is-string-reads.Asked,
+      is-string-reads.Learnt,
       length-run-below t,
       length-run.Post,
     )
@@ -332,11 +358,13 @@ pub +length-run+length-term-spec : {M : Type 1} → statement M
     (length-term-mul-word t)
     (length-term-shared-slice-read-word t)
     (length-term-parts-in-requires t)
+    (length-term-own-length-requires t)
+    (length-term-returns t)
     (length-term-is-string-requires t)
     (length-term-add-result t)
-    (length-term-returns t)
-    (length-term-own-length-requires t)
+    (length-term-returns-2 t)
+    (length-term-own-length-requires-2 t)
     (length-term-add-length-run t)
     (length-term-length-run-requires t)
     (length-term-add-result-2 t)
-    (length-term-returns-2 t)
+    (length-term-returns-3 t)

@@ -1,5 +1,5 @@
 -- `canon::write_run` and `canon::write_term` meet their contracts. The measure is the rows from a term on, to the table's end. In the loop, what is left to store comes to the whole. Assumes nothing.
-use Rattle.canon.proofs.Terms.{Put-left, put-start, put-step, put-end, put-fits, canonicals-none, canonicals-more, left-below, left-size, string-needs, string-written, parts-put, before-room, run-room, after-room, term-sound}
+use Rattle.canon.proofs.Terms.{Put-left, put-start, put-step, put-end, put-fits, canonicals-none, canonicals-more, left-below, left-size, string-needs, string-written, parts-put, leaf-room, leaf-put, before-room, run-room, after-room, term-sound}
 use Rattle.canon.proofs.Strings.{term-below}
 use Rattle.canon.specs.Held.{Held-run}
 use Rattle.format.specs.Canonical.{canonical, canonicals}
@@ -22,6 +22,7 @@ use Rattle.canon.proofs.is_string.Reads as is-string-reads
 use Rattle.canon.proofs.put_string.Reads as put-string-reads
 use Rattle.fields.proofs.put_after.Reads as put-after-reads
 use Rattle.fields.proofs.put_before.Reads as put-before-reads
+use Rattle.fields.proofs.put_leaf.Reads as put-leaf-reads
 use Rattle.row.proofs.parts_in.Reads as parts-in-reads
 use Rattle.row.proofs.size_in.Reads as size-in-reads
 use Rattle.canon.proofs.+write_run+write_term.{statement}
@@ -158,6 +159,8 @@ write-run-returns t c = λ ts h e. put-end canonical canonicals canonicals-none 
 write-term-mul-word : (t : ℕ) → write-term-lts.Need-mul-word (
   parts-in-reads.Asked,
   parts-in-reads.Learnt,
+  put-leaf-reads.Asked,
+  put-leaf-reads.Learnt,
   is-string-reads.Asked,
   is-string-reads.Learnt,
   put-string-reads.Asked,
@@ -176,6 +179,8 @@ write-term-mul-word t c =
 write-term-shared-slice-read-word : (t : ℕ) → write-term-lts.Need-shared-slice-read-word (
   parts-in-reads.Asked,
   parts-in-reads.Learnt,
+  put-leaf-reads.Asked,
+  put-leaf-reads.Learnt,
   is-string-reads.Asked,
   is-string-reads.Learnt,
   put-string-reads.Asked,
@@ -194,6 +199,8 @@ write-term-shared-slice-read-word t c =
 write-term-parts-in-requires : (t : ℕ) → write-term-lts.Need-parts-in-requires (
   parts-in-reads.Asked,
   parts-in-reads.Learnt,
+  put-leaf-reads.Asked,
+  put-leaf-reads.Learnt,
   is-string-reads.Asked,
   is-string-reads.Learnt,
   put-string-reads.Asked,
@@ -207,9 +214,67 @@ write-term-parts-in-requires : (t : ℕ) → write-term-lts.Need-parts-in-requir
 ) (write-term-at t) write-term.Post
 write-term-parts-in-requires t c κs = search needs
 
+write-term-put-leaf-requires : (t : ℕ) → write-term-lts.Need-put-leaf-requires (
+  parts-in-reads.Asked,
+  parts-in-reads.Learnt,
+  put-leaf-reads.Asked,
+  put-leaf-reads.Learnt,
+  is-string-reads.Asked,
+  is-string-reads.Learnt,
+  put-string-reads.Asked,
+  put-string-reads.Learnt,
+  put-before-reads.Asked,
+  put-before-reads.Learnt,
+  write-run-below t,
+  write-run.Post,
+  put-after-reads.Asked,
+  put-after-reads.Learnt,
+) (write-term-at t) write-term.Post
+write-term-put-leaf-requires t c κs =
+    let asked = c .before .before .before .before .before .before .before .before .before .pre in
+    (term-sound (asked .1 .fit-term) (asked .1 .fit-held), leaf-room (c .before .before .parts-in .ensures .0) (c .before .if1 .taken) _ _ (asked .1 .fit-term) (asked .1 .fit-held) (asked .1 .fit-room))
+
+write-term-same-length : (t : ℕ) → write-term-lts.Need-same-length (
+  parts-in-reads.Asked,
+  parts-in-reads.Learnt,
+  put-leaf-reads.Asked,
+  put-leaf-reads.Learnt,
+  is-string-reads.Asked,
+  is-string-reads.Learnt,
+  put-string-reads.Asked,
+  put-string-reads.Learnt,
+  put-before-reads.Asked,
+  put-before-reads.Learnt,
+  write-run-below t,
+  write-run.Post,
+  put-after-reads.Asked,
+  put-after-reads.Learnt,
+) (write-term-at t) write-term.Post
+write-term-same-length t c = c .before .before .put-leaf .kept .1 .1 .1 .1 .0
+
+write-term-returns : (t : ℕ) → write-term-lts.Need-returns (
+  parts-in-reads.Asked,
+  parts-in-reads.Learnt,
+  put-leaf-reads.Asked,
+  put-leaf-reads.Learnt,
+  is-string-reads.Asked,
+  is-string-reads.Learnt,
+  put-string-reads.Asked,
+  put-string-reads.Learnt,
+  put-before-reads.Asked,
+  put-before-reads.Learnt,
+  write-run-below t,
+  write-run.Post,
+  put-after-reads.Asked,
+  put-after-reads.Learnt,
+) (write-term-at t) write-term.Post
+write-term-returns t c = λ t h. leaf-put (c .before .before .before .before .before .parts-in .ensures .0) (c .before .before .before .before .if1 .taken) (c .before .before .put-leaf .ensures) t h
+
 write-term-is-string-requires : (t : ℕ) → write-term-lts.Need-is-string-requires (
   parts-in-reads.Asked,
   parts-in-reads.Learnt,
+  put-leaf-reads.Asked,
+  put-leaf-reads.Learnt,
   is-string-reads.Asked,
   is-string-reads.Learnt,
   put-string-reads.Asked,
@@ -222,12 +287,14 @@ write-term-is-string-requires : (t : ℕ) → write-term-lts.Need-is-string-requ
   put-after-reads.Learnt,
 ) (write-term-at t) write-term.Post
 write-term-is-string-requires t c κs =
-    let asked = c .before .before .before .before .before .before .before .pre in
+    let asked = c .before .before .before .before .before .before .before .before .pre in
     record { term = asked .1 .fit-term; held = asked .1 .fit-held }
 
 write-term-add-put-string : (t : ℕ) → write-term-lts.Need-add-put-string (
   parts-in-reads.Asked,
   parts-in-reads.Learnt,
+  put-leaf-reads.Asked,
+  put-leaf-reads.Learnt,
   is-string-reads.Asked,
   is-string-reads.Learnt,
   put-string-reads.Asked,
@@ -240,12 +307,14 @@ write-term-add-put-string : (t : ℕ) → write-term-lts.Need-add-put-string (
   put-after-reads.Learnt,
 ) (write-term-at t) write-term.Post
 write-term-add-put-string t c =
-    let asked = c .before .before .before .before .before .before .before .before .before .pre in
-    let g : c .before .before .before .before .before .before .before .before .before .args .row + size (asked .1 .fit-term) ≤ 8192 = asked .1 .fit-held .few in omega arith
+    let asked = c .before .before .before .before .before .before .before .before .before .before .pre in
+    let g : c .before .before .before .before .before .before .before .before .before .before .args .row + size (asked .1 .fit-term) ≤ 8192 = asked .1 .fit-held .few in omega arith
 
 write-term-put-string-requires : (t : ℕ) → write-term-lts.Need-put-string-requires (
   parts-in-reads.Asked,
   parts-in-reads.Learnt,
+  put-leaf-reads.Asked,
+  put-leaf-reads.Learnt,
   is-string-reads.Asked,
   is-string-reads.Learnt,
   put-string-reads.Asked,
@@ -258,12 +327,14 @@ write-term-put-string-requires : (t : ℕ) → write-term-lts.Need-put-string-re
   put-after-reads.Learnt,
 ) (write-term-at t) write-term.Post
 write-term-put-string-requires t c κs =
-    let asked = c .before .before .before .before .before .before .before .before .before .before .pre in
-    string-needs _ _ _ (c .before .before .before .parts-in .ensures .0) (asked .1 .fit-term) (asked .1 .fit-held) (sym (c .before .before .is-string .ensures (asked .1 .fit-term) (asked .1 .fit-held)) ∙ c .before .if1 .taken) (asked .1 .fit-room)
+    let asked = c .before .before .before .before .before .before .before .before .before .before .before .pre in
+    string-needs _ _ _ (c .before .before .before .before .parts-in .ensures .0) (asked .1 .fit-term) (asked .1 .fit-held) (sym (c .before .before .is-string .ensures (asked .1 .fit-term) (asked .1 .fit-held)) ∙ c .before .if2 .taken) (asked .1 .fit-room)
 
-write-term-same-length : (t : ℕ) → write-term-lts.Need-same-length (
+write-term-same-length-2 : (t : ℕ) → write-term-lts.Need-same-length-2 (
   parts-in-reads.Asked,
   parts-in-reads.Learnt,
+  put-leaf-reads.Asked,
+  put-leaf-reads.Learnt,
   is-string-reads.Asked,
   is-string-reads.Learnt,
   put-string-reads.Asked,
@@ -275,11 +346,13 @@ write-term-same-length : (t : ℕ) → write-term-lts.Need-same-length (
   put-after-reads.Asked,
   put-after-reads.Learnt,
 ) (write-term-at t) write-term.Post
-write-term-same-length t c = c .before .before .put-string .kept .1 .1 .1 .1 .1 .1 .0
+write-term-same-length-2 t c = c .before .before .put-string .kept .1 .1 .1 .1 .1 .1 .0
 
-write-term-returns : (t : ℕ) → write-term-lts.Need-returns (
+write-term-returns-2 : (t : ℕ) → write-term-lts.Need-returns-2 (
   parts-in-reads.Asked,
   parts-in-reads.Learnt,
+  put-leaf-reads.Asked,
+  put-leaf-reads.Learnt,
   is-string-reads.Asked,
   is-string-reads.Learnt,
   put-string-reads.Asked,
@@ -291,11 +364,13 @@ write-term-returns : (t : ℕ) → write-term-lts.Need-returns (
   put-after-reads.Asked,
   put-after-reads.Learnt,
 ) (write-term-at t) write-term.Post
-write-term-returns t c = λ t h. string-written (c .before .before .before .before .before .before .parts-in .ensures .0) (c .before .before .put-string .ensures) t h (sym (c .before .before .before .before .before .is-string .ensures t h) ∙ c .before .before .before .before .if1 .taken)
+write-term-returns-2 t c = λ t h. string-written (c .before .before .before .before .before .before .before .parts-in .ensures .0) (c .before .before .put-string .ensures) t h (sym (c .before .before .before .before .before .is-string .ensures t h) ∙ c .before .before .before .before .if2 .taken)
 
 write-term-put-before-requires : (t : ℕ) → write-term-lts.Need-put-before-requires (
   parts-in-reads.Asked,
   parts-in-reads.Learnt,
+  put-leaf-reads.Asked,
+  put-leaf-reads.Learnt,
   is-string-reads.Asked,
   is-string-reads.Learnt,
   put-string-reads.Asked,
@@ -308,12 +383,14 @@ write-term-put-before-requires : (t : ℕ) → write-term-lts.Need-put-before-re
   put-after-reads.Learnt,
 ) (write-term-at t) write-term.Post
 write-term-put-before-requires t c κs =
-    let asked = c .before .before .before .before .before .before .before .before .before .before .pre in
-    (term-sound (asked .1 .fit-term) (asked .1 .fit-held), before-room _ _ (asked .1 .fit-term) (asked .1 .fit-held) (sym (c .before .before .is-string .ensures (asked .1 .fit-term) (asked .1 .fit-held)) ∙ c .before .if1 .left) (asked .1 .fit-room))
+    let asked = c .before .before .before .before .before .before .before .before .before .before .before .pre in
+    (term-sound (asked .1 .fit-term) (asked .1 .fit-held), before-room _ _ (asked .1 .fit-term) (asked .1 .fit-held) (sym (c .before .before .is-string .ensures (asked .1 .fit-term) (asked .1 .fit-held)) ∙ c .before .if2 .left) (asked .1 .fit-room))
 
 write-term-add-write-run : (t : ℕ) → write-term-lts.Need-add-write-run (
   parts-in-reads.Asked,
   parts-in-reads.Learnt,
+  put-leaf-reads.Asked,
+  put-leaf-reads.Learnt,
   is-string-reads.Asked,
   is-string-reads.Learnt,
   put-string-reads.Asked,
@@ -326,12 +403,14 @@ write-term-add-write-run : (t : ℕ) → write-term-lts.Need-add-write-run (
   put-after-reads.Learnt,
 ) (write-term-at t) write-term.Post
 write-term-add-write-run t c =
-    let asked = c .before .before .before .before .before .before .before .before .before .before .before .before .before .pre in
-    let g : c .before .before .before .before .before .before .before .before .before .before .before .before .before .args .row + size (asked .1 .fit-term) ≤ 8192 = asked .1 .fit-held .few in omega arith
+    let asked = c .before .before .before .before .before .before .before .before .before .before .before .before .before .before .pre in
+    let g : c .before .before .before .before .before .before .before .before .before .before .before .before .before .before .args .row + size (asked .1 .fit-term) ≤ 8192 = asked .1 .fit-held .few in omega arith
 
 write-term-write-run-requires : (t : ℕ) → write-term-lts.Need-write-run-requires (
   parts-in-reads.Asked,
   parts-in-reads.Learnt,
+  put-leaf-reads.Asked,
+  put-leaf-reads.Learnt,
   is-string-reads.Asked,
   is-string-reads.Learnt,
   put-string-reads.Asked,
@@ -344,12 +423,14 @@ write-term-write-run-requires : (t : ℕ) → write-term-lts.Need-write-run-requ
   put-after-reads.Learnt,
 ) (write-term-at t) write-term.Post
 write-term-write-run-requires t c κs =
-    let asked = c .before .before .before .before .before .before .before .before .before .before .before .before .before .before .pre in
-    let b = term-below (asked .1 .fit-term) (asked .1 .fit-held) in (omega arith, run-room _ _ _ (c .before .before .before .before .before .before .before .parts-in .ensures .0) (asked .1 .fit-term) (asked .1 .fit-held) (sym (c .before .before .before .before .before .before .is-string .ensures (asked .1 .fit-term) (asked .1 .fit-held)) ∙ c .before .before .before .before .before .if1 .left) (asked .1 .fit-room) (c .before .before .before .put-before .ensures))
+    let asked = c .before .before .before .before .before .before .before .before .before .before .before .before .before .before .before .pre in
+    let b = term-below (asked .1 .fit-term) (asked .1 .fit-held) in (omega arith, run-room _ _ _ (c .before .before .before .before .before .before .before .before .parts-in .ensures .0) (asked .1 .fit-term) (asked .1 .fit-held) (sym (c .before .before .before .before .before .before .is-string .ensures (asked .1 .fit-term) (asked .1 .fit-held)) ∙ c .before .before .before .before .before .if2 .left) (asked .1 .fit-room) (c .before .before .before .put-before .ensures))
 
 write-term-put-after-requires : (t : ℕ) → write-term-lts.Need-put-after-requires (
   parts-in-reads.Asked,
   parts-in-reads.Learnt,
+  put-leaf-reads.Asked,
+  put-leaf-reads.Learnt,
   is-string-reads.Asked,
   is-string-reads.Learnt,
   put-string-reads.Asked,
@@ -362,12 +443,14 @@ write-term-put-after-requires : (t : ℕ) → write-term-lts.Need-put-after-requ
   put-after-reads.Learnt,
 ) (write-term-at t) write-term.Post
 write-term-put-after-requires t c κs =
-    let asked = c .before .before .before .before .before .before .before .before .before .before .before .before .before .before .before .before .before .before .pre in
-    (term-sound (asked .1 .fit-term) (asked .1 .fit-held), after-room _ _ _ _ (c .before .before .before .before .before .before .before .before .before .before .before .parts-in .ensures .0) (asked .1 .fit-term) (asked .1 .fit-held) (sym (c .before .before .before .before .before .before .before .before .before .before .is-string .ensures (asked .1 .fit-term) (asked .1 .fit-held)) ∙ c .before .before .before .before .before .before .before .before .before .if1 .left) (asked .1 .fit-room) (c .before .before .before .before .before .before .before .put-before .ensures) (c .before .before .before .write-run .ensures))
+    let asked = c .before .before .before .before .before .before .before .before .before .before .before .before .before .before .before .before .before .before .before .pre in
+    (term-sound (asked .1 .fit-term) (asked .1 .fit-held), after-room _ _ _ _ (c .before .before .before .before .before .before .before .before .before .before .before .before .parts-in .ensures .0) (asked .1 .fit-term) (asked .1 .fit-held) (sym (c .before .before .before .before .before .before .before .before .before .before .is-string .ensures (asked .1 .fit-term) (asked .1 .fit-held)) ∙ c .before .before .before .before .before .before .before .before .before .if2 .left) (asked .1 .fit-room) (c .before .before .before .before .before .before .before .put-before .ensures) (c .before .before .before .write-run .ensures))
 
-write-term-same-length-2 : (t : ℕ) → write-term-lts.Need-same-length-2 (
+write-term-same-length-3 : (t : ℕ) → write-term-lts.Need-same-length-3 (
   parts-in-reads.Asked,
   parts-in-reads.Learnt,
+  put-leaf-reads.Asked,
+  put-leaf-reads.Learnt,
   is-string-reads.Asked,
   is-string-reads.Learnt,
   put-string-reads.Asked,
@@ -379,11 +462,13 @@ write-term-same-length-2 : (t : ℕ) → write-term-lts.Need-same-length-2 (
   put-after-reads.Asked,
   put-after-reads.Learnt,
 ) (write-term-at t) write-term.Post
-write-term-same-length-2 t c = c .before .before .put-after .kept .1 .1 .1 .1 .0 ∙ c .before .before .before .before .before .before .write-run .kept .1 .1 .1 .1 .1 .1 .0 ∙ c .before .before .before .before .before .before .before .before .before .before .put-before .kept .1 .1 .1 .1 .0
+write-term-same-length-3 t c = c .before .before .put-after .kept .1 .1 .1 .1 .0 ∙ c .before .before .before .before .before .before .write-run .kept .1 .1 .1 .1 .1 .1 .0 ∙ c .before .before .before .before .before .before .before .before .before .before .put-before .kept .1 .1 .1 .1 .0
 
-write-term-returns-2 : (t : ℕ) → write-term-lts.Need-returns-2 (
+write-term-returns-3 : (t : ℕ) → write-term-lts.Need-returns-3 (
   parts-in-reads.Asked,
   parts-in-reads.Learnt,
+  put-leaf-reads.Asked,
+  put-leaf-reads.Learnt,
   is-string-reads.Asked,
   is-string-reads.Learnt,
   put-string-reads.Asked,
@@ -395,7 +480,7 @@ write-term-returns-2 : (t : ℕ) → write-term-lts.Need-returns-2 (
   put-after-reads.Asked,
   put-after-reads.Learnt,
 ) (write-term-at t) write-term.Post
-write-term-returns-2 t c = λ t h. parts-put (c .before .before .before .before .before .before .before .before .before .before .before .before .before .before .parts-in .ensures .0) (c .before .before .before .before .before .before .before .before .before .before .put-before .ensures) (c .before .before .before .before .before .before .write-run .ensures) (c .before .before .put-after .ensures) t h (sym (c .before .before .before .before .before .before .before .before .before .before .before .before .before .is-string .ensures t h) ∙ c .before .before .before .before .before .before .before .before .before .before .before .before .if1 .left)
+write-term-returns-3 t c = λ t h. parts-put (c .before .before .before .before .before .before .before .before .before .before .before .before .before .before .before .parts-in .ensures .0) (c .before .before .before .before .before .before .before .before .before .before .put-before .ensures) (c .before .before .before .before .before .before .write-run .ensures) (c .before .before .put-after .ensures) t h (sym (c .before .before .before .before .before .before .before .before .before .before .before .before .before .is-string .ensures t h) ∙ c .before .before .before .before .before .before .before .before .before .before .before .before .if2 .left)
 
 pub +write-run+write-term-spec : {M : Type 1} → statement M
 +write-run+write-term-spec = close μ-write-run μ-write-term (λ t. write-run-lts.spec (
@@ -422,6 +507,8 @@ pub +write-run+write-term-spec : {M : Type 1} → statement M
     λ t. write-term-lts.spec (
       parts-in-reads.Asked,
       parts-in-reads.Learnt,
+      put-leaf-reads.Asked,
+      put-leaf-reads.Learnt,
       is-string-reads.Asked,
       is-string-reads.Learnt,
       put-string-reads.Asked,
@@ -438,14 +525,17 @@ pub +write-run+write-term-spec : {M : Type 1} → statement M
     (write-term-mul-word t)
     (write-term-shared-slice-read-word t)
     (write-term-parts-in-requires t)
+    (write-term-put-leaf-requires t)
+    (write-term-same-length t)
+    (write-term-returns t)
     (write-term-is-string-requires t)
     (write-term-add-put-string t)
     (write-term-put-string-requires t)
-    (write-term-same-length t)
-    (write-term-returns t)
+    (write-term-same-length-2 t)
+    (write-term-returns-2 t)
     (write-term-put-before-requires t)
     (write-term-add-write-run t)
     (write-term-write-run-requires t)
     (write-term-put-after-requires t)
-    (write-term-same-length-2 t)
-    (write-term-returns-2 t)
+    (write-term-same-length-3 t)
+    (write-term-returns-3 t)

@@ -1,5 +1,6 @@
 -- `canon::write_standalone` meets its contract. The table after reading holds the terms that were read, by `message-run`; the rest is what writing them answers. Assumes nothing.
 use Rattle.canon.proofs.Messages.{message-run, message-written, message-refused, table-cleared}
+use Rattle.canon.proofs.Scratch.{rows-zero}
 use Rattle.format.proofs.Text.{under-all}
 use Rattle.heads.specs.Code.{lent}
 use Rattle.format.specs.Writing.{scratch-after}
@@ -22,7 +23,8 @@ write-and-clear-requires c κs =
     let args = c .before .before .before .before .before .before .before .before .before .before .before .before .before .before .args in
     let list = lent (args .n) (args .places .now) (args .lengths .now) in
     let under = under-all (args .msg .now) (λ i _. omega (arith, c .before .before .before .before .before .before .before .before .before .before .before .before .before .shared-slice-known .given i)) in
-    message-run standalone list (length (args .scratch .now)) (args .msg .now) (omega arith) under (c .before .before .before .before .before .before .before .read-standalone .ensures .0) (c .before .before .before .terms .given .1) (c .before .before .before .before .before .before .before .read-standalone .ensures .1)
+    let zero = rows-zero _ _ (c .before .before .before .before .before .before .before .read-standalone .ensures .0) (c .before .before .before .terms .given .1) (c .before .before .before .before .before .before .before .read-standalone .ensures .1) in
+    (message-run standalone list (length (args .scratch .now)) (args .msg .now) (omega arith) under (c .before .before .before .before .before .before .before .read-standalone .ensures .0) (c .before .before .before .terms .given .1) (c .before .before .before .before .before .before .before .read-standalone .ensures .1), zero .there, zero .past)
 
 enum-known-refusal : tie.Need-enum-known-refusal
 enum-known-refusal c = search needs

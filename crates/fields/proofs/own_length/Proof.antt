@@ -1,12 +1,19 @@
--- `fields::own_length` meets its contract. The two layouts' lengths. Assumes nothing.
-use Rattle.fields.proofs.Leads.{word-sound, word-parts, lead-is, trail-is, lay-length}
+-- `fields::own_length` meets its contract. Bytes that stand as they are written are counted as they are, a list by its elements. Assumes nothing.
 use native.Mathlib.Omega.{arith}
+use lib.ListN.{length}
+use Prim.Native.Nat.{ℕ, _+_}
+use mathlib.Core.List.{List}
+use mathlib.Core.Path.{_∙_, ap₂}
+use Rattle.fields.proofs.Stands.{stands-length, list-before, list-after}
 use borrow.Author.Needs.{needs}
 use Rattle.fields.proofs.own_length.Statement.{statement}
 use Rattle.fields.proofs.own_length.Tie as tie
 
-content-requires : tie.Need-content-requires
-content-requires c κs = search needs
+as-it-stands-requires : tie.Need-as-it-stands-requires
+as-it-stands-requires c κs = search needs
+
+returns : tie.Need-returns
+returns c = stands-length (c .before .before .before .before .before .args .msg .now) (c .before .before .before .before .before .args .places .now) (c .before .before .before .before .before .args .lengths .now) (c .before .before .before .before .before .args .word) _ (c .before .as-it-stands .ensures (c .before .before .before .before .before .args .places .now) (c .before .before .before .before .before .args .lengths .now) (c .before .before .before .before .before .pre) (c .if1 .taken))
 
 kind-in-requires : tie.Need-kind-in-requires
 kind-in-requires c κs = search needs
@@ -14,43 +21,30 @@ kind-in-requires c κs = search needs
 parts-in-requires : tie.Need-parts-in-requires
 parts-in-requires c κs = search needs
 
-lead-requires : tie.Need-lead-requires
-lead-requires c κs =
-    let args = c .before .before .before .before .before .before .args in
-    let asked = c .before .before .before .before .before .before .pre in
-    (word-sound (args .msg .now) (args .places .now) (args .lengths .now) (args .word) _ _ _ (c .before .before .content .ensures) (c .before .kind-in .ensures .0) (c .parts-in .ensures .0) asked, word-parts (args .msg .now) (args .places .now) (args .lengths .now) (args .word) _ _ _ (c .before .before .content .ensures) (c .before .kind-in .ensures .0) (c .parts-in .ensures .0) asked)
+list-length-requires : tie.Need-list-length-requires
+list-length-requires c κs = search needs
 
-layout-length-requires : tie.Need-layout-length-requires
-layout-length-requires c κs = c .lead .ensures .can-be
+returns-2 : tie.Need-returns-2
+returns-2 c =
+    let b = list-before (c .before .before .before .before .before .before .before .before .before .args .msg .now) (c .before .before .before .before .before .before .before .before .before .args .places .now) (c .before .before .before .before .before .before .before .before .before .args .lengths .now) (c .before .before .before .before .before .before .before .before .before .args .word) _ _ (c .before .before .before .kind-in .ensures .0) (c .before .before .if2 .taken) (c .before .parts-in .ensures .0) in
+    let e = list-after (c .before .before .before .before .before .before .before .before .before .args .msg .now) (c .before .before .before .before .before .before .before .before .before .args .places .now) (c .before .before .before .before .before .before .before .before .before .args .lengths .now) (c .before .before .before .before .before .before .before .before .before .args .word) _ _ (c .before .before .before .kind-in .ensures .0) (c .before .before .if2 .taken) (c .before .parts-in .ensures .0) in
+    (c .list-length .ensures .0 ∙ ap₂ (λ (x y : List ℕ). length x + length y) b e, omega (arith, c .list-length .ensures .1))
 
-trail-requires : tie.Need-trail-requires
-trail-requires c κs =
-    let args = c .before .before .before .before .before .before .before .before .args in
-    word-sound (args .msg .now) (args .places .now) (args .lengths .now) (args .word) _ _ _ (c .before .before .before .before .content .ensures) (c .before .before .before .kind-in .ensures .0) (c .before .before .parts-in .ensures .0) (c .before .before .before .before .before .before .before .before .pre)
+found-length-requires : tie.Need-found-length-requires
+found-length-requires c κs = search needs
 
-layout-length-requires-2 : tie.Need-layout-length-requires-2
-layout-length-requires-2 c κs = c .trail .ensures .can-be
-
-add-result : tie.Need-add-result
-add-result c = search needs
-
-returns : tie.Need-returns
-returns c =
-    let args = c .before .before .before .before .before .before .before .before .before .before .args in
-    let a = lay-length (lead-is (args .msg .now) (args .places .now) (args .lengths .now) (args .word) _ _ _ (c .before .before .before .before .before .before .content .ensures) (c .before .before .before .before .before .kind-in .ensures .0) (c .before .before .before .before .parts-in .ensures .0) (c .before .before .before .lead .ensures)) (c .before .before .layout-length .ensures .0) in
-    let b = lay-length (trail-is (args .msg .now) (args .places .now) (args .lengths .now) (args .word) _ _ _ (c .before .before .before .before .before .before .content .ensures) (c .before .before .before .before .before .kind-in .ensures .0) (c .before .before .before .before .parts-in .ensures .0) (c .before .trail .ensures)) (c .layout-length2 .ensures .0) in
-    (omega arith, omega arith)
+returns-3 : tie.Need-returns-3
+returns-3 c = search needs
 
 pub own-length-spec : {M : Type 1} → statement M
 own-length-spec =
     tie.close
     (tie.spec
-    content-requires
+    as-it-stands-requires
+    returns
     kind-in-requires
     parts-in-requires
-    lead-requires
-    layout-length-requires
-    trail-requires
-    layout-length-requires-2
-    add-result
-    returns)
+    list-length-requires
+    returns-2
+    found-length-requires
+    returns-3)

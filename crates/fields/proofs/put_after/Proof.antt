@@ -1,11 +1,10 @@
--- `fields::put_after` meets its contract. The layout of what stands after the parts. Assumes nothing.
-use Rattle.fields.proofs.Leads.{word-sound, trail-is, lay-room, lay-put}
+-- `fields::put_after` meets its contract. A list ends in a 106; nothing is written for a kind that has nothing there. Assumes nothing.
+use borrow.Author.Tests.{not-true}
+use Rattle.layout.proofs.Puts.{put-same}
+use Rattle.fields.proofs.Stands.{nothing-put, list-after, same-room}
 use borrow.Author.Needs.{needs}
 use Rattle.fields.proofs.put_after.Statement.{statement}
 use Rattle.fields.proofs.put_after.Tie as tie
-
-content-requires : tie.Need-content-requires
-content-requires c κs = search needs
 
 kind-in-requires : tie.Need-kind-in-requires
 kind-in-requires c κs = search needs
@@ -13,32 +12,41 @@ kind-in-requires c κs = search needs
 parts-in-requires : tie.Need-parts-in-requires
 parts-in-requires c κs = search needs
 
-trail-requires : tie.Need-trail-requires
-trail-requires c κs =
-    let args = c .before .before .before .before .before .before .before .args in
-    word-sound (args .msg .now) (args .places .now) (args .lengths .now) (args .word) _ _ _ (c .before .before .content .ensures) (c .before .kind-in .ensures .0) (c .parts-in .ensures .0) (c .before .before .before .before .before .before .before .pre .0)
-
-put-layout-requires : tie.Need-put-layout-requires
-put-layout-requires c κs =
-    let args = c .before .before .before .before .before .before .before .before .before .args in
-    (c .before .trail .ensures .can-be, lay-room _ _ (trail-is (args .msg .now) (args .places .now) (args .lengths .now) (args .word) _ _ _ (c .before .before .before .before .content .ensures) (c .before .before .before .kind-in .ensures .0) (c .before .before .parts-in .ensures .0) (c .before .trail .ensures)) (c .before .before .before .before .before .before .before .before .before .pre .1))
+put-list-end-requires : tie.Need-put-list-end-requires
+put-list-end-requires c κs = same-room _ _ (list-after (c .before .before .before .before .before .before .before .before .args .msg .now) (c .before .before .before .before .before .before .before .before .args .places .now) (c .before .before .before .before .before .before .before .before .args .lengths .now) (c .before .before .before .before .before .before .before .before .args .word) _ _ (c .before .before .before .kind-in .ensures .0) (c .before .before .if1 .taken) (c .before .parts-in .ensures .0)) (c .before .before .before .before .before .before .before .before .pre .1)
 
 same-length : tie.Need-same-length
 same-length c = search needs
 
 returns : tie.Need-returns
-returns c =
-    let args = c .before .before .before .before .before .before .before .before .before .before .before .before .args in
-    lay-put (trail-is (args .msg .now) (args .places .now) (args .lengths .now) (args .word) _ _ _ (c .before .before .before .before .before .before .before .content .ensures) (c .before .before .before .before .before .before .kind-in .ensures .0) (c .before .before .before .before .before .parts-in .ensures .0) (c .before .before .before .before .trail .ensures)) (c .before .before .put-layout .ensures)
+returns c = put-same (list-after (c .before .before .before .before .before .before .before .before .before .before .before .args .msg .now) (c .before .before .before .before .before .before .before .before .before .before .before .args .places .now) (c .before .before .before .before .before .before .before .before .before .before .before .args .lengths .now) (c .before .before .before .before .before .before .before .before .before .before .before .args .word) _ _ (c .before .before .before .before .before .before .kind-in .ensures .0) (c .before .before .before .before .before .if1 .taken) (c .before .before .before .before .parts-in .ensures .0)) (c .before .before .put-list-end .ensures)
+
+has-trail-requires : tie.Need-has-trail-requires
+has-trail-requires c κs = search needs
+
+returns-2 : tie.Need-returns-2
+returns-2 c = nothing-put (c .before .before .before .before .before .before .before .before .args .msg .now) (c .before .before .before .before .before .before .before .before .args .places .now) (c .before .before .before .before .before .before .before .before .args .lengths .now) (c .before .before .before .before .before .before .before .before .args .word) _ _ _ (c .before .before .before .kind-in .ensures .0) (c .before .has-trail .ensures (not-true _ (c .if2 .taken)))
+
+put-trail-requires : tie.Need-put-trail-requires
+put-trail-requires c κs = search needs
+
+same-length-2 : tie.Need-same-length-2
+same-length-2 c = search needs
+
+returns-3 : tie.Need-returns-3
+returns-3 c = search needs
 
 pub put-after-spec : {M : Type 1} → statement M
 put-after-spec =
     tie.close
     (tie.spec
-    content-requires
     kind-in-requires
     parts-in-requires
-    trail-requires
-    put-layout-requires
+    put-list-end-requires
     same-length
-    returns)
+    returns
+    has-trail-requires
+    returns-2
+    put-trail-requires
+    same-length-2
+    returns-3)

@@ -1,11 +1,27 @@
--- `fields::put_before` meets its contract. The layout of what stands before the parts. Assumes nothing.
-use Rattle.fields.proofs.Leads.{word-sound, word-parts, lead-is, lay-room, lay-put}
+-- `fields::put_before` meets its contract. Bytes that stand as they are written are copied; a list is written by its number of elements. Assumes nothing.
+use Rattle.layout.proofs.Puts.{put-same}
+use Rattle.fields.proofs.Stands.{stands-inside, stands-room, stands-put, list-before, same-room}
 use borrow.Author.Needs.{needs}
 use Rattle.fields.proofs.put_before.Statement.{statement}
 use Rattle.fields.proofs.put_before.Tie as tie
 
-content-requires : tie.Need-content-requires
-content-requires c κs = search needs
+as-it-stands-requires : tie.Need-as-it-stands-requires
+as-it-stands-requires c κs = search needs
+
+offset-in-requires : tie.Need-offset-in-requires
+offset-in-requires c κs = search needs
+
+copy-requires : tie.Need-copy-requires
+copy-requires c κs = (stands-inside (c .before .before .before .before .before .before .before .before .args .msg .now) (c .before .before .before .before .before .before .before .before .args .places .now) (c .before .before .before .before .before .before .before .before .args .lengths .now) (c .before .before .before .before .before .before .before .before .args .word) _ (c .before .before .before .as-it-stands .ensures (c .before .before .before .before .before .before .before .before .args .places .now) (c .before .before .before .before .before .before .before .before .args .lengths .now) (c .before .before .before .before .before .before .before .before .pre .0) (c .before .before .if1 .taken)) _ (c .before .offset-in .ensures .0), stands-room (c .before .before .before .before .before .before .before .before .args .msg .now) (c .before .before .before .before .before .before .before .before .args .places .now) (c .before .before .before .before .before .before .before .before .args .lengths .now) (c .before .before .before .before .before .before .before .before .args .word) _ (c .before .before .before .as-it-stands .ensures (c .before .before .before .before .before .before .before .before .args .places .now) (c .before .before .before .before .before .before .before .before .args .lengths .now) (c .before .before .before .before .before .before .before .before .pre .0) (c .before .before .if1 .taken)) _ _ (c .before .before .before .before .before .before .before .before .pre .1))
+
+add-result : tie.Need-add-result
+add-result c = let r = stands-room (c .before .before .before .before .before .before .before .before .before .before .before .args .msg .now) (c .before .before .before .before .before .before .before .before .before .before .before .args .places .now) (c .before .before .before .before .before .before .before .before .before .before .before .args .lengths .now) (c .before .before .before .before .before .before .before .before .before .before .before .args .word) _ (c .before .before .before .before .before .before .as-it-stands .ensures (c .before .before .before .before .before .before .before .before .before .before .before .args .places .now) (c .before .before .before .before .before .before .before .before .before .before .before .args .lengths .now) (c .before .before .before .before .before .before .before .before .before .before .before .pre .0) (c .before .before .before .before .before .if1 .taken)) (c .before .before .before .before .before .before .before .before .before .before .before .args .at) _ (c .before .before .before .before .before .before .before .before .before .before .before .pre .1) in search needs
+
+same-length : tie.Need-same-length
+same-length c = search needs
+
+returns : tie.Need-returns
+returns c = stands-put (c .before .before .before .before .before .before .before .before .before .before .before .args .msg .now) (c .before .before .before .before .before .before .before .before .before .before .before .args .places .now) (c .before .before .before .before .before .before .before .before .before .before .before .args .lengths .now) (c .before .before .before .before .before .before .before .before .before .before .before .args .word) _ (c .before .before .before .before .before .before .as-it-stands .ensures (c .before .before .before .before .before .before .before .before .before .before .before .args .places .now) (c .before .before .before .before .before .before .before .before .before .before .before .args .lengths .now) (c .before .before .before .before .before .before .before .before .before .before .before .pre .0) (c .before .before .before .before .before .if1 .taken)) (c .before .before .before .before .offset-in .ensures .0) (c .before .before .copy .ensures)
 
 kind-in-requires : tie.Need-kind-in-requires
 kind-in-requires c κs = search needs
@@ -13,33 +29,39 @@ kind-in-requires c κs = search needs
 parts-in-requires : tie.Need-parts-in-requires
 parts-in-requires c κs = search needs
 
-lead-requires : tie.Need-lead-requires
-lead-requires c κs =
-    let args = c .before .before .before .before .before .before .before .args in
-    let asked = c .before .before .before .before .before .before .before .pre in
-    (word-sound (args .msg .now) (args .places .now) (args .lengths .now) (args .word) _ _ _ (c .before .before .content .ensures) (c .before .kind-in .ensures .0) (c .parts-in .ensures .0) (asked .0), word-parts (args .msg .now) (args .places .now) (args .lengths .now) (args .word) _ _ _ (c .before .before .content .ensures) (c .before .kind-in .ensures .0) (c .parts-in .ensures .0) (asked .0))
+put-list-start-requires : tie.Need-put-list-start-requires
+put-list-start-requires c κs = (c .before .parts-in .ensures .1, same-room _ _ (list-before (c .before .before .before .before .before .before .before .before .before .before .args .msg .now) (c .before .before .before .before .before .before .before .before .before .before .args .places .now) (c .before .before .before .before .before .before .before .before .before .before .args .lengths .now) (c .before .before .before .before .before .before .before .before .before .before .args .word) _ _ (c .before .before .before .kind-in .ensures .0) (c .before .before .if2 .taken) (c .before .parts-in .ensures .0)) (c .before .before .before .before .before .before .before .before .before .before .pre .1))
 
-put-layout-requires : tie.Need-put-layout-requires
-put-layout-requires c κs =
-    let args = c .before .before .before .before .before .before .before .before .before .args in
-    (c .before .lead .ensures .can-be, lay-room _ _ (lead-is (args .msg .now) (args .places .now) (args .lengths .now) (args .word) _ _ _ (c .before .before .before .before .content .ensures) (c .before .before .before .kind-in .ensures .0) (c .before .before .parts-in .ensures .0) (c .before .lead .ensures)) (c .before .before .before .before .before .before .before .before .before .pre .1))
+same-length-2 : tie.Need-same-length-2
+same-length-2 c = search needs
 
-same-length : tie.Need-same-length
-same-length c = search needs
+returns-2 : tie.Need-returns-2
+returns-2 c = put-same (list-before (c .before .before .before .before .before .before .before .before .before .before .before .before .before .args .msg .now) (c .before .before .before .before .before .before .before .before .before .before .before .before .before .args .places .now) (c .before .before .before .before .before .before .before .before .before .before .before .before .before .args .lengths .now) (c .before .before .before .before .before .before .before .before .before .before .before .before .before .args .word) _ _ (c .before .before .before .before .before .before .kind-in .ensures .0) (c .before .before .before .before .before .if2 .taken) (c .before .before .before .before .parts-in .ensures .0)) (c .before .before .put-list-start .ensures)
 
-returns : tie.Need-returns
-returns c =
-    let args = c .before .before .before .before .before .before .before .before .before .before .before .before .args in
-    lay-put (lead-is (args .msg .now) (args .places .now) (args .lengths .now) (args .word) _ _ _ (c .before .before .before .before .before .before .before .content .ensures) (c .before .before .before .before .before .before .kind-in .ensures .0) (c .before .before .before .before .before .parts-in .ensures .0) (c .before .before .before .before .lead .ensures)) (c .before .before .put-layout .ensures)
+put-lead-requires : tie.Need-put-lead-requires
+put-lead-requires c κs = search needs
+
+same-length-3 : tie.Need-same-length-3
+same-length-3 c = search needs
+
+returns-3 : tie.Need-returns-3
+returns-3 c = search needs
 
 pub put-before-spec : {M : Type 1} → statement M
 put-before-spec =
     tie.close
     (tie.spec
-    content-requires
+    as-it-stands-requires
+    offset-in-requires
+    copy-requires
+    add-result
+    same-length
+    returns
     kind-in-requires
     parts-in-requires
-    lead-requires
-    put-layout-requires
-    same-length
-    returns)
+    put-list-start-requires
+    same-length-2
+    returns-2
+    put-lead-requires
+    same-length-3
+    returns-3)
