@@ -135,16 +135,9 @@ static void no_atom(enum form form, const uint8_t *bytes, size_t size, size_t of
     CHECK(guards_stand());
 }
 
-static void refused_messages(void)
+static void refused_message(enum form form, const uint8_t *bytes, size_t size, unsigned refusal, unsigned place)
 {
-    for (int i = 0; i < MESSAGES; i++) {
-        const struct message *m = &messages[i];
-        if (!m->refusal)
-            continue;
-        refused_at(m->form, lend_copy(m->bytes, m->size), m->size, three_texts(), 1, m->refusal, m->place);
-        if (also_payload(m))
-            refused_at(PAYLOAD, lend_copy(m->bytes + 1, m->size - 1), m->size - 1, three_texts(), 1, m->refusal, m->place - 1);
-    }
+    refused_at(form, bytes, size, three_texts(), 1, refusal, place);
 }
 
 int main(void)
@@ -159,7 +152,7 @@ int main(void)
     no_atom(STANDALONE, BYTES(131, 82, 0), 2);
     no_atom(STANDALONE, BYTES(131, 82, 0), SIZE_MAX);
     no_atom(PAYLOAD, BYTES(97, 5), 0);
-    refused_messages();
+    each_refused(refused_message);
     for (int i = 0; i < 4; i++) {
         refused_at(STANDALONE, BYTES(131, 97, 5), list_of_wrong_size(i), 0, 13, 0);
         refused_at(PAYLOAD, BYTES(97, 5), list_of_wrong_size(i), 0, 13, 0);

@@ -61,6 +61,19 @@ static inline int also_payload(const struct message *m)
     return m->form == STANDALONE && m->size > 0 && m->refusal != IK_NO_VERSION && m->refusal != IK_LEFT_OVER;
 }
 
+/* Hands over each message that is refused, and as a payload too where it is one. */
+static inline void each_refused(void (*refused)(enum form form, const uint8_t *bytes, size_t size, unsigned refusal, unsigned place))
+{
+    for (int i = 0; i < MESSAGES; i++) {
+        const struct message *m = &messages[i];
+        if (!m->refusal)
+            continue;
+        refused(m->form, lend_copy(m->bytes, m->size), m->size, m->refusal, m->place);
+        if (also_payload(m))
+            refused(PAYLOAD, lend_copy(m->bytes + 1, m->size - 1), m->size - 1, m->refusal, m->place - 1);
+    }
+}
+
 /* The refusals of reading; 1 is a standalone term's alone. */
 #define READING IK_CUT, IK_TAG, IK_FIELD, IK_TEXT, IK_INDEX, IK_KEY, IK_DEPTH, IK_ROWS, IK_LEFT_OVER, IK_LONG, IK_SIZE, IK_STATE
 static uint64_t met[2];

@@ -134,6 +134,50 @@ static void limits(void)
     free(bytes);
 }
 
+/* A map of `count` pairs: the keys are 0, step, 2 * step, .. as tag 98, but the last is that of the pair `as`, as tag 110; the values are []. */
+static size_t map_of_integers(uint8_t *bytes, unsigned count, unsigned step, unsigned as)
+{
+    size_t size = 0;
+    const uint8_t first[] = {131, 116, 0, 0, (uint8_t)(count >> 8), (uint8_t)count};
+    memcpy(bytes, first, sizeof first), size += sizeof first;
+    for (unsigned i = 0; i + 1 < count; i++) {
+        unsigned k = i * step;
+        const uint8_t pair[] = {98, (uint8_t)(k >> 24), (uint8_t)(k >> 16), (uint8_t)(k >> 8), (uint8_t)k, 106};
+        memcpy(bytes + size, pair, sizeof pair), size += sizeof pair;
+    }
+    unsigned k = as * step;
+    const uint8_t last[] = {110, 4, 0, (uint8_t)k, (uint8_t)(k >> 8), (uint8_t)(k >> 16), (uint8_t)(k >> 24), 106};
+    memcpy(bytes + size, last, sizeof last);
+    return size + sizeof last;
+}
+
+static void keys_of_map(unsigned count, unsigned step)
+{
+    uint8_t *bytes = malloc(70000);
+    size_t size = map_of_integers(bytes, count, step, count - 1);
+    uint64_t *table = lend(8 * 8192, 0xa5);
+    struct ik_read a = read_into(STANDALONE, lend_copy(bytes, size), size, empty_list(), table, 8192);
+    SAME(a.refusal, 0);
+    SAME(a.rows, 1 + 2 * count);
+    SAME(ik_row_parts(table[0]), 2 * count);
+    CHECK(guards_stand());
+    const unsigned earlier[] = {0, (count - 1) / 2, count - 2};
+    for (int i = 0; i < 3; i++) {
+        size = map_of_integers(bytes, count, step, earlier[i]);
+        refused_at(STANDALONE, lend_copy(bytes, size), size, empty_list(), 8192, 7, 6 * count);
+    }
+    free(bytes);
+}
+
+/* Both sides of 1,024 bytes, and as many keys as there is room for; 65,521 apart they have the same hash. */
+static void keys(void)
+{
+    const unsigned counts[] = {2, 169, 170, 4095}, steps[] = {1, 257, 8192, 65521};
+    for (int i = 0; i < 4; i++)
+        for (int j = 0; j < 4; j++)
+            keys_of_map(counts[i], steps[j]);
+}
+
 static void lists(void)
 {
     struct list l;
@@ -160,6 +204,7 @@ int main(void)
     each_message();
     rows_of_each_kind();
     limits();
+    keys();
     lists();
     all_met(0);
     return ended("reading");
