@@ -1,12 +1,12 @@
 -- The scratch table: past the rows of a message that was read all is zero, so it is cleared by clearing these rows. Assumes nothing.
 use mathlib.Core.Path.{_≡_, refl, sym, _∙_, ap, ap₂, subst}
-use mathlib.Core.List.{List, [], _∷_, _++_}
+use mathlib.Core.List.{List, _++_}
 use Prim.Native.Nat.{ℕ, zero, suc, _+_, _-_, _≤_}
 use native.Mathlib.Omega.{arith}
-use lib.ListN.{length, getD, take, drop, replicate, length-append, length-drop, length-replicate, take-append-drop, replicate-append-replicate}
+use lib.ListN.{length, getD, drop, replicate, length-append, length-drop, length-replicate, take-append-drop, replicate-append-replicate}
 use lib.Seq.{sets, ext-getD, getD-drop}
 use mathlib.Core.Option.{none}
-use Rattle.format.specs.Tree.{count, sizes}
+use Rattle.format.specs.Tree.{sizes}
 use Rattle.format.specs.Answer.{Answer, good, refused}
 use Rattle.format.specs.Message.{Terms}
 use Rattle.format.specs.Rows.{rows, words-of, table-after}

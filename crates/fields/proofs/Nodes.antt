@@ -1,7 +1,7 @@
 -- Pids and references whose fields stand in the message as they are written, around their node. Assumes nothing.
 use mathlib.Core.Path.{_≡_, refl, sym, _∙_, ap, ap₂, subst}
 use mathlib.Core.Bool.{false}
-use mathlib.Core.List.{List, [], _∷_, _++_}
+use mathlib.Core.List.{List, _∷_, _++_}
 use Prim.Native.Nat.{ℕ, _+_, _*_, _-_, _≤_, _<_}
 use native.Mathlib.Omega.{arith}
 use lib.Dec.{eqb}
@@ -9,11 +9,9 @@ use lib.ListN.{length, getD, take, drop}
 use lib.Seq.{take-add, drop-drop, sets}
 use borrow.Author.Tests.{le-ltb}
 use Rattle.format.specs.Numbers.{in-bytes}
-use Rattle.format.specs.Canonical.{words-bytes}
 use Rattle.format.specs.Rows.{kind-in, offset-in, parts-in}
 use Rattle.octets.specs.Parts.{choose}
-use Rattle.octets.proofs.Parts.{length-part}
-use Rattle.contents.specs.Found.{value, text-width, text-end, atom-end, pid-found, pids-found, words-found, counted-found, references-found, kind-found, content-of}
+use Rattle.contents.specs.Found.{value, text-width, text-end, atom-end, pid-found, pids-found, words-found, counted-found, references-found, content-of}
 use Rattle.contents.specs.Meaning.{words-at, label-of}
 use Rattle.contents.specs.declared.Content.{Content}
 use Rattle.contents.specs.declared.Content.the-variants.{Pid, Reference}
@@ -22,7 +20,7 @@ use Rattle.layout.specs.Layout.{Put}
 use Rattle.fields.specs.Shape.{before, after}
 use Rattle.fields.specs.Sound.{Bytes-only, listed-in, before-in, after-in, Around}
 use Rattle.fields.proofs.Leads.{number-stands, words-stand, length-words-at}
-use Rattle.fields.proofs.Stands.{there, one, number-there}
+use Rattle.fields.proofs.Stands.{there, one, number-there, copied-length, copied-room, copied-put}
 
 -- ---- where a node ends
 
@@ -129,17 +127,6 @@ pub same-words : (m places lengths : List ℕ) (kind at parts h end v n : ℕ) �
 same-words m places lengths kind at parts h end v n e a = rw e a
 
 -- ---- by the word
-
--- bytes that stand in the message, copied
-module _ (m : List ℕ) (o n : ℕ) {bs : List ℕ} (e : bs ≡ take n (drop o m)) (h : o + n ≤ length m) where
-  copied-length : length bs ≡ n
-  copied-length = ap length e ∙ length-part m o n h
-
-  copied-room : (to room : ℕ) → to + length bs ≤ room → to + n ≤ room
-  copied-room to room k = let l = copied-length in omega arith
-
-  copied-put : {O P : List ℕ} {to : ℕ} → P ≡ sets O to (take n (drop o m)) → Put O to bs (to + n) P
-  copied-put {O} {P} {to} f = record { past = ap (λ (j : ℕ). to + j) (sym copied-length); stored = f ∙ ap (sets O to) (sym e) }
 
 module _ (m places lengths : List ℕ) (w kind at h end k : ℕ) (e : kind ≡ kind-in w) (g : at ≡ offset-in w) (a : Around m places lengths kind at (parts-in w) h end k) where
   first-in : before-in m places lengths w ≡ take h (drop at m)

@@ -8,9 +8,8 @@ use lib.Dec.{leb, ltb}
 use lib.ListN.{length, getD, take, drop, length-append}
 use lib.Seq.{take-add, drop-drop, drop-cons, sets}
 use borrow.Author.Tests.{le-ltb, lt-leb, ltb-true, ltb-false}
-use Rattle.format.specs.Numbers.{in-bytes, with-sign}
-use Rattle.format.specs.Text.{encodes}
-use Rattle.format.specs.Term.{tuple, list, map}
+use Rattle.format.specs.Numbers.{in-bytes}
+use Rattle.format.specs.Term.{list}
 use Rattle.format.specs.Canonical.{integer-bytes, atom-bytes, small}
 use Rattle.format.specs.Rows.{kind-in, offset-in, parts-in}
 use Rattle.format.proofs.Numbers.{length-in-bytes}
@@ -18,7 +17,7 @@ use Rattle.octets.proofs.Numbers.{big-one, bytes-one}
 use Rattle.octets.proofs.Parts.{length-part}
 use Rattle.octets.specs.Parts.{choose}
 use Rattle.contents.specs.Found.{value, byte-found, signed-whole, signed-found, integer-found, float-found, text-width, text-found, atom-found, bytes-found, binary-found, kind-found, content-of}
-use Rattle.contents.specs.Meaning.{sign, coded, bare, label-of}
+use Rattle.contents.specs.Meaning.{coded, bare, label-of}
 use Rattle.contents.specs.declared.Content.{Content}
 use Rattle.contents.specs.declared.Content.the-variants.{Nothing, Whole, Float, Text, Bytes}
 use Rattle.contents.proofs.ByKind.{kind-1, kind-2, kind-3, kind-7, kind-14}
@@ -271,45 +270,28 @@ module _ (m places lengths : List ℕ) (at parts : ℕ) (b : Bytes-only m) where
       refl
 
   -- terms with no fields of their own
-  module _ (h : at < length m) where
-    bare-4 : content-of m places lengths 4 at ≡ Nothing
-    unfolding kind-found choose
-    bare-4 = there m places lengths 4 at h
-
-    bare-5 : content-of m places lengths 5 at ≡ Nothing
-    unfolding kind-found choose
-    bare-5 = there m places lengths 5 at h
-
-    bare-13 : content-of m places lengths 13 at ≡ Nothing
-    unfolding kind-found choose
-    bare-13 = there m places lengths 13 at h
-
-    bare-9 : content-of m places lengths 9 at ≡ Nothing
-    unfolding kind-found choose
-    bare-9 = there m places lengths 9 at h
-
   pub stands-104 : getD m at 0 ≡ 104 → at + 2 ≤ length m → value m 1 (at + 1) ≡ parts → parts < 256 → Stands m places lengths 4 at parts 2
-  unfolding label-of bare choose after
+  unfolding kind-found label-of bare choose after
   stands-104 e h f l =
-      by-content 4 2 Nothing (bare-4 (omega arith)) h (omega arith)
+      by-content 4 2 Nothing (there m places lengths 4 at (omega arith)) h (omega arith)
       (sym (tuple-104 parts (omega arith)) ∙ ap (λ (k : ℕ). 104 ∷ in-bytes 1 k) (sym f) ∙ number-there m 104 at 1 b e h)
       refl
 
   pub stands-106 : getD m at 0 ≡ 106 → at + 1 ≤ length m → parts ≡ 0 → Stands m places lengths 5 at parts 1
-  unfolding label-of bare choose
+  unfolding kind-found label-of bare choose
   stands-106 e h f =
-      by-content 5 1 Nothing (bare-5 (omega arith)) h (omega arith)
+      by-content 5 1 Nothing (there m places lengths 5 at (omega arith)) h (omega arith)
       (sym (list-106 parts f) ∙ sym (one m 106 at 0 b e (omega arith)))
       (sym (list-over parts f))
 
   pub stands-113 : getD m at 0 ≡ 113 → at + 1 ≤ length m → Stands m places lengths 13 at parts 1
-  unfolding label-of bare choose before after
-  stands-113 e h = by-content 13 1 Nothing (bare-13 (omega arith)) h (omega arith) (sym (one m 113 at 0 b e (omega arith))) refl
+  unfolding kind-found label-of bare choose before after
+  stands-113 e h = by-content 13 1 Nothing (there m places lengths 13 at (omega arith)) h (omega arith) (sym (one m 113 at 0 b e (omega arith))) refl
 
   pub stands-116 : getD m at 0 ≡ 116 → at + 5 ≤ length m → value m 4 (at + 1) ≡ parts / 2 → Stands m places lengths 9 at parts 5
-  unfolding label-of bare choose before after
+  unfolding kind-found label-of bare choose before after
   stands-116 e h f =
-      by-content 9 5 Nothing (bare-9 (omega arith)) h (omega arith)
+      by-content 9 5 Nothing (there m places lengths 9 at (omega arith)) h (omega arith)
       (ap (λ (k : ℕ). 116 ∷ in-bytes 4 k) (sym f) ∙ number-there m 116 at 4 b e h)
       refl
 
@@ -321,20 +303,29 @@ module _ (m places lengths : List ℕ) (w kind k at : ℕ) (e : kind ≡ kind-in
   pub stands-in : (n r : ℕ) → n ≡ parts-in w → Stands m places lengths k at n r → Stands m places lengths (kind-in w) (offset-in w) (parts-in w) r
   stands-in n r h s = rw (← e, f, ← g, ← h) s
 
+-- bytes that stand in the message, copied
+module _ (m : List ℕ) (o n : ℕ) {bs : List ℕ} (e : bs ≡ take n (drop o m)) (h : o + n ≤ length m) where
+  pub copied-length : length bs ≡ n
+  copied-length = ap length e ∙ length-part m o n h
+
+  pub copied-room : (to room : ℕ) → to + length bs ≤ room → to + n ≤ room
+  copied-room to room k = let l = copied-length in omega arith
+
+  pub copied-put : {O P : List ℕ} {to : ℕ} → P ≡ sets O to (take n (drop o m)) → Put O to bs (to + n) P
+  copied-put {O} {P} {to} f = record { past = ap (λ (j : ℕ). to + j) (sym copied-length); stored = f ∙ ap (sets O to) (sym e) }
+
 module _ (m places lengths : List ℕ) (w n : ℕ) (s : Stands m places lengths (kind-in w) (offset-in w) (parts-in w) n) where
   pub stands-length : (n ≡ length (before-in m places lengths w) + length (after-in m places lengths w)) × (n ≤ 262192)
   stands-length =
-      let p : length (before-in m places lengths w) ≡ n = ap length (s .whole) ∙ length-part m (offset-in w) n (s .there) in
+      let p = copied-length m (offset-in w) n (s .whole) (s .there) in
       let q : length (after-in m places lengths w) ≡ 0 = ap length (s .no-end) in
       (omega arith, s .few)
 
   pub stands-room : (at room : ℕ) → at + length (before-in m places lengths w) ≤ room → at + n ≤ room
-  stands-room at room h = let p : length (before-in m places lengths w) ≡ n = ap length (s .whole) ∙ length-part m (offset-in w) n (s .there) in omega arith
+  stands-room = copied-room m (offset-in w) n (s .whole) (s .there)
 
   pub stands-put : {O P : List ℕ} {at o : ℕ} → o ≡ offset-in w → P ≡ sets O at (take n (drop o m)) → Put O at (before-in m places lengths w) (at + n) P
-  stands-put {O} {P} {at} {o} e f =
-      let p : length (before-in m places lengths w) ≡ n = ap length (s .whole) ∙ length-part m (offset-in w) n (s .there) in
-      record { past = ap (λ (k : ℕ). at + k) (sym p); stored = f ∙ ap (λ (k : ℕ). sets O at (take n (drop k m))) e ∙ ap (sets O at) (sym (s .whole)) }
+  stands-put {O} {P} {at} {o} e f = copied-put m (offset-in w) n (s .whole) (s .there) (f ∙ ap (λ (k : ℕ). sets O at (take n (drop k m))) e)
 
   pub stands-inside : (o : ℕ) → o ≡ offset-in w → o + n ≤ length m
   stands-inside o e = rw e (s .there)
