@@ -7,9 +7,9 @@ use lib.Dec.{eqb}
 use lib.ListN.{getD}
 use borrow.Author.Tests.{eqb-true}
 use Rattle.octets.specs.Parts.{choose}
-use Rattle.contents.specs.Found.{byte-found, signed-whole, signed-found, whole-of, stripped-found, big-found, integer-found, float-found, text-found, place-found, listed-found, atom-found, bytes-found, bits-of, bits-found, binary-found, pids-found, ports-found, references-found, kind-found, content-of}
+use Rattle.contents.specs.Found.{byte-found, signed-whole, signed-found, whole-of, stripped-found, big-found, integer-found, float-found, text-found, place-found, listed-found, atom-found, bytes-found, bits-of, bits-found, binary-found, pid-found, port-found, words-found, word-found, counted-found, pids-found, ports-found, references-found, kind-found, content-of}
 use Rattle.contents.specs.declared.Content.{Content}
-use Rattle.contents.specs.declared.Content.the-variants.{Nothing, Whole, Big, Float, Text, Bytes, Bits}
+use Rattle.contents.specs.declared.Content.the-variants.{Nothing, Whole, Big, Float, Text, Bytes, Bits, Pid, Port, Reference}
 
 module _ (P : Content → Type 0) (nothing : P Nothing) where
   either : (z : Bool) {c d : Content} → P c → P d → P (choose z c d)
@@ -52,6 +52,20 @@ module _ (P : Content → Type 0) (nothing : P Nothing) where
   unfolding binary-found bits-found bits-of bytes-found
   binary-each bytes bits m at tag =
       either _ (either _ nothing (either _ nothing (either _ (bytes _ _) (either _ (bytes _ _) (bits _ _ _))))) (either _ nothing (either _ nothing (bytes _ _)))
+
+  pub pids-each : ((id serial creation : ℕ) → P (Pid id serial creation)) → (m : List ℕ) (at tag : ℕ) → P (pids-found m at tag)
+  unfolding pids-found pid-found
+  pids-each pid m at tag = either _ nothing (pid _ _ _)
+
+  pub ports-each : ((id creation : ℕ) → P (Port id creation)) → (m : List ℕ) (at tag : ℕ) → P (ports-found m at tag)
+  unfolding ports-found port-found
+  ports-each port m at tag = either _ (either _ nothing (port _ _)) (either _ (either _ nothing (port _ _)) (either _ nothing (port _ _)))
+
+  pub references-each : ((creation start n : ℕ) → P (Reference creation start n)) → (m : List ℕ) (at tag : ℕ) → P (references-found m at tag)
+  unfolding references-found word-found counted-found words-found
+  references-each reference m at tag =
+      let counted : (w : ℕ) → P (counted-found m w at) = λ w. either _ nothing (either _ nothing (reference _ _ _)) in
+      either _ (either _ nothing (reference _ _ _)) (either _ (counted 1) (counted 4))
 
   module _ (m places lengths : List ℕ) (at kind : ℕ) where
     -- by the kind

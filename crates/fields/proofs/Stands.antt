@@ -26,8 +26,8 @@ use Rattle.layout.specs.Layout.{Put}
 use Rattle.layout.proofs.Puts.{put-then, put-none, put-same}
 use Rattle.fields.specs.Shape.{tagged-bytes, before, after}
 use Rattle.fields.specs.Sound.{Bytes-only, listed-in, label-in, before-in, after-in, Sound, Sound-word, Stands, character-code}
-use Rattle.fields.proofs.Leads.{number-stands, positive-97, positive-98, negative-98, atom-119, tuple-104, list-106, list-108, list-over, list-closed, signed-above, signed-below, sound-text, sound-bytes, is-small, code-by, bare-over}
-use Rattle.fields.proofs.Each.{byte-each, integer-each, float-each, atom-each, binary-each, content-each}
+use Rattle.fields.proofs.Leads.{number-stands, positive-97, positive-98, negative-98, atom-119, tuple-104, list-106, list-108, list-over, list-closed, signed-above, signed-below, sound-text, sound-bytes, is-small, code-by, bare-none, bare-over}
+use Rattle.fields.proofs.Each.{byte-each, integer-each, float-each, atom-each, binary-each, pids-each, ports-each, references-each, content-each}
 
 -- ---- contents that are there
 
@@ -36,7 +36,7 @@ unfolding byte-found choose
 byte-there m at h = let g : 1 ≤ length m - at = omega arith in simp (le-ltb (length m - at) 1 g) (ap (Whole false) (big-one m at h))
 
 module _ (m places lengths : List ℕ) (kind at : ℕ) (h : at < length m) where
-  there : content-of m places lengths kind at ≡ kind-found m places lengths at kind
+  pub there : content-of m places lengths kind at ≡ kind-found m places lengths at kind
   unfolding content-of choose
   there = simp (lt-leb (length m) at h)
 
@@ -67,6 +67,25 @@ pub character-by : (m places lengths : List ℕ) (w kind at r : ℕ) → kind �
     → r ≡ character-code (small (label-of m (listed-in places) kind (content-of m places lengths kind at)))
     → r ≡ character-code (small (label-in m places lengths w))
 character-by m places lengths w kind at r e f h = rw (← e, ← f) h
+
+-- no integer is no character
+module _ (m places lengths : List ℕ) (kind at : ℕ) (n1 : kind ≡ 1 → ⊥) (n14 : kind ≡ 14 → ⊥) where
+  abbrev Other : Content → Type 0
+  Other c = 256 ≡ character-code (small (label-of m (listed-in places) kind c))
+
+  pub no-character : Other (content-of m places lengths kind at)
+  unfolding label-of small character-code
+  no-character =
+      let nothing : Other Nothing = bare-none kind in
+      content-each Other nothing m places lengths at kind
+      (λ e. absurd (n1 e))
+      (λ e. float-each Other nothing (λ b. refl) m at)
+      (λ e. atom-each Other nothing (λ x y s n. refl) m places lengths at (getD m at 0))
+      (λ tag. binary-each Other nothing (λ s n. refl) (λ b s n. refl) m at tag)
+      (λ e. pids-each Other nothing (λ i s c. refl) m at (getD m at 0))
+      (λ e. ports-each Other nothing (λ i c. refl) m at (getD m at 0))
+      (λ e. references-each Other nothing (λ c s n. refl) m at (getD m at 0))
+      (λ e. absurd (n14 e))
 
 -- ---- nothing after the parts
 
@@ -99,7 +118,7 @@ nothing-put m places lengths w kind O at e t = put-same (sym (no-trail m places 
 
 -- a tag and a number after it, and bytes after these
 module _ (m : List ℕ) (tag at w : ℕ) (b : Bytes-only m) (e : getD m at 0 ≡ tag) where
-  one : at < length m → take 1 (drop at m) ≡ tag ∷ []
+  pub one : at < length m → take 1 (drop at m) ≡ tag ∷ []
   one h = ap (take 1) (drop-cons m at 0 h) ∙ ap (λ (x : ℕ). x ∷ []) e
 
   pub number-there : at + (1 + w) ≤ length m → tag ∷ in-bytes w (value m w (at + 1)) ≡ take (1 + w) (drop at m)
@@ -261,6 +280,10 @@ module _ (m places lengths : List ℕ) (at parts : ℕ) (b : Bytes-only m) where
     unfolding kind-found choose
     bare-5 = there m places lengths 5 at h
 
+    bare-13 : content-of m places lengths 13 at ≡ Nothing
+    unfolding kind-found choose
+    bare-13 = there m places lengths 13 at h
+
     bare-9 : content-of m places lengths 9 at ≡ Nothing
     unfolding kind-found choose
     bare-9 = there m places lengths 9 at h
@@ -278,6 +301,10 @@ module _ (m places lengths : List ℕ) (at parts : ℕ) (b : Bytes-only m) where
       by-content 5 1 Nothing (bare-5 (omega arith)) h (omega arith)
       (sym (list-106 parts f) ∙ sym (one m 106 at 0 b e (omega arith)))
       (sym (list-over parts f))
+
+  pub stands-113 : getD m at 0 ≡ 113 → at + 1 ≤ length m → Stands m places lengths 13 at parts 1
+  unfolding label-of bare choose before after
+  stands-113 e h = by-content 13 1 Nothing (bare-13 (omega arith)) h (omega arith) (sym (one m 113 at 0 b e (omega arith))) refl
 
   pub stands-116 : getD m at 0 ≡ 116 → at + 5 ≤ length m → value m 4 (at + 1) ≡ parts / 2 → Stands m places lengths 9 at parts 5
   unfolding label-of bare choose before after

@@ -35,6 +35,9 @@ bytes-stand-requires c κs = search needs
 map-stands-requires : tie.Need-map-stands-requires
 map-stands-requires c κs = search needs
 
+export-stands-requires : tie.Need-export-stands-requires
+export-stands-requires c κs = search needs
+
 returns : tie.Need-returns
 returns c = λ places lengths s l. stands-in (c .before .before .before .before .before .before .args .msg .now) places lengths (c .before .before .before .before .before .before .args .word) _ _ _ (c .before .before .kind-in .ensures .0) (c .before .match .keys1) (c .before .before .before .before .offset-in .ensures .0) _ _ (c .before .before .before .parts-in .ensures .0) (c .integer-stands .ensures places lengths _ l)
 
@@ -57,7 +60,10 @@ returns-7 : tie.Need-returns-7
 returns-7 c = λ places lengths s l. stands-in (c .before .before .before .before .before .before .args .msg .now) places lengths (c .before .before .before .before .before .before .args .word) _ _ _ (c .before .before .kind-in .ensures .0) (c .before .match .keys7) (c .before .before .before .before .offset-in .ensures .0) _ _ (c .before .before .before .parts-in .ensures .0) (c .map-stands .ensures places lengths l)
 
 returns-8 : tie.Need-returns-8
-returns-8 c = λ places lengths s l. absurd (omega arith)
+returns-8 c = λ places lengths s l. stands-in (c .before .before .before .before .before .before .args .msg .now) places lengths (c .before .before .before .before .before .before .args .word) _ _ _ (c .before .before .kind-in .ensures .0) (c .before .match .keys8) (c .before .before .before .before .offset-in .ensures .0) _ _ (c .before .before .before .parts-in .ensures .0) (c .export-stands .ensures places lengths _ l)
+
+returns-9 : tie.Need-returns-9
+returns-9 c = λ places lengths s l. absurd (omega arith)
 
 pub as-it-stands-spec : {M : Type 1} → statement M
 as-it-stands-spec =
@@ -73,6 +79,7 @@ as-it-stands-spec =
     list-stands-requires
     bytes-stand-requires
     map-stands-requires
+    export-stands-requires
     returns
     returns-2
     returns-3
@@ -80,4 +87,5 @@ as-it-stands-spec =
     returns-5
     returns-6
     returns-7
-    returns-8)
+    returns-8
+    returns-9)

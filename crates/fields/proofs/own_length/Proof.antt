@@ -3,7 +3,8 @@ use native.Mathlib.Omega.{arith}
 use lib.ListN.{length}
 use Prim.Native.Nat.{ℕ, _+_}
 use mathlib.Core.List.{List}
-use mathlib.Core.Path.{_∙_, ap₂}
+use mathlib.Core.Path.{refl, _∙_, ap₂}
+use Rattle.fields.proofs.Nodes.{around-length}
 use Rattle.fields.proofs.Stands.{stands-length, list-before, list-after}
 use borrow.Author.Needs.{needs}
 use Rattle.fields.proofs.own_length.Statement.{statement}
@@ -30,11 +31,44 @@ returns-2 c =
     let e = list-after (c .before .before .before .before .before .before .before .before .before .args .msg .now) (c .before .before .before .before .before .before .before .before .before .args .places .now) (c .before .before .before .before .before .before .before .before .before .args .lengths .now) (c .before .before .before .before .before .before .before .before .before .args .word) _ _ (c .before .before .before .kind-in .ensures .0) (c .before .before .if2 .taken) (c .before .parts-in .ensures .0) in
     (c .list-length .ensures .0 ∙ ap₂ (λ (x y : List ℕ). length x + length y) b e, omega (arith, c .list-length .ensures .1))
 
+offset-in-requires : tie.Need-offset-in-requires
+offset-in-requires c κs = search needs
+
+pid-node-requires : tie.Need-pid-node-requires
+pid-node-requires c κs = search needs
+
+returns-3 : tie.Need-returns-3
+returns-3 c =
+    let a = c .before .pid-node .ensures (c .before .before .before .before .before .before .before .before .before .before .args .places .now) (c .before .before .before .before .before .before .before .before .before .before .args .lengths .now) _ (c .if3 .taken) in
+    around-length (c .before .before .before .before .before .before .before .before .before .before .args .msg .now) (c .before .before .before .before .before .before .before .before .before .before .args .places .now) (c .before .before .before .before .before .before .before .before .before .before .args .lengths .now) (c .before .before .before .before .before .before .before .before .before .before .args .word) _ _ _ _ _ (c .before .before .before .before .kind-in .ensures .0) (c .before .before .offset-in .ensures .0) a _ refl
+
+reference-node-requires : tie.Need-reference-node-requires
+reference-node-requires c κs = search needs
+
+add-big2 : tie.Need-add-big2
+add-big2 c = search needs
+
+big2-requires : tie.Need-big2-requires
+big2-requires c κs =
+    let a = c .before .reference-node .ensures (c .before .before .before .before .before .before .before .before .before .before .before .before .args .places .now) (c .before .before .before .before .before .before .before .before .before .before .before .before .args .lengths .now) 0 (c .if4 .taken) in
+    omega (arith, a .first-there)
+
+mul-result : tie.Need-mul-result
+mul-result c = search needs
+
+add-result : tie.Need-add-result
+add-result c = search needs
+
+returns-4 : tie.Need-returns-4
+returns-4 c =
+    let a = c .before .before .reference-node .ensures (c .before .before .before .before .before .before .before .before .before .before .before .before .before .args .places .now) (c .before .before .before .before .before .before .before .before .before .before .before .before .before .args .lengths .now) _ (c .before .if4 .taken) in
+    around-length (c .before .before .before .before .before .before .before .before .before .before .before .before .before .args .msg .now) (c .before .before .before .before .before .before .before .before .before .before .before .before .before .args .places .now) (c .before .before .before .before .before .before .before .before .before .before .before .before .before .args .lengths .now) (c .before .before .before .before .before .before .before .before .before .before .before .before .before .args .word) _ _ _ _ _ (c .before .before .before .before .before .before .before .kind-in .ensures .0) (c .before .before .before .before .before .offset-in .ensures .0) a _ (omega (arith, c .big2 .ensures .0))
+
 found-length-requires : tie.Need-found-length-requires
 found-length-requires c κs = search needs
 
-returns-3 : tie.Need-returns-3
-returns-3 c = search needs
+returns-5 : tie.Need-returns-5
+returns-5 c = search needs
 
 pub own-length-spec : {M : Type 1} → statement M
 own-length-spec =
@@ -46,5 +80,14 @@ own-length-spec =
     parts-in-requires
     list-length-requires
     returns-2
+    offset-in-requires
+    pid-node-requires
+    returns-3
+    reference-node-requires
+    add-big2
+    big2-requires
+    mul-result
+    add-result
+    returns-4
     found-length-requires
-    returns-3)
+    returns-5)
