@@ -91,37 +91,37 @@ common-stays h kind count (some-elements (suc n) some) = refl
 common-stays h kind count (some-pairs n some) = refl
 
 -- the first head that is none is the opening
-first-stays : (atoms : Atoms) (bound : List ℕ) (b : ℕ) (rest : List ℕ) → bound ≡ b ∷ rest → (s : Position) (h : format.Head) (t : Position) → head atoms any s ≡ good (h, t) → empty-108 h ≡ false
-    → opening atoms bound any s ≡ good ((s .at, h), t)
+first-stays : (atoms : Atoms) (bound : List ℕ) (b : ℕ) (rest : List ℕ) → bound ≡ b ∷ rest → (w : Wanted) (s : Position) (h : format.Head) (t : Position) → head atoms w s ≡ good (h, t) → empty-108 h ≡ false
+    → opening atoms bound w s ≡ good ((s .at, h), t)
 unfolding opening
-first-stays atoms bound b rest e s h t f g =
+first-stays atoms bound b rest e w s h t f g =
     rw (e, f) (ap (λ (z : Bool). (elim z as (λ _. Reading (ℕ × format.Head)) [ true ↦ opening atoms rest any | false ↦ done (s .at, h) ]) t) g)
 
 -- The term at `at` of a message, by its word
-module _ (atoms : Atoms) (m : List ℕ) (at row w : ℕ) where
+module _ (atoms : Atoms) (wanted : Wanted) (m : List ℕ) (at row w : ℕ) where
   pub record Quickly : Type 0 where
     pub h : format.Head
     pub next : ℕ
-    pub opens : opening atoms (drop at m) any (at-offset m at row) ≡ good ((at, h), at-offset m next row)
+    pub opens : opening atoms (drop at m) wanted (at-offset m at row) ≡ good ((at, h), at-offset m next row)
     pub further : at < next
     pub near : next ≤ length m
     pub told-by : Told w h next
 
-  pub quickly : (w ≡ 0 → ⊥) → w ≡ quick-word (head-of (head atoms any (at-offset m at row))) → Quickly
+  pub quickly : (w ≡ 0 → ⊥) → w ≡ quick-word (head-of (head atoms wanted (at-offset m at row))) → Quickly
   unfolding head-of quick-word
-  quickly some e = go (head atoms any (at-offset m at row)) refl e
+  quickly some e = go (head atoms wanted (at-offset m at row)) refl e
     where
-      go : (o : Answer (format.Head × Position)) → head atoms any (at-offset m at row) ≡ o → w ≡ quick-word (head-of o) → Quickly
+      go : (o : Answer (format.Head × Position)) → head atoms wanted (at-offset m at row) ≡ o → w ≡ quick-word (head-of o) → Quickly
       go (refused n p) f g = absurd (some g)
       go (good x) f g =
-          let i : Past m (at + 1) row (x .1) = head-past-tag atoms m at row any .known (x .0) (x .1) f in
+          let i : Past m (at + 1) row (x .1) = head-past-tag atoms m at row wanted .known (x .0) (x .1) f in
           let t : Told w (x .0) (x .1 .at) = told w some (x .1 .at) (x .0) g in
           let inside : at < length m = omega (arith, i .later, i .in-step .inside) in
           let s : x .1 ≡ at-offset m (x .1 .at) row = past-is m (at + 1) row (x .1) i in
           record {
             h = x .0;
             next = x .1 .at;
-            opens = first-stays atoms (drop at m) _ _ (drop-cons m at 0 inside) (at-offset m at row) (x .0) (x .1) f (common-stays (x .0) (t .kind) (t .count) (t .common))
+            opens = first-stays atoms (drop at m) _ _ (drop-cons m at 0 inside) wanted (at-offset m at row) (x .0) (x .1) f (common-stays (x .0) (t .kind) (t .count) (t .common))
                 ∙ ap (λ (p : Position). good ((at, x .0), p)) s;
             further = omega (arith, i .later);
             near = i .in-step .inside;

@@ -12,7 +12,7 @@ ghost use Rattle.format.specs.Term.{integer};
 ghost use Rattle.format.specs.Answer.{after, done, at-offset};
 ghost use Rattle.format.specs.Answer as answer;
 ghost use Rattle.format.specs.Head.{Atoms, leaf, tuple-ext, list-ext, map-ext, string-ext, binary-ext, bit-binary-ext, big-ext, new-float-ext, new-reference-ext, atom-ext, atom-cache-ref};
-ghost use Rattle.format.specs.Head.{any, pid-fields, port-fields, reference-fields, old-reference-fields, creation-rule, words-rule, one-of, head};
+ghost use Rattle.format.specs.Head.{pid-fields, port-fields, reference-fields, old-reference-fields, creation-rule, words-rule, one-of, head};
 ghost use Rattle.format.specs.Head as format;
 ghost use Rattle.format.specs.Reading.{opening};
 ghost use Rattle.format.specs.AtomList.{of-size, atoms-of};
@@ -905,30 +905,32 @@ fn common_word(msg: &[u8], n: u8, places: &[u8], lengths: &[u16], at: usize, tag
     }
 }
 
-// The head of one of the commonest terms without parts in one word; 0 of any other, and where not any term is wanted.
+// The head of one of the commonest terms without parts in one word; 0 of any other, and of one that is not wanted.
 pub fn leaf_at(msg: &[u8], at: usize, wanted: Wanted) -> u64
     requires { ⌜ (at ≤ length (now msg)) × (length (now msg) ≤ 65536) ⌝ }
-    ensures { λ r. ⌜ ((r ≡ 0 → ⊥) → (wanted-of wanted ≡ any) × ((atoms : Atoms) (rows : ℕ) → r ≡ quick-word (head-of (head atoms any (at-offset (now (msg .entry)) at rows))))) ⌝ }
+    ensures { λ r. ⌜ ((r ≡ 0 → ⊥) → (atoms : Atoms) (rows : ℕ) → r ≡ quick-word (head-of (head atoms (wanted-of wanted) (at-offset (now (msg .entry)) at rows)))) ⌝ }
 {
     if msg.len() <= at {
         return 0;
     }
-    match wanted {
-        Wanted::Any => leaf_word(msg, at, msg[at]),
-        _ => 0,
+    let tag = msg[at];
+    if !may_stand(wanted, tag) {
+        return 0;
     }
+    leaf_word(msg, at, tag)
 }
 
-// The head of a common term in one word; 0 of any other, and where not any term is wanted.
+// The head of a common term in one word; 0 of any other, and of one that is not wanted.
 pub fn quick_at(msg: &[u8], n: u8, places: &[u8], lengths: &[u16], at: usize, wanted: Wanted) -> u64
     requires { ⌜ (at ≤ length (now msg)) × (length (now msg) ≤ 65536) × (of-size (lent n (now places) (now lengths)) ≡ true) ⌝ }
-    ensures { λ r. ⌜ ((r ≡ 0 → ⊥) → (wanted-of wanted ≡ any) × ((rows : ℕ) → r ≡ quick-word (head-of (head (atoms-of (lent n (now (places .entry)) (now (lengths .entry)))) any (at-offset (now (msg .entry)) at rows))))) ⌝ }
+    ensures { λ r. ⌜ ((r ≡ 0 → ⊥) → (rows : ℕ) → r ≡ quick-word (head-of (head (atoms-of (lent n (now (places .entry)) (now (lengths .entry)))) (wanted-of wanted) (at-offset (now (msg .entry)) at rows)))) ⌝ }
 {
     if msg.len() <= at {
         return 0;
     }
-    match wanted {
-        Wanted::Any => common_word(msg, n, places, lengths, at, msg[at]),
-        _ => 0,
+    let tag = msg[at];
+    if !may_stand(wanted, tag) {
+        return 0;
     }
+    common_word(msg, n, places, lengths, at, tag)
 }

@@ -113,9 +113,9 @@ module _ (atoms : Atoms) (cap deep : ℕ) (m : List ℕ) (place row : ℕ) (T : 
 
 -- ---- `read_quick`, and a leaf in `read_run`
 
-module _ (atoms : Atoms) (m : List ℕ) (at row word : ℕ) (some : word ≡ 0 → ⊥) (is : word ≡ quick-word (head-of (head atoms any (at-offset m at row)))) where
-  abbrev pub opened-quickly : Quickly atoms m at row word
-  opened-quickly = quickly atoms m at row word some is
+module _ (atoms : Atoms) (w : Wanted) (m : List ℕ) (at row word : ℕ) (some : word ≡ 0 → ⊥) (is : word ≡ quick-word (head-of (head atoms w (at-offset m at row)))) where
+  abbrev pub opened-quickly : Quickly atoms w m at row word
+  opened-quickly = quickly atoms w m at row word some is
 
   pub quick-near : word / 16 % 131072 ≤ length m
   quick-near = omega (arith, opened-quickly .near, told-next (opened-quickly .told-by))
@@ -125,16 +125,16 @@ module _ (atoms : Atoms) (m : List ℕ) (at row word : ℕ) (some : word ≡ 0 �
 
   module _ (cap left whole : ℕ) (T : List ℕ) where
     pub quick-term : (r : Step) (U : List ℕ) → TermDone m cap row whole T (body atoms cap left at (opened-quickly .h) (at-offset m (opened-quickly .next) row)) r U
-        → TermDone m cap row whole T (term atoms cap left any (at-offset m at row)) r U
+        → TermDone m cap row whole T (term atoms cap left w (at-offset m at row)) r U
     unfolding one-term
     quick-term r U d = rw (opened-quickly .opens) d
 
-    pub quick-leaf : (w : Wanted) → w ≡ any → word < 2097152 → (left ≡ 0 → ⊥) → row < cap → at < 65536 → (v : ℕ) → v ≡ pack (word % 16) at whole 0 1
+    pub quick-leaf : word < 2097152 → (left ≡ 0 → ⊥) → row < cap → at < 65536 → (v : ℕ) → v ≡ pack (word % 16) at whole 0 1
         → TermDone m cap row whole T (term atoms cap left w (at-offset m at row)) (step.Got (word / 16) (row + 1)) (set T row v)
-    quick-leaf w e little some-left low near v f =
+    quick-leaf little some-left low near v f =
         let a : word / 16 ≡ word / 16 % 131072 = omega arith in
         let b : row + 1 - row ≡ 1 = omega arith in
-        rw (e, a) (quick-term _ _
+        rw a (quick-term _ _
         (body-got atoms cap left m at (opened-quickly .h) (opened-quickly .next) row whole T some-left low (found.Got (word / 16 % 131072) (row + 1) 0 (word % 16)) T
         (common-leaf atoms cap (left - 1) m at (row + 1) T word (opened-quickly .told-by) (omega arith) (opened-quickly .near) (omega arith))
         (word / 16 % 131072) (row + 1) 0 (word % 16) v refl near (f ∙ ap (λ (k : ℕ). pack (word % 16) at whole 0 k) (sym b))))
@@ -147,8 +147,3 @@ leaf-small m list T cap at row whole w room inside =
     let c : cap ≤ 8192 = room .few in
     let d : length m ≤ 65536 = room .short in
     record { small-kind = omega arith; small-offset = omega arith; small-whole = omega arith; small-parts = omega arith; small-size = omega arith }
-
--- where any term is wanted
-pub any-asked : (atoms : Atoms) (cap left : ℕ) (w : Wanted) (m : List ℕ) (at row whole : ℕ) (T : List ℕ) (r : Step) (U : List ℕ) → w ≡ any
-    → TermDone m cap row whole T (term atoms cap left any (at-offset m at row)) r U → TermDone m cap row whole T (term atoms cap left w (at-offset m at row)) r U
-any-asked atoms cap left w m at row whole T r U e d = rw e d

@@ -13,7 +13,7 @@ ghost use lib.Seq.{sets};
 ghost use Rattle.format.specs.Answers.{read-answer};
 ghost use Rattle.format.specs.AtomList.{atoms-of};
 ghost use Rattle.format.specs.Head as format;
-ghost use Rattle.format.specs.Head.{any, characters, elements, pairs, parts, head};
+ghost use Rattle.format.specs.Head.{characters, elements, pairs, parts, head};
 ghost use Rattle.format.specs.Message.{standalone, payload, read, outermost, standalone-term, payload-terms, terms-framed};
 ghost use Rattle.format.specs.Reading.{each, tail, body, term};
 ghost use Rattle.format.specs.Rows.{table-after};
@@ -91,6 +91,7 @@ fn read_term(
             whole,
             left,
             cap,
+            wanted,
             word,
         );
     }
@@ -129,11 +130,12 @@ fn read_quick(
     whole: usize,
     left: usize,
     cap: usize,
+    wanted: Wanted,
     word: u64,
 ) -> Step
-    requires { ⌜ Room (now msg) (lent n (now places) (now lengths)) (now table) cap at row whole × (word ≡ 0 → ⊥) × ((rows : ℕ) → word ≡ quick-word (head-of (head (atoms-of (lent n (now places) (now lengths))) any (at-offset (now msg) at rows)))) ⌝ }
+    requires { ⌜ Room (now msg) (lent n (now places) (now lengths)) (now table) cap at row whole × (word ≡ 0 → ⊥) × ((rows : ℕ) → word ≡ quick-word (head-of (head (atoms-of (lent n (now places) (now lengths))) (wanted-of wanted) (at-offset (now msg) at rows)))) ⌝ }
     requires { ⌜ 0 < length (now seen) ⌝ }
-    ensures { λ r. ⌜ TermDone (now (msg .entry)) cap row whole (now (table .entry)) (term (atoms-of (lent n (now (places .entry)) (now (lengths .entry)))) cap left any (at-offset (now (msg .entry)) at row)) r (now (table .exit)) ⌝ }
+    ensures { λ r. ⌜ TermDone (now (msg .entry)) cap row whole (now (table .entry)) (term (atoms-of (lent n (now (places .entry)) (now (lengths .entry)))) cap left (wanted-of wanted) (at-offset (now (msg .entry)) at row)) r (now (table .exit)) ⌝ }
     ensures { λ _. ⌜ Keeps (now (seen .entry)) (now (seen .exit)) ⌝ }
 {
     if left == 0 {

@@ -1,34 +1,38 @@
 -- `heads::leaf_at` meets its contract. Assumes nothing.
 use mathlib.Core.Path.{refl, ap, _∙_}
 use native.Mathlib.Omega.{arith}
-use Rattle.heads.specs.Code.{wanted-of, allowed}
 use Rattle.heads.specs.Quick.{quick-word}
-use Rattle.heads.specs.declared.Wanted.the-variants.{Any}
+use Rattle.heads.proofs.LaterFields.{confirmed}
 use Rattle.heads.proofs.Tags.{head-known}
 use borrow.Author.Needs.{needs}
 use Rattle.heads.proofs.leaf_at.Statement.{statement}
 use Rattle.heads.proofs.leaf_at.Tie as tie
 
 returns : tie.Need-returns
-returns c = λ some. absurd (some refl)
+returns c = search needs
 
-enum-told : tie.Need-enum-told
-enum-told c = search needs
+shared-slice-read-tag : tie.Need-shared-slice-read-tag
+shared-slice-read-tag c = search needs
 
-shared-slice-read-leaf-word : tie.Need-shared-slice-read-leaf-word
-shared-slice-read-leaf-word c = search needs
+may-stand-requires : tie.Need-may-stand-requires
+may-stand-requires c κs = search needs
+
+returns-2 : tie.Need-returns-2
+returns-2 c = search needs
 
 leaf-word-requires : tie.Need-leaf-word-requires
 leaf-word-requires c κs = search needs
 
-returns-2 : tie.Need-returns-2
-unfolding wanted-of allowed
-returns-2 c = λ some. (ap wanted-of (c .before .before .enum-told .given .1), λ atoms rows. c .leaf-word .ensures some _ rows ∙ ap quick-word (head-known _ _ _ _ Any (omega arith) _ refl refl))
-
 returns-3 : tie.Need-returns-3
-returns-3 c = λ some. absurd (some refl)
+returns-3 c = λ some atoms rows. c .leaf-word .ensures some atoms rows ∙ ap quick-word (head-known _ _ _ _ _ (omega arith) _ (confirmed (c .before .before .may-stand .ensures) (c .before .if2 .left)) refl)
 
 pub leaf-at-spec : {M : Type 1} → statement M
 leaf-at-spec =
     tie.close
-    (tie.spec returns enum-told shared-slice-read-leaf-word leaf-word-requires returns-2 returns-3)
+    (tie.spec
+    returns
+    shared-slice-read-tag
+    may-stand-requires
+    returns-2
+    leaf-word-requires
+    returns-3)

@@ -2,7 +2,7 @@
 use Rattle.terms.proofs.Entries.{Entered, entered-none, entries-many, entries-end, key-refused, key-twice, value-refused, entered-more, keys-told, term-inside}
 use Rattle.terms.proofs.Inner.{opens-near, opens-place, opens-span, inner-refused, inner-parts, inner-characters, inner-elements, inner-pairs, parts-first, parts-second, parts-later-refused, parts-got, run-many, list-first, list-then, Tailed, tailed-none, tailed-refused, tailed-last, tailed-run-refused, tailed-further, tailed-more, last-characters, last-refused, last-got}
 use Rattle.terms.proofs.Bodies.{term-refused, term-opened, body-deep, body-full, body-refused, body-got, body-small, parts-past, room-inside, room-at}
-use Rattle.terms.proofs.Quick.{told-next, common-leaf, common-list, common-pairs, common-refused, common-got, opened-quickly, quick-near, quick-inside, quick-term, quick-leaf, leaf-small, any-asked}
+use Rattle.terms.proofs.Quick.{told-next, common-leaf, common-list, common-pairs, common-refused, common-got, opened-quickly, quick-near, quick-inside, quick-term, quick-leaf, leaf-small}
 use Rattle.terms.proofs.Runs.{room-after, run-none, run-refused, run-more, wanted-refused, wanted-more}
 use Rattle.terms.proofs.Openings.{opened, opens}
 use Rattle.terms.specs.Code.{Room, RunDone, PartsDone}
@@ -610,7 +610,7 @@ read-run-is-leaf-requires : (t : ℕ) → read-run-lts.Need-is-leaf-requires (re
 read-run-is-leaf-requires t c κs = search needs
 
 read-run-pack-requires : (t : ℕ) → read-run-lts.Need-pack-requires (read-run-calls t) (read-run-at t) read-run.Post read-run-Inv-loop read-run-μ-loop
-read-run-pack-requires t c κs = let f = c .before .is-leaf .ensures (c .if1 .taken) in let w = c .before .before .leaf-at .ensures (f .0) in leaf-small _ _ _ _ _ _ _ _ (c .before .before .before .before .loop .inv .0) (quick-inside _ _ _ (c .before .before .before .before .loop .row-now) _ (f .0) (w .1 (atoms-of (lent 0 [] [])) (c .before .before .before .before .loop .row-now)))
+read-run-pack-requires t c κs = let f = c .before .is-leaf .ensures (c .if1 .taken) in let w = c .before .before .leaf-at .ensures (f .0) in leaf-small _ _ _ _ _ _ _ _ (c .before .before .before .before .loop .inv .0) (quick-inside _ _ _ _ (c .before .before .before .before .loop .row-now) _ (f .0) (w (atoms-of (lent 0 [] [])) (c .before .before .before .before .loop .row-now)))
 
 read-run-mul-table : (t : ℕ) → read-run-lts.Need-mul-table (read-run-calls t) (read-run-at t) read-run.Post read-run-Inv-loop read-run-μ-loop
 read-run-mul-table t c = omega arith
@@ -632,7 +632,7 @@ read-run-loop-again t c =
     let i = c .before .before .before .before .before .loop in
     let e : i .more ≡ 0 → ⊥ = omega arith in
     let f = c .before .before .is-leaf .ensures (c .before .if1 .taken) in let w = c .before .before .before .leaf-at .ensures (f .0) in
-    let d = (quick-leaf _ _ _ (i .row-now) _ (f .0) (w .1 _ (i .row-now)) _ _ _ _ _ (w .0) (f .1) (f .2) (f .3) (omega (arith, quick-inside _ _ _ (i .row-now) _ (f .0) (w .1 (atoms-of (lent 0 [] [])) (i .row-now)), i .inv .0 .short)) _ (c .pack .ensures)) in
+    let d = (quick-leaf _ _ _ _ (i .row-now) _ (f .0) (w _ (i .row-now)) _ _ _ _ (f .1) (f .2) (f .3) (omega (arith, quick-inside _ _ _ _ (i .row-now) _ (f .0) (w (atoms-of (lent 0 [] [])) (i .row-now)), i .inv .0 .short)) _ (c .pack .ensures)) in
     (room-after _ _ _ _ _ _ _ _ _ _ _ _ _ _ _ (i .inv .0) d refl (length-set {A = ℕ} (i .table) (i .row-now) (c .pack .result)), length-set {A = ℕ} (i .table) (i .row-now) (c .pack .result) ∙ i .inv .1, (λ s U g. i .inv .2 s U (run-more _ _ _ _ _ _ _ _ _ e _ _ _ _ s U refl d g)), i .inv .3)
 
 read-run-read-term-requires : (t : ℕ) → read-run-lts.Need-read-term-requires (read-run-calls t) (read-run-at t) read-run.Post read-run-Inv-loop read-run-μ-loop
@@ -846,10 +846,10 @@ read-common-returns-5 : (t : ℕ) → read-common-lts.Need-returns-5 (read-commo
 read-common-returns-5 t c = (λ place h next told. common-got _ _ _ _ place _ _ _ told (c .before .before .before .before .before .before .before .before .before .before .before .before .if1 .left) (c .before .before .before .before .before .before .before .before .before .before .before .if2 .left) (c .before .before .before .before .before .before .before .before .before .before .if3 .left) (omega (arith, told-next told, c .before .before .before .before .before .before .before .before .before .before .before .before .before .before .before .before .before .before .pre .1 .0 .near)) (c .before .before .before .before .before .before .before .before .before .before .before .before .before .before .before .before .before .before .pre .1 .0 .low) _ _ (c .before .before .before .before .before .before .before .read-run .ensures .0) _ _ (c .before .next .given .1), c .before .before .before .before .before .before .before .read-run .ensures .1)
 
 read-quick-returns : (t : ℕ) → read-quick-lts.Need-returns (read-quick-calls t) (read-quick-at t) read-quick.Post
-read-quick-returns t c = (quick-term _ _ _ (c .before .before .before .before .before .before .args .row) _ (c .before .before .before .before .before .before .pre .1 .0 .1) (c .before .before .before .before .before .before .pre .1 .0 .2 (c .before .before .before .before .before .before .args .row)) _ _ _ _ _ _ (body-deep _ _ _ _ _ _ _ _ _ _ _ (c .if1 .taken)), keeps-refl _)
+read-quick-returns t c = (quick-term _ _ _ _ (c .before .before .before .before .before .before .args .row) _ (c .before .before .before .before .before .before .pre .1 .0 .1) (c .before .before .before .before .before .before .pre .1 .0 .2 (c .before .before .before .before .before .before .args .row)) _ _ _ _ _ _ (body-deep _ _ _ _ _ _ _ _ _ _ _ (c .if1 .taken)), keeps-refl _)
 
 read-quick-returns-2 : (t : ℕ) → read-quick-lts.Need-returns-2 (read-quick-calls t) (read-quick-at t) read-quick.Post
-read-quick-returns-2 t c = (quick-term _ _ _ (c .before .before .before .before .before .before .before .args .row) _ (c .before .before .before .before .before .before .before .pre .1 .0 .1) (c .before .before .before .before .before .before .before .pre .1 .0 .2 (c .before .before .before .before .before .before .before .args .row)) _ _ _ _ _ _ (body-full _ _ _ _ _ _ _ _ _ _ (c .before .if1 .left) _ (c .if2 .taken)), keeps-refl _)
+read-quick-returns-2 t c = (quick-term _ _ _ _ (c .before .before .before .before .before .before .before .args .row) _ (c .before .before .before .before .before .before .before .pre .1 .0 .1) (c .before .before .before .before .before .before .before .pre .1 .0 .2 (c .before .before .before .before .before .before .before .args .row)) _ _ _ _ _ _ (body-full _ _ _ _ _ _ _ _ _ _ (c .before .if1 .left) _ (c .if2 .taken)), keeps-refl _)
 
 read-quick-add-read-common : (t : ℕ) → read-quick-lts.Need-add-read-common (read-quick-calls t) (read-quick-at t) read-quick.Post
 read-quick-add-read-common t c = omega arith
@@ -858,7 +858,7 @@ read-quick-sub-read-common : (t : ℕ) → read-quick-lts.Need-sub-read-common (
 read-quick-sub-read-common t c = omega arith
 
 read-quick-read-common-requires : (t : ℕ) → read-quick-lts.Need-read-common-requires (read-quick-calls t) (read-quick-at t) read-quick.Post
-read-quick-read-common-requires t c κs = (omega (arith, c .before .before .before .before .before .before .before .before .before .pre .0, c .before .before .before .if1 .left), (room-at _ _ _ _ _ _ _ _ (room-inside _ _ _ _ _ _ _ (c .before .before .before .before .before .before .before .before .before .pre .1 .0 .0) (c .before .before .if2 .left)) (quick-near _ _ _ (c .before .before .before .before .before .before .before .before .before .args .row) _ (c .before .before .before .before .before .before .before .before .before .pre .1 .0 .1) (c .before .before .before .before .before .before .before .before .before .pre .1 .0 .2 (c .before .before .before .before .before .before .before .before .before .args .row))), c .before .before .before .before .before .before .before .before .before .pre .1 .1))
+read-quick-read-common-requires t c κs = (omega (arith, c .before .before .before .before .before .before .before .before .before .pre .0, c .before .before .before .if1 .left), (room-at _ _ _ _ _ _ _ _ (room-inside _ _ _ _ _ _ _ (c .before .before .before .before .before .before .before .before .before .pre .1 .0 .0) (c .before .before .if2 .left)) (quick-near _ _ _ _ (c .before .before .before .before .before .before .before .before .before .args .row) _ (c .before .before .before .before .before .before .before .before .before .pre .1 .0 .1) (c .before .before .before .before .before .before .before .before .before .pre .1 .0 .2 (c .before .before .before .before .before .before .before .before .before .args .row))), c .before .before .before .before .before .before .before .before .before .pre .1 .1))
 
 read-quick-enum-known-number : (t : ℕ) → read-quick-lts.Need-enum-known-number (read-quick-calls t) (read-quick-at t) read-quick.Post
 read-quick-enum-known-number t c = search needs
@@ -867,10 +867,10 @@ read-quick-enum-known-next : (t : ℕ) → read-quick-lts.Need-enum-known-next (
 read-quick-enum-known-next t c = search needs
 
 read-quick-sub-pack : (t : ℕ) → read-quick-lts.Need-sub-pack (read-quick-calls t) (read-quick-at t) read-quick.Post
-read-quick-sub-pack t c = let q = opened-quickly _ _ _ (c .before .before .before .before .before .before .before .before .before .before .before .before .before .before .before .before .before .args .row) _ (c .before .before .before .before .before .before .before .before .before .before .before .before .before .before .before .before .before .pre .1 .0 .1) (c .before .before .before .before .before .before .before .before .before .before .before .before .before .before .before .before .before .pre .1 .0 .2 (c .before .before .before .before .before .before .before .before .before .before .before .before .before .before .before .before .before .args .row)) in let g = parts-past _ _ _ _ _ _ _ _ _ _ _ _ _ (c .before .next .given .1) (c .before .before .before .before .before .before .before .read-common .ensures .0 (c .before .before .before .before .before .before .before .before .before .before .before .before .before .before .before .before .before .args .at) (q .h) (q .next) (q .told-by)) in omega arith
+read-quick-sub-pack t c = let q = opened-quickly _ _ _ _ (c .before .before .before .before .before .before .before .before .before .before .before .before .before .before .before .before .before .args .row) _ (c .before .before .before .before .before .before .before .before .before .before .before .before .before .before .before .before .before .pre .1 .0 .1) (c .before .before .before .before .before .before .before .before .before .before .before .before .before .before .before .before .before .pre .1 .0 .2 (c .before .before .before .before .before .before .before .before .before .before .before .before .before .before .before .before .before .args .row)) in let g = parts-past _ _ _ _ _ _ _ _ _ _ _ _ _ (c .before .next .given .1) (c .before .before .before .before .before .before .before .read-common .ensures .0 (c .before .before .before .before .before .before .before .before .before .before .before .before .before .before .before .before .before .args .at) (q .h) (q .next) (q .told-by)) in omega arith
 
 read-quick-pack-requires : (t : ℕ) → read-quick-lts.Need-pack-requires (read-quick-calls t) (read-quick-at t) read-quick.Post
-read-quick-pack-requires t c κs = let q = opened-quickly _ _ _ (c .before .before .before .before .before .before .before .before .before .before .before .before .before .before .before .before .before .args .row) _ (c .before .before .before .before .before .before .before .before .before .before .before .before .before .before .before .before .before .pre .1 .0 .1) (c .before .before .before .before .before .before .before .before .before .before .before .before .before .before .before .before .before .pre .1 .0 .2 (c .before .before .before .before .before .before .before .before .before .before .before .before .before .before .before .before .before .args .row)) in body-small _ _ _ _ _ (q .h) (q .next) _ _ _ (c .before .before .before .before .before .before .before .before .before .before .before .if1 .left) (c .before .before .before .before .before .before .before .before .before .before .if2 .left) _ _ (c .before .before .before .before .before .before .before .read-common .ensures .0 (c .before .before .before .before .before .before .before .before .before .before .before .before .before .before .before .before .before .args .at) (q .h) (q .next) (q .told-by)) _ _ _ _ _ _ (c .before .next .given .1) (c .before .before .before .before .before .before .before .before .before .before .before .before .before .before .before .before .before .pre .1 .0 .0) (omega (arith, quick-inside _ _ _ (c .before .before .before .before .before .before .before .before .before .before .before .before .before .before .before .before .before .args .row) _ (c .before .before .before .before .before .before .before .before .before .before .before .before .before .before .before .before .before .pre .1 .0 .1) (c .before .before .before .before .before .before .before .before .before .before .before .before .before .before .before .before .before .pre .1 .0 .2 (c .before .before .before .before .before .before .before .before .before .before .before .before .before .before .before .before .before .args .row)), c .before .before .before .before .before .before .before .before .before .before .before .before .before .before .before .before .before .pre .1 .0 .0 .short))
+read-quick-pack-requires t c κs = let q = opened-quickly _ _ _ _ (c .before .before .before .before .before .before .before .before .before .before .before .before .before .before .before .before .before .args .row) _ (c .before .before .before .before .before .before .before .before .before .before .before .before .before .before .before .before .before .pre .1 .0 .1) (c .before .before .before .before .before .before .before .before .before .before .before .before .before .before .before .before .before .pre .1 .0 .2 (c .before .before .before .before .before .before .before .before .before .before .before .before .before .before .before .before .before .args .row)) in body-small _ _ _ _ _ (q .h) (q .next) _ _ _ (c .before .before .before .before .before .before .before .before .before .before .before .if1 .left) (c .before .before .before .before .before .before .before .before .before .before .if2 .left) _ _ (c .before .before .before .before .before .before .before .read-common .ensures .0 (c .before .before .before .before .before .before .before .before .before .before .before .before .before .before .before .before .before .args .at) (q .h) (q .next) (q .told-by)) _ _ _ _ _ _ (c .before .next .given .1) (c .before .before .before .before .before .before .before .before .before .before .before .before .before .before .before .before .before .pre .1 .0 .0) (omega (arith, quick-inside _ _ _ _ (c .before .before .before .before .before .before .before .before .before .before .before .before .before .before .before .before .before .args .row) _ (c .before .before .before .before .before .before .before .before .before .before .before .before .before .before .before .before .before .pre .1 .0 .1) (c .before .before .before .before .before .before .before .before .before .before .before .before .before .before .before .before .before .pre .1 .0 .2 (c .before .before .before .before .before .before .before .before .before .before .before .before .before .before .before .before .before .args .row)), c .before .before .before .before .before .before .before .before .before .before .before .before .before .before .before .before .before .pre .1 .0 .0 .short))
 
 read-quick-mul-table : (t : ℕ) → read-quick-lts.Need-mul-table (read-quick-calls t) (read-quick-at t) read-quick.Post
 read-quick-mul-table t c = omega arith
@@ -885,7 +885,7 @@ read-quick-same-length-2 : (t : ℕ) → read-quick-lts.Need-same-length-2 (read
 read-quick-same-length-2 t c = c .before .before .before .before .before .before .before .read-common .kept .1 .1 .1 .1 .1 .0
 
 read-quick-returns-3 : (t : ℕ) → read-quick-lts.Need-returns-3 (read-quick-calls t) (read-quick-at t) read-quick.Post
-read-quick-returns-3 t c = let q = opened-quickly _ _ _ (c .before .before .before .before .before .before .before .before .before .before .before .before .before .before .before .before .before .args .row) _ (c .before .before .before .before .before .before .before .before .before .before .before .before .before .before .before .before .before .pre .1 .0 .1) (c .before .before .before .before .before .before .before .before .before .before .before .before .before .before .before .before .before .pre .1 .0 .2 (c .before .before .before .before .before .before .before .before .before .before .before .before .before .before .before .before .before .args .row)) in (quick-term _ _ _ (c .before .before .before .before .before .before .before .before .before .before .before .before .before .before .before .before .before .args .row) _ (c .before .before .before .before .before .before .before .before .before .before .before .before .before .before .before .before .before .pre .1 .0 .1) (c .before .before .before .before .before .before .before .before .before .before .before .before .before .before .before .before .before .pre .1 .0 .2 (c .before .before .before .before .before .before .before .before .before .before .before .before .before .before .before .before .before .args .row)) _ _ _ _ _ _ (body-refused _ _ _ _ _ (q .h) (q .next) _ _ _ (c .before .before .before .before .before .before .before .before .before .before .before .if1 .left) (c .before .before .before .before .before .before .before .before .before .before .if2 .left) _ _ (c .before .before .before .before .before .before .before .read-common .ensures .0 (c .before .before .before .before .before .before .before .before .before .before .before .before .before .before .before .before .before .args .at) (q .h) (q .next) (q .told-by)) _ _ _ (c .before .number .given .1)), c .before .before .before .before .before .before .before .read-common .ensures .1)
+read-quick-returns-3 t c = let q = opened-quickly _ _ _ _ (c .before .before .before .before .before .before .before .before .before .before .before .before .before .before .before .before .before .args .row) _ (c .before .before .before .before .before .before .before .before .before .before .before .before .before .before .before .before .before .pre .1 .0 .1) (c .before .before .before .before .before .before .before .before .before .before .before .before .before .before .before .before .before .pre .1 .0 .2 (c .before .before .before .before .before .before .before .before .before .before .before .before .before .before .before .before .before .args .row)) in (quick-term _ _ _ _ (c .before .before .before .before .before .before .before .before .before .before .before .before .before .before .before .before .before .args .row) _ (c .before .before .before .before .before .before .before .before .before .before .before .before .before .before .before .before .before .pre .1 .0 .1) (c .before .before .before .before .before .before .before .before .before .before .before .before .before .before .before .before .before .pre .1 .0 .2 (c .before .before .before .before .before .before .before .before .before .before .before .before .before .before .before .before .before .args .row)) _ _ _ _ _ _ (body-refused _ _ _ _ _ (q .h) (q .next) _ _ _ (c .before .before .before .before .before .before .before .before .before .before .before .if1 .left) (c .before .before .before .before .before .before .before .before .before .before .if2 .left) _ _ (c .before .before .before .before .before .before .before .read-common .ensures .0 (c .before .before .before .before .before .before .before .before .before .before .before .before .before .before .before .before .before .args .at) (q .h) (q .next) (q .told-by)) _ _ _ (c .before .number .given .1)), c .before .before .before .before .before .before .before .read-common .ensures .1)
 
 read-quick-same-length-3 : (t : ℕ) → read-quick-lts.Need-same-length-3 (read-quick-calls t) (read-quick-at t) read-quick.Post
 read-quick-same-length-3 t c = simp length-set (c .before .before .before .before .before .before .before .before .read-common .kept .1 .1 .1 .1 .0)
@@ -894,13 +894,13 @@ read-quick-same-length-4 : (t : ℕ) → read-quick-lts.Need-same-length-4 (read
 read-quick-same-length-4 t c = c .before .before .before .before .before .before .before .before .read-common .kept .1 .1 .1 .1 .1 .0
 
 read-quick-returns-4 : (t : ℕ) → read-quick-lts.Need-returns-4 (read-quick-calls t) (read-quick-at t) read-quick.Post
-read-quick-returns-4 t c = let q = opened-quickly _ _ _ (c .before .before .before .before .before .before .before .before .before .before .before .before .before .before .before .before .before .before .args .row) _ (c .before .before .before .before .before .before .before .before .before .before .before .before .before .before .before .before .before .before .pre .1 .0 .1) (c .before .before .before .before .before .before .before .before .before .before .before .before .before .before .before .before .before .before .pre .1 .0 .2 (c .before .before .before .before .before .before .before .before .before .before .before .before .before .before .before .before .before .before .args .row)) in (quick-term _ _ _ (c .before .before .before .before .before .before .before .before .before .before .before .before .before .before .before .before .before .before .args .row) _ (c .before .before .before .before .before .before .before .before .before .before .before .before .before .before .before .before .before .before .pre .1 .0 .1) (c .before .before .before .before .before .before .before .before .before .before .before .before .before .before .before .before .before .before .pre .1 .0 .2 (c .before .before .before .before .before .before .before .before .before .before .before .before .before .before .before .before .before .before .args .row)) _ _ _ _ _ _ (body-got _ _ _ _ _ (q .h) (q .next) _ _ _ (c .before .before .before .before .before .before .before .before .before .before .before .before .if1 .left) (c .before .before .before .before .before .before .before .before .before .before .before .if2 .left) _ _ (c .before .before .before .before .before .before .before .before .read-common .ensures .0 (c .before .before .before .before .before .before .before .before .before .before .before .before .before .before .before .before .before .before .args .at) (q .h) (q .next) (q .told-by)) _ _ _ _ _ (c .before .before .next .given .1) (omega (arith, quick-inside _ _ _ (c .before .before .before .before .before .before .before .before .before .before .before .before .before .before .before .before .before .before .args .row) _ (c .before .before .before .before .before .before .before .before .before .before .before .before .before .before .before .before .before .before .pre .1 .0 .1) (c .before .before .before .before .before .before .before .before .before .before .before .before .before .before .before .before .before .before .pre .1 .0 .2 (c .before .before .before .before .before .before .before .before .before .before .before .before .before .before .before .before .before .before .args .row)), c .before .before .before .before .before .before .before .before .before .before .before .before .before .before .before .before .before .before .pre .1 .0 .0 .short)) (c .pack .ensures)), c .before .before .before .before .before .before .before .before .read-common .ensures .1)
+read-quick-returns-4 t c = let q = opened-quickly _ _ _ _ (c .before .before .before .before .before .before .before .before .before .before .before .before .before .before .before .before .before .before .args .row) _ (c .before .before .before .before .before .before .before .before .before .before .before .before .before .before .before .before .before .before .pre .1 .0 .1) (c .before .before .before .before .before .before .before .before .before .before .before .before .before .before .before .before .before .before .pre .1 .0 .2 (c .before .before .before .before .before .before .before .before .before .before .before .before .before .before .before .before .before .before .args .row)) in (quick-term _ _ _ _ (c .before .before .before .before .before .before .before .before .before .before .before .before .before .before .before .before .before .before .args .row) _ (c .before .before .before .before .before .before .before .before .before .before .before .before .before .before .before .before .before .before .pre .1 .0 .1) (c .before .before .before .before .before .before .before .before .before .before .before .before .before .before .before .before .before .before .pre .1 .0 .2 (c .before .before .before .before .before .before .before .before .before .before .before .before .before .before .before .before .before .before .args .row)) _ _ _ _ _ _ (body-got _ _ _ _ _ (q .h) (q .next) _ _ _ (c .before .before .before .before .before .before .before .before .before .before .before .before .if1 .left) (c .before .before .before .before .before .before .before .before .before .before .before .if2 .left) _ _ (c .before .before .before .before .before .before .before .before .read-common .ensures .0 (c .before .before .before .before .before .before .before .before .before .before .before .before .before .before .before .before .before .before .args .at) (q .h) (q .next) (q .told-by)) _ _ _ _ _ (c .before .before .next .given .1) (omega (arith, quick-inside _ _ _ _ (c .before .before .before .before .before .before .before .before .before .before .before .before .before .before .before .before .before .before .args .row) _ (c .before .before .before .before .before .before .before .before .before .before .before .before .before .before .before .before .before .before .pre .1 .0 .1) (c .before .before .before .before .before .before .before .before .before .before .before .before .before .before .before .before .before .before .pre .1 .0 .2 (c .before .before .before .before .before .before .before .before .before .before .before .before .before .before .before .before .before .before .args .row)), c .before .before .before .before .before .before .before .before .before .before .before .before .before .before .before .before .before .before .pre .1 .0 .0 .short)) (c .pack .ensures)), c .before .before .before .before .before .before .before .before .read-common .ensures .1)
 
 read-term-quick-at-requires : (t : ℕ) → read-term-lts.Need-quick-at-requires (read-term-calls t) (read-term-at t) read-term.Post
 read-term-quick-at-requires t c κs = (c .before .before .before .before .before .pre .1 .0 .near, c .before .before .before .before .before .pre .1 .0 .short, c .before .before .before .before .before .pre .1 .0 .sized)
 
 read-term-read-quick-requires : (t : ℕ) → read-term-lts.Need-read-quick-requires (read-term-calls t) (read-term-at t) read-term.Post
-read-term-read-quick-requires t c κs = (omega (arith, c .before .before .before .before .before .before .before .before .before .pre .0), ((c .before .before .before .before .before .before .before .before .before .pre .1 .0, c .before .before .if1 .taken, λ rows. c .before .before .before .quick-at .ensures (c .before .before .if1 .taken) .1 rows), c .before .before .before .before .before .before .before .before .before .pre .1 .1))
+read-term-read-quick-requires t c κs = (omega (arith, c .before .before .before .before .before .before .before .before .before .pre .0), ((c .before .before .before .before .before .before .before .before .before .pre .1 .0, c .before .before .if1 .taken, λ rows. c .before .before .before .quick-at .ensures (c .before .before .if1 .taken) rows), c .before .before .before .before .before .before .before .before .before .pre .1 .1))
 
 read-term-same-length : (t : ℕ) → read-term-lts.Need-same-length (read-term-calls t) (read-term-at t) read-term.Post
 read-term-same-length t c = c .before .before .before .before .read-quick .kept .1 .1 .1 .1 .0
@@ -909,7 +909,7 @@ read-term-same-length-2 : (t : ℕ) → read-term-lts.Need-same-length-2 (read-t
 read-term-same-length-2 t c = c .before .before .before .before .read-quick .kept .1 .1 .1 .1 .1 .0
 
 read-term-returns : (t : ℕ) → read-term-lts.Need-returns (read-term-calls t) (read-term-at t) read-term.Post
-read-term-returns t c = (any-asked _ _ _ _ _ _ _ _ _ _ _ (c .before .before .before .before .before .before .before .before .quick-at .ensures (c .before .before .before .before .before .before .before .if1 .taken) .0) (c .before .before .before .before .read-quick .ensures .0), c .before .before .before .before .read-quick .ensures .1)
+read-term-returns t c = (c .before .before .before .before .read-quick .ensures .0, c .before .before .before .before .read-quick .ensures .1)
 
 read-term-read-opening-requires : (t : ℕ) → read-term-lts.Need-read-opening-requires (read-term-calls t) (read-term-at t) read-term.Post
 read-term-read-opening-requires t c κs = (c .before .before .before .before .before .before .before .pre .1 .0 .near, c .before .before .before .before .before .before .before .pre .1 .0 .short, c .before .before .before .before .before .before .before .pre .1 .0 .sized)
