@@ -795,7 +795,7 @@ pub fn put_leaf(
         return at + n;
     }
     let end = put_lead(msg, places, lengths, word, out, at);
-    put_trail(msg, places, lengths, word, out, end)
+    put_after(msg, places, lengths, word, out, end)
 }
 
 // A magnitude as a character; 256 where it is none.

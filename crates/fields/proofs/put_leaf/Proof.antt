@@ -28,14 +28,14 @@ returns c = stands-whole (c .before .before .before .before .before .before .bef
 put-lead-requires : tie.Need-put-lead-requires
 put-lead-requires c κs = (c .before .before .before .before .before .before .before .pre .0, room-first (c .before .before .before .before .before .before .before .args .out .now) (c .before .before .before .before .before .before .before .args .at) (before-in (c .before .before .before .before .before .before .before .args .msg .now) (c .before .before .before .before .before .before .before .args .places .now) (c .before .before .before .before .before .before .before .args .lengths .now) (c .before .before .before .before .before .before .before .args .word)) (after-in (c .before .before .before .before .before .before .before .args .msg .now) (c .before .before .before .before .before .before .before .args .places .now) (c .before .before .before .before .before .before .before .args .lengths .now) (c .before .before .before .before .before .before .before .args .word)) (c .before .before .before .before .before .before .before .pre .1))
 
-put-trail-requires : tie.Need-put-trail-requires
-put-trail-requires c κs = (c .before .before .before .before .before .before .before .before .before .before .before .pre .0, room-next {O = c .before .before .before .before .before .before .before .before .before .before .before .args .out .now} (before-in (c .before .before .before .before .before .before .before .before .before .before .before .args .msg .now) (c .before .before .before .before .before .before .before .before .before .before .before .args .places .now) (c .before .before .before .before .before .before .before .before .before .before .before .args .lengths .now) (c .before .before .before .before .before .before .before .before .before .before .before .args .word)) (after-in (c .before .before .before .before .before .before .before .before .before .before .before .args .msg .now) (c .before .before .before .before .before .before .before .before .before .before .before .args .places .now) (c .before .before .before .before .before .before .before .before .before .before .before .args .lengths .now) (c .before .before .before .before .before .before .before .before .before .before .before .args .word)) (c .before .before .before .before .before .before .before .before .before .before .before .pre .1) (c .before .before .before .put-lead .ensures))
+put-after-requires : tie.Need-put-after-requires
+put-after-requires c κs = (c .before .before .before .before .before .before .before .before .before .before .before .pre .0, room-next {O = c .before .before .before .before .before .before .before .before .before .before .before .args .out .now} (before-in (c .before .before .before .before .before .before .before .before .before .before .before .args .msg .now) (c .before .before .before .before .before .before .before .before .before .before .before .args .places .now) (c .before .before .before .before .before .before .before .before .before .before .before .args .lengths .now) (c .before .before .before .before .before .before .before .before .before .before .before .args .word)) (after-in (c .before .before .before .before .before .before .before .before .before .before .before .args .msg .now) (c .before .before .before .before .before .before .before .before .before .before .before .args .places .now) (c .before .before .before .before .before .before .before .before .before .before .before .args .lengths .now) (c .before .before .before .before .before .before .before .before .before .before .before .args .word)) (c .before .before .before .before .before .before .before .before .before .before .before .pre .1) (c .before .before .before .put-lead .ensures))
 
 same-length-2 : tie.Need-same-length-2
 same-length-2 c = search needs
 
 returns-2 : tie.Need-returns-2
-returns-2 c = put-then (c .before .before .before .before .before .before .put-lead .ensures) (c .before .before .put-trail .ensures)
+returns-2 c = put-then (c .before .before .before .before .before .before .put-lead .ensures) (c .before .before .put-after .ensures)
 
 pub put-leaf-spec : {M : Type 1} → statement M
 put-leaf-spec =
@@ -48,6 +48,6 @@ put-leaf-spec =
     same-length
     returns
     put-lead-requires
-    put-trail-requires
+    put-after-requires
     same-length-2
     returns-2)
