@@ -13,7 +13,7 @@ use Rattle.contents.specs.declared.Content.{Content}
 
 -- a hash after one number more, and after all of a list
 unfoldable pub mix : ℕ → ℕ → ℕ
-mix h x = (h * 257 + x % 65521) % 65521
+mix h x = (h * 2983 + x % 65521) % 65521
 
 unfoldable pub mix-all : ℕ → List ℕ → ℕ
 mix-all h [] = h

@@ -902,7 +902,7 @@ pub fn mix(h: u64, x: u64) -> u64
     requires { ⌜ h < 65521 ⌝ }
     ensures { λ r. ⌜ (r ≡ mix h x) × (r < 65521) ⌝ }
 {
-    (h * 257 + x % 65521) % 65521
+    (h * 2983 + x % 65521) % 65521
 }
 
 // A hash after the byte c, or after the Latin-1 character c in UTF-8.

@@ -46,8 +46,8 @@ module _ (m places lengths : List ℕ) where
   module _ (T : List ℕ) where
     -- ---- the rows of a term one by one
 
-    pub hash-start : (first row v n h : ℕ) → v ≡ getD T row 0 → n ≡ size-in v → h ≡ mix 0 first → hash-rows m places lengths T h (n - 0) (row + 0) ≡ term-hash m places lengths T first row
-    unfolding term-hash
+    pub hash-start : (first row v n h : ℕ) → v ≡ getD T row 0 → n ≡ size-in v → h ≡ mix 0 first
+        → hash-rows m places lengths T h (n - 0) (row + 0) ≡ hash-rows m places lengths T (mix 0 first) (size-in (getD T row 0)) row
     hash-start first row v n h a b c =
         let e : n - 0 ≡ n = omega arith in
         let f : row + 0 ≡ row = omega arith in
@@ -61,9 +61,10 @@ module _ (m places lengths : List ℕ) where
         let f : row + (i + 1) ≡ row + i + 1 = omega arith in
         rw (f, b, a) (rw e at g)
 
-    pub hash-end : (n row i h r : ℕ) → hash-rows m places lengths T h (n - i) (row + i) ≡ r → n ≤ i → h ≡ r
-    unfolding hash-rows
-    hash-end n row i h r g l = let e : n - i ≡ 0 = omega arith in rw e at g
+    pub hash-end : (first row n i h r : ℕ) → hash-rows m places lengths T h (n - i) (row + i) ≡ hash-rows m places lengths T (mix 0 first) (size-in (getD T row 0)) row → n ≤ i
+        → r ≡ mix h 0 → r ≡ term-hash m places lengths T first row
+    unfolding hash-rows term-hash
+    hash-end first row n i h r g l e = let z : n - i ≡ 0 = omega arith in e ∙ ap (λ (x : ℕ). mix x 0) (rw z at g)
 
     -- rows that stand in the table
     pub hash-here : (h a : ℕ) (ws : List ℕ) → Here T a ws → hash-rows m places lengths T h (length ws) a ≡ hash-all m places lengths h ws
@@ -88,7 +89,7 @@ module _ (m places lengths : List ℕ) where
         let g = unless-true (leb (length T) b) _ (unless-true (leb (length T) a) _ e .1) .1 in
         let f = both-true (eqb (size-in (getD T a 0)) (size-in (getD T b 0))) _ g in
         let s : size-in (getD T a 0) ≡ size-in (getD T b 0) = eqb-true _ _ (f .0) in
-        rw (← s) (rows-alike (size-in (getD T a 0)) (mix 0 first) a b (f .1))
+        rw (← s) (ap (λ (x : ℕ). mix x 0) (rows-alike (size-in (getD T a 0)) (mix 0 first) a b (f .1)))
 
     -- ---- a key that is not met
 

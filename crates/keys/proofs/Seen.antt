@@ -50,7 +50,7 @@ module _ (m places lengths S : List ℕ) (whole : Option ℕ) (first : ℕ) wher
   hash-tree n t h =
       let ws : List ℕ = words-of (tree-rows whole n t) in
       let e : size-in (getD S n 0) ≡ length ws = tree-size (λ r k. k) t h ∙ sym (length-words-of (tree-rows whole n t) ∙ length-tree-rows whole n t) in
-      rw e (hash-here m places lengths S (mix 0 first) n ws (h .stands .tree-words))
+      rw e (ap (λ (x : ℕ). mix x 0) (hash-here m places lengths S (mix 0 first) n ws (h .stands .tree-words)))
 
   recalled-from : (key : ℕ) {L : List ℕ} (n row : ℕ) (ts : Terms) → Remembered m places lengths whole first row ts L → key ≡ row + sizes ts → Known-rows Small-row S whole row ts
       → Recalls-from m places lengths S first key L n row

@@ -34,9 +34,9 @@ module _ (m places lengths : List ℕ) where
   hash-all h [] = h
   hash-all h (w ∷ ws) = hash-all (hash-row h w) ws
 
-  -- equal keys of two maps get two hashes: each map's start from the row of its first key
+  -- equal keys of two maps get two hashes: each map's start from the row of its first key; the step at the end parts hashes of keys that differ in the last byte alone
   unfoldable pub hash-words : ℕ → List ℕ → ℕ
-  hash-words first ws = hash-all (mix 0 first) ws
+  hash-words first ws = mix (hash-all (mix 0 first) ws) 0
 
   -- the same of the n rows of a table from a on
   unfoldable pub hash-rows : List ℕ → ℕ → ℕ → ℕ → ℕ
@@ -45,7 +45,7 @@ module _ (m places lengths : List ℕ) where
 
   -- of the term at a row, as a key of the map whose first key is at the row `first`
   unfoldable pub term-hash : List ℕ → ℕ → ℕ → ℕ
-  term-hash T first row = hash-rows T (mix 0 first) (size-in (getD T row 0)) row
+  term-hash T first row = mix (hash-rows T (mix 0 first) (size-in (getD T row 0)) row) 0
 
   -- an empty slot comes from the hash h on, and no row in the slots before it means the same as the key
   unfoldable pub Unmet : List ℕ → ℕ → List ℕ → ℕ → Type 0

@@ -193,7 +193,7 @@ fn term_hash(
         h = hash_row(msg, places, lengths, h, word_at(table, row + i));
         i += 1;
     }
-    h as usize
+    mix(h, 0) as usize
 }
 
 // The slot after slot i, of n; after the last comes the first.

@@ -3,13 +3,16 @@ use mathlib.Core.Path.{_≡_}
 use Prim.Native.Nat.{_+_, _-_, _≤_, _<_}
 use native.Mathlib.Omega.{arith}
 use borrow.Author.Needs.{needs}
-use Rattle.keys.specs.Seen.{hash-rows, term-hash}
+use lib.ListN.{getD}
+use Rattle.format.specs.Rows.{size-in}
+use Rattle.contents.specs.Hash.{mix}
+use Rattle.keys.specs.Seen.{hash-rows}
 use Rattle.keys.proofs.Hashes.{hash-start, hash-next, hash-end}
 use Rattle.keys.proofs.term_hash.Statement.{statement}
 use Rattle.keys.proofs.term_hash.Tie as tie
 
 abbrev Inv-loop : tie.InvT-loop
-Inv-loop msg places lengths table first row n h₀ i₀ h i = (i ≤ n) × (h < 65521) × (hash-rows msg places lengths table h (n - i) (row + i) ≡ term-hash msg places lengths table first row)
+Inv-loop msg places lengths table first row n h₀ i₀ h i = (i ≤ n) × (h < 65521) × (hash-rows msg places lengths table h (n - i) (row + i) ≡ hash-rows msg places lengths table (mix 0 first) (size-in (getD table row 0)) row)
 
 abbrev μ-loop : tie.MeasureT-loop
 μ-loop msg places lengths table first row n h₀ i₀ h i = n - i
@@ -44,8 +47,11 @@ loop-less c = omega arith
 loop-again : tie.Need-loop-again Inv-loop μ-loop
 loop-again c = (omega arith, c .hash-row .ensures .1, hash-next _ _ _ _ _ _ _ _ _ _ _ (c .before .before .before .loop .inv .2) (c .before .before .loop-test .taken) (c .before .word-at2 .ensures) (c .hash-row .ensures .0))
 
+mix-requires-2 : tie.Need-mix-requires-2 Inv-loop μ-loop
+mix-requires-2 c κs = omega arith
+
 returns : tie.Need-returns Inv-loop μ-loop
-returns c = hash-end _ _ _ _ _ _ _ _ _ (c .before .loop .inv .2) (c .loop-test .left)
+returns c = hash-end _ _ _ _ _ _ _ _ _ _ (c .before .before .loop .inv .2) (c .before .loop-test .left) (c .mix2 .ensures .0)
 
 pub term-hash-spec : {M : Type 1} → statement M
 term-hash-spec =
@@ -63,4 +69,5 @@ term-hash-spec =
     add-i
     loop-less
     loop-again
+    mix-requires-2
     returns)
