@@ -6,13 +6,13 @@ use Prim.Native.Nat.{ℕ, zero, suc, _+_, _-_, _^_, _≤_, _<_}
 use native.Mathlib.Omega.{arith}
 use lib.ListN.{length, getD, take, drop, replicate, length-append, length-replicate, length-drop}
 use lib.Seq.{sets, sets-eq, getD-drop, drop-drop, drop-append-seam, drop-at, length-take-le, getD-append-add}
-use Rattle.format.specs.Tree.{Forest, node, _▹_, _▹▹_, count, size, sizes}
+use Rattle.format.specs.Tree.{Forest, node, _▹_, _▹▹_, count, size, sizes, Each-node, Each-nodes}
 use Rattle.format.specs.Term.{Label, integer, float, atom, tuple, list, improper-list, binary, bitstring, map, pid, port, reference, export}
 use Rattle.format.specs.Answer.{good, refused}
 use Rattle.format.specs.Reading.{Place, tag-at, character-at, Located}
 use Rattle.format.specs.Message.{Terms}
-use Rattle.format.specs.Rows.{Row, tree-rows, rows, kind-of, kind-at, offset-of, whole-code, pack, Small-fields, kind-in, offset-in, whole-in, parts-in, size-in, word, words-of, table-after}
-use Rattle.format.proofs.Rows.{Each-node, Each-nodes, count-le-sizes, length-tree-rows, length-rows, rows-join}
+use Rattle.format.specs.Rows.{Row, tree-rows, rows, kind-of, kind-at, offset-of, whole-code, pack, Small-fields, kind-in, offset-in, whole-in, parts-in, size-in, word, words-of, table-after, Placed, Here, Tree-here, Rows-here}
+use Rattle.format.proofs.Rows.{count-le-sizes, length-tree-rows, length-rows, rows-join}
 
 -- ---- a word
 
@@ -115,10 +115,6 @@ word-packed r h = pack-packed _ _ _ _ _ h
 
 -- ---- the rows of a message are small
 
--- every term stands below an offset
-abbrev pub Placed : ℕ → Label × Place → Terms → Type 0
-Placed bound l ts = offset-of (l .1) < bound
-
 module _ (P : Row → Type 0) where
   unfoldable pub Each-row : List Row → Type 0
   Each-row [] = Unit {0}
@@ -176,10 +172,6 @@ words-of-at (r ∷ rs) (suc i) d ws h = words-of-at rs i d ws (omega arith)
 
 -- ---- a list that stands in another from an index on
 
-pub record Here (T : List ℕ) (a : ℕ) (xs : List ℕ) : Type 0 where
-  pub after : List ℕ
-  pub stands : drop a T ≡ xs ++ after
-
 module _ {T : List ℕ} {a : ℕ} where
   pub here-word : {x : ℕ} {xs : List ℕ} → Here T a (x ∷ xs) → getD T a 0 ≡ x
   here-word h =
@@ -217,13 +209,6 @@ sets-here T a xs h =
     }
 
 -- ---- where rows stand in a table
-
--- the rows of a term, of terms, stand in the table from row n on
-pub record Tree-here (T : List ℕ) (whole : Option ℕ) (n : ℕ) (t : Located) : Type 0 where
-  pub tree-words : Here T n (words-of (tree-rows whole n t))
-
-pub record Rows-here (T : List ℕ) (whole : Option ℕ) (n : ℕ) (ts : Terms) : Type 0 where
-  pub words : Here T n (words-of (rows whole n ts))
 
 -- the row of a term with this label and these parts
 abbrev pub row-of : Option ℕ → Label × Place → Terms → Row
