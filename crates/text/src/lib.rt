@@ -91,7 +91,7 @@ fn character_at(s: &[u8], at: usize) -> Character
 }
 
 // Whether `s` is a text in UTF-8 of at most 255 characters.
-pub fn check_utf8(s: &[u8]) -> Checked
+fn check_utf8(s: &[u8]) -> Checked
     ensures { λ r. ⌜ r ≡ shown (check utf-8 (now (s .entry))) ⌝ }
 {
     let mut at = 0;
@@ -114,7 +114,7 @@ pub fn check_utf8(s: &[u8]) -> Checked
 }
 
 // Whether `s` is a text in Latin-1 of at most 255 characters.
-pub fn check_latin1(s: &[u8]) -> Checked
+fn check_latin1(s: &[u8]) -> Checked
     ensures { λ r. ⌜ r ≡ shown (check latin-1 (now (s .entry))) ⌝ }
 {
     if 255 < s.len() {
