@@ -13,14 +13,15 @@ use borrow.Author.Tests.{ltb-false}
 use Rattle.format.specs.Numbers.{little-endian, signed32, with-sign}
 use Rattle.format.specs.Text.{Coding, latin-1, utf-8}
 use Rattle.format.specs.Term.{Label, integer, float, atom, tuple, list, improper-list, binary, bitstring, export}
-use Rattle.format.specs.Answer.{Answer, Position, at-offset, Reading, after, rule, bytes, number}
+use Rattle.format.specs.Answer.{Position, at-offset, rule, bytes, number}
 use Rattle.format.specs.Head.{Atoms, Wanted, an-atom, an-arity, one-of, Form, small-integer-ext, integer-ext, big-ext, new-float-ext, atom-ext, atom-cache-ref, tuple-ext, nil-ext, string-ext, list-ext, binary-ext, bit-binary-ext, map-ext, pid-ext, port-ext, new-reference-ext, reference-ext, export-ext, form-in, forms, fields, Head, parts, Later, known, pid-fields, port-fields, reference-fields, old-reference-fields, later, words, words-rule, creation-rule, limits, finite, bits-rule, bits-meaning, clear-low, head}
 use Rattle.format.specs.Reading.{tag-at}
 use Rattle.format.specs.AtomList.{AtomList, place-length, atoms-of}
 use Rattle.format.specs.Rows.{kind-of}
 use Rattle.format.specs.Look.{Stretch, of-message, of-list, text-of}
-use Rattle.format.proofs.Holds.{Holds, next, done-holds, weaken}
+use Rattle.format.proofs.Holds.{Holds, done-holds, weaken, skip}
 use Rattle.format.proofs.Backed.{Allowed, Atom-form, is-82, is-100, is-115, is-118, is-119, atom-form, Agrees, Label-at}
+use Rattle.format.proofs.Tests.{also}
 use Rattle.octets.proofs.Numbers.{big-one}
 use Rattle.contents.specs.declared.Content.{Content}
 use Rattle.contents.specs.declared.Content.the-variants.{Nothing, Whole, Big, Float, Text, Bytes, Bits, Pid, Port, Reference}
@@ -53,10 +54,6 @@ atomic (port-ext v w) = false
 atomic (new-reference-ext w) = false
 atomic reference-ext = false
 atomic export-ext = false
-
--- a step of which nothing is asked
-skip : {A B : Type 0} (o : Answer (A × Position)) {f : A → Reading B} {Q : B → Position → Type 0} → ((a : A) (t : Position) → Holds (f a t) Q) → Holds (after o f) Q
-skip o k = next {o = o} (λ _ _. Unit {0}) (record { known = λ _ _ _. tt }) (λ a t _. k a t)
 
 -- the later fields of an identifier make an identifier
 abbrev Fixed : Later → Type 0
@@ -121,9 +118,6 @@ module _ (m : List ℕ) (cap : ℕ) (atoms : Atoms) (p : ℕ) where
   only export-ext s = done-holds _ s (other (an-atom ∷ an-atom ∷ an-arity ∷ []) 0 (known export) (λ e. omega arith))
 
 -- the tags of those layouts are the tags that stand where an atom is wanted
-also : {A B : Type 0} → A → B → A × B
-also a b = (a, b)
-
 atomic-tags : (tag : ℕ) (f : Form) → form-in forms tag ≡ some f → atomic f ≡ true → Allowed an-atom tag
 unfolding forms
 atomic-tags tag f e a = sym (row-of (λ n g. atomic g ≡ one-of n (82 ∷ 100 ∷ 115 ∷ 118 ∷ 119 ∷ [])) forms tag f all e) ∙ a

@@ -1,7 +1,7 @@
 -- The scratch table: past the rows of a message that was read all is zero, so it is cleared by clearing these rows. Assumes nothing.
-use mathlib.Core.Path.{_≡_, refl, sym, _∙_, ap, ap₂, subst}
+use mathlib.Core.Path.{_≡_, sym, _∙_, ap, ap₂, subst}
 use mathlib.Core.List.{List, _++_}
-use Prim.Native.Nat.{ℕ, zero, suc, _+_, _-_, _≤_}
+use Prim.Native.Nat.{ℕ, _+_, _-_, _≤_}
 use native.Mathlib.Omega.{arith}
 use lib.ListN.{length, getD, drop, replicate, length-append, length-drop, length-replicate, take-append-drop, replicate-append-replicate}
 use lib.Seq.{sets, ext-getD, getD-drop}
@@ -15,7 +15,7 @@ use Rattle.format.specs.Answers.{read-answer}
 use Rattle.format.specs.declared.ReadAnswer.{ReadAnswer}
 use Rattle.format.specs.declared.ReadAnswer.the-variants as reads
 use Rattle.format.proofs.Rows.{length-rows}
-use Rattle.format.proofs.Words.{length-words-of, table-past}
+use Rattle.format.proofs.Words.{length-words-of, table-past, getD-all}
 use Rattle.octets.proofs.Cleared.{ClearedTo}
 use Rattle.octets.proofs.Stores.{take-sets, drop-after}
 
@@ -39,11 +39,6 @@ rows-zero (good ts) lent {n = n} e f t =
     subst (λ (X : List ℕ). Zero-past X n) (sym t) (subst (Zero-past (table-after lent (good ts))) c (table-zero lent ts))
 rows-zero (refused n p) lent e f t = let no-way : _≡_ {A = ℕ} 0 1 = cc in absurd (omega arith)
 
-zeros : (n k : ℕ) → _≡_ {A = ℕ} (getD (replicate n 0) k 0) 0
-zeros zero k = refl
-zeros (suc n) zero = refl
-zeros (suc n) (suc k) = zeros n k
-
 pub all-zero : (l d : List ℕ) (n i : ℕ) → ClearedTo l 0 d i → n ≤ i → i ≤ n → n ≤ length l → ((k : ℕ) → n ≤ k → getD l k 0 ≡ 0) → d ≡ scratch-after (length l)
 unfolding scratch-after
 all-zero l d n i c f g h p =
@@ -52,7 +47,7 @@ all-zero l d n i c f g h p =
     let la : length a ≡ n = length-replicate n 0 in
     let k : ℕ = length l - n in
     let rest : drop n l ≡ replicate k 0
-    = ext-getD 0 (drop n l) (replicate k 0) (length-drop n l ∙ sym (length-replicate k 0)) (λ j _. getD-drop n l j 0 ∙ p (n + j) (omega arith) ∙ sym (zeros k j)) in
+    = ext-getD 0 (drop n l) (replicate k 0) (length-drop n l ∙ sym (length-replicate k 0)) (λ j _. getD-drop n l j 0 ∙ p (n + j) (omega arith) ∙ sym (getD-all k j 0)) in
     let s : n + k ≡ length l = omega arith in
     c .stores
     ∙ ap (λ (j : ℕ). sets l 0 (replicate j 0)) e

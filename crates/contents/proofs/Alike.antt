@@ -9,7 +9,7 @@ use native.Mathlib.Omega.{arith}
 use lib.Dec.{eqb, leb, ltb}
 use lib.IntN.{pos-ne-negsuc}
 use lib.ListN.{length, getD, take, drop}
-use lib.Seq.{take-at, drop-at, take-add, drop-drop}
+use lib.Seq.{take-at, drop-at}
 use borrow.Author.Tests.{eqb-true, eqb-false, eq-eqb, le-leb, le-ltb}
 use Rattle.format.specs.Numbers.{big-endian, little-endian, with-sign, Under}
 use Rattle.format.specs.Text.{valid, utf-8, check, encodes}
@@ -17,9 +17,10 @@ use Rattle.format.specs.Term.{Label, integer, float, atom, tuple, list, imprope
 use Rattle.format.specs.Head.{clear-low}
 use Rattle.format.specs.AtomList.{AtomList}
 use Rattle.format.proofs.Text.{utf8-spelt, utf8-encodes, latin1-characters}
-use Rattle.format.proofs.Opening.{by-less}
 use Rattle.format.proofs.Heads.{length-clear}
-use Rattle.octets.proofs.Parts.{length-part, part-last}
+use Rattle.format.proofs.Tests.{never, by-less}
+use Rattle.format.proofs.Holds.{little-under}
+use Rattle.octets.proofs.Parts.{length-part, part-last, length-words-at, part-add}
 use Rattle.octets.proofs.Bits.{clear-last}
 use Rattle.contents.specs.declared.Flat.{Flat}
 use Rattle.contents.specs.declared.Content.{Content}
@@ -28,16 +29,13 @@ use Rattle.contents.specs.Found.{choose, value}
 use Rattle.contents.specs.Meaning.{stretch, sign, words-at, characters-of, coded, bare, label-of}
 use Rattle.contents.specs.Same.{same-bool, same-list, high, same-part, same-stretch, same-spelling, same-text, same-last, same-bits, same-words, numbers-of, stretch-of, text-of, flat-of, same-numbers, source, same-texts, same-atoms, same-stretches, same-flat, same-contents}
 use Rattle.contents.proofs.Lists.{same-true, same-self}
-use Rattle.contents.proofs.Values.{under-part, big-same, little-small, little-same, little-least}
+use Rattle.contents.proofs.Values.{under-part, big-same, little-same, little-least}
 use Rattle.contents.proofs.Says.{Readable, Sound}
 
 -- a test and the equality that it stands for
 pub record Agree (t : Bool) (A : Type 0) : Type 0 where
   pub sure : t ≡ true → A
   pub back : A → t ≡ true
-
-pub never : {A : Type 0} → false ≡ true → A
-never e = let z : _≡_ {A = ℕ} 0 1 = cc in absurd (omega arith)
 
 -- one test and then another
 both : {t u : Bool} {A B : Type 0} → Agree t A → Agree u B → Agree (choose t u false) (A × B)
@@ -56,7 +54,7 @@ through f g p = record { sure = λ e. f (p .sure e); back = λ b. p .back (g b) 
 agree-when : {t : Bool} {A : Type 0} → (t ≡ true → Agree t A) → (A → Agree t A) → Agree t A
 agree-when f g = record { sure = λ e. f e .sure e; back = λ x. g x .back x }
 
-numbers-agree : (x y : ℕ) → Agree (eqb x y) (x ≡ y)
+pub numbers-agree : (x y : ℕ) → Agree (eqb x y) (x ≡ y)
 numbers-agree x y = record { sure = eqb-true x y; back = eq-eqb x y }
 
 signs-agree : (a b : Bool) → Agree (same-bool a b) (a ≡ b)
@@ -174,15 +172,10 @@ module _ (m : List ℕ) (bits i j : ℕ) where
 
 -- ---- words
 
-length-words : (m : List ℕ) (n at : ℕ) → length (words-at m at n) ≡ n
-unfolding words-at
-length-words m zero at = refl
-length-words m (suc n) at = ap suc (length-words m n (at + 4))
-
 four-more : (m : List ℕ) (at n : ℕ) → stretch m at (4 * suc n) ≡ stretch m at 4 ++ stretch m (at + 4) (4 * n)
 four-more m at n =
     let e : 4 * suc n ≡ 4 + 4 * n = omega arith in
-    rw e (take-add 4 (4 * n) (drop at m) ∙ ap (λ (l : List ℕ). stretch m at 4 ++ take (4 * n) l) (drop-drop 4 at m))
+    rw e (part-add m at 4 (4 * n))
 
 module _ (m : List ℕ) (under : Under 256 m) where
   words-of : (n i j : ℕ) → i + 4 * n ≤ length m → j + 4 * n ≤ length m → stretch m i (4 * n) ≡ stretch m j (4 * n) → words-at m i n ≡ words-at m j n
@@ -219,7 +212,7 @@ module _ (m : List ℕ) (under : Under 256 m) where
       go false e =
           record {
             sure = λ x. never x;
-            back = λ x. absurd (eqb-false n k e (sym (length-words m n i) ∙ ap length x ∙ length-words m k j));
+            back = λ x. absurd (eqb-false n k e (sym (length-words-at m i n) ∙ ap length x ∙ length-words-at m j k));
           }
 
 -- ---- integers
@@ -238,7 +231,7 @@ sign-magnitude true true (suc n) (suc k) f g e = let q : n ≡ k = cc in (refl, 
 
 module _ (m : List ℕ) (under : Under 256 m) where
   below-power : (i n : ℕ) → i + n ≤ length m → little-endian (stretch m i n) < 256 ^ n
-  below-power i n h = rw (length-part m i n h) at (little-small (stretch m i n) (under-part m i n under))
+  below-power i n h = rw (length-part m i n h) at (little-under (stretch m i n) (under-part m i n under))
 
   -- digits whose highest is not zero are no fewer than others of the same value
   no-fewer : (i n j k : ℕ) → i + n ≤ length m → j + k ≤ length m → 0 < k → (getD m (j + (k - 1)) 0 ≡ 0 → ⊥) → little-endian (stretch m i n) ≡ little-endian (stretch m j k) → k ≤ n

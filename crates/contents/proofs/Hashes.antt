@@ -8,6 +8,7 @@ use lib.Dec.{eqb, leb, ltb}
 use lib.ListN.{length, getD, take, drop}
 use borrow.Author.Tests.{eqb-true, eqb-false, eq-eqb, ne-eqb, lt-ltb, le-ltb}
 use Rattle.format.specs.Text.{encode, encodes}
+use Rattle.format.proofs.Tests.{never}
 use Rattle.contents.specs.declared.Flat.{Flat}
 use Rattle.contents.specs.declared.Content.{Content}
 use Rattle.contents.specs.Found.{choose}
@@ -16,7 +17,7 @@ use Rattle.contents.specs.Same.{same-list, same-part, same-stretch, same
 use Rattle.contents.specs.Hash.{mix, mix-all, as-utf8, hash-part, hashed, hash-stretch, hash-flat, hash-contents}
 use Rattle.contents.proofs.Digits.{part-cons}
 use Rattle.contents.proofs.Lists.{same-true, encode-low, encode-high}
-use Rattle.contents.proofs.Alike.{never, Numbers, flats-agree, self-agrees}
+use Rattle.contents.proofs.Alike.{Numbers, flats-agree, self-agrees}
 
 -- ---- bytes and characters
 

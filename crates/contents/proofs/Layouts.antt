@@ -8,17 +8,18 @@ use Prim.Native.Nat.{ℕ, _+_, _*_, _^_, _≤_, _<_}
 use native.Mathlib.Omega.{arith}
 use lib.Dec.{eqb, leb, ltb}
 use lib.ListN.{length, getD, take, drop}
-use borrow.Author.Tests.{ltb-true, leb-true, eqb-true}
+use borrow.Author.Tests.{ltb-true, leb-true}
 use Rattle.format.specs.Numbers.{little-endian, with-sign}
 use Rattle.format.specs.Text.{Checked, valid, invalid-at, Coding, latin-1, utf-8, check}
 use Rattle.format.specs.Term.{Label, integer, tuple, list, improper-list, binary, bitstring, map, pid, reference, export}
 use Rattle.format.specs.Answer.{Answer, good, Position, at-offset}
 use Rattle.format.specs.Head.{Wanted, an-atom, an-arity, Form, small-integer-ext, integer-ext, big-ext, new-float-ext, atom-ext, atom-cache-ref, tuple-ext, nil-ext, string-ext, list-ext, binary-ext, bit-binary-ext, map-ext, pid-ext, port-ext, new-reference-ext, reference-ext, export-ext, form-in, forms, fields, Head, parts, characters, elements, pairs, leaf, Later, known, pid-fields, port-fields, reference-fields, old-reference-fields, later, head, finite, bits-rule, bits-meaning, clear-low, limits, creation-rule, words-rule}
-use Rattle.format.specs.AtomList.{AtomList, of-size, place-length, place-bytes, place-text, atoms-of}
+use Rattle.format.specs.AtomList.{AtomList, place-length, place-bytes, place-text, atoms-of}
 use Rattle.format.specs.Rows.{kind-of}
 use Rattle.format.proofs.Holds.{Holds, bind, done-holds, rule-holds, text-holds}
 use Rattle.format.proofs.Invariant.{In-step}
 use Rattle.format.proofs.Backed.{Atom-form, is-82, is-100, is-115, is-118, is-119, atom-form, Agrees}
+use Rattle.format.proofs.Tests.{also, sizes-of}
 use Rattle.contents.specs.declared.Content.{Content}
 use Rattle.contents.specs.declared.Content.the-variants.{Nothing, Whole, Float, Text, Bytes, Bits, Pid, Port, Reference}
 use Rattle.contents.specs.Found.{choose, value, big-found, signed-whole, integer-found, text-width, atom-end, atom-found, bits-of, binary-found, pid-found, port-found, counted-found, pids-found, ports-found, references-found, kind-found, content-of}
@@ -30,17 +31,7 @@ use Rattle.contents.proofs.Read.{All-rows, row-of, position-is, number-
 use Rattle.contents.proofs.There.{byte-there, signed-there, big-there, float-there, text-there, end-there, end-listed, atom-ends, bytes-there, bits-there, listed-there, counted-there, place-there, pid-there, port-there, words-there, word-there, tag-97, tag-98, tag-110, tag-111, tag-82, tag-text, tag-77, tag-109, tag-88, tag-103, tag-89, tag-102, tag-120, tag-90, tag-114, tag-101}
 use Rattle.contents.proofs.Says.{Sound, Lent, Says, says-by, digits-say, signed-says, latin-says, utf8-says}
 
--- ---- the atom list's sizes
-
-sizes : (atoms : AtomList) → of-size atoms ≡ true → (length (atoms .places) ≡ 8160) × (length (atoms .lengths) ≡ 255)
-unfolding of-size
-sizes atoms e = go (eqb (length (atoms .places)) 8160) refl (eqb (length (atoms .lengths)) 255) refl e
-  where
-    go : (a : Bool) → eqb (length (atoms .places)) 8160 ≡ a → (b : Bool) → eqb (length (atoms .lengths)) 255 ≡ b → (a && b) ≡ true
-        → (length (atoms .places) ≡ 8160) × (length (atoms .lengths) ≡ 255)
-    go true p true q f = (eqb-true _ _ p, eqb-true _ _ q)
-    go true p false q f = let z : _≡_ {A = ℕ} 0 1 = cc in absurd (omega arith)
-    go false p b q f = let z : _≡_ {A = ℕ} 0 1 = cc in absurd (omega arith)
+-- ---- the atom list's places
 
 place-valid : (atoms : AtomList) (i : ℕ) (cs : List ℕ) → place-text atoms i ≡ valid cs → (place-length atoms i ≤ 32) × (check utf-8 (place-bytes atoms i) ≡ valid cs)
 unfolding place-text
@@ -194,7 +185,7 @@ module _ (atoms : AtomList) (m : List ℕ) (l : Lent atoms m) (cap p : ℕ) (les
         bind (number-here m p 1 (p + 1) r (omega arith) λ a. bind (rule-holds (ltb (value m 1 (p + 1)) (atoms .n)) 6 p _ λ g.
         bind (text-holds (place-text atoms (value m 1 (p + 1))) 14 0 _ λ cs h.
         let i : ℕ = value m 1 (p + 1) in
-        let z = sizes atoms (l .sized) in
+        let z = sizes-of atoms (l .sized) in
         let v = place-valid atoms i cs h in
         let n : i < atoms .n = ltb-true _ _ g in
         let few : atoms .n ≤ 255 = l .few in
@@ -349,9 +340,6 @@ module _ (atoms : AtomList) (m : List ℕ) (l : Lent atoms m) (cap p : ℕ) (les
         bind (rule-holds (words-rule 1 (words-at m end 1) && creation-rule 1 (value m 1 (end + 4 * 1))) 4 p _ λ g.
         done-holds _ _ (reference-says 101 e _ (Reference (value m 1 (end + 4)) end 1) (word-there m end (omega arith) ∙ tag-101 m p)
         (ap (λ (z : ℕ). reference (value m 1 z) (words-at m end 1)) (sym q), b))))))
-
-    also : {A B : Type 0} → A → B → A × B
-    also a b = (a, b)
 
     -- every row of the table, in its order
     all-rows : All-rows Row forms

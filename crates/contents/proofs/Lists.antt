@@ -4,11 +4,12 @@ use mathlib.Core.Bool.{Bool, true, false}
 use mathlib.Core.List.{List, [], _∷_, _++_}
 use Prim.Native.Nat.{ℕ, zero, suc, _+_, _-_, _/_, _%_, _≤_, _<_}
 use native.Mathlib.Omega.{arith}
-use lib.Dec.{eqb, ltb}
+use lib.Dec.{eqb}
 use lib.ListN.{length, getD, take, drop}
 use lib.Seq.{drop-drop, take-nil}
-use borrow.Author.Tests.{ltb-true, ltb-false, eqb-true, eqb-false, eq-eqb, ne-eqb, lt-ltb, le-ltb}
+use borrow.Author.Tests.{eqb-true, eqb-false, eq-eqb, ne-eqb, lt-ltb, le-ltb}
 use Rattle.format.specs.Text.{encode, encodes}
+use Rattle.format.proofs.Tests.{by-less}
 use Rattle.octets.proofs.Parts.{length-part}
 use Rattle.contents.specs.Found.{choose}
 use Rattle.contents.specs.Same.{same-list, Spelling}
@@ -68,19 +69,12 @@ encode-high c h k = rw (le-ltb c 0x80 h, lt-ltb c 0x800 (omega arith))
 none-spelt : (c : ℕ) (bs : List ℕ) → ((more : List ℕ) → same-list (encode c ++ more) bs ≡ false) → Spelling c bs 0
 none-spelt c bs f = record { some = omega arith; here = λ e. absurd (e refl); none = λ _ more. f more }
 
-by-128 : (c : ℕ) {P : Type 0} → (c < 128 → P) → (128 ≤ c → P) → P
-by-128 c {P} f g = go (ltb c 128) refl
-  where
-    go : (t : Bool) → ltb c 128 ≡ t → P
-    go true e = f (ltb-true c 128 e)
-    go false e = g (ltb-false c 128 e)
-
 module _ (c : ℕ) (b : List ℕ) (j k : ℕ) where
   pub spelling-end : c < 256 → k ≡ 0 → Spelling c (take k (drop j b)) 0
   unfolding same-list
   spelling-end small e =
       none-spelt c (take k (drop j b))
-      (λ more. rw e (by-128 c (λ h. ap (λ (x : List ℕ). same-list (x ++ more) []) (encode-low c h)) (λ h. ap (λ (x : List ℕ). same-list (x ++ more) []) (encode-high c h small))))
+      (λ more. rw e (by-less c 128 (λ h. ap (λ (x : List ℕ). same-list (x ++ more) []) (encode-low c h)) (λ h. ap (λ (x : List ℕ). same-list (x ++ more) []) (encode-high c h small))))
 
   module _ (some : k ≡ 0 → ⊥) (fits : j + k ≤ length b) where
     first-byte : take k (drop j b) ≡ getD b j 0 ∷ take (k - 1) (drop (j + 1) b)

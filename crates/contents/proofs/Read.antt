@@ -16,8 +16,8 @@ use Rattle.format.specs.Rows.{offset-of}
 use Rattle.format.proofs.Steps.{spot}
 use Rattle.format.proofs.Bridge.{byte-at, byte-end, bytes-at, bytes-end, number-at, number-end}
 use Rattle.format.proofs.Holds.{Holds, bind, next, done-holds, refused-holds}
-use Rattle.format.proofs.Opening.{by-less}
 use Rattle.format.proofs.Backed.{Allowed, form-found, Head-at, Label-at}
+use Rattle.format.proofs.Tests.{by-less}
 use Rattle.contents.specs.Found.{value}
 use Rattle.contents.specs.Meaning.{words-at}
 

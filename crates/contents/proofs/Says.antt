@@ -14,13 +14,14 @@ use Rattle.format.specs.Text.{Checked, valid, latin-1, utf-8, check}
 use Rattle.format.specs.Term.{Label, integer, atom}
 use Rattle.format.specs.AtomList.{AtomList, of-size}
 use Rattle.format.proofs.Text.{latin1-is}
+use Rattle.format.proofs.Holds.{little-under}
 use Rattle.octets.proofs.Parts.{length-part}
 use Rattle.contents.specs.declared.Content.{Content}
 use Rattle.contents.specs.declared.Content.the-variants.{Nothing, Whole, Big, Float, Text, Bytes, Bits, Pid, Port, Reference}
 use Rattle.contents.specs.Found.{choose, stripped, signed-whole, whole-of, stripped-found, content-of}
 use Rattle.contents.specs.Meaning.{stretch, sign, characters-of, coded, label-of}
 use Rattle.contents.specs.Same.{source}
-use Rattle.contents.proofs.Values.{under-part, little-small, stripped-value, stripped-few, stripped-top}
+use Rattle.contents.proofs.Values.{under-part, stripped-value, stripped-few, stripped-top}
 
 -- A text that was read: Latin-1 of at most 255 bytes, or valid UTF-8
 abbrev pub Readable : Bool → List ℕ → Type 0
@@ -96,7 +97,7 @@ module _ (atoms : AtomList) (m : List ℕ) (l : Lent atoms m) where
           let b : d ≤ 8 = ltb-false 8 d e in
           let g : 256 ^ d ≤ 256 ^ 8 = pow-le-pow-right {n = 256} (omega arith) {i = d} {j = 8} b in
           let u : length (stretch m start d) ≡ d = length-part m start d k in
-          let v : little-endian (stretch m start d) < 256 ^ d = rw u at (little-small (stretch m start d) (under-part m start d (l .under))) in
+          let v : little-endian (stretch m start d) < 256 ^ d = rw u at (little-under (stretch m start d) (under-part m start d (l .under))) in
           whole-says s (little-endian (stretch m start d)) h (omega arith)
 
   pub digits-say : (s start n : ℕ) → s ≤ 1 → start + n ≤ length m

@@ -52,11 +52,6 @@ big-same (x ∷ xs) (y ∷ ys) u v e f =
 
 -- ---- digits, least first
 
-pub little-small : (ds : List ℕ) → Under 256 ds → little-endian ds < 256 ^ length ds
-unfolding little-endian
-little-small [] u = omega arith
-little-small (d ∷ ds) u = rw (pow-succ' 256 (length ds)) (omega (arith, u .0, little-small ds (u .1)))
-
 pub little-same : (xs ys : List ℕ) → Under 256 xs → Under 256 ys → length xs ≡ length ys → little-endian xs ≡ little-endian ys → xs ≡ ys
 unfolding little-endian
 little-same [] [] u v e f = refl

@@ -1,28 +1,15 @@
 -- The own fields of the term whose tag stands at an offset of the message, as they are found again: total, with the tests of the code in their order.
 -- The message was read before, so nothing is judged again: fields that are not there are Nothing.
-use mathlib.Core.Path.{_≡_}
-use mathlib.Core.Bool.{Bool, true, false, _||_}
+use mathlib.Core.Bool.{Bool, true, false}
 use mathlib.Core.List.{List}
-use Prim.Native.Nat.{ℕ, zero, suc, _+_, _*_, _-_, _≤_}
+use Prim.Native.Nat.{ℕ, zero, suc, _+_, _*_, _-_}
 use lib.Dec.{eqb, leb, ltb}
 use lib.ListN.{length, getD, take, drop}
-use Rattle.format.specs.Numbers.{big-endian, little-endian}
+use Rattle.format.specs.Numbers.{little-endian}
 unfoldable pub use Rattle.octets.specs.Parts.{choose}
+pub use Rattle.octets.specs.Parts.{Width, value}
 use Rattle.contents.specs.declared.Content.{Content}
 use Rattle.contents.specs.declared.Content.the-variants.{Nothing, Whole, Big, Float, Text, Bytes, Bits, Pid, Port, Reference}
-
--- the widths of numbers
-unfoldable pub is-width : ℕ → Bool
-is-width w = eqb w 1 || eqb w 2 || eqb w 4 || eqb w 8
-
-pub record Width (w : ℕ) : Type 0 where
-  pub some : 1 ≤ w
-  pub few : w ≤ 8
-  pub known : is-width w ≡ true
-
--- the number in the w bytes from `at` on
-abbrev pub value : List ℕ → ℕ → ℕ → ℕ
-value m w at = big-endian (take w (drop at m))
 
 -- the number of digits, of the n from `start` on, up to the highest that is not zero
 unfoldable pub stripped : List ℕ → ℕ → ℕ → ℕ

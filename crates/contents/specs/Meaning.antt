@@ -1,7 +1,7 @@
 -- What a content says: the label that its fields make.
 use mathlib.Core.Bool.{Bool}
-use mathlib.Core.List.{List, [], _∷_}
-use Prim.Native.Nat.{ℕ, zero, suc, _+_}
+use mathlib.Core.List.{List, []}
+use Prim.Native.Nat.{ℕ}
 use lib.Dec.{eqb}
 use Rattle.format.specs.Numbers.{little-endian, with-sign}
 use Rattle.format.specs.Text.{Checked, valid, invalid-at, utf-8, check}
@@ -9,17 +9,13 @@ use Rattle.format.specs.Term.{Label, integer, float, atom, tuple, list, imprope
 use Rattle.format.specs.Head.{clear-low}
 use Rattle.format.specs.AtomList.{AtomList}
 pub use Rattle.octets.specs.Parts.{stretch}
-use Rattle.contents.specs.Found.{choose, value}
+unfoldable pub use Rattle.octets.specs.Parts.{words-at}
+use Rattle.contents.specs.Found.{choose}
 use Rattle.contents.specs.declared.Content.{Content}
 use Rattle.contents.specs.declared.Content.the-variants.{Nothing, Whole, Big, Float, Text, Bytes, Bits, Pid, Port, Reference}
 
 abbrev pub sign : Bool → ℕ
 sign negative = choose negative 1 0
-
--- the words of four bytes from `start` on
-unfoldable pub words-at : List ℕ → ℕ → ℕ → List ℕ
-words-at m start zero = []
-words-at m start (suc n) = value m 4 start ∷ words-at m (start + 4) n
 
 -- a text's characters: none where it is invalid
 unfoldable pub characters-of : Checked → List ℕ

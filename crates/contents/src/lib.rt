@@ -73,23 +73,6 @@ fn left(s: &[u8], at: usize) -> usize
     s.len() - at
 }
 
-// The number in the w bytes from `at` on.
-fn number(msg: &[u8], at: usize, w: usize) -> u64
-    requires { ⌜ Width w × (at + w ≤ length (now msg)) ⌝ }
-    ensures { λ r. ⌜ r ≡ value (now (msg .entry)) w at ⌝ }
-{
-    if w == 1 {
-        return octets::big1(msg, at) as u64;
-    }
-    if w == 2 {
-        return octets::big2(msg, at) as u64;
-    }
-    if w == 4 {
-        return octets::big4(msg, at) as u64;
-    }
-    octets::big8(msg, at)
-}
-
 // The number of the n digits from `start` on, up to the highest that is not zero.
 fn strip(msg: &[u8], start: usize, n: usize) -> usize
     requires { ⌜ start + n ≤ length (now msg) ⌝ }
@@ -197,7 +180,7 @@ fn big(msg: &[u8], w: usize, at: usize) -> Content
     if left(msg, at) < 2 + w {
         return Content::Nothing;
     }
-    let n = number(msg, at + 1, w) as usize;
+    let n = octets::number(msg, at + 1, w) as usize;
     let start = at + 2 + w;
     if left(msg, start) < n {
         return Content::Nothing;
@@ -252,7 +235,7 @@ fn text(msg: &[u8], w: usize, latin1: bool, at: usize) -> Content
     if left(msg, at) < 1 + w {
         return Content::Nothing;
     }
-    let n = number(msg, at + 1, w) as usize;
+    let n = octets::number(msg, at + 1, w) as usize;
     let start = at + 1 + w;
     if left(msg, start) < n {
         return Content::Nothing;
@@ -332,7 +315,7 @@ fn text_end(msg: &[u8], w: usize, at: usize) -> usize
     if left(msg, at) < 1 + w {
         return msg.len();
     }
-    let n = number(msg, at + 1, w) as usize;
+    let n = octets::number(msg, at + 1, w) as usize;
     let start = at + 1 + w;
     if left(msg, start) < n {
         return msg.len();
@@ -423,7 +406,7 @@ fn pid_from(msg: &[u8], w: usize, end: usize) -> Content
     }
     let id = octets::big4(msg, end) as u64;
     let serial = octets::big4(msg, end + 4) as u64;
-    let creation = number(msg, end + 8, w);
+    let creation = octets::number(msg, end + 8, w);
     Content::Pid {
         id: id,
         serial: serial,
@@ -439,8 +422,8 @@ fn port_from(msg: &[u8], v: usize, w: usize, end: usize) -> Content
     if left(msg, end) < v + w {
         return Content::Nothing;
     }
-    let id = number(msg, end, v);
-    let creation = number(msg, end + v, w);
+    let id = octets::number(msg, end, v);
+    let creation = octets::number(msg, end + v, w);
     Content::Port {
         id: id,
         creation: creation,
@@ -455,7 +438,7 @@ fn words_from(msg: &[u8], w: usize, n: usize, end: usize) -> Content
     if left(msg, end) < w + 4 * n {
         return Content::Nothing;
     }
-    let creation = number(msg, end, w);
+    let creation = octets::number(msg, end, w);
     Content::Reference {
         creation: creation,
         start: end + w,

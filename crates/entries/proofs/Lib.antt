@@ -1,3 +1,2 @@
-pub mod Filling
 pub mod Storing
 pub mod Loops

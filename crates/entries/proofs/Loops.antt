@@ -13,6 +13,7 @@ use Rattle.packets.specs.Memory.{Cache, Held, held}
 use Rattle.packets.specs.Header.{Reference, half, references}
 use Rattle.packets.specs.Calls.{zeros-to, enter, entered, texts-in-places, lengths-of, list-of}
 use Rattle.packets.proofs.Stores.{length-zeros-to}
+use Rattle.packets.proofs.Sizes.{length-lengths}
 use Rattle.headers.specs.Code.{flags-of, GoodHeader}
 use Rattle.headers.proofs.Walk.{Along, along-none, along-more, along-all, Turned, turned}
 use Rattle.entries.specs.Code.{Stands, StandsSome, Lists, Listed, Enters, Entered}
@@ -27,11 +28,6 @@ lengths-more : (done : List Reference) (x : Reference) → lengths-of (done ++ (
 unfolding lengths-of
 lengths-more [] x = refl
 lengths-more (r ∷ done) x = ap (λ (l : List ℕ). length (r .text) ∷ l) (lengths-more done x)
-
-lengths-count : (done : List Reference) → length (lengths-of done) ≡ length done
-unfolding lengths-of
-lengths-count [] = refl
-lengths-count (r ∷ done) = ap suc (lengths-count done)
 
 entered-more : (done : List Reference) (c : Cache) (x : Reference) → entered c (done ++ (x ∷ [])) ≡ enter (entered c done) x
 unfolding entered
@@ -52,7 +48,7 @@ module _ (agreed : Coding) (holding : ℕ → Held) (s : List ℕ) (at n width f
     pub along : Along agreed holding s (flags-of s at n) width (references agreed holding (flags-of s at n) width [] 0 n (at-offset s first 0)) n i next earlier done
     pub count : length done ≡ i
 
-  abbrev start : Half-way 0 first
+  abbrev pub start : Half-way 0 first
   start = record { earlier = []; done = []; along = along-none agreed holding s (flags-of s at n) width n first; count = refl }
 
   module _ (good-header : GoodHeader agreed holding s at n width first) (i next : ℕ) (w : Half-way i next) (less : i < n) where
@@ -111,7 +107,7 @@ module _ (agreed : Coding) (holding : ℕ → Held) (s : List ℕ) (at n width f
           let k = put .lists (t .earlier) (t .i) x (t .end) (t .is) in
           let few : n < 256 = good-header .few in
           let c : length (w .way .done) ≡ i = w .way .count in
-          let lc : length (lengths-of (w .way .done)) ≡ i = lengths-count (w .way .done) ∙ c in
+          let lc : length (lengths-of (w .way .done)) ≡ i = length-lengths (w .way .done) ∙ c in
           let short : length (x .text) ≤ 32 = omega (arith, k .2, k .3) in
           let m : 8160 - 32 * i - 32 ≡ 8160 - 32 * (i + 1) = omega arith in
           let p : 255 - i ≡ suc (255 - (i + 1)) = omega arith in
@@ -143,7 +139,7 @@ module _ (agreed : Coding) (holding : ℕ → Held) (s : List ℕ) (at n width f
             let d : w .way .done ≡ rs =
             done-is _ (w .way .done) rs (at-offset s next 0) t (along-all agreed holding s (flags-of s at n) width _ n i next (w .way .earlier) (w .way .done) (w .way .along) e) f in
             let lt : 8160 - 32 * i ≡ 8160 - length (texts-in-places (w .way .done)) = ap (λ (m : ℕ). 8160 - m) (sym (w .long)) in
-            let ll : 255 - i ≡ 255 - length (lengths-of (w .way .done)) = ap (λ (m : ℕ). 255 - m) (sym (lengths-count (w .way .done) ∙ w .way .count)) in (
+            let ll : 255 - i ≡ 255 - length (lengths-of (w .way .done)) = ap (λ (m : ℕ). 255 - m) (sym (length-lengths (w .way .done) ∙ w .way .count)) in (
               w .places-are ∙ ap (λ (m : ℕ). texts-in-places (w .way .done) ++ replicate m 0) lt ∙ ap (λ (x : List Reference). texts-in-places x ++ replicate (8160 - length (texts-in-places x)) 0) d,
               w .lengths-are ∙ ap (λ (m : ℕ). lengths-of (w .way .done) ++ replicate m 0) ll ∙ ap (λ (x : List Reference). lengths-of x ++ replicate (255 - length (lengths-of x)) 0) d,
             );

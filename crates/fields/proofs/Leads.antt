@@ -8,7 +8,6 @@ use lib.Arith.{digits-div, digits-mod}
 use lib.Dec.{eqb, ltb}
 use lib.IntN.{pos, negsuc}
 use lib.ListN.{length, getD, take, drop}
-use lib.Seq.{take-add, drop-drop}
 use borrow.Author.Tests.{lt-ltb, le-ltb, le-leb, lt-leb, ltb-true, ltb-false, ne-eqb}
 use Rattle.format.specs.Numbers.{big-endian, in-bytes, little-endian, digits, with-sign, Under}
 use Rattle.format.specs.Text.{encodes}
@@ -21,11 +20,12 @@ use Rattle.format.proofs.Text.{under-all}
 use Rattle.format.specs.Rows.{kind-in, parts-in}
 use Rattle.octets.specs.Parts.{choose, stretch, source}
 use Rattle.octets.proofs.Numbers.{bytes-one, bytes-mod}
-use Rattle.octets.proofs.Parts.{getD-part, length-part, part-last}
+use Rattle.octets.proofs.Parts.{length-part, part-last, part-add}
 use Rattle.contents.specs.Meaning.{sign, coded, words-at, bare, label-of}
 use Rattle.contents.specs.declared.Content.{Content}
 use Rattle.contents.specs.declared.Content.the-variants as fields
 use Rattle.contents.specs.declared.Content.the-variants.{Whole, Big, Text, Bytes, Reference}
+use Rattle.contents.proofs.Values.{under-part}
 use Rattle.layout.specs.declared.Body.{Body}
 use Rattle.layout.specs.declared.Body.the-variants.{Empty, Part, Latin1, Digits, Bits}
 use Rattle.layout.specs.declared.Layout.{Layout}
@@ -93,10 +93,8 @@ module _ (n : ℕ) where
       simp (le-ltb (n - 1) 2147483648 g) (ap (λ (k : ℕ). big-bytes 1 (digits k)) e)
 
 -- bytes of a part are bytes
-pub under-part : (m : List ℕ) (start n : ℕ) → Bytes-only m → start + n ≤ length m → Under 256 (stretch m start n)
-under-part m start n b h =
-    let k : length (stretch m start n) ≡ n = length-part m start n h in
-    under-all (stretch m start n) (λ i l. rw (getD-part 0 m start n i (omega arith)) (b (start + i)))
+part-under : (m : List ℕ) (start n : ℕ) → Bytes-only m → Under 256 (stretch m start n)
+part-under m start n b = under-part m start n (under-all m (λ i l. b i))
 
 pub sign-true : (z : Bool) → z ≡ true → sign z ≡ 1
 unfolding choose
@@ -116,7 +114,7 @@ module _ (m : List ℕ) (start n : ℕ) (h : High m start n) (b : Bytes-only m) 
       let e : suc (n - 1) ≡ n = omega arith in
       let f : stretch m start n ≡ stretch m start (n - 1) ++ (getD m (start + (n - 1)) 0 ∷ [])
       = ap (λ (k : ℕ). stretch m start k) (sym e) ∙ part-last 0 m start (n - 1) (omega arith) in
-      rw f (digits-of (stretch m start (n - 1)) (getD m (start + (n - 1)) 0) (under-part m start (n - 1) b (omega arith)) (b (start + (n - 1))) high)
+      rw f (digits-of (stretch m start (n - 1)) (getD m (start + (n - 1)) 0) (part-under m start (n - 1) b) (b (start + (n - 1))) high)
 
   big-large : 4294967296 ≤ little-endian (stretch m start n)
   big-large =
@@ -180,7 +178,7 @@ bytes-stand (b ∷ bs) u =
 
 pub number-stands : (m : List ℕ) (w at : ℕ) → Bytes-only m → at + w ≤ length m → in-bytes w (big-endian (take w (drop at m))) ≡ take w (drop at m)
 number-stands m w at b h =
-    ap (λ (k : ℕ). in-bytes k (big-endian (take w (drop at m)))) (sym (length-part m at w h)) ∙ bytes-stand (take w (drop at m)) (under-part m at w b h)
+    ap (λ (k : ℕ). in-bytes k (big-endian (take w (drop at m)))) (sym (length-part m at w h)) ∙ bytes-stand (take w (drop at m)) (part-under m at w b)
 
 pub words-stand : (m : List ℕ) (start n : ℕ) → Bytes-only m → start + 4 * n ≤ length m → words-bytes (words-at m start n) ≡ stretch m start (4 * n)
 unfolding words-bytes words-at
@@ -188,14 +186,8 @@ words-stand m start zero b h = refl
 words-stand m start (suc n) b h =
     let e : 4 + 4 * n ≡ 4 * suc n = omega arith in
     ap₂ (λ (x y : List ℕ). x ++ y) (number-stands m 4 start b (omega arith)) (words-stand m (start + 4) n b (omega arith))
-    ∙ ap (λ (l : List ℕ). take 4 (drop start m) ++ take (4 * n) l) (sym (drop-drop 4 start m))
-    ∙ sym (take-add 4 (4 * n) (drop start m))
+    ∙ sym (part-add m start 4 (4 * n))
     ∙ ap (λ (k : ℕ). take k (drop start m)) e
-
-pub length-words-at : (m : List ℕ) (start n : ℕ) → length (words-at m start n) ≡ n
-unfolding words-at
-length-words-at m start zero = refl
-length-words-at m start (suc n) = ap suc (length-words-at m (start + 4) n)
 
 -- ---- the other terms
 

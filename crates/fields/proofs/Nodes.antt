@@ -6,11 +6,12 @@ use Prim.Native.Nat.{ℕ, _+_, _*_, _-_, _≤_, _<_}
 use native.Mathlib.Omega.{arith}
 use lib.Dec.{eqb}
 use lib.ListN.{length, getD, take, drop}
-use lib.Seq.{take-add, drop-drop, sets}
+use lib.Seq.{sets}
 use borrow.Author.Tests.{le-ltb}
 use Rattle.format.specs.Numbers.{in-bytes}
 use Rattle.format.specs.Rows.{kind-in, offset-in, parts-in}
 use Rattle.octets.specs.Parts.{choose}
+use Rattle.octets.proofs.Parts.{length-words-at, part-add}
 use Rattle.contents.specs.Found.{value, text-width, text-end, atom-end, pid-found, pids-found, words-found, counted-found, references-found, content-of}
 use Rattle.contents.specs.Meaning.{words-at, label-of}
 use Rattle.contents.specs.declared.Content.{Content}
@@ -19,7 +20,7 @@ use Rattle.contents.proofs.ByKind.{kind-10, kind-12}
 use Rattle.layout.specs.Layout.{Put}
 use Rattle.fields.specs.Shape.{before, after}
 use Rattle.fields.specs.Sound.{Bytes-only, listed-in, before-in, after-in, Around}
-use Rattle.fields.proofs.Leads.{number-stands, words-stand, length-words-at}
+use Rattle.fields.proofs.Leads.{number-stands, words-stand}
 use Rattle.fields.proofs.Stands.{there, one, number-there, copied-length, copied-room, copied-put}
 
 -- ---- where a node ends
@@ -47,9 +48,6 @@ module _ (m : List ℕ) (at : ℕ) where
       n ∙ sym (end-by 119 (omega arith) e ∙ end-there 1 refl (omega arith) (omega arith))
 
 -- ---- the fields around it
-
-two-parts : (m : List ℕ) (o i j : ℕ) → take (i + j) (drop o m) ≡ take i (drop o m) ++ take j (drop (o + i) m)
-two-parts m o i j = take-add i j (drop o m) ∙ ap (λ (l : List ℕ). take i (drop o m) ++ take j l) (drop-drop i o m)
 
 module _ (m places lengths : List ℕ) (kind at parts : ℕ) (b : Bytes-only m) where
   around-by : (h end k : ℕ) (c : Content) → content-of m places lengths kind at ≡ c → at + h ≤ length m → end + k ≤ length m → h + k ≤ 262192
@@ -79,8 +77,8 @@ module _ (m places lengths : List ℕ) (kind at parts : ℕ) (b : Bytes-only m) 
       ap₂ (λ (x y : List ℕ). x ++ y) (number-stands m 4 end b (omega arith))
       (ap₂ (λ (x y : List ℕ). x ++ y) (number-stands m 4 (end + 4) b (omega arith)) (number-stands m 4 (end + 8) b (omega arith))
       ∙ ap (λ (j : ℕ). take 4 (drop (end + 4) m) ++ take 4 (drop j m)) (sym e)
-      ∙ sym (two-parts m (end + 4) 4 4))
-      ∙ sym (two-parts m end 4 8)
+      ∙ sym (part-add m (end + 4) 4 4))
+      ∙ sym (part-add m end 4 8)
 
   pub around-88 : (end : ℕ) → kind ≡ 10 → at < length m → getD m at 0 ≡ 88 → end ≡ atom-end m (at + 1) → end + 12 ≤ length m → Around m places lengths kind at parts 1 end 12
   unfolding label-of before after
@@ -120,7 +118,7 @@ module _ (m places lengths : List ℕ) (kind at parts : ℕ) (b : Bytes-only m) 
       l h (omega arith)
       (ap (λ (j : ℕ). 90 ∷ in-bytes 2 j) (length-words-at m (end + 4) n ∙ w) ∙ number-there m 90 at 2 b e l)
       (ap₂ (λ (x y : List ℕ). x ++ y) (number-stands m 4 end b (omega arith)) (words-stand m (end + 4) n b (omega arith))
-      ∙ sym (two-parts m end 4 (4 * n))))
+      ∙ sym (part-add m end 4 (4 * n))))
 
 -- the number of words by an equation
 pub same-words : (m places lengths : List ℕ) (kind at parts h end v n : ℕ) → n ≡ v → Around m places lengths kind at parts h end (4 + 4 * v) → Around m places lengths kind at parts h end (4 + 4 * n)

@@ -6,7 +6,7 @@ use Prim.Native.Nat.{ℕ, suc, _+_, _-_, _/_, _≤_, _<_}
 use native.Mathlib.Omega.{arith}
 use lib.Dec.{leb, ltb}
 use lib.ListN.{length, getD, take, drop, length-append}
-use lib.Seq.{take-add, drop-drop, drop-cons, sets}
+use lib.Seq.{drop-cons, sets}
 use borrow.Author.Tests.{le-ltb, lt-leb, ltb-true, ltb-false}
 use Rattle.format.specs.Numbers.{in-bytes}
 use Rattle.format.specs.Term.{list}
@@ -14,7 +14,7 @@ use Rattle.format.specs.Canonical.{integer-bytes, atom-bytes, small}
 use Rattle.format.specs.Rows.{kind-in, offset-in, parts-in}
 use Rattle.format.proofs.Numbers.{length-in-bytes}
 use Rattle.octets.proofs.Numbers.{big-one, bytes-one}
-use Rattle.octets.proofs.Parts.{length-part}
+use Rattle.octets.proofs.Parts.{length-part, part-add}
 use Rattle.octets.specs.Parts.{choose}
 use Rattle.contents.specs.Found.{value, byte-found, signed-whole, signed-found, integer-found, float-found, text-width, text-found, atom-found, bytes-found, binary-found, kind-found, content-of}
 use Rattle.contents.specs.Meaning.{coded, bare, label-of}
@@ -123,17 +123,16 @@ module _ (m : List ℕ) (tag at w : ℕ) (b : Bytes-only m) (e : getD m at 0 ≡
   pub number-there : at + (1 + w) ≤ length m → tag ∷ in-bytes w (value m w (at + 1)) ≡ take (1 + w) (drop at m)
   number-there h =
       sym
-      (take-add 1 w (drop at m)
-      ∙ ap₂ (λ (x y : List ℕ). x ++ y) (one (omega arith)) (ap (take w) (drop-drop 1 at m) ∙ sym (number-stands m w (at + 1) b (omega arith))))
+      (part-add m at 1 w
+      ∙ ap₂ (λ (x y : List ℕ). x ++ y) (one (omega arith)) (sym (number-stands m w (at + 1) b (omega arith))))
 
   pub body-there : (k : ℕ) → at + (1 + (w + k)) ≤ length m → tag ∷ (in-bytes w (value m w (at + 1)) ++ take k (drop (at + 1 + w) m)) ≡ take (1 + (w + k)) (drop at m)
   body-there k h =
       sym
-      (take-add 1 (w + k) (drop at m)
+      (part-add m at 1 (w + k)
       ∙ ap₂ (λ (x y : List ℕ). x ++ y) (one (omega arith))
-      (ap (take (w + k)) (drop-drop 1 at m)
-      ∙ take-add w k (drop (at + 1) m)
-      ∙ ap₂ (λ (x y : List ℕ). x ++ y) (sym (number-stands m w (at + 1) b (omega arith))) (ap (take k) (drop-drop w (at + 1) m))))
+      (part-add m (at + 1) w k
+      ∙ ap (λ (x : List ℕ). x ++ take k (drop (at + 1 + w) m)) (sym (number-stands m w (at + 1) b (omega arith)))))
 
 signed-bytes : (v : ℕ) → 256 ≤ v → v < 4294967296 → (m places : List ℕ) (parts : ℕ)
     → (before (label-of m (listed-in places) 1 (signed-whole v)) parts ≡ 98 ∷ in-bytes 4 v) × (after (label-of m (listed-in places) 1 (signed-whole v)) parts ≡ [])

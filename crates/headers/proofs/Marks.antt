@@ -2,12 +2,13 @@
 use mathlib.Core.Path.{_≡_, refl, sym, _∙_, subst}
 use mathlib.Core.Bool.{Bool, true, false, _&&_, _||_, cond}
 use mathlib.Core.List.{List, [], _∷_}
-use Prim.Native.Nat.{ℕ, zero, suc, _<_}
+use Prim.Native.Nat.{ℕ, _<_}
 use native.Mathlib.Omega.{arith}
 use lib.Dec.{eqb}
 use lib.ListN.{length, getD, set, replicate}
 use lib.Seq.{getD-set-same, getD-set-other}
 use borrow.Author.Tests.{eqb-true, eqb-false, eq-eqb}
+use Rattle.format.proofs.Words.{getD-all}
 use Rattle.packets.specs.Header.{Reference, named, filled}
 use Rattle.headers.specs.Code.{mark-of, Marked}
 
@@ -63,12 +64,7 @@ module _ (marks : List ℕ) (earlier : List Reference) (p : ℕ) (m : Marked mar
 
 pub marked-none : Marked (replicate 2048 0) []
 unfolding Marked mark-of filled named
-marked-none p small = zeros 2048 p
-  where
-    zeros : (n i : ℕ) → _≡_ {A = ℕ} (getD (replicate n 0) i 0) 0
-    zeros zero i = refl
-    zeros (suc n) zero = refl
-    zeros (suc n) (suc i) = zeros n i
+marked-none p small = getD-all 2048 p 0
 
 -- the mark of another place stays
 mark-other : (r : Reference) (earlier : List Reference) (q : ℕ) → eqb (r .place) q ≡ false → mark-of q (r ∷ earlier) ≡ mark-of q earlier

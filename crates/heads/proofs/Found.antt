@@ -9,14 +9,14 @@ use lib.Dec.{eqb, leb, ltb}
 use lib.ListN.{length, getD}
 use borrow.Author.Tests.{eqb-true}
 use Rattle.format.specs.Text.{check}
-use Rattle.format.specs.Answer.{Answer, Position, at-offset, Reading, after, rule, byte, bytes, number}
-use Rattle.format.specs.Head.{Atoms, an-atom, an-arity, Form, small-integer-ext, integer-ext, new-float-ext, atom-cache-ref, nil-ext, string-ext, list-ext, binary-ext, bit-binary-ext, map-ext, reference-ext, export-ext, big-ext, tuple-ext, pid-ext, new-reference-ext, atom-ext, port-ext, text-or, finite, bits-rule, forms, form-in, form-or, form, fields, head, later, known, parts, characters, elements, pairs}
+use Rattle.format.specs.Answer.{Position, at-offset, after, rule, byte, bytes, number}
+use Rattle.format.specs.Head.{Atoms, an-atom, an-arity, Form, small-integer-ext, integer-ext, new-float-ext, atom-cache-ref, nil-ext, string-ext, list-ext, binary-ext, bit-binary-ext, map-ext, reference-ext, export-ext, big-ext, tuple-ext, pid-ext, new-reference-ext, atom-ext, port-ext, text-or, finite, bits-rule, forms, form-in, form-or, form, fields, head, later, parts, characters, elements, pairs}
 use Rattle.format.specs.Head as format
 use Rattle.format.specs.Reading.{empty-108}
 use Rattle.format.proofs.Bridge.{byte-at, byte-end}
-use Rattle.format.proofs.Opening.{by-less}
-use Rattle.format.proofs.Holds.{Holds, next, weaken, bind, done-holds, refused-holds}
+use Rattle.format.proofs.Holds.{Holds, next, weaken, done-holds, refused-holds, skip}
 use Rattle.format.proofs.Invariant.{In-step, on-byte, fields-kept, form-kept}
+use Rattle.format.proofs.Tests.{by-less}
 use Rattle.heads.specs.declared.Wanted.{Wanted}
 use Rattle.heads.specs.Code.{wanted-of, allowed}
 use Rattle.heads.proofs.Tags.{stands, fails}
@@ -90,10 +90,6 @@ record Shape (p : Bool) (h : format.Head) : Type 0 where
   wanting : Wanting h
   filled : p ≡ true → empty-108 h ≡ false
 
--- after any step
-pub any-step : {A B : Type 0} (o : Answer (A × Position)) {f : A → Reading B} {Q : B → Position → Type 0} → ((a : A) (t : Position) → Holds (f a t) Q) → Holds (after o f) Q
-any-step o k = bind {o = o} (record { known = λ a t e. k a t })
-
 full : (l : List format.Wanted) (n : ℕ) (x : format.Later) → Wants l → Shape true (parts l n x)
 unfolding Wanting
 full l n x w = record { wanting = w; filled = λ _. refl }
@@ -101,36 +97,36 @@ full l n x w = record { wanting = w; filled = λ _. refl }
 module _ (atoms : Atoms) (p : ℕ) where
   shape : (f : Form) (s : Position) → Holds (fields atoms p f s) (λ h _. Shape (plain f) h)
   unfolding fields plain Wanting
-  shape small-integer-ext s = any-step (number p 1 s) λ n t. done-holds _ t (full _ _ _ no-part)
-  shape integer-ext s = any-step (number p 4 s) λ n t. done-holds _ t (full _ _ _ no-part)
-  shape new-float-ext s = any-step (number p 8 s) λ n t. any-step (rule (finite n) 4 p t) λ _ t. done-holds _ t (full _ _ _ no-part)
+  shape small-integer-ext s = skip (number p 1 s) λ n t. done-holds _ t (full _ _ _ no-part)
+  shape integer-ext s = skip (number p 4 s) λ n t. done-holds _ t (full _ _ _ no-part)
+  shape new-float-ext s = skip (number p 8 s) λ n t. skip (rule (finite n) 4 p t) λ _ t. done-holds _ t (full _ _ _ no-part)
   shape atom-cache-ref s =
-      any-step (number p 1 s) λ n t. any-step (rule (ltb n (atoms .n)) 6 p t) λ _ t. any-step (text-or (atoms .text n) 14 0 t) λ cs t.
+      skip (number p 1 s) λ n t. skip (rule (ltb n (atoms .n)) 6 p t) λ _ t. skip (text-or (atoms .text n) 14 0 t) λ cs t.
       done-holds _ t (full _ _ _ no-part)
   shape nil-ext s = done-holds _ s (record { wanting = tt; filled = λ _. refl })
-  shape string-ext s = any-step (number p 2 s) λ n t. any-step (bytes p n t) λ bs t. done-holds _ t (record { wanting = tt; filled = λ _. refl })
-  shape list-ext s = any-step (number p 4 s) λ n t. done-holds _ t (record { wanting = tt; filled = λ e. let z : _≡_ {A = ℕ} 0 1 = cc in absurd (omega arith) })
-  shape binary-ext s = any-step (number p 4 s) λ n t. any-step (bytes p n t) λ bs t. done-holds _ t (full _ _ _ no-part)
+  shape string-ext s = skip (number p 2 s) λ n t. skip (bytes p n t) λ bs t. done-holds _ t (record { wanting = tt; filled = λ _. refl })
+  shape list-ext s = skip (number p 4 s) λ n t. done-holds _ t (record { wanting = tt; filled = λ e. let z : _≡_ {A = ℕ} 0 1 = cc in absurd (omega arith) })
+  shape binary-ext s = skip (number p 4 s) λ n t. skip (bytes p n t) λ bs t. done-holds _ t (full _ _ _ no-part)
   shape bit-binary-ext s =
-      any-step (number p 4 s) λ n t. any-step (number p 1 t) λ b t. any-step (bytes p n t) λ bs t. any-step (rule (bits-rule n b) 4 p t) λ _ t.
+      skip (number p 4 s) λ n t. skip (number p 1 t) λ b t. skip (bytes p n t) λ bs t. skip (rule (bits-rule n b) 4 p t) λ _ t.
       done-holds _ t (full _ _ _ no-part)
-  shape map-ext s = any-step (number p 4 s) λ n t. done-holds _ t (record { wanting = tt; filled = λ _. refl })
+  shape map-ext s = skip (number p 4 s) λ n t. done-holds _ t (record { wanting = tt; filled = λ _. refl })
   shape reference-ext s = done-holds _ s (full _ _ _ one-node)
   shape export-ext s = done-holds _ s (full _ _ _ a-function)
   shape (big-ext w) s =
-      any-step (number p w s) λ n t. any-step (number p 1 t) λ b t. any-step (bytes p n t) λ ds t. any-step (rule (leb b 1) 4 p t) λ _ t.
+      skip (number p w s) λ n t. skip (number p 1 t) λ b t. skip (bytes p n t) λ ds t. skip (rule (leb b 1) 4 p t) λ _ t.
       done-holds _ t (full _ _ _ no-part)
-  shape (tuple-ext w) s = any-step (number p w s) λ n t. done-holds _ t (full _ _ _ no-part)
+  shape (tuple-ext w) s = skip (number p w s) λ n t. done-holds _ t (full _ _ _ no-part)
   shape (pid-ext w) s = done-holds _ s (full _ _ _ one-node)
-  shape (new-reference-ext w) s = any-step (number p 2 s) λ n t. any-step (rule (leb 1 n && leb n 3) 4 p t) λ _ t. done-holds _ t (full _ _ _ one-node)
-  shape (atom-ext c w) s = any-step (number p w s) λ n t. any-step (bytes p n t) λ bs t. any-step (text-or (check c bs) 5 p t) λ cs t. done-holds _ t (full _ _ _ no-part)
+  shape (new-reference-ext w) s = skip (number p 2 s) λ n t. skip (rule (leb 1 n && leb n 3) 4 p t) λ _ t. done-holds _ t (full _ _ _ one-node)
+  shape (atom-ext c w) s = skip (number p w s) λ n t. skip (bytes p n t) λ bs t. skip (text-or (check c bs) 5 p t) λ cs t. done-holds _ t (full _ _ _ no-part)
   shape (port-ext v w) s = done-holds _ s (full _ _ _ one-node)
 
 -- what a head wants
 pub head-wanting : (atoms : Atoms) (w : format.Wanted) (s : Position) → Holds (head atoms w s) (λ h _. Wanting h)
 unfolding head
 head-wanting atoms w s =
-    any-step (byte (s .at) s) λ tag t. any-step (form (s .at) w tag t) λ f t.
+    skip (byte (s .at) s) λ tag t. skip (form (s .at) w tag t) λ f t.
     weaken (λ h _. Shape (plain f) h) (shape atoms (s .at) f t) (λ h _ x. x .wanting)
 
 -- the layout of a tag other than 108

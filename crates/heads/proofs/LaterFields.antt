@@ -13,13 +13,14 @@ use Rattle.format.specs.Answer.{good, refused, at-offset}
 use Rattle.format.specs.Head.{known, pid-fields, port-fields, reference-fields, old-reference-fields, later, words, words-rule, creation-rule}
 use Rattle.format.specs.Head as format
 use Rattle.format.proofs.Bridge.{number-at, number-end}
-use Rattle.format.proofs.Opening.{by-less}
+use Rattle.format.proofs.Tests.{by-less}
 use Rattle.octets.proofs.Numbers.{big-halves, big-one}
+use Rattle.octets.specs.Parts.{words-at}
 use Rattle.heads.specs.declared.Later.{Later}
 use Rattle.heads.specs.declared.Later.the-variants.{Known, Pid, Port, Reference, OldReference}
 use Rattle.heads.specs.declared.Step.{Step}
 use Rattle.heads.specs.declared.Step.the-variants.{Got, Refused}
-use Rattle.heads.specs.Code.{step-of, later-fields, later-of, words-at}
+use Rattle.heads.specs.Code.{step-of, later-fields, later-of}
 
 -- a test's result that the code denies
 pub refuted : {b t : Bool} → b ≡ t → not b ≡ true → t ≡ false
@@ -70,27 +71,27 @@ pub creation-one : (r : Bool) (w : ℕ) (m : List ℕ) (at : ℕ) → w ≡ 1 �
 unfolding creation-rule
 creation-one r w m at e f = rw (f, e) (three (big-endian (take 1 (drop at m))))
 
-pub words-none : (m : List ℕ) (w k at : ℕ) → k ≡ 0 → true ≡ words-rule w (words-at m k at)
+pub words-none : (m : List ℕ) (w k at : ℕ) → k ≡ 0 → true ≡ words-rule w (words-at m at k)
 unfolding words-rule words-at
 words-none m w k at e = rw e
 
-words-suc : (m : List ℕ) (w k at : ℕ) → (k ≡ 0 → ⊥) → words-rule w (words-at m k at) ≡ (not (eqb w 1) || ltb (big-endian (take 4 (drop at m))) 262144)
+words-suc : (m : List ℕ) (w k at : ℕ) → (k ≡ 0 → ⊥) → words-rule w (words-at m at k) ≡ (not (eqb w 1) || ltb (big-endian (take 4 (drop at m))) 262144)
 unfolding words-rule words-at
 words-suc m w zero at f = absurd (f refl)
 words-suc m w (suc k) at f = refl
 
-pub words-any : (m : List ℕ) (w k at : ℕ) → (k ≡ 0 → ⊥) → (w ≡ 1 → ⊥) → true ≡ words-rule w (words-at m k at)
+pub words-any : (m : List ℕ) (w k at : ℕ) → (k ≡ 0 → ⊥) → (w ≡ 1 → ⊥) → true ≡ words-rule w (words-at m at k)
 words-any m w k at f g = rw (words-suc m w k at f, ne-eqb w 1 g)
 
-pub words-first : (m : List ℕ) (w k at : ℕ) → (k ≡ 0 → ⊥) → w ≡ 1 → ltb (big-endian (take 4 (drop at m))) 262144 ≡ words-rule w (words-at m k at)
+pub words-first : (m : List ℕ) (w k at : ℕ) → (k ≡ 0 → ⊥) → w ≡ 1 → ltb (big-endian (take 4 (drop at m))) 262144 ≡ words-rule w (words-at m at k)
 words-first m w k at f e = rw (words-suc m w k at f, eq-eqb w 1 e)
 
-words-there : (m : List ℕ) (p k at rows : ℕ) → at + k * 4 ≤ length m → words p k (at-offset m at rows) ≡ good (words-at m k at, at-offset m (at + k * 4) rows)
+words-there : (m : List ℕ) (p k at rows : ℕ) → at + k * 4 ≤ length m → words p k (at-offset m at rows) ≡ good (words-at m at k, at-offset m (at + k * 4) rows)
 unfolding words words-at
 words-there m p zero at rows h = ap (λ (j : ℕ). good ([], at-offset m j rows)) (omega arith)
 words-there m p (suc k) at rows h =
     rw (number-at m p 4 at rows (omega arith), words-there m p k (at + 4) rows (omega arith))
-    (ap (λ (j : ℕ). good (big-endian (take 4 (drop at m)) ∷ words-at m k (at + 4), at-offset m j rows)) (omega arith))
+    (ap (λ (j : ℕ). good (big-endian (take 4 (drop at m)) ∷ words-at m (at + 4) k, at-offset m j rows)) (omega arith))
 
 words-end : (m : List ℕ) (p k at rows : ℕ) → at ≤ length m → length m < at + k * 4 → words p k (at-offset m at rows) ≡ refused 2 p
 unfolding words
@@ -201,13 +202,13 @@ module _ (m : List ℕ) (at place rows : ℕ) (inside : at ≤ length m) where
       unfolding later-fields later step-of
       reference-creation f = rw (number-at m place w at rows (omega arith), words-there m place k (at + w) rows (omega arith), f)
 
-      pub reference-words : words-rule w (words-at m k (at + w)) ≡ false → Refused 4 place ≡ later-fields m at place (reference-fields k w) rows
+      pub reference-words : words-rule w (words-at m (at + w) k) ≡ false → Refused 4 place ≡ later-fields m at place (reference-fields k w) rows
       unfolding later-fields later step-of
       reference-words f =
           let e = and-not (creation-rule w (big-endian (take w (drop at m)))) _ f in
           rw (number-at m place w at rows (omega arith), words-there m place k (at + w) rows (omega arith), e)
 
-      pub reference-there : creation-rule w (big-endian (take w (drop at m))) ≡ true → words-rule w (words-at m k (at + w)) ≡ true
+      pub reference-there : creation-rule w (big-endian (take w (drop at m))) ≡ true → words-rule w (words-at m (at + w) k) ≡ true
           → Got (at + w + k * 4) ≡ later-fields m at place (reference-fields k w) rows
       unfolding later-fields later step-of
       reference-there e f = rw (number-at m place w at rows (omega arith), words-there m place k (at + w) rows (omega arith), e, f)
@@ -219,17 +220,17 @@ module _ (m : List ℕ) (at place rows : ℕ) (inside : at ≤ length m) where
       (λ over. rw (words-there m place 1 at rows (omega arith), number-end m place 1 (at + 4) rows (omega arith) (omega arith)))
 
   module _ (whole : 5 ≤ length m - at) where
-    pub old-words : words-rule 1 (words-at m 1 at) ≡ false → Refused 4 place ≡ later-fields m at place old-reference-fields rows
+    pub old-words : words-rule 1 (words-at m at 1) ≡ false → Refused 4 place ≡ later-fields m at place old-reference-fields rows
     unfolding later-fields later step-of
     old-words f = rw (words-there m place 1 at rows (omega arith), number-at m place 1 (at + 4) rows (omega arith), f)
 
     pub old-creation : creation-rule 1 (big-endian (take 1 (drop (at + 4) m))) ≡ false → Refused 4 place ≡ later-fields m at place old-reference-fields rows
     unfolding later-fields later step-of
     old-creation f =
-        let e = and-not (words-rule 1 (words-at m 1 at)) _ f in
+        let e = and-not (words-rule 1 (words-at m at 1)) _ f in
         rw (words-there m place 1 at rows (omega arith), number-at m place 1 (at + 4) rows (omega arith), e)
 
-    pub old-there : words-rule 1 (words-at m 1 at) ≡ true → creation-rule 1 (big-endian (take 1 (drop (at + 4) m))) ≡ true
+    pub old-there : words-rule 1 (words-at m at 1) ≡ true → creation-rule 1 (big-endian (take 1 (drop (at + 4) m))) ≡ true
         → Got (at + 4 + 1) ≡ later-fields m at place old-reference-fields rows
     unfolding later-fields later step-of
     old-there e f = rw (words-there m place 1 at rows (omega arith), number-at m place 1 (at + 4) rows (omega arith), e, f)

@@ -14,7 +14,7 @@ use Rattle.format.specs.Answer.{after, done, number, at-offset}
 use Rattle.format.specs.Head.{Atoms, fields, leaf, tuple-ext, list-ext, map-ext, string-ext, binary-ext, bit-binary-ext, big-ext, new-float-ext, new-reference-ext, finite, bits-rule, bits-meaning, clear-low}
 use Rattle.format.specs.Rows.{kind-of}
 use Rattle.format.proofs.Bridge.{number-at, number-end, bytes-at, bytes-end}
-use Rattle.format.proofs.Opening.{by-less}
+use Rattle.format.proofs.Tests.{by-less}
 use Rattle.octets.proofs.Parts.{length-part}
 use Rattle.heads.specs.declared.Later.the-variants.{Known, Reference}
 use Rattle.heads.specs.declared.Head.the-variants.{Refused, Parts, Characters, Elements, Pairs}

@@ -12,12 +12,12 @@ use Rattle.format.specs.Head.{Atoms, any, an-atom, an-arity, later, words, crea
 use Rattle.format.specs.Head as format
 use Rattle.format.specs.Reading.{empty-108, opening}
 use Rattle.format.specs.Rows.{kind-of}
-use Rattle.format.proofs.Holds.{Holds, bind, weaken, done-holds, refused-holds}
+use Rattle.format.proofs.Holds.{Holds, bind, weaken, done-holds, refused-holds, skip}
 use Rattle.heads.specs.declared.Later.{Later}
 use Rattle.heads.specs.declared.Head.the-variants.{Refused, Parts, Characters, Elements, Pairs}
 use Rattle.heads.specs.declared.Opening.{Opening}
 use Rattle.heads.specs.Code.{kind-later, later-of, head-at, opening-of}
-use Rattle.heads.proofs.Found.{Past, past-is, head-past-tag, Wants, no-part, one-node, a-function, Wanting, head-wanting, any-step}
+use Rattle.heads.proofs.Found.{Past, past-is, head-past-tag, Wants, no-part, one-node, a-function, Wanting, head-wanting}
 
 -- an opening's tag stands at `at` or past it, its head ends past the tag, in the message, with no row taken
 pub record Opens (m : List ℕ) (at rows place : ℕ) (h : format.Head) (t : Position) : Type 0 where
@@ -196,14 +196,14 @@ pub later-kind : (p : ℕ) (l : format.Later) (s : Position) → Holds (later p 
 unfolding later kind-of kind-later
 later-kind p (known l) s = done-holds l s refl
 later-kind p (pid-fields w) s =
-    any-step (number p 4 s) λ id t. any-step (number p 4 t) λ serial t. any-step (number p w t) λ creation t.
-    any-step (rule (ltb id (2 ^ 15) && ltb serial (2 ^ 13) && creation-rule w creation) 4 p t) λ _ t. done-holds _ t refl
+    skip (number p 4 s) λ id t. skip (number p 4 t) λ serial t. skip (number p w t) λ creation t.
+    skip (rule (ltb id (2 ^ 15) && ltb serial (2 ^ 13) && creation-rule w creation) 4 p t) λ _ t. done-holds _ t refl
 later-kind p (port-fields v w) s =
-    any-step (number p v s) λ id t. any-step (number p w t) λ creation t.
-    any-step (rule ((eqb v 8 || ltb id (2 ^ 28)) && creation-rule w creation) 4 p t) λ _ t. done-holds _ t refl
+    skip (number p v s) λ id t. skip (number p w t) λ creation t.
+    skip (rule ((eqb v 8 || ltb id (2 ^ 28)) && creation-rule w creation) 4 p t) λ _ t. done-holds _ t refl
 later-kind p (reference-fields k w) s =
-    any-step (number p w s) λ creation t. any-step (words p k t) λ ws t.
-    any-step (rule (creation-rule w creation && words-rule w ws) 4 p t) λ _ t. done-holds _ t refl
+    skip (number p w s) λ creation t. skip (words p k t) λ ws t.
+    skip (rule (creation-rule w creation && words-rule w ws) 4 p t) λ _ t. done-holds _ t refl
 later-kind p old-reference-fields s =
-    any-step (words p 1 s) λ ws t. any-step (number p 1 t) λ creation t.
-    any-step (rule (words-rule 1 ws && creation-rule 1 creation) 4 p t) λ _ t. done-holds _ t refl
+    skip (words p 1 s) λ ws t. skip (number p 1 t) λ creation t.
+    skip (rule (words-rule 1 ws && creation-rule 1 creation) 4 p t) λ _ t. done-holds _ t refl

@@ -13,14 +13,13 @@ use Rattle.format.specs.Head.{Atoms, any, forms, form-in, form-or, form, fields
 use Rattle.format.specs.Head as format
 use Rattle.format.specs.Reading.{empty-108, opening}
 use Rattle.format.proofs.Bridge.{byte-at, byte-end, number-at, number-end}
-use Rattle.format.proofs.Opening.{by-less}
 use Rattle.format.proofs.Holds.{Holds, done-holds, refused-holds}
+use Rattle.format.proofs.Tests.{both-true, by-less}
 use Rattle.heads.specs.declared.Wanted.{Wanted}
 use Rattle.heads.specs.declared.Wanted.the-variants.{Any}
 use Rattle.heads.specs.declared.Head.{Head}
 use Rattle.heads.specs.declared.Opening.{Opening}
 use Rattle.heads.specs.Code.{head-of, head-at, opening-of, opened-at, wanted-of, allowed, empty-at, Skipped}
-use Rattle.heads.proofs.Texts.{both}
 use Rattle.heads.proofs.Found.{not-108}
 
 module _ (m : List ℕ) (p : ℕ) where
@@ -45,8 +44,8 @@ module _ (m : List ℕ) (p : ℕ) where
   empty-is : empty-at m p ≡ true → Empty
   unfolding empty-at
   empty-is e =
-      let b = both (leb 5 (length m - p) && eqb (getD m p 0) 108) (eqb (big-endian (take 4 (drop (p + 1) m))) 0) e in
-      let c = both (leb 5 (length m - p)) (eqb (getD m p 0) 108) (b .0) in
+      let b = both-true (leb 5 (length m - p) && eqb (getD m p 0) 108) (eqb (big-endian (take 4 (drop (p + 1) m))) 0) e in
+      let c = both-true (leb 5 (length m - p)) (eqb (getD m p 0) 108) (b .0) in
       record { whole = leb-true 5 (length m - p) (c .0); tag-is = eqb-true _ _ (c .1); none-is = eqb-true _ _ (b .1) }
 
   pub empty-inside : empty-at m p ≡ true → p + 5 ≤ length m

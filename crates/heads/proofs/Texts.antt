@@ -1,16 +1,15 @@
 -- What the fields of atoms say, from the tests that the code makes. Assumes nothing.
-use mathlib.Core.Path.{_≡_, refl}
-use mathlib.Core.Bool.{Bool, true, false, _&&_}
+use mathlib.Core.Path.{_≡_}
+use mathlib.Core.Bool.{Bool, true, false}
 use mathlib.Core.List.{List}
 use Prim.Native.Nat.{ℕ, _+_, _-_, _*_, _<_, _≤_}
 use native.Mathlib.Omega.{arith}
-use lib.Dec.{eqb}
 use lib.ListN.{length, getD, take, drop}
-use borrow.Author.Tests.{lt-ltb, le-ltb, le-leb, lt-leb, eqb-true}
+use borrow.Author.Tests.{lt-ltb, le-ltb, le-leb, lt-leb}
 use Rattle.format.specs.Numbers.{big-endian}
 use Rattle.format.specs.Text.{invalid-at, utf-8, coding-of, check}
 use Rattle.format.specs.Head.{Atoms, fields, text-or, atom-ext, atom-cache-ref}
-use Rattle.format.specs.AtomList.{AtomList, of-size, place-length, place-bytes, place-text, atoms-of}
+use Rattle.format.specs.AtomList.{AtomList, place-length, place-bytes, place-text, atoms-of}
 use Rattle.format.specs.Rows.{kind-of}
 use Rattle.format.proofs.Bridge.{number-at, number-end, bytes-at, bytes-end}
 use Rattle.text.specs.Shown.{is-valid}
@@ -18,17 +17,6 @@ use Rattle.text.proofs.Valid.{found, failed}
 use Rattle.heads.specs.declared.Later.the-variants.{Known}
 use Rattle.heads.specs.declared.Head.the-variants.{Refused, Parts}
 use Rattle.heads.specs.Code.{head-of, head-at, fields-of, kind-later, later-of, lent}
-
-pub both : (s t : Bool) → (s && t) ≡ true → (s ≡ true) × (t ≡ true)
-both true t e = (refl, e)
-both false t e = let z : _≡_ {A = ℕ} 0 1 = cc in absurd (omega arith)
-
--- the sizes of a list that is of its stated size
-pub sizes-of : (list : AtomList) → of-size list ≡ true → (length (list .places) ≡ 8160) × (length (list .lengths) ≡ 255)
-unfolding of-size
-sizes-of list e =
-    let b = both (eqb (length (list .places)) 8160) (eqb (length (list .lengths)) 255) e in
-    (eqb-true _ _ (b .0), eqb-true _ _ (b .1))
 
 module _ (atoms : Atoms) (m : List ℕ) (at rows : ℕ) (inside : at < length m) (utf8 : Bool) (w : ℕ) where
   pub atom-short : length m - at - 1 < w → Refused 2 at ≡ fields-of atoms m at (atom-ext (coding-of utf8) w) rows

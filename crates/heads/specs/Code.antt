@@ -2,7 +2,7 @@
 use mathlib.Core.Path.{_≡_}
 use mathlib.Core.Bool.{Bool, true, false, _&&_}
 use mathlib.Core.List.{List, [], _∷_}
-use Prim.Native.Nat.{ℕ, zero, suc, _+_, _-_, _≤_}
+use Prim.Native.Nat.{ℕ, _+_, _-_, _≤_}
 use lib.Dec.{eqb, leb}
 use lib.ListN.{length, getD, take, drop}
 use Rattle.format.specs.Answer.{Answer, good, refused, Position, at-offset, after}
@@ -59,12 +59,6 @@ head-of (good x) = head-at (x .0) (x .1 .at)
 unfoldable pub fields-of : format.Atoms → List ℕ → ℕ → format.Form → ℕ → Head
 fields-of atoms m at f rows = head-of (fields atoms at f (at-offset m (at + 1) rows))
 
--- the width of a field, in bytes
-pub record Width (w : ℕ) : Type 0 where
-  pub some : 1 ≤ w
-  pub most : w ≤ 4
-  pub even : w ≡ 3 → ⊥
-
 -- the kind k of n bytes with `bits` bits in the last one; 0 where the rule is broken
 pub record Bits (n bits k : ℕ) : Type 0 where
   pub broken : k ≡ 0 → bits-rule n bits ≡ false
@@ -83,11 +77,6 @@ step-of (good x) = step.Got (x .1 .at)
 -- the later fields, from `at` on, of the term at `place`
 unfoldable pub later-fields : List ℕ → ℕ → ℕ → format.Later → ℕ → Step
 later-fields m at place l rows = step-of (later place l (at-offset m at rows))
-
--- k words of four bytes
-unfoldable pub words-at : List ℕ → ℕ → ℕ → List ℕ
-words-at m zero at = []
-words-at m (suc k) at = big-endian (take 4 (drop at m)) ∷ words-at m k (at + 4)
 
 -- the atom list as it is lent
 abbrev pub lent : ℕ → List ℕ → List ℕ → AtomList

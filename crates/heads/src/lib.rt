@@ -17,7 +17,8 @@ ghost use Rattle.format.specs.Head as format;
 ghost use Rattle.format.specs.Reading.{opening};
 ghost use Rattle.format.specs.AtomList.{of-size, atoms-of};
 ghost use Rattle.heads.specs.Quick.{only-if, fit, quick-later, quick-word};
-ghost use Rattle.heads.specs.Code.{Width, Bits, head-of, fields-of, later-of, step-of, lent, words-at, later-fields, tag-fields, allowed, wanted-of, empty-at, Skipped, opened-at, opening-of};
+ghost use Rattle.octets.specs.Parts.{Width, words-at};
+ghost use Rattle.heads.specs.Code.{Bits, head-of, fields-of, later-of, step-of, lent, later-fields, tag-fields, allowed, wanted-of, empty-at, Skipped, opened-at, opening-of};
 
 // Which terms may stand at a place.
 pub enum Wanted {
@@ -73,20 +74,6 @@ pub enum Step {
     Refused { number: u8, place: usize },
 }
 
-// A number of 1, 2 or 4 bytes.
-fn number(msg: &[u8], at: usize, width: usize) -> usize
-    requires { ⌜ (at + width ≤ length (now msg)) × Width width ⌝ }
-    ensures { λ r. ⌜ (r ≡ big-endian (take width (drop at (now (msg .entry))))) × (r < 4294967296) ⌝ }
-{
-    if width == 1 {
-        return octets::big1(msg, at);
-    }
-    if width == 2 {
-        return octets::big2(msg, at);
-    }
-    octets::big4(msg, at)
-}
-
 // Tags 97 and 98.
 fn integer(msg: &[u8], at: usize, width: usize) -> Head
     requires { ⌜ at < length (now msg) ⌝ }
@@ -119,7 +106,7 @@ fn big(msg: &[u8], at: usize, width: usize) -> Head
             place: at,
         };
     }
-    let n = number(msg, at + 1, width);
+    let n = octets::number(msg, at + 1, width) as usize;
     if left - width - 1 < n {
         return Head::Refused {
             number: 2,
@@ -181,7 +168,7 @@ fn tuple(msg: &[u8], at: usize, width: usize) -> Head
     Head::Parts {
         kind: 4,
         wanted: 0,
-        count: number(msg, at + 1, width),
+        count: octets::number(msg, at + 1, width) as usize,
         later: Later::Known,
         next: at + 1 + width,
     }
@@ -376,7 +363,7 @@ fn atom(msg: &[u8], at: usize, width: usize, utf8: bool) -> Head
             place: at,
         };
     }
-    let n = number(msg, at + 1, width);
+    let n = octets::number(msg, at + 1, width) as usize;
     if left - width < n {
         return Head::Refused {
             number: 2,
@@ -484,7 +471,7 @@ fn port_id_fits(msg: &[u8], at: usize, width: usize) -> bool
 // With a Creation of one byte, the first word is under 2^18.
 fn words_fit(msg: &[u8], at: usize, words: usize, width: usize) -> bool
     requires { ⌜ at + words * 4 ≤ length (now msg) ⌝ }
-    ensures { λ r. ⌜ r ≡ words-rule width (words-at (now (msg .entry)) words at) ⌝ }
+    ensures { λ r. ⌜ r ≡ words-rule width (words-at (now (msg .entry)) at words) ⌝ }
 {
     if words == 0 {
         return true;

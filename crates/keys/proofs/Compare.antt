@@ -1,6 +1,6 @@
 -- What a comparison of rows finds in a table that holds the rows of terms: whether the terms mean the same.
 use mathlib.Core.Path.{_≡_, refl, sym, _∙_, ap, ap₂, subst}
-use mathlib.Core.Bool.{Bool, true, false, false≢true, _||_, or-false}
+use mathlib.Core.Bool.{Bool, true, false, _||_, or-false}
 use mathlib.Core.List.{List, [], _∷_, _++_}
 use mathlib.Core.Option.{Option, some}
 use Prim.Native.Nat.{ℕ, zero, suc, _+_, _-_, _≤_, _<_}
@@ -17,14 +17,12 @@ use Rattle.format.specs.Rows.{Row, tree-rows, rows, word, words-of, size-in, He
 use Rattle.format.proofs.Preorder.{nodes, all-nodes, nodes-prefix}
 use Rattle.format.proofs.Rows.{size-meaning, size-positive, count-relabels, length-tree-rows}
 use Rattle.format.proofs.Words.{here-word, here-rest, Each-row, Small-row, node-packed, node-below, first-here, others-here, row-of}
+use Rattle.format.proofs.Tests.{never}
 use Rattle.contents.specs.Found.{choose}
 use Rattle.keys.specs.Compare.{same-rows, same-from, pair-size, among-steps, among-from}
 use Rattle.contents.proofs.Alike.{Agree, through}
 
 -- ---- tests and the equalities that they stand for
-
-never : {P : Type 0} → false ≡ true → P
-never e = absurd (false≢true e)
 
 -- two tests of one fact are equal
 agree-same : {P : Type 0} (b c : Bool) → Agree b P → Agree c P → b ≡ c

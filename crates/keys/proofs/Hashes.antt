@@ -13,7 +13,7 @@ use Rattle.contents.specs.declared.Content.{Content}
 use Rattle.contents.specs.Found.{choose, content-of}
 use Rattle.contents.specs.Meaning.{term-kind}
 use Rattle.contents.specs.Hash.{mix, hash-contents}
-use Rattle.contents.proofs.Alike.{never}
+use Rattle.format.proofs.Tests.{never}
 use Rattle.contents.proofs.Hashes.{both-true, unless-true, hash-alike}
 use Rattle.keys.specs.Compare.{same-fields, same-row, same-rows, same-from, pair-size, among-steps, among-from, same-terms-raw, among-rows}
 use Rattle.keys.specs.Seen.{slot, Known, hash-row, hash-all, hash-rows, term-hash, Unmet, Recalls-from, Recalls}

@@ -6,7 +6,7 @@ use mathlib.Core.Option.{Option, some}
 use Prim.Native.Nat.{ℕ, _+_}
 use native.Mathlib.Omega.{arith}
 use lib.Dec.{eqb}
-use borrow.Author.Tests.{eq-eqb, ne-eqb, eqb-true}
+use borrow.Author.Tests.{ne-eqb}
 use Rattle.format.specs.Tree.{node, none, _▹_, _▹▹_, size, sizes}
 use Rattle.format.specs.Term.{Label, Term}
 use Rattle.format.specs.Equal.{same, among}
@@ -22,12 +22,9 @@ use Rattle.contents.specs.Found.{choose}
 use Rattle.contents.specs.Meaning.{term-kind}
 use Rattle.keys.specs.Compare.{same-fields, same-row, same-terms-raw, among-rows}
 use Rattle.contents.proofs.Says.{Lent}
-use Rattle.contents.proofs.Alike.{Agree, through}
+use Rattle.contents.proofs.Alike.{Agree, through, numbers-agree}
 use Rattle.contents.proofs.Again.{contents-agree}
 use Rattle.keys.proofs.Compare.{and-then, own, each-row-split, Known-tree, Known-rows, same-from-same, among-from-among, Keys-of}
-
-numbers : (a b : ℕ) → Agree (eqb a b) (a ≡ b)
-numbers a b = record { sure = eqb-true a b; back = eq-eqb a b }
 
 each-row-both : (P Q : Row → Type 0) (rs : List Row) → Each-row P rs → Each-row Q rs → Each-row (λ r. P r × Q r) rs
 unfolding Each-row
@@ -120,7 +117,7 @@ module _ (list : AtomList) (message : List ℕ) (lent : Lent list message) (cap 
           through
           (λ z. ap₂ (λ (a : Label) (b : ℕ). (a, b)) (z .1 .1) (z .1 .0))
           (λ e. let a : r .label ≡ q .label = ap (λ (x : Label × ℕ). x .0) e in (f a, (ap (λ (x : Label × ℕ). x .1) e, a)))
-          (and-then (eqb i j) _ (numbers i j) (λ e. and-then (eqb n n′) c (numbers n n′) (λ _. g e)))
+          (and-then (eqb i j) _ (numbers-agree i j) (λ e. and-then (eqb n n′) c (numbers-agree n n′) (λ _. g e)))
 
   module _ (T : List ℕ) where
     known-tree : {whole : Option ℕ} {n : ℕ} (t : Located) → Held message cap atoms T whole n t → Known-tree Known T whole n t

@@ -8,8 +8,8 @@ use borrow.Author.Tests.{eq-eqb, ne-eqb}
 use Rattle.format.specs.Numbers.{big-endian}
 use Rattle.format.specs.Answer.{good, refused, Position, at-offset}
 use Rattle.format.specs.Message.{version}
-use Rattle.format.proofs.Opening.{by-less}
 use Rattle.format.proofs.Bridge.{byte-at, byte-end, number-at, number-end}
+use Rattle.format.proofs.Tests.{by-less}
 use Rattle.packets.specs.Packet.{starting, continuing, ids, kind-of, opening}
 use Rattle.link.specs.Code.{IdsAre, OpensPacket}
 use Rattle.link.specs.declared.Ids.the-variants as found

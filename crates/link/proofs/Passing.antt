@@ -12,8 +12,9 @@ use Rattle.packets.specs.Header.{Reference, named, half, references}
 use Rattle.packets.specs.Look.{place-in}
 use Rattle.headers.specs.Code.{flags-of, Spells}
 use Rattle.headers.proofs.Good.{GoodNew, GoodCached, good-new, good-cached}
-use Rattle.headers.proofs.Walk.{Along, along-none, along-more, Turned, turned, Begins, begins}
+use Rattle.headers.proofs.Walk.{Along, along-more, Turned, turned, Begins, begins}
 use Rattle.headers.specs.declared.Spelled.the-variants as spelled
+use Rattle.entries.proofs.Loops.{Half-way, start}
 use Rattle.link.specs.Code.{Passes, HeaderRead, NamedAt}
 
 -- ---- passing one
@@ -51,25 +52,18 @@ module _ (s : List ℕ) (h width at : ℕ) where
 -- ---- and one after the other
 
 module _ (s : List ℕ) (at n width first : ℕ) where
-  -- the references before reference i are passed, and it stands at `next`
-  pub record Walked (agreed : Coding) (holding : ℕ → Held) (i next : ℕ) : Type 0 where
-    pub earlier : List Reference
-    pub done : List Reference
-    pub along : Along agreed holding s (flags-of s at n) width (references agreed holding (flags-of s at n) width [] 0 n (at-offset s first 0)) n i next earlier done
-    pub count : length done ≡ i
-
+  -- in a good header, the references before reference i are passed, and it stands at `next`
   pub record Walking (i next : ℕ) : Type 0 where
     pub walked : (agreed : Coding) (holding : ℕ → Held) (rs : List Reference) (t : Position)
-        → references agreed holding (flags-of s at n) width [] 0 n (at-offset s first 0) ≡ good (rs, t) → Walked agreed holding i next
+        → references agreed holding (flags-of s at n) width [] 0 n (at-offset s first 0) ≡ good (rs, t) → Half-way agreed holding s at n width first i next
 
   pub walking-none : Walking 0 first
-  walking-none =
-      record { walked = λ agreed holding rs t e. record { earlier = []; done = []; along = along-none agreed holding s (flags-of s at n) width n first; count = refl } }
+  walking-none = record { walked = λ agreed holding rs t e. start agreed holding s at n width first }
 
   module _ (i next : ℕ) (w : Walking i next) (less : i < n) (p : Place) (a : ℕ) (passes : Passes s (half (flags-of s at n) i) width next (record { place = p; next = a })) where
     -- the reference that is passed
     pub record Passing (agreed : Coding) (holding : ℕ → Held) : Type 0 where
-      pub before : Walked agreed holding i next
+      pub before : Half-way agreed holding s at n width first i next
       pub found : Reference
       pub names : found .place ≡ p .0
       pub inside : a ≤ length s
@@ -78,7 +72,7 @@ module _ (s : List ℕ) (at n width first : ℕ) where
     pub passing : (agreed : Coding) (holding : ℕ → Held) (rs : List Reference) (t : Position)
         → references agreed holding (flags-of s at n) width [] 0 n (at-offset s first 0) ≡ good (rs, t) → Passing agreed holding
     passing agreed holding rs t e =
-        let b : Walked agreed holding i next = w .walked agreed holding rs t e in
+        let b : Half-way agreed holding s at n width first i next = w .walked agreed holding rs t e in
         let r : Turned agreed holding s (flags-of s at n) width _ n i next (b .earlier) (b .done) (b .along) =
         turned agreed holding s (flags-of s at n) width _ n i next (b .earlier) (b .done) (b .along) rs t less e in
         let k : (r .end ≡ at-offset s a 0) × (r .found .place ≡ p .0) × (a ≤ length s) = passes .passes agreed holding (b .earlier) i (r .found) (r .end) (r .is) in

@@ -17,7 +17,7 @@ use Rattle.packets.specs.Memory.{cache-of, list-lent, Memory, cache-of-size, me
 use Rattle.packets.specs.Packet.{Kind, normal, starting, continuing, opening, Packet, rest, packet, judged}
 use Rattle.packets.specs.Calls.{taken, left-after, take-packet, after-packet}
 use Rattle.packets.specs.Answers.{packet-answer, taken-answer}
-use Rattle.packets.proofs.Cache.{both}
+use Rattle.format.proofs.Tests.{sizes-of}
 use Rattle.packets.specs.declared.PacketAnswer.the-variants as packets
 use Rattle.link.specs.Code.{OpensPacket, Takes}
 use Rattle.link.specs.declared.Kind.the-variants as kinds
@@ -25,10 +25,7 @@ use Rattle.link.specs.declared.Kind.the-variants as kinds
 -- ---- sizes
 
 pub list-sizes : (n : ℕ) (places lengths : List ℕ) → of-size (list-lent n places lengths) ≡ true → (length places ≡ 8160) × (length lengths ≡ 255)
-unfolding of-size
-list-sizes n places lengths e =
-    let two : (eqb (length places) 8160 ≡ true) × (eqb (length lengths) 255 ≡ true) = both _ _ e in
-    (eqb-true _ _ (two .0), eqb-true _ _ (two .1))
+list-sizes n places lengths e = sizes-of (list-lent n places lengths) e
 
 module _ (m : Memory) where
   pub cache-not : cache-of-size (m .cache) ≡ false → memory-of-size m ≡ false

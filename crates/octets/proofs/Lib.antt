@@ -3,3 +3,4 @@ pub mod Stores
 pub mod Cleared
 pub mod Numbers
 pub mod Bits
+pub mod Widths

@@ -12,6 +12,7 @@ use Rattle.format.specs.Text.{Coding}
 use Rattle.format.specs.Answer.{Answer, good, refused}
 use Rattle.format.specs.AtomList.{of-size}
 use Rattle.format.specs.Numbers.{Under}
+use Rattle.format.proofs.Tests.{both-true}
 use Rattle.packets.specs.declared.Pending.{Pending}
 use Rattle.packets.specs.Memory.{Cache, Memory, cache-of-size, memory-of-size, empty-cache, none-pending}
 use Rattle.packets.specs.Header.{Reference}
@@ -19,7 +20,7 @@ use Rattle.packets.specs.Packet.{Packet, plain, start, continuation, jud
 use Rattle.packets.specs.Calls.{zeros-to, texts-in-places, lengths-of, list-of, left-by, left-after, after-packet, reset, kept}
 use Rattle.packets.specs.Runs.{Call, taking, dropping, resetting, after-call}
 use Rattle.packets.proofs.Stores.{length-zeros-to}
-use Rattle.packets.proofs.Cache.{both, Sized, sized, sized-back}
+use Rattle.packets.proofs.Cache.{Sized, sized, sized-back}
 use Rattle.packets.proofs.Judged.{All-sound, Sound-packet, accepted}
 use Rattle.packets.proofs.Frame.{entered-sized}
 
@@ -32,9 +33,9 @@ pub record All-sized (m : Memory) : Type 0 where
 pub all-sized : (m : Memory) → memory-of-size m ≡ true → All-sized m
 unfolding memory-of-size
 all-sized m e =
-    let a : (cache-of-size (m .cache) ≡ true) × ((of-size (m .plain-list) && (of-size (m .pending-list) && eqb (length (m .gather)) 65536)) ≡ true) = both _ _ e in
-    let b : (of-size (m .plain-list) ≡ true) × ((of-size (m .pending-list) && eqb (length (m .gather)) 65536) ≡ true) = both _ _ (a .1) in
-    let c : (of-size (m .pending-list) ≡ true) × (eqb (length (m .gather)) 65536 ≡ true) = both _ _ (b .1) in
+    let a : (cache-of-size (m .cache) ≡ true) × ((of-size (m .plain-list) && (of-size (m .pending-list) && eqb (length (m .gather)) 65536)) ≡ true) = both-true _ _ e in
+    let b : (of-size (m .plain-list) ≡ true) × ((of-size (m .pending-list) && eqb (length (m .gather)) 65536) ≡ true) = both-true _ _ (a .1) in
+    let c : (of-size (m .pending-list) ≡ true) × (eqb (length (m .gather)) 65536 ≡ true) = both-true _ _ (b .1) in
     record { cache-sized = sized (m .cache) (a .0); plain-sized = b .0; pending-sized = c .0; gather-sized = eqb-true _ _ (c .1) }
 
 pub all-sized-back : {m : Memory} → All-sized m → memory-of-size m ≡ true
@@ -49,7 +50,7 @@ length-texts (r ∷ rs) earlier a =
     let more : length (texts-in-places rs) ≡ 32 * length rs = length-texts rs (r ∷ earlier) (a .1) in
     rw (length-append (zeros-to 32 (r .text)) (texts-in-places rs)) (omega arith)
 
-length-lengths : (rs : List Reference) → length (lengths-of rs) ≡ length rs
+pub length-lengths : (rs : List Reference) → length (lengths-of rs) ≡ length rs
 unfolding lengths-of
 length-lengths [] = refl
 length-lengths (r ∷ rs) = ap suc (length-lengths rs)

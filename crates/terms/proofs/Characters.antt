@@ -15,8 +15,8 @@ use Rattle.format.specs.Head.{Atoms, characters}
 use Rattle.format.specs.Reading.{character-at, row, string}
 use Rattle.format.specs.Message.{Terms}
 use Rattle.format.specs.Rows.{rows, kind-of, kind-at, offset-of, whole-code, pack, word, words-of, Placed}
-use Rattle.format.proofs.Opening.{by-less}
 use Rattle.format.proofs.Steps.{spot}
+use Rattle.format.proofs.Tests.{by-less}
 use Rattle.octets.proofs.Stores.{sets-at}
 use Rattle.terms.specs.declared.Parts.{Parts}
 use Rattle.terms.specs.declared.Parts.the-variants.{Got, Refused}

@@ -3,7 +3,7 @@ use mathlib.Core.Path.{sym, _∙_, ap}
 use borrow.Author.Tests.{ne-eqb}
 use borrow.Author.Needs.{needs}
 use Rattle.contents.specs.Found.{choose, integer-found}
-use Rattle.contents.proofs.Widths.{width-1, width-4}
+use Rattle.octets.proofs.Widths.{width-1, width-4}
 use Rattle.contents.proofs.integer.Statement.{statement}
 use Rattle.contents.proofs.integer.Tie as tie
 

@@ -3,7 +3,7 @@ use mathlib.Core.Path.{refl, _∙_, ap₂}
 use Prim.Native.Nat.{ℕ}
 use borrow.Author.Needs.{needs}
 use Rattle.contents.specs.Found.{pid-found, pids-found}
-use Rattle.contents.proofs.Widths.{width-1, width-4}
+use Rattle.octets.proofs.Widths.{width-1, width-4}
 use Rattle.contents.proofs.Tests.{equal, unequal}
 use Rattle.contents.proofs.pid.Statement.{statement}
 use Rattle.contents.proofs.pid.Tie as tie

@@ -2,7 +2,7 @@
 use mathlib.Core.Path.{refl, _∙_, ap}
 use borrow.Author.Needs.{needs}
 use Rattle.contents.specs.Found.{port-found, ports-found}
-use Rattle.contents.proofs.Widths.{width-1, width-4, width-8}
+use Rattle.octets.proofs.Widths.{width-1, width-4, width-8}
 use Rattle.contents.proofs.Tests.{equal, unequal}
 use Rattle.contents.proofs.port.Statement.{statement}
 use Rattle.contents.proofs.port.Tie as tie

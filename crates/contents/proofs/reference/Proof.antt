@@ -2,7 +2,7 @@
 use mathlib.Core.Path.{refl, _∙_, ap}
 use borrow.Author.Needs.{needs}
 use Rattle.contents.specs.Found.{word-found, references-found}
-use Rattle.contents.proofs.Widths.{width-1, width-4}
+use Rattle.octets.proofs.Widths.{width-1, width-4}
 use Rattle.contents.proofs.Tests.{equal, unequal}
 use Rattle.contents.proofs.reference.Statement.{statement}
 use Rattle.contents.proofs.reference.Tie as tie

@@ -3,7 +3,7 @@ use mathlib.Core.Path.{refl, sym, ap}
 use native.Mathlib.Omega.{arith}
 use borrow.Author.Tests.{ne-eqb}
 use Rattle.contents.specs.Found.{choose, text-width}
-use Rattle.contents.proofs.Widths.{width-1, width-2}
+use Rattle.octets.proofs.Widths.{width-1, width-2}
 use Rattle.contents.proofs.width_of.Statement.{statement}
 use Rattle.contents.proofs.width_of.Tie as tie
 

@@ -5,7 +5,8 @@ use Rattle.format.specs.Canonical.{integer-bytes}
 use Rattle.format.specs.Numbers.{in-bytes}
 use Prim.Native.Nat.{ℕ}
 use mathlib.Core.List.{_∷_}
-use Rattle.fields.proofs.Leads.{says, only-tagged, lead-by, signed-below, signed-above, sound-whole, sound-big, sound-text, sound-bytes, sound-bits, length-words-at}
+use Rattle.octets.proofs.Parts.{length-words-at}
+use Rattle.fields.proofs.Leads.{says, only-tagged, lead-by, signed-below, signed-above, sound-whole, sound-big, sound-text, sound-bytes, sound-bits}
 use native.Mathlib.Omega.{arith}
 use mathlib.Core.Path.{refl, sym, ap}
 use borrow.Author.Needs.{needs}

@@ -22,7 +22,7 @@ number-requires : tie.Need-number-requires
 number-requires c κs = search needs
 
 returns-2 : tie.Need-returns-2
-returns-2 c = λ atoms rows. atom-cut _ _ _ _ (omega arith) _ _ _ (c .before .before .if1 .left) (c .before .number .ensures .0) (c .if2 .taken)
+returns-2 c = λ atoms rows. atom-cut _ _ _ _ (omega arith) _ _ _ (c .before .before .if1 .left) (c .before .number .ensures) (c .if2 .taken)
 
 add-from : tie.Need-add-from
 add-from c = search needs
@@ -46,7 +46,7 @@ is-text-requires : tie.Need-is-text-requires
 is-text-requires c κs = search needs
 
 returns-3 : tie.Need-returns-3
-returns-3 c = λ atoms rows. atom-bad _ _ _ _ (omega arith) _ _ _ (c .before .before .before .before .before .if1 .left) (c .before .before .before .before .number .ensures .0) (c .before .before .before .if2 .left) (refuted (c .before .is-text .ensures) (c .if3 .taken))
+returns-3 c = λ atoms rows. atom-bad _ _ _ _ (omega arith) _ _ _ (c .before .before .before .before .before .if1 .left) (c .before .before .before .before .number .ensures) (c .before .before .before .if2 .left) (refuted (c .before .is-text .ensures) (c .if3 .taken))
 
 add-t10 : tie.Need-add-t10
 add-t10 c = search needs
@@ -54,11 +54,11 @@ add-t10 c = search needs
 add-t9 : tie.Need-add-t9
 add-t9 c = search needs
 
-add-t17 : tie.Need-add-t17
-add-t17 c = search needs
+add-t18 : tie.Need-add-t18
+add-t18 c = search needs
 
 returns-4 : tie.Need-returns-4
-returns-4 c = λ atoms rows. atom-there _ _ _ _ (omega arith) _ _ _ (c .before .before .before .before .before .if1 .left) (c .before .before .before .before .number .ensures .0) (c .before .before .before .if2 .left) (confirmed (c .before .is-text .ensures) (c .if3 .left))
+returns-4 c = λ atoms rows. atom-there _ _ _ _ (omega arith) _ _ _ (c .before .before .before .before .before .if1 .left) (c .before .before .before .before .number .ensures) (c .before .before .before .if2 .left) (confirmed (c .before .is-text .ensures) (c .if3 .left))
 
 pub atom-spec : {M : Type 1} → statement M
 atom-spec =
@@ -80,5 +80,5 @@ atom-spec =
     returns-3
     add-t10
     add-t9
-    add-t17
+    add-t18
     returns-4)

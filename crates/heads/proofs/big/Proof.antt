@@ -27,7 +27,7 @@ sub-if2-2 : tie.Need-sub-if2-2
 sub-if2-2 c = search needs
 
 returns-2 : tie.Need-returns-2
-returns-2 c = λ atoms rows. big-cut _ _ _ _ (omega arith) _ _ (c .before .before .if1 .left) (c .before .number .ensures .0) (c .if2 .taken)
+returns-2 c = λ atoms rows. big-cut _ _ _ _ (omega arith) _ _ (c .before .before .if1 .left) (c .before .number .ensures) (c .if2 .taken)
 
 add-big1 : tie.Need-add-big1
 add-big1 c = search needs
@@ -39,7 +39,7 @@ big1-requires : tie.Need-big1-requires
 big1-requires c κs = search needs
 
 returns-3 : tie.Need-returns-3
-returns-3 c = λ atoms rows. big-sign _ _ _ _ (omega arith) _ _ (c .before .before .before .before .if1 .left) (c .before .before .before .number .ensures .0) _ (c .before .big1 .ensures .0) (c .before .before .if2 .left) (c .if3 .taken)
+returns-3 c = λ atoms rows. big-sign _ _ _ _ (omega arith) _ _ (c .before .before .before .before .if1 .left) (c .before .before .before .number .ensures) _ (c .before .big1 .ensures .0) (c .before .before .if2 .left) (c .if3 .taken)
 
 add-t7 : tie.Need-add-t7
 add-t7 c = search needs
@@ -47,14 +47,14 @@ add-t7 c = search needs
 add-t6 : tie.Need-add-t6
 add-t6 c = search needs
 
-add-t9 : tie.Need-add-t9
-add-t9 c = search needs
+add-t10 : tie.Need-add-t10
+add-t10 c = search needs
 
-add-t11 : tie.Need-add-t11
-add-t11 c = search needs
+add-t12 : tie.Need-add-t12
+add-t12 c = search needs
 
 returns-4 : tie.Need-returns-4
-returns-4 c = λ atoms rows. big-there _ _ _ _ (omega arith) _ _ (c .before .before .before .before .if1 .left) (c .before .before .before .number .ensures .0) _ (c .before .big1 .ensures .0) (c .before .before .if2 .left) (c .if3 .left)
+returns-4 c = λ atoms rows. big-there _ _ _ _ (omega arith) _ _ (c .before .before .before .before .if1 .left) (c .before .before .before .number .ensures) _ (c .before .big1 .ensures .0) (c .before .before .if2 .left) (c .if3 .left)
 
 pub big-spec : {M : Type 1} → statement M
 big-spec =
@@ -74,6 +74,6 @@ big-spec =
     returns-3
     add-t7
     add-t6
-    add-t9
-    add-t11
+    add-t10
+    add-t12
     returns-4)

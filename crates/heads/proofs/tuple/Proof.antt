@@ -23,13 +23,13 @@ number-requires c κs = search needs
 add-t6 : tie.Need-add-t6
 add-t6 c = search needs
 
-add-t9 : tie.Need-add-t9
-add-t9 c = search needs
+add-t10 : tie.Need-add-t10
+add-t10 c = search needs
 
 returns-2 : tie.Need-returns-2
-returns-2 c = λ atoms rows. tuple-there _ _ _ _ (omega arith) _ _ (c .before .if1 .left) (c .number .ensures .0)
+returns-2 c = λ atoms rows. tuple-there _ _ _ _ (omega arith) _ _ (c .before .if1 .left) (c .number .ensures)
 
 pub tuple-spec : {M : Type 1} → statement M
 tuple-spec =
     tie.close
-    (tie.spec sub-if1 sub-if1-2 returns add-number number-requires add-t6 add-t9 returns-2)
+    (tie.spec sub-if1 sub-if1-2 returns add-number number-requires add-t6 add-t10 returns-2)
