@@ -2,7 +2,7 @@
 use mathlib.Core.Path.{_≡_, refl, sym, _∙_, ap}
 use mathlib.Core.Bool.{Bool, true, false}
 use mathlib.Core.List.{List, [], _∷_}
-use Prim.Native.Nat.{ℕ, zero, suc, _+_, _*_, _-_, _≤_, _<_}
+use Prim.Native.Nat.{ℕ, zero, suc, _+_, _*_, _-_, _/_, _≤_, _<_}
 use native.Mathlib.Omega.{arith}
 use lib.Dec.{eqb, leb}
 use lib.ListN.{length, getD}
@@ -62,9 +62,9 @@ module _ (m places lengths : List ℕ) where
         rw (f, b, a) (rw e at g)
 
     pub hash-end : (first row n i h r : ℕ) → hash-rows m places lengths T h (n - i) (row + i) ≡ hash-rows m places lengths T (mix 0 first) (size-in (getD T row 0)) row → n ≤ i
-        → r ≡ mix h 0 → r ≡ term-hash m places lengths T first row
+        → r ≡ mix h 0 → r / 65536 ≡ term-hash m places lengths T first row
     unfolding hash-rows term-hash
-    hash-end first row n i h r g l e = let z : n - i ≡ 0 = omega arith in e ∙ ap (λ (x : ℕ). mix x 0) (rw z at g)
+    hash-end first row n i h r g l e = let z : n - i ≡ 0 = omega arith in ap (λ (x : ℕ). x / 65536) (e ∙ ap (λ (x : ℕ). mix x 0) (rw z at g))
 
     -- rows that stand in the table
     pub hash-here : (h a : ℕ) (ws : List ℕ) → Here T a ws → hash-rows m places lengths T h (length ws) a ≡ hash-all m places lengths h ws
@@ -89,7 +89,7 @@ module _ (m places lengths : List ℕ) where
         let g = unless-true (leb (length T) b) _ (unless-true (leb (length T) a) _ e .1) .1 in
         let f = both-true (eqb (size-in (getD T a 0)) (size-in (getD T b 0))) _ g in
         let s : size-in (getD T a 0) ≡ size-in (getD T b 0) = eqb-true _ _ (f .0) in
-        rw (← s) (ap (λ (x : ℕ). mix x 0) (rows-alike (size-in (getD T a 0)) (mix 0 first) a b (f .1)))
+        rw (← s) (ap (λ (x : ℕ). mix x 0 / 65536) (rows-alike (size-in (getD T a 0)) (mix 0 first) a b (f .1)))
 
     -- ---- a key that is not met
 
