@@ -8,7 +8,7 @@ use native.Mathlib.Omega.{arith}
 use lib.Dec.{eqb}
 use lib.Ieee.{binary64, ofBits, toBits}
 use lib.ListN.{getD, take, drop}
-use Rattle.format.specs.Numbers.{big-endian}
+use Rattle.format.specs.Numbers.{big-endian, Under}
 use Rattle.format.specs.Text.{Coding, latin-1, utf-8}
 use Rattle.format.specs.Answer.{Answer, good, refused}
 use Rattle.format.specs.Answers.{read-answer, number-answer, mark-case, mark-answer}
@@ -19,7 +19,6 @@ use Rattle.format.specs.Look.{float-bits, number-at, row-number, number-in, ato
 use Rattle.format.specs.declared.ReadAnswer.{ReadAnswer}
 use Rattle.format.specs.declared.NumberAnswer.{NumberAnswer}
 use Rattle.format.specs.declared.MarkAnswer.{MarkAnswer}
-use Rattle.format.proofs.Text.{Under}
 use Rattle.format.proofs.Message.{accepted-message, allowed-valid}
 use Rattle.contents.specs.Found.{choose}
 use Rattle.asking.specs.declared.TextAt.{TextAt}

@@ -17,13 +17,13 @@ use Rattle.format.specs.Head.{finite}
 use Rattle.format.specs.AtomList.{AtomList, atoms-of}
 use Rattle.format.specs.Reading.{Place, tag-at, character-at, Located, meaning}
 use Rattle.format.specs.Message.{Terms, meanings}
-use Rattle.format.specs.Rows.{Row, tree-rows, rows, kind-of, kind-at, offset-of, kind-in, offset-in, word, words-of, table-after}
+use Rattle.format.specs.Rows.{Row, tree-rows, rows, kind-of, kind-at, offset-of, kind-in, offset-in, word, words-of, table-after, Here}
 use Rattle.format.specs.Look.{float-bits, neither, number-of, number-at, atom-at, text-of, atom-text}
 use Rattle.format.specs.declared.NumberAnswer.the-variants as numbers
-use Rattle.format.proofs.Text.{Under}
-use Rattle.format.proofs.Valid.{Fits, Valid, Valids}
+use Rattle.format.specs.Numbers.{Under}
+use Rattle.format.specs.Valid.{Fits, Valid, Valids}
 use Rattle.format.proofs.Rows.{length-rows}
-use Rattle.format.proofs.Words.{Each-row, each-row-join, each-row-at, Small-row, Word-of, word-packed, Here, here-word, here-rest, tag-of-kind, kind-of-tag, table-row}
+use Rattle.format.proofs.Words.{Each-row, each-row-join, each-row-at, Small-row, Word-of, word-packed, here-word, here-rest, tag-of-kind, kind-of-tag, table-row}
 use Rattle.format.proofs.Backed.{Label-at}
 use Rattle.format.proofs.Message.{Accepted-message, allowed-valid}
 use Rattle.contents.specs.declared.Content.{Content}

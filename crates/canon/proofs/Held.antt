@@ -5,13 +5,13 @@ use mathlib.Core.Option.{some}
 use Prim.Native.Nat.{ℕ, suc, _+_, _≤_, _<_}
 use native.Mathlib.Omega.{arith}
 use lib.ListN.{length, getD}
-use Rattle.format.specs.Tree.{Forest, node, _▹_, count, size, sizes}
+use Rattle.format.specs.Tree.{Forest, node, _▹_, count, size, sizes, Each-node}
 use Rattle.format.specs.Term.{Label, integer, float, atom, tuple, list, improper-list, binary, bitstring, map, pid, port, reference, export}
 use Rattle.format.specs.Reading.{Place, tag-at, character-at, Located}
 use Rattle.format.specs.Message.{Terms, meanings}
 use Rattle.format.specs.Rows.{kind-of, kind-at, offset-of, whole-code, kind-in, parts-in, size-in}
-use Rattle.format.proofs.Valid.{Fits, Improper}
-use Rattle.format.proofs.Rows.{Each-node, count-le-sizes, count-relabels}
+use Rattle.format.specs.Valid.{Fits, Improper}
+use Rattle.format.proofs.Rows.{count-le-sizes, count-relabels}
 use Rattle.format.proofs.Words.{Between, kind-at-range, Small-row, Word-of, row-of, first-here, others-here, parts-here, node-packed, node-below}
 use Rattle.contents.specs.Found.{content-of}
 use Rattle.fields.specs.Sound.{content-in, label-in, Sound-word}

@@ -8,7 +8,7 @@ use lib.ListN.{length, take, drop, length-append}
 use lib.Seq.{sets, sets-eq}
 use borrow.Author.Tests.{lt-leb}
 use Rattle.format.specs.Tree.{Forest, _▹_, count, sizes}
-use Rattle.format.specs.Numbers.{in-bytes}
+use Rattle.format.specs.Numbers.{in-bytes, Under}
 use Rattle.format.specs.Term.{Label, Term}
 use Rattle.format.specs.Answer.{Answer, good, refused}
 use Rattle.format.specs.Reading.{meaning}
@@ -23,7 +23,6 @@ use Rattle.format.specs.declared.ReadAnswer.{ReadAnswer}
 use Rattle.format.specs.declared.ReadAnswer.the-variants as reads
 use Rattle.format.specs.declared.WriteAnswer.{WriteAnswer}
 use Rattle.format.specs.declared.WriteAnswer.the-variants as writes
-use Rattle.format.proofs.Text.{Under}
 use Rattle.format.proofs.Rows.{count-le-sizes}
 use Rattle.format.proofs.Demand.{written-good}
 use Rattle.octets.proofs.Numbers.{bytes-one}

@@ -8,7 +8,7 @@ use native.Mathlib.Omega.{arith}
 use lib.Dec.{eqb}
 use lib.ListN.{length}
 use borrow.Author.Tests.{eqb-true}
-use Rattle.format.specs.Tree.{Forest, node, _▹_, sizes}
+use Rattle.format.specs.Tree.{Forest, node, _▹_, sizes, Each-node, Each-nodes}
 use Rattle.format.specs.Text.{Checked, encodes}
 use Rattle.format.specs.Term.{Label, list, bitstring}
 use Rattle.format.specs.Answer.{good}
@@ -17,10 +17,10 @@ use Rattle.format.specs.Reading.{Place, tag-at, character-at, Located, meaning}
 use Rattle.format.specs.AtomList.{AtomList, of-size, atoms-of}
 use Rattle.format.specs.Message.{Framing, Terms, meanings, read}
 use Rattle.format.specs.Rows.{kind-of, kind-at, offset-of, whole-code, table-after}
-use Rattle.format.proofs.Text.{Under, utf8-spelt}
-use Rattle.format.proofs.Valid.{Fits, Valid, Valids}
+use Rattle.format.specs.Numbers.{Under}
+use Rattle.format.specs.Valid.{Fits, Valid, Valids}
+use Rattle.format.proofs.Text.{utf8-spelt}
 use Rattle.format.proofs.Backed.{Label-at, Backed, Backeds}
-use Rattle.format.proofs.Rows.{Each-node, Each-nodes}
 use Rattle.format.proofs.Words.{table-rows}
 use Rattle.format.proofs.Message.{Accepted-message, accepted-message, allowed-valid}
 use Rattle.contents.specs.declared.Content.{Content}

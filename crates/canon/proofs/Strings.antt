@@ -17,7 +17,7 @@ use Rattle.format.specs.Reading.{Place, Located}
 use Rattle.format.specs.Message.{Terms, meanings}
 use Rattle.format.specs.Rows.{kind-of, kind-in, parts-in}
 use Rattle.format.specs.Canonical.{small, put, all-small}
-use Rattle.format.proofs.Valid.{Fits}
+use Rattle.format.specs.Valid.{Fits}
 use Rattle.format.proofs.Rows.{count-relabels}
 use Rattle.octets.proofs.Numbers.{bytes-one}
 use Rattle.layout.specs.Layout.{Put}

@@ -5,15 +5,13 @@ use mathlib.Core.List.{List}
 use mathlib.Core.Option.{Option, none, some}
 use Prim.Native.Nat.{ℕ, _+_, _≤_, _<_}
 use lib.Dec.{eqb}
-use Rattle.format.specs.Tree.{Forest, count, size, sizes}
+use Rattle.format.specs.Tree.{Forest, count, size, sizes, Each-node, Each-nodes}
 use Rattle.format.specs.Term.{Label, list}
 use Rattle.format.specs.Reading.{Place, Located}
 use Rattle.format.specs.Message.{Terms, meanings}
-use Rattle.format.specs.Rows.{kind-of, kind-at, offset-of, whole-code}
+use Rattle.format.specs.Rows.{kind-of, kind-at, offset-of, whole-code, Tree-here, Rows-here}
 use Rattle.format.specs.Canonical.{all-small}
-use Rattle.format.proofs.Valid.{Fits}
-use Rattle.format.proofs.Rows.{Each-node, Each-nodes}
-use Rattle.format.proofs.Words.{Tree-here, Rows-here}
+use Rattle.format.specs.Valid.{Fits}
 use Rattle.contents.specs.Found.{content-of}
 use Rattle.contents.specs.Meaning.{label-of}
 use Rattle.fields.specs.Shape.{some-small}

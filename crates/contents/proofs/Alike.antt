@@ -11,12 +11,12 @@ use lib.IntN.{pos-ne-negsuc}
 use lib.ListN.{length, getD, take, drop}
 use lib.Seq.{take-at, drop-at, take-add, drop-drop}
 use borrow.Author.Tests.{eqb-true, eqb-false, eq-eqb, le-leb, le-ltb}
-use Rattle.format.specs.Numbers.{big-endian, little-endian, with-sign}
+use Rattle.format.specs.Numbers.{big-endian, little-endian, with-sign, Under}
 use Rattle.format.specs.Text.{valid, utf-8, check, encodes}
 use Rattle.format.specs.Term.{Label, integer, float, atom, tuple, list, improper-list, binary, bitstring, map, pid, port, reference, export}
 use Rattle.format.specs.Head.{clear-low}
 use Rattle.format.specs.AtomList.{AtomList}
-use Rattle.format.proofs.Text.{Under, utf8-spelt, utf8-encodes, latin1-characters}
+use Rattle.format.proofs.Text.{utf8-spelt, utf8-encodes, latin1-characters}
 use Rattle.format.proofs.Opening.{by-less}
 use Rattle.format.proofs.Heads.{length-clear}
 use Rattle.octets.proofs.Parts.{length-part, part-last}

@@ -9,11 +9,11 @@ use lib.Dec.{eqb, ltb}
 use lib.IntN.{pos, negsuc}
 use lib.ListN.{length, getD}
 use borrow.Author.Tests.{ltb-true, ltb-false, eqb-true, eqb-false}
-use Rattle.format.specs.Numbers.{little-endian, signed32, with-sign}
+use Rattle.format.specs.Numbers.{little-endian, signed32, with-sign, Under}
 use Rattle.format.specs.Text.{Checked, valid, latin-1, utf-8, check}
 use Rattle.format.specs.Term.{Label, integer, atom}
 use Rattle.format.specs.AtomList.{AtomList, of-size}
-use Rattle.format.proofs.Text.{Under, latin1-is}
+use Rattle.format.proofs.Text.{latin1-is}
 use Rattle.octets.proofs.Parts.{length-part}
 use Rattle.contents.specs.declared.Content.{Content}
 use Rattle.contents.specs.declared.Content.the-variants.{Nothing, Whole, Big, Float, Text, Bytes, Bits, Pid, Port, Reference}

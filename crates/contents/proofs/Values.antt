@@ -9,8 +9,7 @@ use lib.Arith.{digits-div, digits-mod}
 use lib.Dec.{eqb, lit<}
 use lib.ListN.{length, getD, take, drop}
 use borrow.Author.Tests.{eqb-true, eqb-false}
-use Rattle.format.specs.Numbers.{big-endian, little-endian}
-use Rattle.format.proofs.Text.{Under}
+use Rattle.format.specs.Numbers.{big-endian, little-endian, Under}
 use Rattle.format.proofs.Holds.{big-under}
 use Rattle.octets.proofs.Parts.{length-part, part-last}
 use Rattle.contents.specs.Found.{choose, value, stripped}

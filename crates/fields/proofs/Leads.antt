@@ -10,14 +10,14 @@ use lib.IntN.{pos, negsuc}
 use lib.ListN.{length, getD, take, drop}
 use lib.Seq.{take-add, drop-drop}
 use borrow.Author.Tests.{lt-ltb, le-ltb, le-leb, lt-leb, ltb-true, ltb-false, ne-eqb}
-use Rattle.format.specs.Numbers.{big-endian, in-bytes, little-endian, digits, with-sign}
+use Rattle.format.specs.Numbers.{big-endian, in-bytes, little-endian, digits, with-sign, Under}
 use Rattle.format.specs.Text.{encodes}
 use Rattle.format.specs.Head.{clear-low}
 use Rattle.format.specs.Term.{integer, tuple, list, improper-list, binary, bitstring, map, port, reference, export}
 use Rattle.format.specs.Canonical.{big-bytes, integer-bytes, atom-bytes, tuple-bytes, words-bytes, small}
 use Rattle.format.proofs.Numbers.{length-digits}
 use Rattle.format.proofs.Holds.{big-under}
-use Rattle.format.proofs.Text.{Under, under-all}
+use Rattle.format.proofs.Text.{under-all}
 use Rattle.format.specs.Rows.{kind-in, parts-in}
 use Rattle.octets.specs.Parts.{choose, stretch, source}
 use Rattle.octets.proofs.Numbers.{bytes-one, bytes-mod}

@@ -13,7 +13,7 @@ use Rattle.format.specs.Numbers.{in-bytes}
 use Rattle.format.specs.Text.{encodes}
 use Rattle.format.specs.Term.{Label, integer, float, atom, tuple, list, improper-list, binary, bitstring, map, pid, port, reference, export}
 use Rattle.format.specs.Canonical.{integer-bytes, atom-bytes, tuple-bytes, port-bytes, all-small, long-list, list-bytes, term-bytes, canonical, canonicals}
-use Rattle.format.proofs.Valid.{Fits}
+use Rattle.format.specs.Valid.{Fits}
 use Rattle.fields.specs.Shape.{list-start, list-end, before, after, some-small}
 
 -- bytes with no parts and nothing after them

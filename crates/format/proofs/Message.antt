@@ -8,16 +8,17 @@ use lib.Dec.{leb}
 use lib.ListN.{length}
 use borrow.Author.Tests.{leb-true}
 use Rattle.format.specs.Tree.{Forest, none, _▹_, size, sizes, depth}
-use Rattle.format.specs.Text.{Checked, valid, invalid-at, utf-8, check}
+use Rattle.format.specs.Text.{Checked, valid, invalid-at, utf-8, check, Characters}
 use Rattle.format.specs.Term.{Label, Term}
 use Rattle.format.specs.Answer.{Answer, good, refused, Position, Reading, after, done}
 use Rattle.format.specs.Head.{Atoms, any}
 use Rattle.format.specs.Reading.{Located, meaning, term}
 use Rattle.format.specs.AtomList.{AtomList, of-size, atoms-of, place-length, place-text, place-bytes}
 use Rattle.format.specs.Message.{Framing, standalone, payload, Terms, meanings, ending, found, first-check, standalone-term, payload-terms, terms-framed, read}
+use Rattle.format.specs.Numbers.{Under}
+use Rattle.format.specs.Valid.{Valid, Valids}
 use Rattle.format.proofs.Steps.{spot}
-use Rattle.format.proofs.Text.{Under, Characters, utf8-spells}
-use Rattle.format.proofs.Valid.{Valid, Valids}
+use Rattle.format.proofs.Text.{utf8-spells}
 use Rattle.format.proofs.Rows.{size-meaning}
 use Rattle.format.proofs.Holds.{Holds, Fine, both, bind, done-holds, next, version-holds, ending-holds}
 use Rattle.format.proofs.Heads.{True-atoms, for-any}

@@ -10,6 +10,7 @@ pub mod AtomList
 pub mod Message
 pub mod Rows
 pub mod Canonical
+pub mod Valid
 pub mod Writing
 pub mod Look
 pub mod Answers

@@ -1,36 +1,21 @@
 -- What a word that is not 0 tells of the term whose head it is: for the reader of terms. Assumes nothing.
-use mathlib.Core.Path.{_≡_, refl, sym, ap, _∙_}
+use mathlib.Core.Path.{_≡_, refl, ap, _∙_}
 use mathlib.Core.Bool.{Bool, true, false}
 use mathlib.Core.List.{List, [], _∷_}
-use Prim.Native.Nat.{ℕ, zero, suc, _+_, _*_, _≤_, _<_}
+use Prim.Native.Nat.{ℕ, zero, suc, _+_, _≤_, _<_}
 use native.Mathlib.Omega.{arith}
 use lib.Dec.{eqb, ltb}
-use lib.ListN.{length, getD, drop}
+use lib.ListN.{length, drop}
 use lib.Seq.{drop-cons}
 use borrow.Author.Tests.{eqb-true, ltb-true}
 use Rattle.format.specs.Answer.{Answer, good, refused, Position, Reading, done, at-offset}
-use Rattle.format.specs.Term.{Label}
 use Rattle.format.specs.Head.{Atoms, Wanted, any, known, parts, characters, elements, pairs, head}
 use Rattle.format.specs.Head as format
 use Rattle.format.specs.Reading.{empty-108, opening}
 use Rattle.format.specs.Rows.{kind-of}
 use Rattle.heads.specs.Code.{kind-later, later-of, head-at, head-of}
-use Rattle.heads.specs.Quick.{only-if, fit, quick-later, quick-word}
+use Rattle.heads.specs.Quick.{only-if, fit, quick-later, quick-word, Common, some-parts, no-characters, some-elements, some-pairs, Holds-word, Told}
 use Rattle.heads.proofs.Found.{Past, past-is, head-past-tag}
-
--- the heads that have a word, each with what stands in it for the kind and with the number of parts
-pub data Common : format.Head → ℕ → ℕ → Type 0 where
-  some-parts : (l : Label) (n : ℕ) → Common (parts [] n (known l)) (kind-of l) n
-  no-characters : Common (characters []) 5 0
-  some-elements : (n : ℕ) → (n ≡ 0 → ⊥) → Common (elements n) 14 n
-  some-pairs : (n : ℕ) → (n ≡ 0 → ⊥) → Common (pairs n) 15 n
-
--- what a word holds
-pub record Holds-word (w kind next count : ℕ) : Type 0 where
-  pub few-kinds : kind < 16
-  pub near : next < 131072
-  pub few : count < 4294967296
-  pub word-is : w ≡ kind + 16 * next + 2097152 * count
 
 held : (b : Bool) (w v : ℕ) → (w ≡ 0 → ⊥) → w ≡ only-if b v → (b ≡ true) × (w ≡ v)
 unfolding only-if
@@ -44,13 +29,6 @@ fit-held w kind next count some e =
     let b = held (ltb next 131072) w _ some (a .1) in
     let c = held (ltb count 4294967296) w _ some (b .1) in
     record { few-kinds = ltb-true kind 16 (a .0); near = ltb-true next 131072 (b .0); few = ltb-true count 4294967296 (c .0); word-is = c .1 }
-
--- a head with its word
-pub record Told (w : ℕ) (h : format.Head) (next : ℕ) : Type 0 where
-  pub kind : ℕ
-  pub count : ℕ
-  pub common : Common h kind count
-  pub holds : Holds-word w kind next count
 
 none-left : {A : Type 0} (xs : List A) → length xs ≡ 0 → xs ≡ []
 none-left [] e = refl

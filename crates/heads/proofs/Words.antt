@@ -1,13 +1,10 @@
 -- The head of a common term in one word: what the code makes of it, and what is told of the term by a word that is not 0. Assumes nothing.
-use mathlib.Core.Path.{_≡_, refl, sym, ap, _∙_}
-use mathlib.Core.Bool.{Bool, true, false}
+use mathlib.Core.Path.{_≡_}
 use Prim.Native.Nat.{ℕ, _+_, _*_, _≤_, _<_}
 use native.Mathlib.Omega.{arith}
-use lib.Dec.{eqb, ltb}
 use borrow.Author.Tests.{lt-ltb, le-ltb, eq-eqb, ne-eqb}
 use Rattle.heads.specs.declared.Later.{Later}
-use Rattle.heads.specs.declared.Head.{Head}
-use Rattle.heads.specs.declared.Head.the-variants.{Refused, Parts, Characters, Elements, Pairs}
+use Rattle.heads.specs.declared.Head.the-variants.{Parts, Characters, Elements, Pairs}
 use Rattle.heads.specs.Quick.{only-if, fit, quick-later, quick-word}
 
 -- ---- `fit`

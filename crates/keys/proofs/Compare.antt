@@ -13,10 +13,10 @@ use Rattle.format.specs.Term.{Label, Term}
 use Rattle.format.specs.Equal.{term-discrete, decided, same, among}
 use Rattle.format.specs.Reading.{Located, meaning}
 use Rattle.format.specs.Message.{Terms, meanings}
-use Rattle.format.specs.Rows.{Row, tree-rows, rows, word, words-of, size-in}
+use Rattle.format.specs.Rows.{Row, tree-rows, rows, word, words-of, size-in, Here, Tree-here, Rows-here}
 use Rattle.format.proofs.Preorder.{nodes, all-nodes, nodes-prefix}
 use Rattle.format.proofs.Rows.{size-meaning, size-positive, count-relabels, length-tree-rows}
-use Rattle.format.proofs.Words.{Here, here-word, here-rest, Each-row, Small-row, Tree-here, Rows-here, node-packed, node-below, first-here, others-here, row-of}
+use Rattle.format.proofs.Words.{here-word, here-rest, Each-row, Small-row, node-packed, node-below, first-here, others-here, row-of}
 use Rattle.contents.specs.Found.{choose}
 use Rattle.keys.specs.Compare.{same-rows, same-from, pair-size, among-steps, among-from}
 use Rattle.contents.proofs.Alike.{Agree, through}

@@ -7,8 +7,8 @@ use native.Mathlib.Omega.{arith}
 use lib.Dec.{eqb, leb}
 use lib.ListN.{length, getD}
 use borrow.Author.Tests.{eqb-true, leb-false}
-use Rattle.format.specs.Rows.{kind-in, offset-in, parts-in, size-in}
-use Rattle.format.proofs.Words.{Here, here-word, here-rest}
+use Rattle.format.specs.Rows.{kind-in, offset-in, parts-in, size-in, Here}
+use Rattle.format.proofs.Words.{here-word, here-rest}
 use Rattle.contents.specs.declared.Content.{Content}
 use Rattle.contents.specs.Found.{choose, content-of}
 use Rattle.contents.specs.Meaning.{term-kind}

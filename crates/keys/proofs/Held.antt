@@ -14,10 +14,10 @@ use Rattle.format.specs.Head.{Atoms}
 use Rattle.format.specs.AtomList.{AtomList, atoms-of}
 use Rattle.format.specs.Reading.{Place, tag-at, character-at, Located, meaning}
 use Rattle.format.specs.Message.{Terms}
-use Rattle.format.specs.Rows.{Row, tree-rows, rows, word, kind-of, kind-at}
+use Rattle.format.specs.Rows.{Row, tree-rows, rows, word, kind-of, kind-at, Tree-here, Rows-here}
 use Rattle.format.proofs.Backed.{Label-at, Backed, Backeds}
 use Rattle.format.proofs.Rows.{rows-join}
-use Rattle.format.proofs.Words.{Each-row, each-row-join, Small-row, Word-of, word-packed, Between, kind-of-range, Tree-here, Rows-here, left-here, right-here, first-here}
+use Rattle.format.proofs.Words.{Each-row, each-row-join, Small-row, Word-of, word-packed, Between, kind-of-range, left-here, right-here, first-here}
 use Rattle.contents.specs.Found.{choose}
 use Rattle.contents.specs.Meaning.{term-kind}
 use Rattle.keys.specs.Compare.{same-fields, same-row, same-terms-raw, among-rows}

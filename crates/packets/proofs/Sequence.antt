@@ -12,7 +12,7 @@ use borrow.Author.Tests.{eqb-true, eq-eqb, ne-eqb}
 use Rattle.format.specs.Text.{Coding}
 use Rattle.format.specs.Answer.{Answer, good, refused}
 use Rattle.format.specs.AtomList.{AtomList}
-use Rattle.format.proofs.Text.{Under}
+use Rattle.format.specs.Numbers.{Under}
 use Rattle.packets.specs.declared.Pending.{Pending}
 use Rattle.packets.specs.Memory.{Memory, none-pending}
 use Rattle.packets.specs.Header.{Reference}

@@ -11,7 +11,7 @@ use borrow.Author.Tests.{eqb-true, eq-eqb}
 use Rattle.format.specs.Text.{Coding}
 use Rattle.format.specs.Answer.{Answer, good, refused}
 use Rattle.format.specs.AtomList.{of-size}
-use Rattle.format.proofs.Text.{Under}
+use Rattle.format.specs.Numbers.{Under}
 use Rattle.packets.specs.declared.Pending.{Pending}
 use Rattle.packets.specs.Memory.{Cache, Memory, cache-of-size, memory-of-size, empty-cache, none-pending}
 use Rattle.packets.specs.Header.{Reference}

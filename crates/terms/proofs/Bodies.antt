@@ -7,7 +7,7 @@ use native.Mathlib.Omega.{arith}
 use native.Mathlib.Numerals.{add-one}
 use lib.ListN.{length, set, drop}
 use lib.Seq.{sets}
-use Rattle.format.specs.Tree.{node, count, sizes}
+use Rattle.format.specs.Tree.{node, count, sizes, Each-node}
 use Rattle.format.specs.Term.{Label}
 use Rattle.format.specs.Answer.{Answer, Position, at-offset, after, done}
 use Rattle.format.specs.Head.{Atoms, Wanted, Head, parts, characters, elements, pairs, later}
@@ -15,7 +15,7 @@ use Rattle.format.specs.AtomList.{AtomList}
 use Rattle.format.specs.Reading.{tag-at, each, run, entries, string, tail, one-term, opening, row, whole, body, term}
 use Rattle.format.specs.Message.{Terms}
 use Rattle.format.specs.Rows.{tree-rows, rows, kind-of, kind-at, offset-of, whole-code, pack, Small-fields, word, words-of}
-use Rattle.format.proofs.Rows.{Each-node, count-le-sizes}
+use Rattle.format.proofs.Rows.{count-le-sizes}
 use Rattle.format.proofs.Words.{Between, kind-of-range}
 use Rattle.octets.proofs.Stores.{set-before}
 use Rattle.heads.specs.declared.Head as code

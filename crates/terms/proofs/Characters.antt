@@ -8,17 +8,15 @@ use lib.IntN.{pos}
 use lib.ListN.{length, set, length-set}
 use lib.Seq.{sets}
 use borrow.Author.Tests.{lt-ltb, le-ltb}
-use Rattle.format.specs.Tree.{node, none, _▹_, count, sizes}
+use Rattle.format.specs.Tree.{node, none, _▹_, count, sizes, Each-node, Each-nodes}
 use Rattle.format.specs.Term.{integer}
 use Rattle.format.specs.Answer.{good, refused, at-offset}
 use Rattle.format.specs.Head.{Atoms, characters}
 use Rattle.format.specs.Reading.{character-at, row, string}
 use Rattle.format.specs.Message.{Terms}
-use Rattle.format.specs.Rows.{rows, kind-of, kind-at, offset-of, whole-code, pack, word, words-of}
+use Rattle.format.specs.Rows.{rows, kind-of, kind-at, offset-of, whole-code, pack, word, words-of, Placed}
 use Rattle.format.proofs.Opening.{by-less}
-use Rattle.format.proofs.Rows.{Each-node, Each-nodes}
 use Rattle.format.proofs.Steps.{spot}
-use Rattle.format.proofs.Words.{Placed}
 use Rattle.octets.proofs.Stores.{sets-at}
 use Rattle.terms.specs.declared.Parts.{Parts}
 use Rattle.terms.specs.declared.Parts.the-variants.{Got, Refused}

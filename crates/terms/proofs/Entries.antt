@@ -6,7 +6,7 @@ use Prim.Native.Nat.{ℕ, suc, _+_, _-_, _*_, _≤_, _<_}
 use native.Mathlib.Omega.{arith}
 use lib.ListN.{length, getD}
 use lib.Seq.{sets, length-sets}
-use Rattle.format.specs.Tree.{none, _▹_, _▹▹_, count, size, sizes}
+use Rattle.format.specs.Tree.{none, _▹_, _▹▹_, count, size, sizes, Each-node, Each-nodes}
 use Rattle.format.specs.Term.{Term}
 use Rattle.format.specs.Equal.{among}
 use Rattle.format.specs.Answer.{Answer, good, Position, Reading, after, done, rule, at-offset}
@@ -14,13 +14,13 @@ use Rattle.format.specs.Head.{Atoms, Wanted, any, pairs}
 use Rattle.format.specs.AtomList.{AtomList, of-size, atoms-of}
 use Rattle.format.specs.Reading.{Located, meaning, entries, term}
 use Rattle.format.specs.Message.{Terms}
-use Rattle.format.specs.Rows.{Row, tree-rows, rows, kind-of, whole-code, words-of}
+use Rattle.format.specs.Rows.{Row, tree-rows, rows, kind-of, whole-code, words-of, Placed, Here}
 use Rattle.format.proofs.Backed.{Backed, Backeds, term-backed}
 use Rattle.format.proofs.Backed as backing
 use Rattle.format.proofs.RoundTrip.{join-none}
-use Rattle.format.proofs.Rows.{Each-node, Each-nodes, size-positive, each-nodes-join, sizes-join, count-join, count-le-sizes, length-rows}
+use Rattle.format.proofs.Rows.{size-positive, each-nodes-join, sizes-join, count-join, count-le-sizes, length-rows}
 use Rattle.format.proofs.Text.{under-all}
-use Rattle.format.proofs.Words.{Placed, small-rows, Here, sets-here, length-words-of}
+use Rattle.format.proofs.Words.{small-rows, sets-here, length-words-of}
 use Rattle.heads.specs.declared.Wanted.the-variants.{Any}
 use Rattle.heads.specs.Code.{lent, wanted-of}
 use Rattle.keys.specs.Compare.{among-rows}

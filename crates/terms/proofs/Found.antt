@@ -5,14 +5,14 @@ use Prim.Native.Nat.{ℕ, suc, _+_, _≤_}
 use native.Mathlib.Omega.{arith}
 use lib.ListN.{length}
 use lib.Seq.{sets}
-use Rattle.format.specs.Tree.{_▹_, _▹▹_, count, size, sizes}
+use Rattle.format.specs.Tree.{_▹_, _▹▹_, count, size, sizes, Each-node, Each-nodes}
 use Rattle.format.specs.Term.{Label}
 use Rattle.format.specs.Answer.{Answer, good, refused, Position, at-offset, after, done}
 use Rattle.format.specs.Message.{Terms}
 use Rattle.format.specs.Reading.{Located}
-use Rattle.format.specs.Rows.{tree-rows, rows, kind-of, words-of}
-use Rattle.format.proofs.Rows.{Each-node, Each-nodes, sizes-join, count-join, length-tree-rows, length-rows, rows-join, each-nodes-join}
-use Rattle.format.proofs.Words.{Placed, words-of-join, length-words-of}
+use Rattle.format.specs.Rows.{tree-rows, rows, kind-of, words-of, Placed}
+use Rattle.format.proofs.Rows.{sizes-join, count-join, length-tree-rows, length-rows, rows-join, each-nodes-join}
+use Rattle.format.proofs.Words.{words-of-join, length-words-of}
 use Rattle.octets.proofs.Stores.{sets-at}
 use Rattle.terms.specs.declared.Step.{Step}
 use Rattle.terms.specs.declared.Step.the-variants as step

@@ -5,17 +5,16 @@ use Prim.Native.Nat.{ℕ, _+_, _-_, _≤_, _<_}
 use native.Mathlib.Omega.{arith}
 use lib.ListN.{length, drop, replicate, length-drop, drop-of-length-le}
 use lib.Seq.{sets}
-use Rattle.format.specs.Tree.{none, _▹_, _▹▹_, count, size, sizes}
+use Rattle.format.specs.Tree.{none, _▹_, _▹▹_, count, size, sizes, Each-node, Each-nodes}
 use Rattle.format.specs.Term.{Label, list, improper-list}
 use Rattle.format.specs.Answer.{Answer, good, refused, Position, at-offset, Reading, after, done}
 use Rattle.format.specs.Head.{Atoms, Wanted, Head, parts, characters, elements, pairs, Later, later}
 use Rattle.format.specs.Reading.{Located, each, run, string, tail, opening, body, term}
 use Rattle.format.specs.Message.{Terms}
-use Rattle.format.specs.Rows.{Row, tree-rows, rows, kind-of, words-of}
+use Rattle.format.specs.Rows.{Row, tree-rows, rows, kind-of, words-of, Placed}
 use Rattle.format.proofs.Holds.{Holds}
 use Rattle.format.proofs.Invariant.{run-kept, term-kept}
-use Rattle.format.proofs.Rows.{Each-node, Each-nodes, each-nodes-join, sizes-join, count-join, count-le-sizes}
-use Rattle.format.proofs.Words.{Placed}
+use Rattle.format.proofs.Rows.{each-nodes-join, sizes-join, count-join, count-le-sizes}
 use Rattle.heads.specs.declared.Head as code
 use Rattle.heads.specs.declared.Head.the-variants as heads
 use Rattle.heads.specs.declared.Later as code-later

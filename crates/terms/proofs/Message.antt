@@ -9,7 +9,7 @@ use lib.Dec.{leb}
 use lib.ListN.{length, getD, drop, replicate, drop-of-length-le}
 use lib.Seq.{sets, drop-cons}
 use borrow.Author.Tests.{eq-eqb, ne-eqb, le-leb, lt-leb, leb-true}
-use Rattle.format.specs.Tree.{none, _▹_, count, size, sizes}
+use Rattle.format.specs.Tree.{none, _▹_, count, size, sizes, Each-node}
 use Rattle.format.specs.Answer.{Answer, good, refused, Position, at-offset, Reading, after, done}
 use Rattle.format.specs.Answers.{read-answer}
 use Rattle.format.specs.AtomList.{AtomList, of-size, atoms-of}
@@ -17,12 +17,12 @@ use Rattle.format.specs.Head.{Atoms, any}
 use Rattle.format.specs.Message as message
 use Rattle.format.specs.Message.{Terms, version, ending, standalone-term, payload-terms, terms-framed, found, first-check, read}
 use Rattle.format.specs.Reading.{Located, term}
-use Rattle.format.specs.Rows.{Row, tree-rows, rows, words-of, table-after}
+use Rattle.format.specs.Rows.{Row, tree-rows, rows, words-of, table-after, Placed}
 use Rattle.format.specs.declared.Refusal.{Refusal}
 use Rattle.format.specs.declared.ReadAnswer.{ReadAnswer}
 use Rattle.format.specs.declared.ReadAnswer.the-variants as reads
-use Rattle.format.proofs.Rows.{Each-node, length-rows}
-use Rattle.format.proofs.Words.{Placed, length-words-of}
+use Rattle.format.proofs.Rows.{length-rows}
+use Rattle.format.proofs.Words.{length-words-of}
 use Rattle.octets.specs.Cleared.{cleared}
 use Rattle.octets.proofs.Cleared.{cleared-all, cleared-sets}
 use Rattle.terms.specs.declared.Step.{Step}

@@ -4,19 +4,19 @@ use mathlib.Core.List.{List, []}
 use Prim.Native.Nat.{ℕ, _+_, _-_, _/_, _%_, _≤_, _<_}
 use native.Mathlib.Omega.{arith}
 use lib.ListN.{length, set, replicate}
+use Rattle.format.specs.Tree.{count, Each-node}
 use Rattle.format.specs.Term.{Label}
 use Rattle.format.specs.Answer.{at-offset}
 use Rattle.format.specs.Head.{Atoms, Wanted, any, Head, parts, elements, pairs, known, later, head}
 use Rattle.format.specs.AtomList.{AtomList}
 use Rattle.format.specs.Reading.{each, run, string, one-term, body, term}
 use Rattle.format.specs.Rows.{rows, kind-of, pack, Small-fields, words-of}
-use Rattle.format.proofs.Rows.{Each-node}
 use Rattle.format.proofs.Words.{Between, kind-of-range}
 use Rattle.heads.specs.declared.Step.the-variants as fields
 use Rattle.heads.specs.declared.Wanted.the-variants.{Any}
 use Rattle.heads.specs.Code.{wanted-of, kind-later, head-of, step-of}
-use Rattle.heads.specs.Quick.{quick-word}
-use Rattle.heads.proofs.Common.{Common, some-parts, no-characters, some-elements, some-pairs, Told, Quickly, quickly}
+use Rattle.heads.specs.Quick.{quick-word, Common, some-parts, no-characters, some-elements, some-pairs, Told}
+use Rattle.heads.proofs.Common.{Quickly, quickly}
 use Rattle.terms.specs.declared.Step.{Step}
 use Rattle.terms.specs.declared.Step.the-variants as step
 use Rattle.terms.specs.declared.Parts.{Parts}

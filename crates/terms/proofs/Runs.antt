@@ -4,15 +4,13 @@ use mathlib.Core.List.{List, [], _∷_, _++_}
 use Prim.Native.Nat.{ℕ, zero, suc, _+_, _-_, _≤_, min}
 use native.Mathlib.Omega.{arith}
 use lib.ListN.{length, replicate}
-use Rattle.format.specs.Tree.{_▹_, _▹▹_, count, size, sizes}
+use Rattle.format.specs.Tree.{_▹_, _▹▹_, count, size, sizes, Each-node, Each-nodes}
 use Rattle.format.specs.Answer.{Answer, good, refused, Position, at-offset, Reading, after, done}
 use Rattle.format.specs.Head.{Wanted, any, an-atom, an-arity}
 use Rattle.format.specs.AtomList.{AtomList}
 use Rattle.format.specs.Reading.{Located, each, run}
 use Rattle.format.specs.Message.{Terms}
-use Rattle.format.specs.Rows.{tree-rows, rows, words-of}
-use Rattle.format.proofs.Rows.{Each-node, Each-nodes}
-use Rattle.format.proofs.Words.{Placed}
+use Rattle.format.specs.Rows.{tree-rows, rows, words-of, Placed}
 use Rattle.heads.specs.declared.Wanted.the-variants.{Atom, Arity}
 use Rattle.heads.specs.Code.{wanted-of}
 use Rattle.terms.specs.declared.Step.{Step}

@@ -7,7 +7,7 @@ use Prim.Native.Nat.{ℕ, zero, suc, _+_, _-_, _≤_, _<_, min}
 use lib.Dec.{leb}
 use lib.ListN.{length, replicate}
 use lib.Seq.{sets}
-use Rattle.format.specs.Tree.{Forest, _▹_, _▹▹_, count, size, sizes}
+use Rattle.format.specs.Tree.{Forest, _▹_, _▹▹_, count, size, sizes, Each-node, Each-nodes}
 use Rattle.format.specs.Term.{Label, list, improper-list, map}
 use Rattle.format.specs.Answer.{Answer, good, refused, Position, at-offset, Reading, _>>=_, done}
 use Rattle.format.specs.Head.{Atoms, Wanted, an-atom, an-arity, Head, parts, characters, elements, pairs, later}
@@ -15,11 +15,9 @@ use Rattle.format.specs.AtomList.{AtomList, of-size}
 use Rattle.format.specs.Reading.{Located, bytes-left, each, run, entries, string, tail, body, term}
 use Rattle.format.specs.Message as message
 use Rattle.format.specs.Message.{Terms}
-use Rattle.format.specs.Rows.{tree-rows, rows, kind-of, pack, words-of}
+use Rattle.format.specs.Rows.{tree-rows, rows, kind-of, pack, words-of, Placed}
 use Rattle.format.specs.declared.ReadAnswer.{ReadAnswer}
 use Rattle.format.specs.declared.ReadAnswer.the-variants as reads
-use Rattle.format.proofs.Rows.{Each-node, Each-nodes}
-use Rattle.format.proofs.Words.{Placed}
 use Rattle.heads.specs.declared.Head as code
 use Rattle.heads.specs.Code.{head-at}
 use Rattle.terms.specs.declared.Step.{Step}

@@ -20,8 +20,7 @@ ghost use Rattle.format.specs.Rows.{table-after};
 ghost use Rattle.format.specs.Answer.{at-offset};
 ghost use Rattle.octets.specs.Cleared.{cleared};
 ghost use Rattle.heads.specs.Code.{lent, wanted-of, later-of, kind-later, head-at, head-of};
-ghost use Rattle.heads.specs.Quick.{quick-word};
-ghost use Rattle.heads.proofs.Common.{Told};
+ghost use Rattle.heads.specs.Quick.{quick-word, Told};
 ghost use Rattle.keys.specs.Seen.{Keeps};
 ghost use Rattle.terms.specs.Code.{first-refusal, rows-in, asked, character-words, framing-of, Room, Sound, Opens, inner, last, TermDone, RunDone, PartsDone, MessageDone};
 
