@@ -902,7 +902,7 @@ fn common_word(msg: &[u8], n: u8, places: &[u8], lengths: &[u16], at: usize, tag
         100 => word_of(atom(msg, at, 2, false)),
         115 => word_of(atom(msg, at, 1, false)),
         118 => word_of(atom(msg, at, 2, true)),
-        _ => leaf_word(msg, at, tag),
+        _ => 0,
     }
 }
 

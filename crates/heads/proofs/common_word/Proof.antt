@@ -56,9 +56,6 @@ atom-requires-3 c κs = search needs
 word-of-requires-8 : tie.Need-word-of-requires-8
 word-of-requires-8 c κs = search needs
 
-leaf-word-requires : tie.Need-leaf-word-requires
-leaf-word-requires c κs = search needs
-
 returns : tie.Need-returns
 unfolding form-in forms
 returns c = λ _ rows. c .word-of .ensures ∙ ap quick-word (c .before .tuple .ensures _ rows ∙ at-tag _ _ _ _ _ 104 (c .before .before .match .keys1) (tuple-ext 1) refl)
@@ -92,7 +89,7 @@ unfolding form-in forms coding-of
 returns-8 c = λ _ rows. c .word-of8 .ensures ∙ ap quick-word (c .before .atom3 .ensures _ rows ∙ at-tag _ _ _ _ _ 118 (c .before .before .match .keys8) (atom-ext utf-8 2) refl)
 
 returns-9 : tie.Need-returns-9
-returns-9 c = λ some rows. c .leaf-word .ensures some _ rows
+returns-9 c = search needs
 
 pub common-word-spec : {M : Type 1} → statement M
 common-word-spec =
@@ -114,7 +111,6 @@ common-word-spec =
     word-of-requires-7
     atom-requires-3
     word-of-requires-8
-    leaf-word-requires
     returns
     returns-2
     returns-3
