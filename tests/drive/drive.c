@@ -292,19 +292,30 @@ static int do_changed(void)
     return 1;
 }
 
+/* What read and write take: form, list, the message; number, text and mark have a number before the message. */
+struct question { int standalone; struct list l; uint64_t at; uint8_t *msg; size_t size; };
+
+static int told(struct question *q, struct word msg)
+{
+    if (!form_named(words[1], &q->standalone) || !list_named(words[2], &q->l))
+        return 0;
+    q->msg = bytes_of(msg, &q->size);
+    return q->msg != NULL;
+}
+
+static int asked(struct question *q)
+{
+    return number_of(words[3], &q->at) && told(q, words[4]);
+}
+
 static int do_read(void)
 {
-    int standalone;
-    struct list l;
-    size_t size;
-    if (!form_named(words[1], &standalone) || !list_named(words[2], &l))
+    struct question q;
+    if (!told(&q, words[3]))
         return 0;
-    uint8_t *msg = bytes_of(words[3], &size);
-    if (!msg)
-        return 0;
-    struct ik_read a = (standalone ? ik_read_standalone : ik_read_payload)(
-        msg, size, l.n, l.texts, l.texts_len, l.lengths, l.lengths_len, rows(), parts[TABLE].count);
-    free(msg);
+    struct ik_read a = (q.standalone ? ik_read_standalone : ik_read_payload)(
+        q.msg, q.size, q.l.n, q.l.texts, q.l.texts_len, q.l.lengths, q.l.lengths_len, rows(), parts[TABLE].count);
+    free(q.msg);
     if (!refused(a.refusal, a.place))
         printf("ok %llu %llu", wide(a.terms), wide(a.rows));
     return 1;
@@ -347,31 +358,15 @@ static int do_kind(void)
 
 static int do_write(void)
 {
-    int standalone;
-    struct list l;
-    size_t size;
-    if (!form_named(words[1], &standalone) || !list_named(words[2], &l))
+    struct question q;
+    if (!told(&q, words[3]))
         return 0;
-    uint8_t *msg = bytes_of(words[3], &size);
-    if (!msg)
-        return 0;
-    struct ik_written a = (standalone ? ik_write_standalone : ik_write_payload)(
-        msg, size, l.n, l.texts, l.texts_len, l.lengths, l.lengths_len, rows(), parts[TABLE].count, parts[OUTPUT].memory, parts[OUTPUT].count);
-    free(msg);
+    struct ik_written a = (q.standalone ? ik_write_standalone : ik_write_payload)(
+        q.msg, q.size, q.l.n, q.l.texts, q.l.texts_len, q.l.lengths, q.l.lengths_len, rows(), parts[TABLE].count, parts[OUTPUT].memory, parts[OUTPUT].count);
+    free(q.msg);
     if (!refused(a.refusal, a.place))
         printf("ok %llu", wide(a.length));
     return 1;
-}
-
-/* What number, text and mark take: form, list, a number, the message. */
-struct question { int standalone; struct list l; uint64_t at; uint8_t *msg; size_t size; };
-
-static int asked(struct question *q)
-{
-    if (!form_named(words[1], &q->standalone) || !list_named(words[2], &q->l) || !number_of(words[3], &q->at))
-        return 0;
-    q->msg = bytes_of(words[4], &q->size);
-    return q->msg != NULL;
 }
 
 static int do_number(void)

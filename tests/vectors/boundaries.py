@@ -258,15 +258,18 @@ def field_rules(book):
     book.accepted(b'\x6f' + big(4, 65529) + b'\0' + b'\1' * 65529)
     for number_ in (0, 1, 0x7fffffff, 0x80000000, 0xffffffff):
         book.accepted(b'\x62' + big(4, number_))
-    # 70: an exponent of all ones is 4.
-    for high, good in ((0x7fef, 1), (0x7ff0, 0), (0x7ff8, 0), (0x7fff, 0), (0x8000, 1), (0, 1), (0xffef, 1), (0xfff0, 0), (0xffff, 0), (0x3ff0, 1)):
-        term = b'\x46' + big(2, high) + b'\0\0\0\0\0\1'
+    # Good, or 4 at its tag, also as a part; cut short it is 2.
+    def judged(term, good):
         if good:
             book.accepted(term)
         else:
             book.refused(4, 1, term)
             book.refused(4, 3, b'\x68\1' + term)
             book.refused(2, 1, term[:-1])
+    # 70: an exponent of all ones is 4.
+    for high, good in ((0x7fef, 1), (0x7ff0, 0), (0x7ff8, 0), (0x7fff, 0), (0x8000, 1), (0, 1), (0xffef, 1), (0xfff0, 0), (0xffff, 0), (0x3ff0, 1)):
+        term = b'\x46' + big(2, high) + b'\0\0\0\0\0\1'
+        judged(term, good)
     # 77: at length 0 Bits is 0, else 1..8; judged after all bytes are there.
     for count in range(10):
         if 1 <= count <= 8:
@@ -280,12 +283,7 @@ def field_rules(book):
     # ID, Serial, Creation and first word under their limits. All later fields are there before one is judged, so the cut one is 2.
     def limits(opener, fields, good):
         term = opener + NODE + b''.join(big(width, value) for width, value in fields)
-        if good:
-            book.accepted(term)
-        else:
-            book.refused(4, 1, term)
-            book.refused(4, 3, b'\x68\1' + term)
-            book.refused(2, 1, term[:-1])
+        judged(term, good)
     for tag, width in ((b'\x58', 4), (b'\x67', 1)):
         for ident in (0, 2 ** 15 - 1, 2 ** 15, 2 ** 32 - 1):
             for serial in (0, 2 ** 13 - 1, 2 ** 13, 2 ** 32 - 1):

@@ -24,7 +24,7 @@ use Rattle.layout.specs.Layout.{Put}
 use Rattle.fields.specs.Shape.{some-small}
 use Rattle.fields.specs.Sound.{label-in, Sound-word, character-code}
 use Rattle.canon.specs.Held.{Held, Held-run, as-string, is-some}
-use Rattle.canon.specs.Code.{string-term, Some-run, Small-told}
+use Rattle.canon.specs.Code.{string-term, Some-term, Some-run, Some-small, Small-told}
 use Rattle.canon.proofs.Held.{run-first, run-others, held-parts, held-writable, held-below, held-kind, held-count, held-label, held-sound, kind-list, tag-kind}
 
 -- ---- small labels
@@ -131,11 +131,20 @@ module _ {m places lengths T : List ℕ} where
   front row Forest.none h p = absurd (omega arith)
   front row (node l us ▹ ts) h p = record { label = l; parts = us; others = ts; is = refl; held = run-first h; held-others = run-others h }
 
-  pub run-sound : (row : ℕ) (ts : Terms) → Held-run m places lengths T row ts → 0 < count ts → Sound-word m places lengths (getD T row 0)
-  run-sound row ts h p = held-sound (front row ts h p .held)
+  -- the first of a run that has one
+  pub run-front : {row n : ℕ} (r : Some-run m places lengths T row n) → 0 < n → Front m places lengths T row (r .terms)
+  run-front {row} {n} r p = let c : count (r .terms) ≡ n = r .counted in front row (r .terms) (r .held) (omega arith)
 
-  pub run-below : (row : ℕ) (ts : Terms) → Held-run m places lengths T row ts → 0 < count ts → row < length T
-  run-below row ts h p = held-below (front row ts h p .held)
+  pub run-sound : {row n : ℕ} → Some-run m places lengths T row n → 0 < n → Sound-word m places lengths (getD T row 0)
+  run-sound r p = held-sound (run-front r p .held)
+
+  pub run-below : {row n : ℕ} → Some-run m places lengths T row n → 0 < n → row < length T
+  run-below r p = held-below (run-front r p .held)
+
+  -- what is left of a run in a loop
+  pub small-rest : {row n i : ℕ} → Some-run m places lengths T row n
+      → ((ts : Terms) → Held-run m places lengths T row ts → count ts ≡ n → Small-left m places lengths T row n ts i) → Some-run m places lengths T (row + i) (n - i)
+  small-rest r inv = let s = inv (r .terms) (r .held) (r .counted) in record { terms = s .rest; held = s .rest-held; counted = s .rest-count }
 
   code-held : {row : ℕ} {ts : Terms} (f : Front m places lengths T row ts) → character-code (small (label-in m places lengths (getD T row 0))) ≡ character-code (small (f .label .0))
   code-held f = ap (λ (l : Label). character-code (small l)) (held-label (f .held))
@@ -215,6 +224,15 @@ module _ {m places lengths T : List ℕ} where
       let f : row ≡ row + 0 = omega arith in
       let g : at + 0 ≡ at = omega arith in
       record { rest = ts; rest-held = rw (← f) h; rest-count = omega arith; left = cs; are = e; stored = ap (λ (k : ℕ). sets O k cs) g }
+
+  module _ {row n at i : ℕ} {O out : List ℕ} (a : Some-small m places lengths T row n)
+      (inv : (ts : Terms) (cs : List ℕ) → Held-run m places lengths T row ts → count ts ≡ n → all-small (meanings ts) ≡ some cs
+      → Characters-left m places lengths T row n at cs O out i) where
+    pub characters-here : Characters-left m places lengths T row n at (a .characters) O out i
+    characters-here = inv (a .small-terms) (a .characters) (a .small-held) (a .small-counted) (a .are-small)
+
+    pub characters-rest : Some-run m places lengths T (row + i) (n - i)
+    characters-rest = let s = characters-here in record { terms = s .rest; held = s .rest-held; counted = s .rest-count }
 
   module _ {row n at i : ℕ} {cs O out : List ℕ} (c : ℕ) (s : Characters-left m places lengths T row n at cs O out i) (l : i < n)
       (e : c ≡ character-code (small (label-in m places lengths (getD T (row + i) 0)))) where
@@ -337,8 +355,14 @@ module _ {m places lengths T : List ℕ} {row : ℕ} where
       (as-list (l .0) (meanings ts) (tag-kind (l .0) (l .1) 5 (omega arith) (sym (held-kind h) ∙ sym e ∙ five))
       ∙ small-some (count (meanings ts)) (all-small (meanings ts)) (λ z. any (sym c ∙ sym (count-meanings ts) ∙ z))))
 
-  pub term-below : (t : Located) → Held m places lengths T row t → row < length T
-  term-below (node l ts) h = held-below h
+  term-node : (t : Located) → Held m places lengths T row t → (l : Label × Place) × (ts : Terms) × Held m places lengths T row (node l ts)
+  term-node (node l ts) h = (l, ts, h)
 
-  pub parts-run : (n : ℕ) → n ≡ parts-in (getD T row 0) → (t : Located) → Held m places lengths T row t → Some-run m places lengths T (row + 1) n
-  parts-run n e (node l ts) h = record { terms = ts; held = held-parts h; counted = sym (held-count h) ∙ sym e }
+  pub term-below : Some-term m places lengths T row → row < length T
+  term-below s = held-below (term-node (s .term) (s .held) .2)
+
+  pub term-sound : Some-term m places lengths T row → Sound-word m places lengths (getD T row 0)
+  term-sound s = held-sound (term-node (s .term) (s .held) .2)
+
+  pub parts-run : (n : ℕ) → n ≡ parts-in (getD T row 0) → Some-term m places lengths T row → Some-run m places lengths T (row + 1) n
+  parts-run n e s = let k = term-node (s .term) (s .held) in record { terms = k .1; held = held-parts (k .2); counted = sym (held-count (k .2)) ∙ sym e }

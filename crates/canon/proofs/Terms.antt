@@ -1,6 +1,6 @@
 -- A term's canonical form from its own bytes and those of its parts; runs of terms one after the other.
 use mathlib.Core.Path.{_≡_, refl, sym, _∙_, ap, ap₂}
-use mathlib.Core.Bool.{true, false}
+use mathlib.Core.Bool.{Bool, true, false}
 use mathlib.Core.List.{List, [], _∷_, _++_}
 use mathlib.Core.Option.{none, some}
 use Prim.Native.Nat.{ℕ, suc, _+_, _*_, _-_, _≤_, _<_}
@@ -21,12 +21,12 @@ use Rattle.octets.proofs.Stores.{sets-at}
 use Rattle.layout.specs.Layout.{Put}
 use Rattle.layout.proofs.Puts.{put-then, put-same, put-length}
 use Rattle.fields.specs.Shape.{before, after}
-use Rattle.fields.specs.Sound.{label-in, before-in, after-in, Sound-word}
+use Rattle.fields.specs.Sound.{label-in, before-in, after-in}
 use Rattle.fields.proofs.Shape.{canonical-parts, canonical-string}
 use Rattle.canon.specs.Held.{Held, Held-run, as-string}
-use Rattle.canon.specs.Code.{string-term, Some-term, Some-small, String-put, Run-length, Run-put, Term-length, Term-put, Run-fits, Term-fits}
-use Rattle.canon.proofs.Held.{held-parts, held-writable, held-count, held-size, held-label, held-sound}
-use Rattle.canon.proofs.Strings.{front, run-below, all-small-length, as-list, as-inverse, small-is, some-told, none-told, count-meanings, no-elements}
+use Rattle.canon.specs.Code.{string-term, Some-term, Some-run, Some-small, String-told, String-put, Run-length, Run-put, Term-length, Term-put, Run-fits, Term-fits}
+use Rattle.canon.proofs.Held.{held-parts, held-writable, held-count, held-size, held-label}
+use Rattle.canon.proofs.Strings.{front, run-front, all-small-length, as-list, as-inverse, small-is, some-told, none-told, count-meanings, no-elements}
 
 -- ---- a string
 
@@ -44,6 +44,15 @@ pub record Strung (l : Label × Place) (ts : Terms) : Type 0 where
   pub characters : List ℕ
   pub are : all-small (meanings ts) ≡ some characters
   pub bytes : canonical (node (l .0) (meanings ts)) ≡ 107 ∷ (in-bytes 2 (count ts) ++ characters)
+
+-- a term that is written part by part, and has room
+record Parts-fit (m places lengths T : List ℕ) (row room at : ℕ) : Type 0 where
+  label : Label × Place
+  parts : Terms
+  held : Held m places lengths T row (node label parts)
+  fits : at
+      + (length (before-in m places lengths (getD T row 0)) + (length (canonicals (meanings parts)) + length (after-in m places lengths (getD T row 0))))
+      ≤ room
 
 module _ {m places lengths T : List ℕ} {row : ℕ} where
   few-parts : {l : Label × Place} {ts : Terms} → Held m places lengths T row (node l ts) → count ts + 1 ≤ 8192
@@ -80,6 +89,11 @@ module _ {m places lengths T : List ℕ} {row : ℕ} where
       canonical-parts (l .0) (meanings ts) (held-writable h .fits) (λ f. sym (as-list (l .0) (meanings ts) (ap kind-of f)) ∙ no)
       ∙ ap₂ (λ (y : Label) (k : ℕ). before y k ++ (canonicals (meanings ts) ++ after y k)) x n
 
+  unstrung-length : {l : Label × Place} {ts : Terms} → Held m places lengths T row (node l ts) → string-term (node l ts) ≡ false
+      → length (canonical (node (l .0) (meanings ts)))
+      ≡ length (before-in m places lengths (getD T row 0)) + (length (canonicals (meanings ts)) + length (after-in m places lengths (getD T row 0)))
+  unstrung-length h e = rw (unstrung h e) (simp length-append)
+
   -- ---- lengths
 
   pub string-length : (n : ℕ) → n ≡ parts-in (getD T row 0) → (t : Located) → Held m places lengths T row t → string-term t ≡ true
@@ -104,17 +118,14 @@ module _ {m places lengths T : List ℕ} {row : ℕ} where
   parts-length n own inner e o b r (node l ts) h s =
       let c : count ts ≡ n = sym (held-count h) ∙ sym e in
       let i = r ts (held-parts h) c in
-      let w : ℕ = getD T row 0 in
-      let x : List ℕ = before-in m places lengths w in
-      let y : List ℕ = canonicals (meanings ts) in
-      let z : List ℕ = after-in m places lengths w in
-      let d : length (canonical (node (l .0) (meanings ts))) ≡ length (x ++ (y ++ z)) = ap length (unstrung h s) in
-      let f = length-append x (y ++ z) in
-      let g = length-append y z in
+      let d = unstrung-length h s in
       (omega arith, omega arith)
 
   pub few-rows : (t : Located) → Held m places lengths T row t → size t ≤ 8192
   few-rows t h = let f : row + size t ≤ 8192 = h .few in omega arith
+
+  pub fits-some : {one : Term → List ℕ} {room at : ℕ} → Term-fits m places lengths T row one room at → Some-term m places lengths T row
+  fits-some a = record { term = a .fit-term; held = a .fit-held }
 
   -- ---- writing
 
@@ -134,62 +145,50 @@ module _ {m places lengths T : List ℕ} {row : ℕ} where
       let c : count ts ≡ n = sym (held-count h) ∙ sym e in
       put-same (sym (g .bytes ∙ ap (λ (k : ℕ). 107 ∷ (in-bytes 2 k ++ g .characters)) c)) (p ts (g .characters) (held-parts h) c (g .are))
 
-  pub string-needs : (n room at : ℕ) → n ≡ parts-in (getD T row 0) → (t : Located) → Held m places lengths T row t → string-term t ≡ true
-      → at + length (canonical (meaning t)) ≤ room → Some-small m places lengths T (row + 1) n × (at + (n + 3) ≤ room) × (n < 65536)
-  string-needs n room at e (node l ts) h s fit =
-      let g = strung h s in
-      let c : count ts ≡ n = sym (held-count h) ∙ sym e in
-      let k = string-length n e (node l ts) h s .0 in
-      let f = few-parts h in
-      (record { small-terms = ts; small-held = held-parts h; small-counted = c; characters = g .characters; are-small = g .are }, omega arith, omega arith)
+  pub string-needs : {n room at : ℕ} {b : Bool} → n ≡ parts-in (getD T row 0) → Term-fits m places lengths T row canonical room at
+      → String-told m places lengths T row b → b ≡ true → Some-small m places lengths T (row + 1) n × (at + (n + 3) ≤ room) × (n < 65536)
+  string-needs {n} {room} {at} e a told y = go (a .fit-term) (a .fit-held) (sym (told (a .fit-term) (a .fit-held)) ∙ y) (a .fit-room)
+    where
+      go : (t : Located) → Held m places lengths T row t → string-term t ≡ true → at + length (canonical (meaning t)) ≤ room
+          → Some-small m places lengths T (row + 1) n × (at + (n + 3) ≤ room) × (n < 65536)
+      go (node l ts) h s fit =
+          let g = strung h s in
+          let c : count ts ≡ n = sym (held-count h) ∙ sym e in
+          let k = string-length n e (node l ts) h s .0 in
+          let f = few-parts h in
+          (record { small-terms = ts; small-held = held-parts h; small-counted = c; characters = g .characters; are-small = g .are }, omega arith, omega arith)
 
-  pub before-room : (room at : ℕ) → (t : Located) → Held m places lengths T row t → string-term t ≡ false → at + length (canonical (meaning t)) ≤ room
-      → at + length (before-in m places lengths (getD T row 0)) ≤ room
-  before-room room at (node l ts) h s fit =
-      let w : ℕ = getD T row 0 in
-      let x : List ℕ = before-in m places lengths w in
-      let y : List ℕ = canonicals (meanings ts) in
-      let z : List ℕ = after-in m places lengths w in
-      let d : length (canonical (node (l .0) (meanings ts))) ≡ length (x ++ (y ++ z)) = ap length (unstrung h s) in
-      let f = length-append x (y ++ z) in
-      omega arith
+  module _ {room at : ℕ} {b : Bool} (a : Term-fits m places lengths T row canonical room at) (told : String-told m places lengths T row b) (y : b ≡ false) where
+    parts-fit : Parts-fit m places lengths T row room at
+    parts-fit = go (a .fit-term) (a .fit-held) (sym (told (a .fit-term) (a .fit-held)) ∙ y) (a .fit-room)
+      where
+        go : (t : Located) → Held m places lengths T row t → string-term t ≡ false → at + length (canonical (meaning t)) ≤ room → Parts-fit m places lengths T row room at
+        go (node l ts) h s fit = let d = unstrung-length h s in record { label = l; parts = ts; held = h; fits = omega arith }
 
-  pub run-room : {O P : List ℕ} (n at first : ℕ) → n ≡ parts-in (getD T row 0) → (t : Located) → Held m places lengths T row t → string-term t ≡ false
-      → at + length (canonical (meaning t)) ≤ length O → Put O at (before-in m places lengths (getD T row 0)) first P
-      → Run-fits m places lengths T (row + 1) canonicals n (length P) first
-  run-room {O} {P} n at first e (node l ts) h s fit p =
-      let w : ℕ = getD T row 0 in
-      let x : List ℕ = before-in m places lengths w in
-      let y : List ℕ = canonicals (meanings ts) in
-      let z : List ℕ = after-in m places lengths w in
-      let d : length (canonical (node (l .0) (meanings ts))) ≡ length (x ++ (y ++ z)) = ap length (unstrung h s) in
-      let f = length-append x (y ++ z) in
-      let g = length-append y z in
-      let k : length P ≡ length O = put-length p in
-      let b : first ≡ at + length x = p .past in
-      record { fit-terms = ts; fit-run = held-parts h; fit-count = sym (held-count h) ∙ sym e; fit-space = omega arith }
+    pub before-room : at + length (before-in m places lengths (getD T row 0)) ≤ room
+    before-room = let f = parts-fit .fits in omega arith
 
-  pub after-room : {O P Q : List ℕ} (n at first end : ℕ) → n ≡ parts-in (getD T row 0) → (t : Located) → Held m places lengths T row t → string-term t ≡ false
-      → at + length (canonical (meaning t)) ≤ length O → Put O at (before-in m places lengths (getD T row 0)) first P
-      → Run-put m places lengths T (row + 1) canonicals n P first end Q
-      → end + length (after-in m places lengths (getD T row 0)) ≤ length Q
-  after-room {O} {P} {Q} n at first end e (node l ts) h s fit p q =
-      let w : ℕ = getD T row 0 in
-      let x : List ℕ = before-in m places lengths w in
-      let y : List ℕ = canonicals (meanings ts) in
-      let z : List ℕ = after-in m places lengths w in
-      let d : length (canonical (node (l .0) (meanings ts))) ≡ length (x ++ (y ++ z)) = ap length (unstrung h s) in
-      let f = length-append x (y ++ z) in
-      let g = length-append y z in
-      let i = q ts (held-parts h) (sym (held-count h) ∙ sym e) in
-      let k : length P ≡ length O = put-length p in
-      let j : length Q ≡ length P = put-length i in
-      let b : first ≡ at + length x = p .past in
-      let c : end ≡ first + length y = i .past in
-      omega arith
+  module _ {O P : List ℕ} {n at first : ℕ} {b : Bool} (e : n ≡ parts-in (getD T row 0)) (a : Term-fits m places lengths T row canonical (length O) at)
+      (told : String-told m places lengths T row b) (y : b ≡ false) (p : Put O at (before-in m places lengths (getD T row 0)) first P) where
+    pub run-room : Run-fits m places lengths T (row + 1) canonicals n (length P) first
+    run-room =
+        let o = parts-fit a told y in
+        let f = o .fits in
+        let k : length P ≡ length O = put-length p in
+        let x : first ≡ at + length (before-in m places lengths (getD T row 0)) = p .past in
+        record { fit-terms = o .parts; fit-run = held-parts (o .held); fit-count = sym (held-count (o .held)) ∙ sym e; fit-space = omega arith }
 
-  pub term-sound : (t : Located) → Held m places lengths T row t → Sound-word m places lengths (getD T row 0)
-  term-sound (node l ts) h = held-sound h
+    pub after-room : {Q : List ℕ} {end : ℕ} → Run-put m places lengths T (row + 1) canonicals n P first end Q
+        → end + length (after-in m places lengths (getD T row 0)) ≤ length Q
+    after-room {Q} {end} q =
+        let o = parts-fit a told y in
+        let f = o .fits in
+        let i = q (o .parts) (held-parts (o .held)) (sym (held-count (o .held)) ∙ sym e) in
+        let k : length P ≡ length O = put-length p in
+        let j : length Q ≡ length P = put-length i in
+        let x : first ≡ at + length (before-in m places lengths (getD T row 0)) = p .past in
+        let c : end ≡ first + length (canonicals (meanings (o .parts))) = i .past in
+        omega arith
 
 -- ---- runs
 
@@ -249,32 +248,44 @@ module _ {m places lengths T : List ℕ} where
       let b = g .bound in
       (omega arith, omega arith)
 
-  pub left-term : {next left : ℕ} (rest : Terms) → Held-run m places lengths T next rest → count rest ≡ left → 0 < left → Some-term m places lengths T next
-  left-term {next} {left} rest h c p =
-      let f = front next rest h (omega arith) in
-      record { term = node (f .label) (f .parts); held = f .held }
+  pub left-term : {next left : ℕ} → Some-run m places lengths T next left → 0 < left → Some-term m places lengths T next
+  left-term r p = let f = run-front r p in record { term = node (f .label) (f .parts); held = f .held }
 
-  pub length-room : {ts : Terms} {next left sum row : ℕ} (r : ℕ) → Length-left m places lengths T ts next left sum → 0 < left → Held-run m places lengths T row ts
-      → Term-length m places lengths T next canonical r → sum + r ≤ 4294967296
-  length-room {ts} {next} {left} {sum} {row} r g p h w =
-      let c : count (g .rest) ≡ left = g .rest-count in
-      let f = front next (g .rest) (g .rest-held) (omega arith) in
-      let i = w (node (f .label) (f .parts)) (f .held) in
-      let z : sizes (g .rest) ≡ suc (sizes (f .parts)) + sizes (f .others) = ap sizes (f .is) in
-      let o = g .bound in
-      let q : row + sizes ts ≤ 8192 = h .run-few in
-      omega arith
-
-  pub left-below : {next left : ℕ} (rest : Terms) → Held-run m places lengths T next rest → count rest ≡ left → 0 < left → next < length T
-  left-below {next} {left} rest h c p = run-below next rest h (omega arith)
-
-  pub left-size : {next left : ℕ} (s : ℕ) (rest : Terms) → Held-run m places lengths T next rest → count rest ≡ left → 0 < left → s ≡ size-in (getD T next 0)
-      → (1 ≤ s) × (next + s ≤ 8192)
-  left-size {next} {left} s rest h c p e =
-      let f = front next rest h (omega arith) in
+  pub left-size : {next left : ℕ} (s : ℕ) → Some-run m places lengths T next left → 0 < left → s ≡ size-in (getD T next 0) → (1 ≤ s) × (next + s ≤ 8192)
+  left-size {next} s r p e =
+      let f = run-front r p in
       let d : s ≡ suc (sizes (f .parts)) = e ∙ held-size (f .held) in
       let q : next + suc (sizes (f .parts)) ≤ 8192 = f .held .few in
       (omega arith, omega arith)
+
+  module _ {row n next left sum : ℕ} (a : Some-run m places lengths T row n)
+      (inv : (ts : Terms) → Held-run m places lengths T row ts → count ts ≡ n → Length-left m places lengths T ts next left sum) where
+    length-here : Length-left m places lengths T (a .terms) next left sum
+    length-here = inv (a .terms) (a .held) (a .counted)
+
+    -- what is left of the run
+    pub length-rest : Some-run m places lengths T next left
+    length-rest = let g = length-here in record { terms = g .rest; held = g .rest-held; counted = g .rest-count }
+
+    pub length-room : (r : ℕ) → 0 < left → Term-length m places lengths T next canonical r → sum + r ≤ 4294967296
+    unfolding length-here length-rest
+    length-room r p w =
+        let g = length-here in
+        let f = run-front length-rest p in
+        let i = w (node (f .label) (f .parts)) (f .held) in
+        let z : sizes (g .rest) ≡ suc (sizes (f .parts)) + sizes (f .others) = ap sizes (f .is) in
+        let o = g .bound in
+        let q : row + sizes (a .terms) ≤ 8192 = a .held .run-few in
+        omega arith
+
+  -- what is left of a run that is written
+  module _ {all : Forest Label → List ℕ} {O out : List ℕ} {row n room at next left end : ℕ} (a : Run-fits m places lengths T row all n room at)
+      (inv : (ts : Terms) → Held-run m places lengths T row ts → count ts ≡ n → Put-left m places lengths T all O at ts next left out end) where
+    pub put-here : Put-left m places lengths T all O at (a .fit-terms) next left out end
+    put-here = inv (a .fit-terms) (a .fit-run) (a .fit-count)
+
+    pub put-rest : Some-run m places lengths T next left
+    put-rest = let g = put-here in record { terms = g .rest; held = g .rest-held; counted = g .rest-count }
 
 module _ {m places lengths T : List ℕ} (one : Term → List ℕ) (all : Forest Label → List ℕ)
     (nil : all Forest.none ≡ []) (cons : (t : Term) (ts : Forest Label) → all (t ▹ ts) ≡ one t ++ all ts) where
@@ -316,16 +327,19 @@ module _ {m places lengths T : List ℕ} (one : Term → List ℕ) (all : Forest
       let t = g .past in
       record { past = omega arith; stored = sym (ap (λ (x : List ℕ). sets out end x) e) ∙ g .stored }
 
-  pub put-fits : {O out : List ℕ} {at next left end : ℕ} {ts : Terms} → Put-left m places lengths T all O at ts next left out end → 0 < left
-      → at + length (all (meanings ts)) ≤ length O → length out ≡ length O → Term-fits m places lengths T next one (length out) end
-  put-fits {O} {out} {at} {next} {left} {end} {ts} g p fit e =
-      let c : count (g .rest) ≡ left = g .rest-count in
-      let f = front next (g .rest) (g .rest-held) (omega arith) in
+  pub put-fits : {O out : List ℕ} {row n at next left end : ℕ} → (a : Run-fits m places lengths T row all n (length O) at)
+      → ((ts : Terms) → Held-run m places lengths T row ts → count ts ≡ n → Put-left m places lengths T all O at ts next left out end)
+      → 0 < left → length out ≡ length O → Term-fits m places lengths T next one (length out) end
+  unfolding put-here put-rest
+  put-fits {O} {out} {next = next} {left = left} {end = end} a inv p e =
+      let g = put-here a inv in
+      let f = run-front (put-rest a inv) p in
       let u : Term = meaning (node (f .label) (f .parts)) in
-      let a : all (meanings (g .rest)) ≡ one u ++ all (meanings (f .others)) = ap (λ (x : Terms). all (meanings x)) (f .is) ∙ cons u (meanings (f .others)) in
+      let c : all (meanings (g .rest)) ≡ one u ++ all (meanings (f .others)) = ap (λ (x : Terms). all (meanings x)) (f .is) ∙ cons u (meanings (f .others)) in
       let b = length-append (one u) (all (meanings (f .others))) in
-      let q : length (all (meanings (g .rest))) ≡ length (one u ++ all (meanings (f .others))) = ap length a in
+      let q : length (all (meanings (g .rest))) ≡ length (one u ++ all (meanings (f .others))) = ap length c in
       let t = g .past in
+      let k = a .fit-space in
       record { fit-term = node (f .label) (f .parts); fit-held = f .held; fit-room = omega arith }
 
 -- the two ways in which terms follow one another
@@ -356,9 +370,9 @@ module _ {m places lengths T : List ℕ} {row : ℕ} {n : ℕ} (e : n ≡ parts-
       let g : length (before-in m places lengths w ++ after-in m places lengths w) ≡ length (canonical (meaning (node l ts))) = ap length (leaf-bytes (node l ts) h) in
       (omega arith, omega arith)
 
-  pub leaf-room : (at room : ℕ) (t : Located) → Held m places lengths T row t → at + length (canonical (meaning t)) ≤ room
+  pub leaf-room : {room at : ℕ} → Term-fits m places lengths T row canonical room at
       → at + length (before-in m places lengths (getD T row 0) ++ after-in m places lengths (getD T row 0)) ≤ room
-  leaf-room at room t h fit = rw (leaf-bytes t h) fit
+  leaf-room a = rw (leaf-bytes (a .fit-term) (a .fit-held)) (a .fit-room)
 
   pub leaf-put : {O P : List ℕ} {at r : ℕ} → Put O at (before-in m places lengths (getD T row 0) ++ after-in m places lengths (getD T row 0)) r P
       → (t : Located) → Held m places lengths T row t → Put O at (canonical (meaning t)) r P

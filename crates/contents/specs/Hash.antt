@@ -1,4 +1,4 @@
--- A number under 65521 for a content, over what it says, not over how it is encoded: contents that say the same have the same.
+-- A number of 32 bits for a content, over what it says, not over how it is encoded: contents that say the same have the same.
 use mathlib.Core.Bool.{Bool, false}
 use mathlib.Core.List.{List, [], _∷_}
 use Prim.Native.Nat.{ℕ, _+_, _*_, _-_, _/_, _%_}
@@ -11,9 +11,9 @@ use Rattle.contents.specs.Same.{flat-of, source}
 use Rattle.contents.specs.declared.Flat.{Flat}
 use Rattle.contents.specs.declared.Content.{Content}
 
--- a hash after one number more, and after all of a list
+-- a hash after one number more (the factor is that of a common random number generator), and after all of a list
 unfoldable pub mix : ℕ → ℕ → ℕ
-mix h x = (h * 2983 + x % 65521) % 65521
+mix h x = (h * 22695477 + x % 4294967296 + x / 4294967296) % 4294967296
 
 unfoldable pub mix-all : ℕ → List ℕ → ℕ
 mix-all h [] = h

@@ -882,16 +882,16 @@ pub fn same_content(msg: &[u8], places: &[u8], a: Content, b: Content) -> bool
 
 // A hash after one number more.
 pub fn mix(h: u64, x: u64) -> u64
-    requires { ⌜ h < 65521 ⌝ }
-    ensures { λ r. ⌜ (r ≡ mix h x) × (r < 65521) ⌝ }
+    requires { ⌜ h < 4294967296 ⌝ }
+    ensures { λ r. ⌜ (r ≡ mix h x) × (r < 4294967296) ⌝ }
 {
-    (h * 2983 + x % 65521) % 65521
+    (h * 22695477 + x % 4294967296 + x / 4294967296) % 4294967296
 }
 
 // A hash after the byte c, or after the Latin-1 character c in UTF-8.
 fn mix_byte(latin1: bool, h: u64, c: usize) -> u64
-    requires { ⌜ (h < 65521) × (c < 256) ⌝ }
-    ensures { λ r. ⌜ (r ≡ mix-all h (as-utf8 latin1 (c ∷ []))) × (r < 65521) ⌝ }
+    requires { ⌜ (h < 4294967296) × (c < 256) ⌝ }
+    ensures { λ r. ⌜ (r ≡ mix-all h (as-utf8 latin1 (c ∷ []))) × (r < 4294967296) ⌝ }
 {
     if !latin1 {
         return mix(h, c as u64);
@@ -905,8 +905,8 @@ fn mix_byte(latin1: bool, h: u64, c: usize) -> u64
 
 // A hash after the n bytes of s from `at` on.
 fn mix_bytes(s: &[u8], at: usize, n: usize, latin1: bool, h: u64) -> u64
-    requires { ⌜ (at + n ≤ length (now s)) × (h < 65521) ⌝ }
-    ensures { λ r. ⌜ (r ≡ mix-all h (as-utf8 latin1 (take n (drop at (now (s .entry)))))) × (r < 65521) ⌝ }
+    requires { ⌜ (at + n ≤ length (now s)) × (h < 4294967296) ⌝ }
+    ensures { λ r. ⌜ (r ≡ mix-all h (as-utf8 latin1 (take n (drop at (now (s .entry)))))) × (r < 4294967296) ⌝ }
 {
     let mut sum = h;
     let mut i = 0usize;
@@ -918,8 +918,8 @@ fn mix_bytes(s: &[u8], at: usize, n: usize, latin1: bool, h: u64) -> u64
 }
 
 fn hash_part(s: &[u8], at: usize, n: usize, latin1: bool, h: u64) -> u64
-    requires { ⌜ h < 65521 ⌝ }
-    ensures { λ r. ⌜ (r ≡ hash-part (now (s .entry)) at n latin1 h) × (r < 65521) ⌝ }
+    requires { ⌜ h < 4294967296 ⌝ }
+    ensures { λ r. ⌜ (r ≡ hash-part (now (s .entry)) at n latin1 h) × (r < 4294967296) ⌝ }
 {
     if !inside(s, at, n) {
         return h;
@@ -954,8 +954,8 @@ fn hashed(msg: &[u8], code: usize, n: usize) -> usize
 
 // A hash after the bytes that a content says.
 fn hash_stretch(msg: &[u8], places: &[u8], h: u64, code: usize, f: Flat) -> u64
-    requires { ⌜ h < 65521 ⌝ }
-    ensures { λ r. ⌜ (r ≡ hash-stretch (now (msg .entry)) (now (places .entry)) h code f) × (r < 65521) ⌝ }
+    requires { ⌜ h < 4294967296 ⌝ }
+    ensures { λ r. ⌜ (r ≡ hash-stretch (now (msg .entry)) (now (places .entry)) h code f) × (r < 4294967296) ⌝ }
 {
     if code != 4 {
         let n = hashed(msg, code, f.length);
@@ -968,8 +968,8 @@ fn hash_stretch(msg: &[u8], places: &[u8], h: u64, code: usize, f: Flat) -> u64
 }
 
 fn hash_flat(msg: &[u8], places: &[u8], h: u64, f: Flat) -> u64
-    requires { ⌜ h < 65521 ⌝ }
-    ensures { λ r. ⌜ (r ≡ hash-flat (now (msg .entry)) (now (places .entry)) h f) × (r < 65521) ⌝ }
+    requires { ⌜ h < 4294967296 ⌝ }
+    ensures { λ r. ⌜ (r ≡ hash-flat (now (msg .entry)) (now (places .entry)) h f) × (r < 4294967296) ⌝ }
 {
     let sum = mix(mix(h, f.first), f.second);
     hash_stretch(msg, places, sum, f.code, f)
@@ -977,8 +977,8 @@ fn hash_flat(msg: &[u8], places: &[u8], h: u64, f: Flat) -> u64
 
 // A hash after what a content says: the same for contents that say the same.
 pub fn hash_content(msg: &[u8], places: &[u8], h: u64, c: Content) -> u64
-    requires { ⌜ h < 65521 ⌝ }
-    ensures { λ r. ⌜ (r ≡ hash-contents (now (msg .entry)) (now (places .entry)) h c) × (r < 65521) ⌝ }
+    requires { ⌜ h < 4294967296 ⌝ }
+    ensures { λ r. ⌜ (r ≡ hash-contents (now (msg .entry)) (now (places .entry)) h c) × (r < 4294967296) ⌝ }
 {
     hash_flat(msg, places, h, flatten(c))
 }

@@ -47,19 +47,21 @@ module _ (atoms : Atoms) (m : List ℕ) (at rows : ℕ) where
   unfolding fields-of tag-fields form-or
   at-tag tag k e f p = rw (e, p)
 
--- a tag that a table does not have
-unfoldable pub Absent : List (ℕ × Form) → ℕ → Type 0
-Absent [] tag = Unit {0}
-Absent (f ∷ fs) tag = (tag ≡ f .0 → ⊥) × Absent fs tag
+-- what the code knows of a tag past the arms of its match: it is none of a table
+unfoldable pub Past : Type 0 → List (ℕ × Form) → ℕ → Type 0
+Past B [] tag = B
+Past B (f ∷ fs) tag = Past (B × (tag ≡ f .0 → ⊥)) fs tag
 
-absent : (fs : List (ℕ × Form)) (tag : ℕ) → Absent fs tag → form-in fs tag ≡ none
-unfolding form-in Absent
-absent [] tag h = refl
-absent (f ∷ fs) tag h = ap (λ (t : Bool). elim t as (λ _. Option Form) [ true ↦ some (f .1) | false ↦ form-in fs tag ]) (ne-eqb (f .0) tag (λ e. h .0 (sym e))) ∙ absent fs tag (h .1)
+absent : (B : Type 0) (fs : List (ℕ × Form)) (tag : ℕ) → Past B fs tag → B × (form-in fs tag ≡ none)
+unfolding form-in Past
+absent B [] tag h = (h, refl)
+absent B (f ∷ fs) tag h =
+    let i = absent (B × (tag ≡ f .0 → ⊥)) fs tag h in
+    (i .0 .0, ap (λ (t : Bool). elim t as (λ _. Option Form) [ true ↦ some (f .1) | false ↦ form-in fs tag ]) (ne-eqb (f .0) tag (λ e. i .0 .1 (sym e))) ∙ i .1)
 
-pub no-tag : (atoms : Atoms) (m : List ℕ) (at rows tag : ℕ) → Absent forms tag → Refused 3 at ≡ tag-fields atoms m at tag rows
+pub no-tag : (atoms : Atoms) (m : List ℕ) (at rows tag : ℕ) → Past (Unit {0}) forms tag → Refused 3 at ≡ tag-fields atoms m at tag rows
 unfolding tag-fields form-or head-of
-no-tag atoms m at rows tag h = rw (absent forms tag h)
+no-tag atoms m at rows tag h = rw (absent (Unit {0}) forms tag h .1)
 
 -- an atom's tag, or none
 pub atom-tag : (tag k : ℕ) → tag ≡ k → one-of k (82 ∷ 100 ∷ 115 ∷ 118 ∷ 119 ∷ []) ≡ true → true ≡ one-of tag (82 ∷ 100 ∷ 115 ∷ 118 ∷ 119 ∷ [])

@@ -869,6 +869,8 @@ fn leaf_word(msg: &[u8], at: usize, tag: u8) -> u64
             count: 0,
             next: at + 1,
         }),
+        77 => word_of(bitstring(msg, at)),
+        110 => word_of(big(msg, at, 1)),
         _ => 0,
     }
 }
@@ -887,8 +889,7 @@ fn common_word(msg: &[u8], n: u8, places: &[u8], lengths: &[u16], at: usize, tag
         100 => word_of(atom(msg, at, 2, false)),
         115 => word_of(atom(msg, at, 1, false)),
         118 => word_of(atom(msg, at, 2, true)),
-        110 => word_of(big(msg, at, 1)),
-        _ => leaf_word(msg, at, tag),
+        _ => 0,
     }
 }
 

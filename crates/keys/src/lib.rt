@@ -165,8 +165,8 @@ pub fn key_among(
 
 // A hash after what a row says of its term.
 fn hash_row(msg: &[u8], places: &[u8], lengths: &[u16], h: u64, w: u64) -> u64
-    requires { ⌜ h < 65521 ⌝ }
-    ensures { λ r. ⌜ (r ≡ hash-row (now (msg .entry)) (now (places .entry)) (now (lengths .entry)) h w) × (r < 65521) ⌝ }
+    requires { ⌜ h < 4294967296 ⌝ }
+    ensures { λ r. ⌜ (r ≡ hash-row (now (msg .entry)) (now (places .entry)) (now (lengths .entry)) h w) × (r < 4294967296) ⌝ }
 {
     let kind = kind_in(w);
     let sum = mix(h, (16 * parts_in(w) + term_kind(kind)) as u64);
@@ -193,7 +193,7 @@ fn term_hash(
         h = hash_row(msg, places, lengths, h, word_at(table, row + i));
         i += 1;
     }
-    mix(h, 0) as usize
+    (mix(h, 0) / 65536) as usize
 }
 
 // The slot after slot i, of n; after the last comes the first.

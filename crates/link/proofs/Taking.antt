@@ -10,18 +10,17 @@ use borrow.Author.Tests.{eq-eqb, ne-eqb, le-leb, lt-leb}
 use Rattle.format.specs.Text.{Coding}
 use Rattle.format.specs.Answer.{good, after, at-offset}
 use Rattle.format.specs.AtomList.{AtomList, of-size}
-use Rattle.packets.specs.declared.Pending.{Pending}
 use Rattle.packets.specs.Memory.{Cache, cache-of, list-lent, cache-of-size, none-pending, held}
 use Rattle.packets.specs.Header.{Reference}
 use Rattle.packets.specs.Packet.{payload-after}
 use Rattle.packets.specs.Calls.{told-after, record-after, list-of}
 use Rattle.packets.specs.Answers.{outcome-case}
 use Rattle.packets.specs.declared.PacketAnswer.the-variants as packets
-use Rattle.headers.specs.Code.{holding-when, HeaderIs}
+use Rattle.headers.specs.Code.{holding-when, GoodHeader, HeaderIs}
 use Rattle.headers.specs.declared.HeaderAnswer.the-variants as headers
 use Rattle.entries.specs.Code.{Listed, Entered}
 use Rattle.link.specs.Code.{headed, Heads, settled}
-use Rattle.link.proofs.Naming.{header-found, header-is, references-are, header-count, payload-inside}
+use Rattle.link.proofs.Naming.{header-found, header-is, references-are, header-count, payload-inside, good-of}
 use Rattle.link.specs.declared.Headed.the-variants as headeds
 
 -- ---- sizes
@@ -52,19 +51,24 @@ settled-more sequence fragment gathered e = rw (ne-eqb fragment 1 e)
 
 -- ---- a header
 
--- the cache is looked at
-pub looking : (agreed : Coding) (c : Cache) (s : List ℕ) (at n width first payload : ℕ) → HeaderIs agreed (holding-when true c) s at (headers.Header n width first payload)
-    → HeaderIs agreed (held c) s at (headers.Header n width first payload)
-unfolding holding-when
-looking agreed c s at n width first payload is = is
-
-module _ (agreed : Coding) (c : Cache) (list : AtomList) (s : List ℕ) (at : ℕ) where
-  pub heads-refused : (number place : ℕ) → HeaderIs agreed (holding-when true c) s at (headers.Refused (record { number = number; place = place }))
+module _ (agreed : Coding) (c : Cache) (s : List ℕ) (at : ℕ) where
+  pub heads-refused : (list : AtomList) (number place : ℕ) → HeaderIs agreed (holding-when true c) s at (headers.Refused (record { number = number; place = place }))
       → Heads (headed agreed (held c) (at-offset s at 0)) s c list c list (headeds.Refused (record { number = number; place = place }))
   unfolding HeaderIs holding-when Heads headed
-  heads-refused number place e = (rw e, refl, refl)
+  heads-refused list number place e = (rw e, refl, refl)
 
-  module _ (n width first payload : ℕ) (is : HeaderIs agreed (held c) s at (headers.Header n width first payload)) where
+  module _ (n width first payload : ℕ) (told : HeaderIs agreed (holding-when true c) s at (headers.Header n width first payload)) where
+    -- the cache is looked at
+    is : HeaderIs agreed (held c) s at (headers.Header n width first payload)
+    unfolding holding-when
+    is = told
+
+    pub told-inside : payload ≤ length s
+    told-inside = payload-inside agreed (held c) s at n width first payload is
+
+    pub told-good : GoodHeader agreed (held c) s at n width first
+    told-good = good-of agreed (held c) s at n width first payload is
+
     after-header : headed agreed (held c) (at-offset s at 0)
         ≡ after (payload-after 0 (at-offset s payload 0)) (λ bs t. good ((header-found agreed (held c) s at n width first payload is, payload, bs), t))
     unfolding headed
@@ -73,18 +77,18 @@ module _ (agreed : Coding) (c : Cache) (list : AtomList) (s : List ℕ) (at : �
     left : length (drop payload s) ≡ length s - payload
     left = length-drop payload s
 
-    pub heads-long : 65536 < length s - payload → Heads (headed agreed (held c) (at-offset s at 0)) s c list c list (headeds.Refused (record { number = 12; place = 0 }))
+    pub heads-long : (list : AtomList) → 65536 < length s - payload → Heads (headed agreed (held c) (at-offset s at 0)) s c list c list (headeds.Refused (record { number = 12; place = 0 }))
     unfolding Heads payload-after
-    heads-long l = (after-header ∙ rw (lt-leb (0 + length (drop payload s)) 65536 (omega (arith, left))), refl, refl)
+    heads-long list l = (after-header ∙ rw (lt-leb (0 + length (drop payload s)) 65536 (omega (arith, left))), refl, refl)
 
-    pub heads-good : (c′ : Cache) (texts′ sizes′ : List ℕ) → length s - payload ≤ 65536 → Listed agreed (held c) s at n width first texts′ sizes′ → Entered agreed s at n width first c c′
+    pub heads-good : (list : AtomList) (c′ : Cache) (texts′ sizes′ : List ℕ) → length s - payload ≤ 65536 → Listed agreed (held c) s at n width first texts′ sizes′ → Entered agreed s at n width first c c′
         → Heads (headed agreed (held c) (at-offset s at 0)) s c list c′ (list-lent n texts′ sizes′) (headeds.Payload payload (length s - payload))
     unfolding Heads payload-after list-of
-    heads-good c′ texts′ sizes′ l listed all =
+    heads-good list c′ texts′ sizes′ l listed all =
         let rs : List Reference = header-found agreed (held c) s at n width first payload is in
         let e = references-are agreed (held c) s at n width first payload is in
         let k = listed .listed rs (at-offset s payload 0) e in
-        let inside : payload ≤ length s = payload-inside agreed (held c) s at n width first payload is in
+        let inside = told-inside in
         record {
           found = rs;
           is = after-header ∙ rw (le-leb (0 + length (drop payload s)) 65536 (omega (arith, left)));

@@ -1,11 +1,11 @@
 -- A packet with all lent memory: one law for each way out.
 use mathlib.Core.Path.{_≡_, refl, sym, _∙_, ap, ap₂}
-use mathlib.Core.Bool.{true, false}
+use mathlib.Core.Bool.{Bool, true, false, not}
 use mathlib.Core.List.{List}
 use Prim.Native.Nat.{ℕ, _≤_, _<_}
 use lib.Dec.{eqb}
 use lib.ListN.{length}
-use borrow.Author.Tests.{eqb-true, eq-eqb, ne-eqb, le-leb, lt-leb}
+use borrow.Author.Tests.{eqb-true, le-leb, lt-leb, not-true, not-false}
 use Rattle.format.specs.Text.{Coding}
 use Rattle.format.specs.Answer.{Answer, good, refused, Position, at-offset, after}
 use Rattle.format.specs.AtomList.{of-size}
@@ -13,38 +13,69 @@ use Rattle.format.specs.Message.{found}
 use Rattle.packets.specs.declared.Pending.{Pending}
 use Rattle.packets.specs.declared.Taken.{Taken}
 use Rattle.packets.specs.declared.PacketAnswer.{PacketAnswer}
-use Rattle.packets.specs.Memory.{cache-of, list-lent, Memory, cache-of-size, memory-of-size, record-true, held}
+use Rattle.packets.specs.Memory.{list-lent, Memory, cache-of-size, memory-of-size, record-true, held}
 use Rattle.packets.specs.Packet.{Kind, normal, starting, continuing, opening, Packet, rest, packet, judged}
 use Rattle.packets.specs.Calls.{taken, left-after, take-packet, after-packet}
 use Rattle.packets.specs.Answers.{packet-answer, taken-answer}
 use Rattle.format.proofs.Tests.{sizes-of}
+use Rattle.packets.proofs.Sizes.{all-sized}
 use Rattle.packets.specs.declared.PacketAnswer.the-variants as packets
 use Rattle.link.specs.Code.{OpensPacket, Takes}
 use Rattle.link.specs.declared.Kind.the-variants as kinds
 
 -- ---- sizes
 
-pub list-sizes : (n : ℕ) (places lengths : List ℕ) → of-size (list-lent n places lengths) ≡ true → (length places ≡ 8160) × (length lengths ≡ 255)
-list-sizes n places lengths e = sizes-of (list-lent n places lengths) e
+-- what a negated test says of what it tests
+test-failed : {t s : Bool} → t ≡ s → not t ≡ true → s ≡ false
+test-failed {t} e n = sym e ∙ not-true t n
 
-module _ (m : Memory) where
-  pub cache-not : cache-of-size (m .cache) ≡ false → memory-of-size m ≡ false
+test-met : {t s : Bool} → t ≡ s → not t ≡ false → s ≡ true
+test-met {t} e n = sym e ∙ not-false t n
+
+-- one test after the other: the cache, the list for a plain packet, the list for the pending sequence, the gather buffer
+module _ (m : Memory) {a : Bool} (told : a ≡ cache-of-size (m .cache)) where
+  pub cache-not : not a ≡ true → false ≡ memory-of-size m
   unfolding memory-of-size
-  cache-not a = rw a
+  cache-not failed = rw (test-failed told failed)
 
-  module _ (a : cache-of-size (m .cache) ≡ true) where
-    pub plain-not : of-size (m .plain-list) ≡ false → memory-of-size m ≡ false
+  module _ (met : not a ≡ false) {b : Bool} (told-plain : b ≡ of-size (m .plain-list)) where
+    pub plain-not : not b ≡ true → false ≡ memory-of-size m
     unfolding memory-of-size
-    plain-not b = rw (a, b)
+    plain-not failed = rw (test-met told met, test-failed told-plain failed)
 
-    module _ (b : of-size (m .plain-list) ≡ true) where
-      pub pending-not : of-size (m .pending-list) ≡ false → memory-of-size m ≡ false
+    module _ (met-plain : not b ≡ false) {p : Bool} (told-pending : p ≡ of-size (m .pending-list)) where
+      pub pending-not : not p ≡ true → false ≡ memory-of-size m
       unfolding memory-of-size
-      pending-not c = rw (a, b, c)
+      pending-not failed = rw (test-met told met, test-met told-plain met-plain, test-failed told-pending failed)
 
-      pub gather-if : of-size (m .pending-list) ≡ true → eqb (length (m .gather)) 65536 ≡ memory-of-size m
+      pub gather-if : not p ≡ false → eqb (length (m .gather)) 65536 ≡ memory-of-size m
       unfolding memory-of-size
-      gather-if c = rw (a, b, c)
+      gather-if met-pending = rw (test-met told met, test-met told-plain met-plain, test-met told-pending met-pending)
+
+-- the lengths of all lent memory
+pub record Lengths (m : Memory) : Type 0 where
+  pub places : length (m .cache .places) ≡ 65536
+  pub lengths : length (m .cache .lengths) ≡ 2048
+  pub plain-places : length (m .plain-list .places) ≡ 8160
+  pub plain-lengths : length (m .plain-list .lengths) ≡ 255
+  pub pending-places : length (m .pending-list .places) ≡ 8160
+  pub pending-lengths : length (m .pending-list .lengths) ≡ 255
+  pub gathered : length (m .gather) ≡ 65536
+
+pub lengths-told : (m : Memory) {b : Bool} → b ≡ memory-of-size m → not b ≡ false → Lengths m
+lengths-told m told met =
+    let z = all-sized m (test-met told met) in
+    let one = sizes-of (m .plain-list) (z .plain-sized) in
+    let two = sizes-of (m .pending-list) (z .pending-sized) in
+    record {
+      places = z .cache-sized .places-are;
+      lengths = z .cache-sized .lengths-are;
+      plain-places = one .0;
+      plain-lengths = one .1;
+      pending-places = two .0;
+      pending-lengths = two .1;
+      gathered = z .gather-sized;
+    }
 
 -- ---- what the call answers and leaves, by how the packet is judged
 
@@ -68,19 +99,19 @@ module _ (agreed : Coding) (m : Memory) (s : List ℕ) where
   unfolding packet-answer
   refused-done number e = done-as (refused number 0) e (packets.Refused (record { number = number; place = 0 })) (m .pending) m refl (record { answers = refl; leaves = refl })
 
-  pub size-done : memory-of-size m ≡ false → Done (record { answer = packets.Refused (record { number = 13; place = 0 }); pending = m .pending }) m
+  pub size-done : {b : Bool} → b ≡ memory-of-size m → not b ≡ true → Done (record { answer = packets.Refused (record { number = 13; place = 0 }); pending = m .pending }) m
   unfolding judged
-  size-done e = refused-done 13 (rw (judged, e))
+  size-done told failed = refused-done 13 (rw (judged, test-failed told failed))
 
-  module _ (right : memory-of-size m ≡ true) where
+  module _ {b : Bool} (told : b ≡ memory-of-size m) (met : not b ≡ false) where
     pub false-done : 65536 < m .pending .gathered → Done (record { answer = packets.Refused (record { number = 14; place = 0 }); pending = m .pending }) m
     unfolding judged packet record-true
-    false-done e = refused-done 14 (rw (judged, right, lt-leb (m .pending .gathered) 65536 e))
+    false-done e = refused-done 14 (rw (judged, test-met told met, lt-leb (m .pending .gathered) 65536 e))
 
     module _ (true-record : m .pending .gathered ≤ 65536) where
       opened : (o : Answer (Kind × Position)) → opening (at-offset s 0 0) ≡ o → judged agreed m s ≡ found (after o (λ k. rest agreed (held (m .cache)) (m .pending) k))
       unfolding judged packet record-true
-      opened o e = rw (judged, right, le-leb (m .pending .gathered) 65536 true-record) (ap (λ (x : Answer (Kind × Position)). found (after x (λ k. rest agreed (held (m .cache)) (m .pending) k))) e)
+      opened o e = rw (judged, test-met told met, le-leb (m .pending .gathered) 65536 true-record) (ap (λ (x : Answer (Kind × Position)). found (after x (λ k. rest agreed (held (m .cache)) (m .pending) k))) e)
 
       pub opening-done : (k : ℕ) → OpensPacket s (kinds.Refused k) → Done (record { answer = packets.Refused (record { number = k; place = 0 }); pending = m .pending }) m
       unfolding OpensPacket

@@ -7,7 +7,7 @@ use lib.ListN.{length, drop}
 use Rattle.format.specs.Answer.{Answer, good, refused, Position, at-offset}
 use Rattle.format.specs.Head.{Atoms, Wanted, Head, parts, characters, elements, pairs, Later, later}
 use Rattle.format.specs.Reading.{opening}
-use Rattle.format.proofs.Backed.{Chars-at, On-chars, Opened, opening-backed}
+use Rattle.format.proofs.Backed.{Chars-at, On-chars, opening-backed}
 use Rattle.format.proofs.Backed as backing
 use Rattle.format.proofs.Holds.{Holds}
 use Rattle.format.proofs.Invariant.{later-kept}

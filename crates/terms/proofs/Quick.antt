@@ -1,13 +1,13 @@
 -- A common term by the word of its head: one law for each way through `read_quick` and `read_common`, and for a leaf in `read_run`. Assumes nothing.
-use mathlib.Core.Path.{_≡_, refl, sym, ap, _∙_, subst}
+use mathlib.Core.Path.{_≡_, refl, sym, ap, _∙_}
 use mathlib.Core.List.{List, []}
-use Prim.Native.Nat.{ℕ, suc, _+_, _-_, _*_, _/_, _%_, _≤_, _<_}
+use Prim.Native.Nat.{ℕ, _+_, _-_, _/_, _%_, _≤_, _<_}
 use native.Mathlib.Omega.{arith}
 use lib.ListN.{length, set, replicate}
-use Rattle.format.specs.Tree.{none, count, Each-node}
+use Rattle.format.specs.Tree.{count, Each-node}
 use Rattle.format.specs.Term.{Label}
-use Rattle.format.specs.Answer.{good, at-offset}
-use Rattle.format.specs.Head.{Atoms, Wanted, any, Head, parts, characters, elements, pairs, known, later, head}
+use Rattle.format.specs.Answer.{at-offset}
+use Rattle.format.specs.Head.{Atoms, Wanted, any, Head, parts, elements, pairs, known, later, head}
 use Rattle.format.specs.AtomList.{AtomList}
 use Rattle.format.specs.Reading.{each, run, string, one-term, body, term}
 use Rattle.format.specs.Rows.{rows, kind-of, pack, Small-fields, words-of}

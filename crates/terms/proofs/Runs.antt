@@ -1,10 +1,11 @@
 -- Terms in turn: one law for each way through `read_run` and `read_wanted`. Assumes nothing.
 use mathlib.Core.Path.{_≡_, refl, sym, ap, ap₂, _∙_}
-use mathlib.Core.List.{List, [], _∷_, _++_}
+use mathlib.Core.List.{List, [], _∷_, _++_, append-nil}
 use Prim.Native.Nat.{ℕ, zero, suc, _+_, _-_, _≤_, min}
 use native.Mathlib.Omega.{arith}
 use lib.ListN.{length, replicate}
-use Rattle.format.specs.Tree.{_▹_, _▹▹_, count, size, sizes, Each-node, Each-nodes}
+use lib.Seq.{sets}
+use Rattle.format.specs.Tree.{none, _▹_, _▹▹_, count, size, sizes, Each-node, Each-nodes}
 use Rattle.format.specs.Answer.{Answer, good, refused, Position, at-offset, Reading, after, done}
 use Rattle.format.specs.Head.{Wanted, any, an-atom, an-arity}
 use Rattle.format.specs.AtomList.{AtomList}
@@ -96,6 +97,28 @@ module _ (part : Wanted → Reading Located) (w : Wanted) (m : List ℕ) (cap ro
         let many : suc (n - 1) ≡ n = omega arith in
         rw (first (at-offset m at row), f .is)
         (rw many at (also m cap row whole T T′ (n - 1) (f .x) end (f .table-is) (f .rows-are) (f .from) (each part (replicate (n - 1) w) (at-offset m next end)) s U rest))
+
+-- a run of one is that term
+module _ (part : Wanted → Reading Located) (w : Wanted) (m : List ℕ) (cap row whole at : ℕ) (T : List ℕ) (r : Step) (T′ : List ℕ) where
+  one : (o : Answer (Located × Position)) → RunDone m 1 cap row whole T (after o (λ t. λ u. good (t ▹ none, u))) r T′ → TermDone m cap row whole T o r T′
+  unfolding Done rows words-of Each-node
+  one (refused k p) d = d
+  one (good y) d =
+      let a : row + (size (y .0) + 0) ≡ row + size (y .0) = omega arith in
+      let s = d .1 in (
+        d .0 ∙ ap (Got (y .1 .at)) a,
+        record {
+          table-is = s .table-is ∙ ap (λ (ws : List ℕ). sets T row ws) (ap words-of (append-nil (tree-rows (whole-of whole) row (y .0))));
+          stands = s .stands ∙ ap (λ (k : ℕ). at-offset m (y .1 .at) k) a;
+          near = s .near;
+          room = omega (arith, s .room);
+          from = s .from .1 .0;
+        },
+      )
+
+  pub run-one : RunDone m 1 cap row whole T (each part (replicate 1 w) (at-offset m at row)) r T′ → TermDone m cap row whole T (part w (at-offset m at row)) r T′
+  unfolding each
+  run-one d = one (part w (at-offset m at row)) d
 
 -- ---- `read_wanted`: `a` atoms, then arities
 

@@ -836,7 +836,7 @@ fn read_pairs(
     let mut row_now = row;
     let mut more = count;
     while more > 0 {
-        match read_term(
+        match read_run(
             msg,
             n,
             places,
@@ -849,6 +849,7 @@ fn read_pairs(
             deep,
             cap,
             Wanted::Any,
+            1,
         ) {
             Step::Refused { number, place } => return Parts::Refused { number, place },
             Step::Got { next, rows } => {
@@ -858,7 +859,7 @@ fn read_pairs(
                         place: at_now,
                     };
                 }
-                match read_term(
+                match read_run(
                     msg,
                     n,
                     places,
@@ -871,6 +872,7 @@ fn read_pairs(
                     deep,
                     cap,
                     Wanted::Any,
+                    1,
                 ) {
                     Step::Refused { number, place } => return Parts::Refused { number, place },
                     Step::Got { next, rows } => {
@@ -906,7 +908,7 @@ fn read_outermost(
     requires { ⌜ 0 < length (now seen) ⌝ }
     ensures { λ r. ⌜ TermDone (now (msg .entry)) cap row 0 (now (table .entry)) (outermost (atoms-of (lent n (now (places .entry)) (now (lengths .entry)))) cap (at-offset (now (msg .entry)) at row)) r (now (table .exit)) ⌝ }
 {
-    read_term(
+    read_run(
         msg,
         n,
         places,
@@ -919,6 +921,7 @@ fn read_outermost(
         64,
         cap,
         Wanted::Any,
+        1,
     )
 }
 

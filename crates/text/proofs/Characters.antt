@@ -1,6 +1,6 @@
 -- The ways through a character, and over the characters of a text.
 use mathlib.Core.Path.{_≡_, refl, sym, _∙_, ap}
-use mathlib.Core.Bool.{true, false}
+use mathlib.Core.Bool.{Bool, true, false}
 use mathlib.Core.List.{List, [], _∷_}
 use mathlib.Core.Option.{none, some}
 use Prim.Native.Nat.{ℕ, zero, suc, _+_, _-_, _≤_, _<_}
@@ -93,30 +93,35 @@ module _ (s : List ℕ) where
 
   -- a first byte that is in a line, or in none
   module _ (at : ℕ) (h : at < length s) where
-    pub character-of : (v : ℕ) (rs : List Range) (c : Character) → first (getD s at 0) lines ≡ some (begun v rs) → Completes s at (at + 1) rs c → CharacterAt s at c
+    character-of : (v : ℕ) (rs : List Range) (c : Character) → first (getD s at 0) lines ≡ some (begun v rs) → Completes s at (at + 1) rs c → CharacterAt s at c
     unfolding text-from
     character-of v rs c e m = record {
       text-is = λ room. rw (byte-at at h) (ap shown (decode-first room 0 at 0 (begun v rs) _ _ e) ∙ m .text-is room v);
       inside = m .inside;
     }
 
-    pub character-none : first (getD s at 0) lines ≡ none → CharacterAt s at (Fails at)
+    character-none : first (getD s at 0) lines ≡ none → CharacterAt s at (Fails at)
     unfolding text-from onward Within decode shown
     character-none e = record { text-is = λ room. rw (byte-at at h, e, decode, shown); inside = tt }
 
--- a byte in a line of the table, and past it
-module _ (b off : ℕ) (r : Range) (rs : List Range) (ls : List Line) where
-  pub here : holds r b ≡ true → first b (line r off rs ∷ ls) ≡ some (begun (b - off) rs)
-  unfolding first
-  here e = rw (e, first)
+-- a byte is looked for in these lines of the table, past those before them
+abbrev pub Left : ℕ → List Line → Type 0
+Left b ls = first b lines ≡ first b ls
 
-  pub past : holds r b ≡ false → first b (line r off rs ∷ ls) ≡ first b ls
-  unfolding first
-  past e = rw (e, first)
-
-pub no-line : (b : ℕ) → first b [] ≡ none
+-- it is past the first of them, in it, or none are left
+pub past-line : (b off : ℕ) (r : Range) (rs : List Range) (ls : List Line) {t : Bool} → Left b (line r off rs ∷ ls) → t ≡ holds r b → t ≡ false → Left b ls
 unfolding first
-no-line b = refl
+past-line b off r rs ls left told e = left ∙ rw (sym told ∙ e, first)
+
+module _ (s : List ℕ) (at : ℕ) (h : at < length s) where
+  pub in-line : (off : ℕ) (r : Range) (rs : List Range) (ls : List Line) {t : Bool} (c : Character)
+      → Left (getD s at 0) (line r off rs ∷ ls) → t ≡ holds r (getD s at 0) → t ≡ true → Completes s at (at + 1) rs c → CharacterAt s at c
+  unfolding first
+  in-line off r rs ls c left told e = character-of s at h (getD s at 0 - off) rs c (left ∙ rw (sym told ∙ e, first))
+
+  pub no-line : Left (getD s at 0) [] → CharacterAt s at (Fails at)
+  unfolding first
+  no-line left = character-none s at h left
 
 -- Over the characters: `count` of them stand before offset `at`.
 abbrev pub Counted : List ℕ → ℕ → ℕ → Type 0

@@ -1,5 +1,5 @@
 -- `canon::all_small` meets its contract. The loop goes on while each term is small, and a small term has one row: `small-step`. Assumes nothing.
-use Rattle.canon.proofs.Strings.{Small-left, small-start, small-step, small-stop, small-end, run-below, run-sound}
+use Rattle.canon.proofs.Strings.{Small-left, small-start, small-step, small-stop, small-end, small-rest, run-below, run-sound}
 use Rattle.canon.specs.Held.{Held-run}
 use Rattle.format.specs.Message.{Terms}
 use Rattle.format.specs.Tree.{count}
@@ -19,28 +19,16 @@ loop-holds : tie.Need-loop-holds Inv-loop μ-loop
 loop-holds c = (omega arith, λ ts h e. small-start _ _ ts h e)
 
 add-character-at : tie.Need-add-character-at Inv-loop μ-loop
-add-character-at c =
-    let here = c .before .loop in
-    let asked = c .before .before .before .before .before .before .pre in
-    let s = here .inv .1 (asked .terms) (asked .held) (asked .counted) in let k : count (s .rest) ≡ c .before .before .before .before .before .before .args .n - here .i = s .rest-count in let b = run-below _ _ (s .rest-held) (omega arith) in omega arith
+add-character-at c = let b = run-below (small-rest (c .before .before .before .before .before .before .pre) (c .before .loop .inv .1)) (omega arith) in omega arith
 
 mul-character-at : tie.Need-mul-character-at Inv-loop μ-loop
-mul-character-at c =
-    let here = c .before .loop in
-    let asked = c .before .before .before .before .before .before .pre in
-    let s = here .inv .1 (asked .terms) (asked .held) (asked .counted) in let k : count (s .rest) ≡ c .before .before .before .before .before .before .args .n - here .i = s .rest-count in let b = run-below _ _ (s .rest-held) (omega arith) in omega arith
+mul-character-at c = let b = run-below (small-rest (c .before .before .before .before .before .before .pre) (c .before .loop .inv .1)) (omega arith) in omega arith
 
 shared-slice-read-character-at : tie.Need-shared-slice-read-character-at Inv-loop μ-loop
-shared-slice-read-character-at c =
-    let here = c .before .before .loop in
-    let asked = c .before .before .before .before .before .before .before .pre in
-    let s = here .inv .1 (asked .terms) (asked .held) (asked .counted) in let k : count (s .rest) ≡ c .before .before .before .before .before .before .before .args .n - here .i = s .rest-count in run-below _ _ (s .rest-held) (omega arith)
+shared-slice-read-character-at c = run-below (small-rest (c .before .before .before .before .before .before .before .pre) (c .before .before .loop .inv .1)) (omega arith)
 
 character-at-requires : tie.Need-character-at-requires Inv-loop μ-loop
-character-at-requires c κs =
-    let here = c .before .before .loop in
-    let asked = c .before .before .before .before .before .before .before .pre in
-    let s = here .inv .1 (asked .terms) (asked .held) (asked .counted) in let k : count (s .rest) ≡ c .before .before .before .before .before .before .before .args .n - here .i = s .rest-count in run-sound _ _ (s .rest-held) (omega arith)
+character-at-requires c κs = run-sound (small-rest (c .before .before .before .before .before .before .before .pre) (c .before .before .loop .inv .1)) (omega arith)
 
 returns : tie.Need-returns Inv-loop μ-loop
 returns c = λ ts h e. small-stop _ (c .before .before .before .before .loop .inv .1 ts h e) (c .before .before .before .loop-test .taken) (c .before .character-at .ensures .0) (c .if1 .taken)

@@ -8,9 +8,7 @@ mul-word : tie.Need-mul-word
 mul-word c = search needs
 
 shared-slice-read-word : tie.Need-shared-slice-read-word
-shared-slice-read-word c =
-    let asked = c .before .before .before .before .before .pre in
-    term-below (asked .term) (asked .held)
+shared-slice-read-word c = term-below (c .before .before .before .before .before .pre)
 
 kind-in-requires : tie.Need-kind-in-requires
 kind-in-requires c κs = search needs
@@ -28,9 +26,7 @@ add-all-small : tie.Need-add-all-small
 add-all-small c = search needs
 
 all-small-requires : tie.Need-all-small-requires
-all-small-requires c κs =
-    let asked = c .before .before .before .before .before .before .before .before .before .pre in
-    parts-run _ (c .before .parts-in .ensures .0) (asked .term) (asked .held)
+all-small-requires c κs = parts-run _ (c .before .parts-in .ensures .0) (c .before .before .before .before .before .before .before .before .before .pre)
 
 returns-3 : tie.Need-returns-3
 returns-3 c = elements-told _ _ _ (c .before .before .before .before .kind-in .ensures .0) (c .before .before .before .if1 .left) (c .before .before .parts-in .ensures .0) (c .before .if2 .left) (c .all-small .ensures)

@@ -1,5 +1,5 @@
 -- `canon::put_characters` meets its contract. What is left to store comes to all characters, by `characters-step`. Assumes nothing.
-use Rattle.canon.proofs.Strings.{Characters-left, characters-start, characters-step, characters-end, character-small, run-below, run-sound}
+use Rattle.canon.proofs.Strings.{Characters-left, characters-start, characters-step, characters-end, character-small, characters-here, characters-rest, run-below, run-sound}
 use Rattle.canon.specs.Held.{Held-run}
 use Rattle.format.specs.Canonical.{all-small}
 use Rattle.format.specs.Message.{Terms, meanings}
@@ -23,36 +23,22 @@ loop-holds : tie.Need-loop-holds Inv-loop μ-loop
 loop-holds c = (omega arith, refl, λ ts cs h e f. characters-start _ _ _ ts cs _ h e f)
 
 add-character-at : tie.Need-add-character-at Inv-loop μ-loop
-add-character-at c =
-    let here = c .before .loop in
-    let asked = c .before .before .before .before .before .before .before .pre in
-    let s = here .inv .2 (asked .0 .small-terms) (asked .0 .characters) (asked .0 .small-held) (asked .0 .small-counted) (asked .0 .are-small) in let k : count (s .rest) ≡ c .before .before .before .before .before .before .before .args .n - here .i = s .rest-count in let b = run-below _ _ (s .rest-held) (omega arith) in omega arith
+add-character-at c = let b = run-below (characters-rest (c .before .before .before .before .before .before .before .pre .0) (c .before .loop .inv .2)) (omega arith) in omega arith
 
 mul-character-at : tie.Need-mul-character-at Inv-loop μ-loop
-mul-character-at c =
-    let here = c .before .loop in
-    let asked = c .before .before .before .before .before .before .before .pre in
-    let s = here .inv .2 (asked .0 .small-terms) (asked .0 .characters) (asked .0 .small-held) (asked .0 .small-counted) (asked .0 .are-small) in let k : count (s .rest) ≡ c .before .before .before .before .before .before .before .args .n - here .i = s .rest-count in let b = run-below _ _ (s .rest-held) (omega arith) in omega arith
+mul-character-at c = let b = run-below (characters-rest (c .before .before .before .before .before .before .before .pre .0) (c .before .loop .inv .2)) (omega arith) in omega arith
 
 shared-slice-read-character-at : tie.Need-shared-slice-read-character-at Inv-loop μ-loop
-shared-slice-read-character-at c =
-    let here = c .before .before .loop in
-    let asked = c .before .before .before .before .before .before .before .before .pre in
-    let s = here .inv .2 (asked .0 .small-terms) (asked .0 .characters) (asked .0 .small-held) (asked .0 .small-counted) (asked .0 .are-small) in let k : count (s .rest) ≡ c .before .before .before .before .before .before .before .before .args .n - here .i = s .rest-count in run-below _ _ (s .rest-held) (omega arith)
+shared-slice-read-character-at c = run-below (characters-rest (c .before .before .before .before .before .before .before .before .pre .0) (c .before .before .loop .inv .2)) (omega arith)
 
 character-at-requires : tie.Need-character-at-requires Inv-loop μ-loop
-character-at-requires c κs =
-    let here = c .before .before .loop in
-    let asked = c .before .before .before .before .before .before .before .before .pre in
-    let s = here .inv .2 (asked .0 .small-terms) (asked .0 .characters) (asked .0 .small-held) (asked .0 .small-counted) (asked .0 .are-small) in let k : count (s .rest) ≡ c .before .before .before .before .before .before .before .before .args .n - here .i = s .rest-count in run-sound _ _ (s .rest-held) (omega arith)
+character-at-requires c κs = run-sound (characters-rest (c .before .before .before .before .before .before .before .before .pre .0) (c .before .before .loop .inv .2)) (omega arith)
 
 add-put1 : tie.Need-add-put1 Inv-loop μ-loop
 add-put1 c = omega arith
 
 put1-requires : tie.Need-put1-requires Inv-loop μ-loop
-put1-requires c κs =
-    let asked = c .before .before .before .before .before .before .before .before .before .before .pre in
-    (omega arith, character-small _ (c .before .before .before .before .loop .inv .2 (asked .0 .small-terms) (asked .0 .characters) (asked .0 .small-held) (asked .0 .small-counted) (asked .0 .are-small)) (c .before .before .before .loop-test .taken) (c .before .character-at .ensures .0))
+put1-requires c κs = (omega arith, character-small _ (characters-here (c .before .before .before .before .before .before .before .before .before .before .pre .0) (c .before .before .before .before .loop .inv .2)) (c .before .before .before .loop-test .taken) (c .before .character-at .ensures .0))
 
 add-i : tie.Need-add-i Inv-loop μ-loop
 add-i c = omega arith

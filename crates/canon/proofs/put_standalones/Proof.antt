@@ -1,6 +1,7 @@
 -- `canon::put_standalones` meets its contract. What is left to store comes to the whole, as in a run of parts. Assumes nothing.
 use Rattle.canon.proofs.Messages.{standalones-none, standalones-more}
-use Rattle.canon.proofs.Terms.{Put-left, put-start, put-step, put-end, put-fits, left-below, left-size}
+use Rattle.canon.proofs.Terms.{Put-left, put-start, put-step, put-end, put-fits, put-rest, left-size}
+use Rattle.canon.proofs.Strings.{run-below}
 use Rattle.canon.specs.Held.{Held-run}
 use Rattle.format.specs.Canonical.{canonical-standalone, standalones}
 use Rattle.format.specs.Message.{Terms}
@@ -24,28 +25,19 @@ loop-holds : tie.Need-loop-holds Inv-loop μ-loop
 loop-holds c = (refl, λ ts h e. put-start canonical-standalone standalones standalones-none standalones-more _ _ _ _ ts h e)
 
 put-standalone-requires : tie.Need-put-standalone-requires Inv-loop μ-loop
-put-standalone-requires c κs =
-    let here = c .before .before .loop in
-    let asked = c .before .before .before .before .before .before .before .before .pre in
-    let g = here .inv .1 (asked .fit-terms) (asked .fit-run) (asked .fit-count) in put-fits canonical-standalone standalones standalones-none standalones-more g (c .before .loop-test .taken) (asked .fit-space) (here .inv .0)
+put-standalone-requires c κs = put-fits canonical-standalone standalones standalones-none standalones-more (c .before .before .before .before .before .before .before .before .pre) (c .before .before .loop .inv .1) (c .before .loop-test .taken) (c .before .before .loop .inv .0)
 
 mul-size-in : tie.Need-mul-size-in Inv-loop μ-loop
-mul-size-in c =
-    let asked = c .before .before .before .before .before .before .before .before .before .before .before .pre in
-    let g = c .before .before .before .before .before .loop .inv .1 (asked .fit-terms) (asked .fit-run) (asked .fit-count) in let b = left-size _ (g .rest) (g .rest-held) (g .rest-count) (c .before .before .before .before .loop-test .taken) refl in omega arith
+mul-size-in c = let b = left-size _ (put-rest (c .before .before .before .before .before .before .before .before .before .before .before .pre) (c .before .before .before .before .before .loop .inv .1)) (c .before .before .before .before .loop-test .taken) refl in omega arith
 
 shared-slice-read-size-in : tie.Need-shared-slice-read-size-in Inv-loop μ-loop
-shared-slice-read-size-in c =
-    let asked = c .before .before .before .before .before .before .before .before .before .before .before .before .pre in
-    let g = c .before .before .before .before .before .before .loop .inv .1 (asked .fit-terms) (asked .fit-run) (asked .fit-count) in left-below (g .rest) (g .rest-held) (g .rest-count) (c .before .before .before .before .before .loop-test .taken)
+shared-slice-read-size-in c = run-below (put-rest (c .before .before .before .before .before .before .before .before .before .before .before .before .pre) (c .before .before .before .before .before .before .loop .inv .1)) (c .before .before .before .before .before .loop-test .taken)
 
 size-in-requires : tie.Need-size-in-requires Inv-loop μ-loop
 size-in-requires c κs = search needs
 
 add-next : tie.Need-add-next Inv-loop μ-loop
-add-next c =
-    let asked = c .before .before .before .before .before .before .before .before .before .before .before .before .before .pre in
-    let g = c .before .before .before .before .before .before .before .loop .inv .1 (asked .fit-terms) (asked .fit-run) (asked .fit-count) in let b = left-size _ (g .rest) (g .rest-held) (g .rest-count) (c .before .before .before .before .before .before .loop-test .taken) (c .size-in .ensures .0) in omega arith
+add-next c = let b = left-size _ (put-rest (c .before .before .before .before .before .before .before .before .before .before .before .before .before .pre) (c .before .before .before .before .before .before .before .loop .inv .1)) (c .before .before .before .before .before .before .loop-test .taken) (c .size-in .ensures .0) in omega arith
 
 sub-left : tie.Need-sub-left Inv-loop μ-loop
 sub-left c = omega arith

@@ -1,20 +1,22 @@
 -- `contents::mix` meets its contract. Assumes nothing.
 use mathlib.Core.Path.{refl}
 use native.Mathlib.Omega.{arith}
-use borrow.Author.Needs.{needs}
 use Rattle.contents.specs.Hash.{mix}
 use Rattle.contents.proofs.mix.Statement.{statement}
 use Rattle.contents.proofs.mix.Tie as tie
 
 mul-result : tie.Need-mul-result
-mul-result c = search needs
+mul-result c = omega arith
 
 add-result : tie.Need-add-result
-add-result c = search needs
+add-result c = omega arith
+
+add-result-2 : tie.Need-add-result-2
+add-result-2 c = omega arith
 
 returns : tie.Need-returns
 unfolding mix
 returns c = (refl, omega arith)
 
 pub mix-spec : {M : Type 1} → statement M
-mix-spec = tie.close (tie.spec mul-result add-result returns)
+mix-spec = tie.close (tie.spec mul-result add-result add-result-2 returns)

@@ -10,7 +10,7 @@ use Rattle.contents.proofs.mix_bytes.Statement.{statement}
 use Rattle.contents.proofs.mix_bytes.Tie as tie
 
 abbrev Inv-loop : tie.InvT-loop
-Inv-loop s at n latin1 h sum₀ i₀ sum i = (i ≤ n) × (sum < 65521) × (left-after s at n latin1 i sum ≡ mix-all h (as-utf8 latin1 (take n (drop at s))))
+Inv-loop s at n latin1 h sum₀ i₀ sum i = (i ≤ n) × (sum < 4294967296) × (left-after s at n latin1 i sum ≡ mix-all h (as-utf8 latin1 (take n (drop at s))))
 
 abbrev μ-loop : tie.MeasureT-loop
 μ-loop s at n latin1 h sum₀ i₀ sum i = n - i

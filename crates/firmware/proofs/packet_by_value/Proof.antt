@@ -40,13 +40,4 @@ pub packet-by-value-spec : {M : Type 1} → statement M
 packet-by-value-spec =
     tie.close
     (tie.spec
-    take-packet-requires
-    flat-packet-requires
-    same-length
-    same-length-2
-    same-length-3
-    same-length-4
-    same-length-5
-    same-length-6
-    same-length-7
-    returns)
+    take-packet-requires flat-packet-requires same-length same-length-2 same-length-3 same-length-4 same-length-5 same-length-6 same-length-7 returns)

@@ -1,6 +1,6 @@
 -- `heads::common_word` meets its contract. Assumes nothing.
 use mathlib.Core.Path.{refl, ap, _∙_}
-use Rattle.format.specs.Head.{forms, form-in, atom-cache-ref, atom-ext, big-ext, list-ext, map-ext, tuple-ext}
+use Rattle.format.specs.Head.{forms, form-in, atom-cache-ref, atom-ext, list-ext, map-ext, tuple-ext}
 use Rattle.format.specs.Text.{latin-1, utf-8, coding-of}
 use Rattle.heads.specs.Quick.{quick-word}
 use Rattle.heads.proofs.Tags.{at-tag}
@@ -56,15 +56,6 @@ atom-requires-3 c κs = search needs
 word-of-requires-8 : tie.Need-word-of-requires-8
 word-of-requires-8 c κs = search needs
 
-big-requires : tie.Need-big-requires
-big-requires c κs = search needs
-
-word-of-requires-9 : tie.Need-word-of-requires-9
-word-of-requires-9 c κs = search needs
-
-leaf-word-requires : tie.Need-leaf-word-requires
-leaf-word-requires c κs = search needs
-
 returns : tie.Need-returns
 unfolding form-in forms
 returns c = λ _ rows. c .word-of .ensures ∙ ap quick-word (c .before .tuple .ensures _ rows ∙ at-tag _ _ _ _ _ 104 (c .before .before .match .keys1) (tuple-ext 1) refl)
@@ -98,11 +89,7 @@ unfolding form-in forms coding-of
 returns-8 c = λ _ rows. c .word-of8 .ensures ∙ ap quick-word (c .before .atom3 .ensures _ rows ∙ at-tag _ _ _ _ _ 118 (c .before .before .match .keys8) (atom-ext utf-8 2) refl)
 
 returns-9 : tie.Need-returns-9
-unfolding form-in forms
-returns-9 c = λ _ rows. c .word-of9 .ensures ∙ ap quick-word (c .before .big .ensures _ rows ∙ at-tag _ _ _ _ _ 110 (c .before .before .match .keys9) (big-ext 1) refl)
-
-returns-10 : tie.Need-returns-10
-returns-10 c = λ some rows. c .leaf-word .ensures some _ rows
+returns-9 c = search needs
 
 pub common-word-spec : {M : Type 1} → statement M
 common-word-spec =
@@ -124,9 +111,6 @@ common-word-spec =
     word-of-requires-7
     atom-requires-3
     word-of-requires-8
-    big-requires
-    word-of-requires-9
-    leaf-word-requires
     returns
     returns-2
     returns-3
@@ -135,5 +119,4 @@ common-word-spec =
     returns-6
     returns-7
     returns-8
-    returns-9
-    returns-10)
+    returns-9)

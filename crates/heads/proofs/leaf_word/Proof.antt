@@ -1,7 +1,7 @@
 -- `heads::leaf_word` meets its contract. Assumes nothing.
 use mathlib.Core.Path.{refl, ap, _∙_}
 use lib.IntN.{pos}
-use Rattle.format.specs.Head.{forms, form-in, fields, atom-ext, binary-ext, integer-ext, new-float-ext, nil-ext, small-integer-ext}
+use Rattle.format.specs.Head.{forms, form-in, fields, atom-ext, big-ext, binary-ext, bit-binary-ext, integer-ext, new-float-ext, nil-ext, small-integer-ext}
 use Rattle.format.specs.Numbers.{signed32}
 use Rattle.format.specs.Text.{utf-8, coding-of}
 use Rattle.heads.specs.Code.{fields-of}
@@ -47,6 +47,18 @@ add-t10 c = search needs
 word-of-requires-6 : tie.Need-word-of-requires-6
 word-of-requires-6 c κs = search needs
 
+bitstring-requires : tie.Need-bitstring-requires
+bitstring-requires c κs = search needs
+
+word-of-requires-7 : tie.Need-word-of-requires-7
+word-of-requires-7 c κs = search needs
+
+big-requires : tie.Need-big-requires
+big-requires c κs = search needs
+
+word-of-requires-8 : tie.Need-word-of-requires-8
+word-of-requires-8 c κs = search needs
+
 returns : tie.Need-returns
 unfolding form-in forms fields-of fields
 returns c = λ _ atoms rows. c .word-of .ensures ∙ ap quick-word (c .before .integer .ensures pos rows ∙ at-tag _ _ _ _ _ 97 (c .before .before .match .keys1) small-integer-ext refl)
@@ -72,7 +84,15 @@ unfolding form-in forms
 returns-6 c = λ _ atoms rows. c .word-of6 .ensures ∙ ap quick-word (nil-head _ _ _ _ ∙ at-tag _ _ _ _ _ 106 (c .before .match .keys6) nil-ext refl)
 
 returns-7 : tie.Need-returns-7
-returns-7 c = search needs
+unfolding form-in forms
+returns-7 c = λ _ atoms rows. c .word-of7 .ensures ∙ ap quick-word (c .before .bitstring .ensures _ rows ∙ at-tag _ _ _ _ _ 77 (c .before .before .match .keys7) bit-binary-ext refl)
+
+returns-8 : tie.Need-returns-8
+unfolding form-in forms
+returns-8 c = λ _ atoms rows. c .word-of8 .ensures ∙ ap quick-word (c .before .big .ensures _ rows ∙ at-tag _ _ _ _ _ 110 (c .before .before .match .keys8) (big-ext 1) refl)
+
+returns-9 : tie.Need-returns-9
+returns-9 c = search needs
 
 pub leaf-word-spec : {M : Type 1} → statement M
 leaf-word-spec =
@@ -90,10 +110,16 @@ leaf-word-spec =
     word-of-requires-5
     add-t10
     word-of-requires-6
+    bitstring-requires
+    word-of-requires-7
+    big-requires
+    word-of-requires-8
     returns
     returns-2
     returns-3
     returns-4
     returns-5
     returns-6
-    returns-7)
+    returns-7
+    returns-8
+    returns-9)

@@ -1,7 +1,5 @@
 -- `link::take_plain` meets its contract. Assumes nothing.
 use borrow.Author.Needs.{needs}
-use Rattle.format.specs.Text.{coding-of}
-use Rattle.packets.specs.Memory.{cache-of, list-lent}
 use Rattle.link.proofs.Rests.{plain-refused, plain-good}
 use Rattle.link.proofs.take_plain.Statement.{statement}
 use Rattle.link.proofs.take_plain.Tie as tie
@@ -28,9 +26,7 @@ same-length-4 : tie.Need-same-length-4
 same-length-4 c = search needs
 
 returns : tie.Need-returns
-returns c = λ kept record-then gather.
-    let a = c .before .before .before .before .before .before .before .before .before .before .before .before .before .before .before .before .before .before .before .before .before .before .args in
-    plain-refused (coding-of (a .utf8)) (cache-of (a .places .now) (a .lengths .now)) _ (list-lent (a .n .now) (a .texts .now) (a .sizes .now)) _ (a .packet .now) kept record-then gather _ _ (rw (c .before .refusal .given .1) at (c .before .before .before .before .before .before .before .before .before .before .before .take-header .ensures))
+returns c = λ kept record-then gather. plain-refused _ _ _ _ _ (c .before .before .before .before .before .before .before .before .before .before .before .before .before .before .before .before .before .before .before .before .before .before .args .packet .now) kept record-then gather _ _ (rw (c .before .refusal .given .1) at (c .before .before .before .before .before .before .before .before .before .before .before .take-header .ensures))
 
 same-length-5 : tie.Need-same-length-5
 same-length-5 c = search needs
@@ -45,24 +41,11 @@ same-length-8 : tie.Need-same-length-8
 same-length-8 c = search needs
 
 returns-2 : tie.Need-returns-2
-returns-2 c = λ kept record-then gather.
-    let a = c .before .before .before .before .before .before .before .before .before .before .before .before .before .before .before .before .before .before .before .before .before .before .args in
-    plain-good (coding-of (a .utf8)) (cache-of (a .places .now) (a .lengths .now)) _ (list-lent (a .n .now) (a .texts .now) (a .sizes .now)) _ (a .packet .now) kept record-then gather _ _ (rw (c .before .offset .given .1) at (c .before .before .before .before .before .before .before .before .before .before .before .take-header .ensures))
+returns-2 c = λ kept record-then gather. plain-good _ _ _ _ _ (c .before .before .before .before .before .before .before .before .before .before .before .before .before .before .before .before .before .before .before .before .before .before .args .packet .now) kept record-then gather _ _ (rw (c .before .offset .given .1) at (c .before .before .before .before .before .before .before .before .before .before .before .take-header .ensures))
 
 pub take-plain-spec : {M : Type 1} → statement M
 take-plain-spec =
     tie.close
     (tie.spec
-    take-header-requires
-    enum-known-refusal
-    enum-known-offset
-    same-length
-    same-length-2
-    same-length-3
-    same-length-4
-    returns
-    same-length-5
-    same-length-6
-    same-length-7
-    same-length-8
-    returns-2)
+    take-header-requires enum-known-refusal enum-known-offset same-length same-length-2 same-length-3 same-length-4 returns
+    same-length-5 same-length-6 same-length-7 same-length-8 returns-2)

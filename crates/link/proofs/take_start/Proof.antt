@@ -24,8 +24,7 @@ enum-known-offset : tie.Need-enum-known-offset
 enum-known-offset c = search needs
 
 copy-requires : tie.Need-copy-requires
-copy-requires c κs = let a = c .before .before .before .before .before .before .before .before .before .before .before .before .before .before .before .before .before .before .before .before .before .before .before .before .before .before .args in
-    let i = head-inside _ (a .packet .now) _ _ _ _ _ _ (rw (c .before .before .offset .given .1) at (c .before .before .before .before .before .before .before .before .before .before .before .before .take-header .ensures)) in (i .0, omega (arith, i .1, c .before .before .before .before .before .before .before .before .before .before .before .before .before .before .before .before .before .before .before .before .before .before .before .before .before .before .pre .5))
+copy-requires c κs = let i = head-inside _ _ _ _ _ _ _ _ (rw (c .before .before .offset .given .1) at (c .before .before .before .before .before .before .before .before .before .before .before .before .take-header .ensures)) in (i .0, omega (arith, i .1, c .before .before .before .before .before .before .before .before .before .before .before .before .before .before .before .before .before .before .before .before .before .before .before .before .before .before .pre .5))
 
 settle-requires : tie.Need-settle-requires
 settle-requires c κs = search needs
@@ -43,9 +42,7 @@ same-length-4 : tie.Need-same-length-4
 same-length-4 c = search needs
 
 returns-2 : tie.Need-returns-2
-returns-2 c = λ plain.
-    let a = c .before .before .before .before .before .before .before .before .before .before .before .before .before .before .before .before .before .before .before .before .before .before .before .before .before .args in
-    start-refused (coding-of (a .utf8)) (cache-of (a .places .now) (a .lengths .now)) _ (list-lent (a .n .now) (a .texts .now) (a .sizes .now)) _ (a .packet .now) plain (a .pending) (a .gather .now) (a .sequence) (a .fragment) (c .before .before .before .before .before .before .before .before .before .before .before .before .before .before .before .before .before .if1 .left) _ _ (rw (c .before .refusal .given .1) at (c .before .before .before .before .before .before .before .before .before .before .before .take-header .ensures))
+returns-2 c = λ plain. start-refused _ _ _ _ _ (c .before .before .before .before .before .before .before .before .before .before .before .before .before .before .before .before .before .before .before .before .before .before .before .before .before .args .packet .now) plain _ _ _ _ (c .before .before .before .before .before .before .before .before .before .before .before .before .before .before .before .before .before .if1 .left) _ _ (rw (c .before .refusal .given .1) at (c .before .before .before .before .before .before .before .before .before .before .before .take-header .ensures))
 
 same-length-5 : tie.Need-same-length-5
 same-length-5 c = search needs
@@ -63,29 +60,13 @@ same-length-9 : tie.Need-same-length-9
 same-length-9 c = search needs
 
 returns-3 : tie.Need-returns-3
-returns-3 c = λ plain.
-    let a = c .before .before .before .before .before .before .before .before .before .before .before .before .before .before .before .before .before .before .before .before .before .before .before .before .before .before .before .before .before .before .args in
-    start-good (coding-of (a .utf8)) (cache-of (a .places .now) (a .lengths .now)) _ (list-lent (a .n .now) (a .texts .now) (a .sizes .now)) _ (a .packet .now) plain (a .pending) (a .gather .now) (a .sequence) (a .fragment) (c .before .before .before .before .before .before .before .before .before .before .before .before .before .before .before .before .before .before .before .before .before .before .if1 .left) _ _ _ _ (rw (c .before .before .before .before .before .before .offset .given .1) at (c .before .before .before .before .before .before .before .before .before .before .before .before .before .before .before .before .take-header .ensures)) (c .before .before .before .copy .ensures) (c .settle .ensures)
+returns-3 c = λ plain. start-good _ _ _ _ _ (c .before .before .before .before .before .before .before .before .before .before .before .before .before .before .before .before .before .before .before .before .before .before .before .before .before .before .before .before .before .before .args .packet .now) plain _ _ _ _ (c .before .before .before .before .before .before .before .before .before .before .before .before .before .before .before .before .before .before .before .before .before .before .if1 .left) _ _ _ _ (rw (c .before .before .before .before .before .before .offset .given .1) at (c .before .before .before .before .before .before .before .before .before .before .before .before .before .before .before .before .take-header .ensures)) (c .before .before .before .copy .ensures) (c .settle .ensures)
 
 pub take-start-spec : {M : Type 1} → statement M
 take-start-spec =
     tie.close
     (tie.spec
-    refused-requires
-    returns
-    take-header-requires
-    enum-known-refusal
-    enum-known-offset
-    copy-requires
-    settle-requires
-    same-length
-    same-length-2
-    same-length-3
-    same-length-4
+    refused-requires returns
+    take-header-requires enum-known-refusal enum-known-offset copy-requires settle-requires same-length same-length-2 same-length-3 same-length-4
     returns-2
-    same-length-5
-    same-length-6
-    same-length-7
-    same-length-8
-    same-length-9
-    returns-3)
+    same-length-5 same-length-6 same-length-7 same-length-8 same-length-9 returns-3)

@@ -3,7 +3,7 @@ use Rattle.terms.proofs.Entries.{Entered, entered-none, entries-many, e
 use Rattle.terms.proofs.Inner.{opens-near, opens-place, opens-span, inner-refused, inner-parts, inner-characters, inner-elements, inner-pairs, parts-first, parts-second, parts-later-refused, parts-got, run-many, list-first, list-then, Tailed, tailed-none, tailed-refused, tailed-last, tailed-run-refused, tailed-further, tailed-more, last-characters, last-refused, last-got}
 use Rattle.terms.proofs.Bodies.{term-refused, term-opened, body-deep, body-full, body-refused, body-got, body-small, parts-past, room-inside, room-at}
 use Rattle.terms.proofs.Quick.{told-next, common-leaf, common-list, common-pairs, common-refused, common-got, opened-quickly, quick-near, quick-inside, quick-term, quick-leaf, leaf-small}
-use Rattle.terms.proofs.Runs.{room-after, run-none, run-refused, run-more, wanted-refused, wanted-more}
+use Rattle.terms.proofs.Runs.{room-after, run-none, run-refused, run-more, run-one, wanted-refused, wanted-more}
 use Rattle.terms.proofs.Openings.{opened, opens}
 use Rattle.terms.specs.Code.{Room, RunDone, PartsDone}
 use Rattle.terms.specs.declared.Step.{Step}
@@ -90,7 +90,7 @@ abbrev μ-read-list : Measures 5 read-list-kinds.ps ℕ
 μ-read-list κs a = a .1 .1 .1 .1 .1 .1 .1 .1 .0 * 8 + 4
 
 abbrev μ-read-pairs : Measures 5 read-pairs-kinds.ps ℕ
-μ-read-pairs κs a = a .1 .1 .1 .1 .1 .1 .1 .1 .0 * 8 + 2
+μ-read-pairs κs a = a .1 .1 .1 .1 .1 .1 .1 .1 .0 * 8 + 3
 
 abbrev μ-read-parts : Measures 5 read-parts-kinds.ps ℕ
 μ-read-parts κs a = a .1 .1 .1 .1 .1 .1 .1 .1 .1 .0 * 8 + 4
@@ -214,7 +214,7 @@ abbrev read-list-calls : ℕ → read-list-lts.Claims
 read-list-calls t = (read-run-below t, read-run.Post, read-tail-below t, read-tail.Post)
 
 abbrev read-pairs-calls : ℕ → read-pairs-lts.Claims
-read-pairs-calls t = (read-term-below t, read-term.Post, repeats-reads.Asked, repeats-reads.Learnt)
+read-pairs-calls t = (read-run-below t, read-run.Post, repeats-reads.Asked, repeats-reads.Learnt)
 
 abbrev read-parts-calls : ℕ → read-parts-lts.Claims
 read-parts-calls t = (read-wanted-below t, read-wanted.Post, read-run-below t, read-run.Post, read-later-reads.Asked, read-later-reads.Learnt)
@@ -434,59 +434,59 @@ read-pairs-μ-loop msg n places lengths table₀ seen₀ at row deep cap count a
 read-pairs-loop-holds : (t : ℕ) → read-pairs-lts.Need-loop-holds (read-pairs-calls t) (read-pairs-at t) read-pairs.Post read-pairs-Inv-loop read-pairs-μ-loop
 read-pairs-loop-holds t c = (c .before .before .before .before .before .pre .1 .0, refl, entered-none _ _ _ _ _ _ _ _ _ _ _, keeps-refl _)
 
-read-pairs-read-term-requires : (t : ℕ) → read-pairs-lts.Need-read-term-requires (read-pairs-calls t) (read-pairs-at t) read-pairs.Post read-pairs-Inv-loop read-pairs-μ-loop
-read-pairs-read-term-requires t c κs = (omega (arith, c .before .before .before .before .before .before .before .before .before .pre .0), (c .before .before .before .loop .inv .0, omega (arith, c .before .before .before .before .before .before .before .before .before .pre .1 .1, c .before .before .before .loop .inv .3 .as-many)))
+read-pairs-read-run-requires : (t : ℕ) → read-pairs-lts.Need-read-run-requires (read-pairs-calls t) (read-pairs-at t) read-pairs.Post read-pairs-Inv-loop read-pairs-μ-loop
+read-pairs-read-run-requires t c κs = (omega (arith, c .before .before .before .before .before .before .before .before .before .pre .0), (c .before .before .before .loop .inv .0, omega (arith, c .before .before .before .before .before .before .before .before .before .pre .1 .1, c .before .before .before .loop .inv .3 .as-many)))
 
 read-pairs-enum-known-number : (t : ℕ) → read-pairs-lts.Need-enum-known-number (read-pairs-calls t) (read-pairs-at t) read-pairs.Post read-pairs-Inv-loop read-pairs-μ-loop
 read-pairs-enum-known-number t c = search needs
 
 read-pairs-same-length : (t : ℕ) → read-pairs-lts.Need-same-length (read-pairs-calls t) (read-pairs-at t) read-pairs.Post read-pairs-Inv-loop read-pairs-μ-loop
-read-pairs-same-length t c = c .before .before .before .before .before .before .before .read-term .kept .1 .1 .1 .1 .0 ∙ c .before .before .before .before .before .before .before .before .before .before .before .loop .inv .1
+read-pairs-same-length t c = c .before .before .before .before .before .before .before .read-run .kept .1 .1 .1 .1 .0 ∙ c .before .before .before .before .before .before .before .before .before .before .before .loop .inv .1
 
 read-pairs-same-length-2 : (t : ℕ) → read-pairs-lts.Need-same-length-2 (read-pairs-calls t) (read-pairs-at t) read-pairs.Post read-pairs-Inv-loop read-pairs-μ-loop
-read-pairs-same-length-2 t c = c .before .before .before .before .before .before .before .read-term .kept .1 .1 .1 .1 .1 .0 ∙ c .before .before .before .before .before .before .before .before .before .before .before .loop .inv .3 .as-many
+read-pairs-same-length-2 t c = c .before .before .before .before .before .before .before .read-run .kept .1 .1 .1 .1 .1 .0 ∙ c .before .before .before .before .before .before .before .before .before .before .before .loop .inv .3 .as-many
 
 read-pairs-returns : (t : ℕ) → read-pairs-lts.Need-returns (read-pairs-calls t) (read-pairs-at t) read-pairs.Post read-pairs-Inv-loop read-pairs-μ-loop
 read-pairs-returns t c =
     let i = c .before .before .before .before .before .before .before .before .before .before .before .loop in
     let e : i .more ≡ 0 → ⊥ = omega (arith, c .before .before .before .before .before .before .before .before .before .before .loop-test .taken) in
-    (λ place. key-refused _ _ _ _ _ _ _ _ _ _ _ _ _ _ _ (i .inv .2) e _ _ (c .before .before .before .before .before .before .before .read-term .ensures .0) _ _ place _ (c .before .number .given .1), keeps-trans (c .before .before .before .before .before .before .before .before .before .before .before .loop .inv .3) (c .before .before .before .before .before .before .before .read-term .ensures .1))
+    (λ place. key-refused _ _ _ _ _ _ _ _ _ _ _ _ _ _ _ (i .inv .2) e _ _ (run-one _ _ _ _ _ _ _ _ _ _ (c .before .before .before .before .before .before .before .read-run .ensures .0)) _ _ place _ (c .before .number .given .1), keeps-trans (c .before .before .before .before .before .before .before .before .before .before .before .loop .inv .3) (c .before .before .before .before .before .before .before .read-run .ensures .1))
 
 read-pairs-enum-known-next : (t : ℕ) → read-pairs-lts.Need-enum-known-next (read-pairs-calls t) (read-pairs-at t) read-pairs.Post read-pairs-Inv-loop read-pairs-μ-loop
 read-pairs-enum-known-next t c = search needs
 
 read-pairs-repeats-requires : (t : ℕ) → read-pairs-lts.Need-repeats-requires (read-pairs-calls t) (read-pairs-at t) read-pairs.Post read-pairs-Inv-loop read-pairs-μ-loop
-read-pairs-repeats-requires t c κs = (omega (arith, c .before .before .before .before .before .before .before .before .before .before .before .before .before .before .before .before .before .before .before .pre .1 .1, c .before .before .before .before .before .before .before .before .before .before .before .before .before .loop .inv .3 .as-many, c .before .before .before .before .before .before .before .before .before .read-term .ensures .1 .as-many), omega (arith, term-inside _ _ _ _ _ _ _ _ _ _ (c .before .before .before .next .given .1) (c .before .before .before .before .before .before .before .before .before .read-term .ensures .0), c .before .before .before .before .before .before .before .before .before .before .before .before .before .loop .inv .0 .few))
+read-pairs-repeats-requires t c κs = (omega (arith, c .before .before .before .before .before .before .before .before .before .before .before .before .before .before .before .before .before .before .before .pre .1 .1, c .before .before .before .before .before .before .before .before .before .before .before .before .before .loop .inv .3 .as-many, c .before .before .before .before .before .before .before .before .before .read-run .ensures .1 .as-many), omega (arith, term-inside _ _ _ _ _ _ _ _ _ _ (c .before .before .before .next .given .1) (run-one _ _ _ _ _ _ _ _ _ _ (c .before .before .before .before .before .before .before .before .before .read-run .ensures .0)), c .before .before .before .before .before .before .before .before .before .before .before .before .before .loop .inv .0 .few))
 
 read-pairs-same-length-3 : (t : ℕ) → read-pairs-lts.Need-same-length-3 (read-pairs-calls t) (read-pairs-at t) read-pairs.Post read-pairs-Inv-loop read-pairs-μ-loop
-read-pairs-same-length-3 t c = c .before .before .before .before .before .before .before .before .before .before .before .before .before .read-term .kept .1 .1 .1 .1 .0 ∙ c .before .before .before .before .before .before .before .before .before .before .before .before .before .before .before .before .before .loop .inv .1
+read-pairs-same-length-3 t c = c .before .before .before .before .before .before .before .before .before .before .before .before .before .read-run .kept .1 .1 .1 .1 .0 ∙ c .before .before .before .before .before .before .before .before .before .before .before .before .before .before .before .before .before .loop .inv .1
 
 read-pairs-same-length-4 : (t : ℕ) → read-pairs-lts.Need-same-length-4 (read-pairs-calls t) (read-pairs-at t) read-pairs.Post read-pairs-Inv-loop read-pairs-μ-loop
-read-pairs-same-length-4 t c = c .before .before .before .repeats .kept .1 .1 .1 .1 .0 ∙ c .before .before .before .before .before .before .before .before .before .before .before .before .before .read-term .kept .1 .1 .1 .1 .1 .0 ∙ c .before .before .before .before .before .before .before .before .before .before .before .before .before .before .before .before .before .loop .inv .3 .as-many
+read-pairs-same-length-4 t c = c .before .before .before .repeats .kept .1 .1 .1 .1 .0 ∙ c .before .before .before .before .before .before .before .before .before .before .before .before .before .read-run .kept .1 .1 .1 .1 .1 .0 ∙ c .before .before .before .before .before .before .before .before .before .before .before .before .before .before .before .before .before .loop .inv .3 .as-many
 
 read-pairs-returns-2 : (t : ℕ) → read-pairs-lts.Need-returns-2 (read-pairs-calls t) (read-pairs-at t) read-pairs.Post read-pairs-Inv-loop read-pairs-μ-loop
 read-pairs-returns-2 t c =
     let i = c .before .before .before .before .before .before .before .before .before .before .before .before .before .before .before .before .before .loop in
     let e : i .more ≡ 0 → ⊥ = omega (arith, c .before .before .before .before .before .before .before .before .before .before .before .before .before .before .before .before .loop-test .taken) in
-    (λ place. key-twice _ _ _ _ _ _ _ _ _ _ _ _ _ _ _ (i .inv .2) e _ _ (c .before .before .before .before .before .before .before .before .before .before .before .before .before .read-term .ensures .0) _ (i .inv .0) _ _ (c .before .before .before .before .before .before .before .next .given .1) (keys-told _ _ _ _ _ _ (i .inv .0 .sized) (omega (arith, c .before .before .before .before .before .before .before .before .before .before .before .before .before .before .before .before .before .before .before .before .before .before .before .fits .n)) (λ j. omega (arith, c .before .before .before .before .before .before .before .before .before .before .before .before .before .before .before .before .before .before .before .before .before .before .shared-slice-known .given j))) _ _ (c .before .before .before .before .before .before .before .before .before .before .before .before .before .read-term .ensures .1) (c .before .before .before .repeats .ensures .1 .0) place _ (c .if1 .taken), keeps-trans (keeps-trans (c .before .before .before .before .before .before .before .before .before .before .before .before .before .before .before .before .before .loop .inv .3) (c .before .before .before .before .before .before .before .before .before .before .before .before .before .read-term .ensures .1)) (c .before .before .before .repeats .ensures .0))
+    (λ place. key-twice _ _ _ _ _ _ _ _ _ _ _ _ _ _ _ (i .inv .2) e _ _ (run-one _ _ _ _ _ _ _ _ _ _ (c .before .before .before .before .before .before .before .before .before .before .before .before .before .read-run .ensures .0)) _ (i .inv .0) _ _ (c .before .before .before .before .before .before .before .next .given .1) (keys-told _ _ _ _ _ _ (i .inv .0 .sized) (omega (arith, c .before .before .before .before .before .before .before .before .before .before .before .before .before .before .before .before .before .before .before .before .before .before .before .fits .n)) (λ j. omega (arith, c .before .before .before .before .before .before .before .before .before .before .before .before .before .before .before .before .before .before .before .before .before .before .shared-slice-known .given j))) _ _ (c .before .before .before .before .before .before .before .before .before .before .before .before .before .read-run .ensures .1) (c .before .before .before .repeats .ensures .1 .0) place _ (c .if1 .taken), keeps-trans (keeps-trans (c .before .before .before .before .before .before .before .before .before .before .before .before .before .before .before .before .before .loop .inv .3) (c .before .before .before .before .before .before .before .before .before .before .before .before .before .read-run .ensures .1)) (c .before .before .before .repeats .ensures .0))
 
-read-pairs-read-term-requires-2 : (t : ℕ) → read-pairs-lts.Need-read-term-requires-2 (read-pairs-calls t) (read-pairs-at t) read-pairs.Post read-pairs-Inv-loop read-pairs-μ-loop
-read-pairs-read-term-requires-2 t c κs = (omega (arith, c .before .before .before .before .before .before .before .before .before .before .before .before .before .before .before .before .before .before .before .before .before .before .before .before .before .pre .0), (room-after _ _ _ _ _ _ _ _ _ _ _ _ _ _ _ (c .before .before .before .before .before .before .before .before .before .before .before .before .before .before .before .before .before .before .before .loop .inv .0) (c .before .before .before .before .before .before .before .before .before .before .before .before .before .before .before .read-term .ensures .0) (c .before .before .before .before .before .before .before .before .before .next .given .1) (c .before .before .before .before .before .before .before .before .before .before .before .before .before .before .before .read-term .kept .1 .1 .1 .1 .0), omega (arith, c .before .before .before .before .before .before .before .before .before .before .before .before .before .before .before .before .before .before .before .before .before .before .before .before .before .pre .1 .1, c .before .before .before .before .before .before .before .before .before .before .before .before .before .before .before .before .before .before .before .loop .inv .3 .as-many, c .before .before .before .before .before .before .before .before .before .before .before .before .before .before .before .read-term .ensures .1 .as-many, c .before .before .before .before .before .repeats .ensures .0 .as-many)))
+read-pairs-read-run-requires-2 : (t : ℕ) → read-pairs-lts.Need-read-run-requires-2 (read-pairs-calls t) (read-pairs-at t) read-pairs.Post read-pairs-Inv-loop read-pairs-μ-loop
+read-pairs-read-run-requires-2 t c κs = (omega (arith, c .before .before .before .before .before .before .before .before .before .before .before .before .before .before .before .before .before .before .before .before .before .before .before .before .before .pre .0), (room-after _ _ _ _ _ _ _ _ _ _ _ _ _ _ _ (c .before .before .before .before .before .before .before .before .before .before .before .before .before .before .before .before .before .before .before .loop .inv .0) (run-one _ _ _ _ _ _ _ _ _ _ (c .before .before .before .before .before .before .before .before .before .before .before .before .before .before .before .read-run .ensures .0)) (c .before .before .before .before .before .before .before .before .before .next .given .1) (c .before .before .before .before .before .before .before .before .before .before .before .before .before .before .before .read-run .kept .1 .1 .1 .1 .0), omega (arith, c .before .before .before .before .before .before .before .before .before .before .before .before .before .before .before .before .before .before .before .before .before .before .before .before .before .pre .1 .1, c .before .before .before .before .before .before .before .before .before .before .before .before .before .before .before .before .before .before .before .loop .inv .3 .as-many, c .before .before .before .before .before .before .before .before .before .before .before .before .before .before .before .read-run .ensures .1 .as-many, c .before .before .before .before .before .repeats .ensures .0 .as-many)))
 
 read-pairs-enum-known-number-2 : (t : ℕ) → read-pairs-lts.Need-enum-known-number-2 (read-pairs-calls t) (read-pairs-at t) read-pairs.Post read-pairs-Inv-loop read-pairs-μ-loop
 read-pairs-enum-known-number-2 t c = search needs
 
 read-pairs-same-length-5 : (t : ℕ) → read-pairs-lts.Need-same-length-5 (read-pairs-calls t) (read-pairs-at t) read-pairs.Post read-pairs-Inv-loop read-pairs-μ-loop
-read-pairs-same-length-5 t c = c .before .before .before .before .before .before .before .read-term2 .kept .1 .1 .1 .1 .0 ∙ c .before .before .before .before .before .before .before .before .before .before .before .before .before .before .before .before .before .before .before .before .before .before .before .read-term .kept .1 .1 .1 .1 .0 ∙ c .before .before .before .before .before .before .before .before .before .before .before .before .before .before .before .before .before .before .before .before .before .before .before .before .before .before .before .loop .inv .1
+read-pairs-same-length-5 t c = c .before .before .before .before .before .before .before .read-run2 .kept .1 .1 .1 .1 .0 ∙ c .before .before .before .before .before .before .before .before .before .before .before .before .before .before .before .before .before .before .before .before .before .before .before .read-run .kept .1 .1 .1 .1 .0 ∙ c .before .before .before .before .before .before .before .before .before .before .before .before .before .before .before .before .before .before .before .before .before .before .before .before .before .before .before .loop .inv .1
 
 read-pairs-same-length-6 : (t : ℕ) → read-pairs-lts.Need-same-length-6 (read-pairs-calls t) (read-pairs-at t) read-pairs.Post read-pairs-Inv-loop read-pairs-μ-loop
-read-pairs-same-length-6 t c = c .before .before .before .before .before .before .before .read-term2 .kept .1 .1 .1 .1 .1 .0 ∙ c .before .before .before .before .before .before .before .before .before .before .before .before .before .repeats .kept .1 .1 .1 .1 .0 ∙ c .before .before .before .before .before .before .before .before .before .before .before .before .before .before .before .before .before .before .before .before .before .before .before .read-term .kept .1 .1 .1 .1 .1 .0 ∙ c .before .before .before .before .before .before .before .before .before .before .before .before .before .before .before .before .before .before .before .before .before .before .before .before .before .before .before .loop .inv .3 .as-many
+read-pairs-same-length-6 t c = c .before .before .before .before .before .before .before .read-run2 .kept .1 .1 .1 .1 .1 .0 ∙ c .before .before .before .before .before .before .before .before .before .before .before .before .before .repeats .kept .1 .1 .1 .1 .0 ∙ c .before .before .before .before .before .before .before .before .before .before .before .before .before .before .before .before .before .before .before .before .before .before .before .read-run .kept .1 .1 .1 .1 .1 .0 ∙ c .before .before .before .before .before .before .before .before .before .before .before .before .before .before .before .before .before .before .before .before .before .before .before .before .before .before .before .loop .inv .3 .as-many
 
 read-pairs-returns-3 : (t : ℕ) → read-pairs-lts.Need-returns-3 (read-pairs-calls t) (read-pairs-at t) read-pairs.Post read-pairs-Inv-loop read-pairs-μ-loop
 read-pairs-returns-3 t c =
     let i = c .before .before .before .before .before .before .before .before .before .before .before .before .before .before .before .before .before .before .before .before .before .before .before .before .before .before .before .loop in
     let e : i .more ≡ 0 → ⊥ = omega (arith, c .before .before .before .before .before .before .before .before .before .before .before .before .before .before .before .before .before .before .before .before .before .before .before .before .before .before .loop-test .taken) in
-    (λ place. value-refused _ _ _ _ _ _ _ _ _ _ _ _ _ _ _ (i .inv .2) e _ _ (c .before .before .before .before .before .before .before .before .before .before .before .before .before .before .before .before .before .before .before .before .before .before .before .read-term .ensures .0) _ (i .inv .0) _ _ (c .before .before .before .before .before .before .before .before .before .before .before .before .before .before .before .before .before .next .given .1) (keys-told _ _ _ _ _ _ (i .inv .0 .sized) (omega (arith, c .before .before .before .before .before .before .before .before .before .before .before .before .before .before .before .before .before .before .before .before .before .before .before .before .before .before .before .before .before .before .before .before .before .fits .n)) (λ j. omega (arith, c .before .before .before .before .before .before .before .before .before .before .before .before .before .before .before .before .before .before .before .before .before .before .before .before .before .before .before .before .before .before .before .before .shared-slice-known .given j))) _ _ (c .before .before .before .before .before .before .before .before .before .before .before .before .before .before .before .before .before .before .before .before .before .before .before .read-term .ensures .1) (c .before .before .before .before .before .before .before .before .before .before .before .before .before .repeats .ensures .1 .0) (c .before .before .before .before .before .before .before .before .before .before .if1 .left) _ _ (c .before .before .before .before .before .before .before .read-term2 .ensures .0) _ _ place _ (c .before .number2 .given .1), keeps-trans (keeps-trans (keeps-trans (c .before .before .before .before .before .before .before .before .before .before .before .before .before .before .before .before .before .before .before .before .before .before .before .before .before .before .before .loop .inv .3) (c .before .before .before .before .before .before .before .before .before .before .before .before .before .before .before .before .before .before .before .before .before .before .before .read-term .ensures .1)) (c .before .before .before .before .before .before .before .before .before .before .before .before .before .repeats .ensures .0)) (c .before .before .before .before .before .before .before .read-term2 .ensures .1))
+    (λ place. value-refused _ _ _ _ _ _ _ _ _ _ _ _ _ _ _ (i .inv .2) e _ _ (run-one _ _ _ _ _ _ _ _ _ _ (c .before .before .before .before .before .before .before .before .before .before .before .before .before .before .before .before .before .before .before .before .before .before .before .read-run .ensures .0)) _ (i .inv .0) _ _ (c .before .before .before .before .before .before .before .before .before .before .before .before .before .before .before .before .before .next .given .1) (keys-told _ _ _ _ _ _ (i .inv .0 .sized) (omega (arith, c .before .before .before .before .before .before .before .before .before .before .before .before .before .before .before .before .before .before .before .before .before .before .before .before .before .before .before .before .before .before .before .before .before .fits .n)) (λ j. omega (arith, c .before .before .before .before .before .before .before .before .before .before .before .before .before .before .before .before .before .before .before .before .before .before .before .before .before .before .before .before .before .before .before .before .shared-slice-known .given j))) _ _ (c .before .before .before .before .before .before .before .before .before .before .before .before .before .before .before .before .before .before .before .before .before .before .before .read-run .ensures .1) (c .before .before .before .before .before .before .before .before .before .before .before .before .before .repeats .ensures .1 .0) (c .before .before .before .before .before .before .before .before .before .before .if1 .left) _ _ (run-one _ _ _ _ _ _ _ _ _ _ (c .before .before .before .before .before .before .before .read-run2 .ensures .0)) _ _ place _ (c .before .number2 .given .1), keeps-trans (keeps-trans (keeps-trans (c .before .before .before .before .before .before .before .before .before .before .before .before .before .before .before .before .before .before .before .before .before .before .before .before .before .before .before .loop .inv .3) (c .before .before .before .before .before .before .before .before .before .before .before .before .before .before .before .before .before .before .before .before .before .before .before .read-run .ensures .1)) (c .before .before .before .before .before .before .before .before .before .before .before .before .before .repeats .ensures .0)) (c .before .before .before .before .before .before .before .read-run2 .ensures .1))
 
 read-pairs-enum-known-next-2 : (t : ℕ) → read-pairs-lts.Need-enum-known-next-2 (read-pairs-calls t) (read-pairs-at t) read-pairs.Post read-pairs-Inv-loop read-pairs-μ-loop
 read-pairs-enum-known-next-2 t c = search needs
@@ -501,7 +501,7 @@ read-pairs-loop-again : (t : ℕ) → read-pairs-lts.Need-loop-again (read-pairs
 read-pairs-loop-again t c =
     let i = c .before .before .before .before .before .before .before .before .before .before .before .before .before .before .before .before .before .before .before .before .before .before .before .before .before .before .before .loop in
     let e : i .more ≡ 0 → ⊥ = omega (arith, c .before .before .before .before .before .before .before .before .before .before .before .before .before .before .before .before .before .before .before .before .before .before .before .before .before .before .loop-test .taken) in
-    (room-after _ _ _ _ _ _ _ _ _ _ _ _ _ _ _ (room-after _ _ _ _ _ _ _ _ _ _ _ _ _ _ _ (i .inv .0) (c .before .before .before .before .before .before .before .before .before .before .before .before .before .before .before .before .before .before .before .before .before .before .before .read-term .ensures .0) (c .before .before .before .before .before .before .before .before .before .before .before .before .before .before .before .before .before .next .given .1) (c .before .before .before .before .before .before .before .before .before .before .before .before .before .before .before .before .before .before .before .before .before .before .before .read-term .kept .1 .1 .1 .1 .0)) (c .before .before .before .before .before .before .before .read-term2 .ensures .0) (c .before .next2 .given .1) (c .before .before .before .before .before .before .before .read-term2 .kept .1 .1 .1 .1 .0), c .before .before .before .before .before .before .before .read-term2 .kept .1 .1 .1 .1 .0 ∙ c .before .before .before .before .before .before .before .before .before .before .before .before .before .before .before .before .before .before .before .before .before .before .before .read-term .kept .1 .1 .1 .1 .0 ∙ i .inv .1, entered-more _ _ _ _ _ _ _ _ _ _ _ _ _ _ _ (i .inv .2) e _ _ (c .before .before .before .before .before .before .before .before .before .before .before .before .before .before .before .before .before .before .before .before .before .before .before .read-term .ensures .0) _ (i .inv .0) _ _ (c .before .before .before .before .before .before .before .before .before .before .before .before .before .before .before .before .before .next .given .1) (keys-told _ _ _ _ _ _ (i .inv .0 .sized) (omega (arith, c .before .before .before .before .before .before .before .before .before .before .before .before .before .before .before .before .before .before .before .before .before .before .before .before .before .before .before .before .before .before .before .before .before .fits .n)) (λ j. omega (arith, c .before .before .before .before .before .before .before .before .before .before .before .before .before .before .before .before .before .before .before .before .before .before .before .before .before .before .before .before .before .before .before .before .shared-slice-known .given j))) _ _ (c .before .before .before .before .before .before .before .before .before .before .before .before .before .before .before .before .before .before .before .before .before .before .before .read-term .ensures .1) (c .before .before .before .before .before .before .before .before .before .before .before .before .before .repeats .ensures .1 .0) (c .before .before .before .before .before .before .before .before .before .before .if1 .left) _ _ (c .before .before .before .before .before .before .before .read-term2 .ensures .0) _ _ (c .before .next2 .given .1) _ _ (c .before .before .before .before .before .before .before .before .before .before .before .before .before .repeats .ensures .0) (c .before .before .before .before .before .before .before .read-term2 .ensures .1) (c .before .before .before .before .before .before .before .before .before .before .before .before .before .repeats .ensures .1 .1), keeps-trans (keeps-trans (keeps-trans (c .before .before .before .before .before .before .before .before .before .before .before .before .before .before .before .before .before .before .before .before .before .before .before .before .before .before .before .loop .inv .3) (c .before .before .before .before .before .before .before .before .before .before .before .before .before .before .before .before .before .before .before .before .before .before .before .read-term .ensures .1)) (c .before .before .before .before .before .before .before .before .before .before .before .before .before .repeats .ensures .0)) (c .before .before .before .before .before .before .before .read-term2 .ensures .1))
+    (room-after _ _ _ _ _ _ _ _ _ _ _ _ _ _ _ (room-after _ _ _ _ _ _ _ _ _ _ _ _ _ _ _ (i .inv .0) (run-one _ _ _ _ _ _ _ _ _ _ (c .before .before .before .before .before .before .before .before .before .before .before .before .before .before .before .before .before .before .before .before .before .before .before .read-run .ensures .0)) (c .before .before .before .before .before .before .before .before .before .before .before .before .before .before .before .before .before .next .given .1) (c .before .before .before .before .before .before .before .before .before .before .before .before .before .before .before .before .before .before .before .before .before .before .before .read-run .kept .1 .1 .1 .1 .0)) (run-one _ _ _ _ _ _ _ _ _ _ (c .before .before .before .before .before .before .before .read-run2 .ensures .0)) (c .before .next2 .given .1) (c .before .before .before .before .before .before .before .read-run2 .kept .1 .1 .1 .1 .0), c .before .before .before .before .before .before .before .read-run2 .kept .1 .1 .1 .1 .0 ∙ c .before .before .before .before .before .before .before .before .before .before .before .before .before .before .before .before .before .before .before .before .before .before .before .read-run .kept .1 .1 .1 .1 .0 ∙ i .inv .1, entered-more _ _ _ _ _ _ _ _ _ _ _ _ _ _ _ (i .inv .2) e _ _ (run-one _ _ _ _ _ _ _ _ _ _ (c .before .before .before .before .before .before .before .before .before .before .before .before .before .before .before .before .before .before .before .before .before .before .before .read-run .ensures .0)) _ (i .inv .0) _ _ (c .before .before .before .before .before .before .before .before .before .before .before .before .before .before .before .before .before .next .given .1) (keys-told _ _ _ _ _ _ (i .inv .0 .sized) (omega (arith, c .before .before .before .before .before .before .before .before .before .before .before .before .before .before .before .before .before .before .before .before .before .before .before .before .before .before .before .before .before .before .before .before .before .fits .n)) (λ j. omega (arith, c .before .before .before .before .before .before .before .before .before .before .before .before .before .before .before .before .before .before .before .before .before .before .before .before .before .before .before .before .before .before .before .before .shared-slice-known .given j))) _ _ (c .before .before .before .before .before .before .before .before .before .before .before .before .before .before .before .before .before .before .before .before .before .before .before .read-run .ensures .1) (c .before .before .before .before .before .before .before .before .before .before .before .before .before .repeats .ensures .1 .0) (c .before .before .before .before .before .before .before .before .before .before .if1 .left) _ _ (run-one _ _ _ _ _ _ _ _ _ _ (c .before .before .before .before .before .before .before .read-run2 .ensures .0)) _ _ (c .before .next2 .given .1) _ _ (c .before .before .before .before .before .before .before .before .before .before .before .before .before .repeats .ensures .0) (c .before .before .before .before .before .before .before .read-run2 .ensures .1) (c .before .before .before .before .before .before .before .before .before .before .before .before .before .repeats .ensures .1 .1), keeps-trans (keeps-trans (keeps-trans (c .before .before .before .before .before .before .before .before .before .before .before .before .before .before .before .before .before .before .before .before .before .before .before .before .before .before .before .loop .inv .3) (c .before .before .before .before .before .before .before .before .before .before .before .before .before .before .before .before .before .before .before .before .before .before .before .read-run .ensures .1)) (c .before .before .before .before .before .before .before .before .before .before .before .before .before .repeats .ensures .0)) (c .before .before .before .before .before .before .before .read-run2 .ensures .1))
 
 read-pairs-mul-t41 : (t : ℕ) → read-pairs-lts.Need-mul-t41 (read-pairs-calls t) (read-pairs-at t) read-pairs.Post read-pairs-Inv-loop read-pairs-μ-loop
 read-pairs-mul-t41 t c =
@@ -1045,7 +1045,7 @@ pub +read-body+read-common+read-inner+read-last+read-list+read-pairs+read-parts+
     read-pairs-Inv-loop
     read-pairs-μ-loop
     (read-pairs-loop-holds t)
-    (read-pairs-read-term-requires t)
+    (read-pairs-read-run-requires t)
     (read-pairs-enum-known-number t)
     (read-pairs-same-length t)
     (read-pairs-same-length-2 t)
@@ -1055,7 +1055,7 @@ pub +read-body+read-common+read-inner+read-last+read-list+read-pairs+read-parts+
     (read-pairs-same-length-3 t)
     (read-pairs-same-length-4 t)
     (read-pairs-returns-2 t)
-    (read-pairs-read-term-requires-2 t)
+    (read-pairs-read-run-requires-2 t)
     (read-pairs-enum-known-number-2 t)
     (read-pairs-same-length-5 t)
     (read-pairs-same-length-6 t)

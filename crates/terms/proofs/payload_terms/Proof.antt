@@ -73,24 +73,8 @@ pub payload-terms-spec : {M : Type 1} → statement M
 payload-terms-spec =
     tie.close
     (tie.spec
-    read-outermost-requires
-    enum-known-number
-    enum-known-next
-    same-length
-    same-length-2
-    returns
-    read-outermost-requires-2
-    enum-known-number-2
-    enum-known-next-2
-    same-length-3
-    same-length-4
-    returns-2
-    same-length-5
-    same-length-6
-    returns-3
-    same-length-7
-    same-length-8
-    returns-4
-    same-length-9
-    same-length-10
-    returns-5)
+    read-outermost-requires enum-known-number enum-known-next same-length same-length-2 returns
+    read-outermost-requires-2 enum-known-number-2 enum-known-next-2 same-length-3 same-length-4 returns-2
+    same-length-5 same-length-6 returns-3
+    same-length-7 same-length-8 returns-4
+    same-length-9 same-length-10 returns-5)

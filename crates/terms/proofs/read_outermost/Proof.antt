@@ -1,11 +1,12 @@
 -- `terms::read_outermost` meets its contract. Assumes nothing.
 use Rattle.heads.specs.Code.{wanted-of}
+use Rattle.terms.proofs.Runs.{run-one}
 use borrow.Author.Needs.{needs}
 use Rattle.terms.proofs.read_outermost.Statement.{statement}
 use Rattle.terms.proofs.read_outermost.Tie as tie
 
-read-term-requires : tie.Need-read-term-requires
-read-term-requires c κs = search needs
+read-run-requires : tie.Need-read-run-requires
+read-run-requires c κs = search needs
 
 same-length : tie.Need-same-length
 same-length c = search needs
@@ -15,13 +16,13 @@ same-length-2 c = search needs
 
 returns : tie.Need-returns
 unfolding wanted-of
-returns c = c .before .before .before .before .read-term .ensures .0
+returns c = run-one _ _ _ _ _ _ _ _ _ _ (c .before .before .before .before .read-run .ensures .0)
 
 pub read-outermost-spec : {M : Type 1} → statement M
 read-outermost-spec =
     tie.close
     (tie.spec
-    read-term-requires
+    read-run-requires
     same-length
     same-length-2
     returns)
