@@ -19,6 +19,7 @@ use Rattle.format.specs.Rows.{kind-of, kind-in, parts-in}
 use Rattle.format.specs.Canonical.{small, put, all-small}
 use Rattle.format.specs.Valid.{Fits}
 use Rattle.format.proofs.Rows.{count-relabels}
+use Rattle.format.proofs.RoundTrip.{small-count}
 use Rattle.octets.proofs.Numbers.{bytes-one}
 use Rattle.layout.specs.Layout.{Put}
 use Rattle.fields.specs.Shape.{some-small}
@@ -210,13 +211,6 @@ put-inverse none q ds e = let no-way : _≡_ {A = ℕ} 0 1 = cc in absurd (omega
 put-inverse (some x) none ds e = let no-way : _≡_ {A = ℕ} 0 1 = cc in absurd (omega arith)
 put-inverse (some x) (some es) ds e = record { first = x; others = es; first-is = refl; others-are = refl; joined = cc }
 
-pub all-small-length : (ts : Forest Label) (cs : List ℕ) → all-small ts ≡ some cs → length cs ≡ count ts
-unfolding all-small
-all-small-length Forest.none cs e = let same : cs ≡ [] = cc in ap length same
-all-small-length (node l us ▹ ts) cs e =
-    let p = put-inverse (small l) (all-small ts) cs e in
-    ap length (p .joined) ∙ ap suc (all-small-length ts (p .others) (p .others-are))
-
 module _ {m places lengths T : List ℕ} where
   pub characters-start : (row n at : ℕ) (ts : Terms) (cs O : List ℕ) → Held-run m places lengths T row ts → count ts ≡ n → all-small (meanings ts) ≡ some cs
       → Characters-left m places lengths T row n at cs O O 0
@@ -275,7 +269,7 @@ module _ {m places lengths T : List ℕ} where
       → Put O at cs (at + n) out
   characters-end {row} {n} {at} {i} {cs} {O} {out} ts s l c e =
       let z : s .left ≡ [] = none-left (s .rest) (n - i) (s .left) (s .rest-count) (omega arith) (s .are) in
-      let k : length cs ≡ count (meanings ts) = all-small-length (meanings ts) cs e in
+      let k : length cs ≡ count (meanings ts) = small-count (meanings ts) cs e in
       let j = count-relabels (λ (x : Label × Place). x .0) ts in
       record { past = omega arith; stored = sym (ap (λ (x : List ℕ). sets out (at + i) x) z) ∙ s .stored }
 

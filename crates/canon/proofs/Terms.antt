@@ -16,6 +16,7 @@ use Rattle.format.specs.Rows.{kind-of, parts-in, size-in}
 use Rattle.format.specs.Canonical.{all-small, canonical, canonicals}
 use Rattle.format.proofs.Numbers.{length-in-bytes}
 use Rattle.format.proofs.Rows.{count-le-sizes}
+use Rattle.format.proofs.RoundTrip.{small-count}
 use Rattle.octets.proofs.Numbers.{bytes-one}
 use Rattle.octets.proofs.Stores.{sets-at}
 use Rattle.layout.specs.Layout.{Put}
@@ -26,7 +27,7 @@ use Rattle.fields.proofs.Shape.{canonical-parts, canonical-string}
 use Rattle.canon.specs.Held.{Held, Held-run, as-string}
 use Rattle.canon.specs.Code.{string-term, Some-term, Some-run, Some-small, String-told, String-put, Run-length, Run-put, Term-length, Term-put, Run-fits, Term-fits}
 use Rattle.canon.proofs.Held.{held-parts, held-writable, held-count, held-size, held-label}
-use Rattle.canon.proofs.Strings.{front, run-front, all-small-length, as-list, as-inverse, small-is, some-told, none-told, count-meanings, no-elements}
+use Rattle.canon.proofs.Strings.{front, run-front, as-list, as-inverse, small-is, some-told, none-told, count-meanings, no-elements}
 
 -- ---- a string
 
@@ -101,7 +102,7 @@ module _ {m places lengths T : List ℕ} {row : ℕ} where
   string-length n e (node l ts) h s =
       let g = strung h s in
       let c : count ts ≡ n = sym (held-count h) ∙ sym e in
-      let k : length (g .characters) ≡ count (meanings ts) = all-small-length (meanings ts) (g .characters) (g .are) in
+      let k : length (g .characters) ≡ count (meanings ts) = small-count (meanings ts) (g .characters) (g .are) in
       let j : count (meanings ts) ≡ count ts = count-meanings ts in
       let b : length (in-bytes 2 (count ts)) ≡ 2 = length-in-bytes 2 (count ts) in
       let a = length-append (in-bytes 2 (count ts)) (g .characters) in

@@ -7,7 +7,7 @@ use native.Mathlib.Nat.{one-le-pow, le-mul-of-pos-right}
 use native.Mathlib.Omega.{arith}
 use lib.Dec.{eqb, leb, ltb, lit<}
 use lib.ListN.{length, getD, take, drop}
-use borrow.Author.Tests.{lt-ltb, le-ltb, le-leb, lt-leb, eq-eqb, ne-eqb, not-true, not-false}
+use borrow.Author.Tests.{lt-ltb, le-ltb, le-leb, lt-leb, eq-eqb, ne-eqb}
 use Rattle.format.specs.Numbers.{big-endian}
 use Rattle.format.specs.Answer.{good, refused, at-offset}
 use Rattle.format.specs.Head.{known, pid-fields, port-fields, reference-fields, old-reference-fields, later, words, words-rule, creation-rule}
@@ -23,12 +23,6 @@ use Rattle.heads.specs.declared.Step.the-variants.{Got, Refused}
 use Rattle.heads.specs.Code.{step-of, later-fields, later-of}
 
 -- a test's result that the code denies
-pub refuted : {b t : Bool} → b ≡ t → not b ≡ true → t ≡ false
-refuted {b} e f = sym e ∙ not-true b f
-
-pub confirmed : {b t : Bool} → b ≡ t → not b ≡ false → t ≡ true
-confirmed {b} e f = sym e ∙ not-false b f
-
 -- one byte more of a number
 big-next : (m : List ℕ) (at i : ℕ) → at + i < length m → big-endian (take (i + 1) (drop at m)) ≡ big-endian (take i (drop at m)) * 256 + getD m (at + i) 0
 big-next m at i h = big-halves m at i 1 (omega arith) ∙ ap (λ (b : ℕ). big-endian (take i (drop at m)) * 256 + b) (big-one m (at + i) h)

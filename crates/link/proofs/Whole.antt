@@ -5,19 +5,19 @@ use mathlib.Core.List.{List}
 use Prim.Native.Nat.{ℕ, _≤_, _<_}
 use lib.Dec.{eqb}
 use lib.ListN.{length}
-use borrow.Author.Tests.{eqb-true, le-leb, lt-leb, not-true, not-false}
+use borrow.Author.Tests.{le-leb, lt-leb}
 use Rattle.format.specs.Text.{Coding}
 use Rattle.format.specs.Answer.{Answer, good, refused, Position, at-offset, after}
 use Rattle.format.specs.AtomList.{of-size}
 use Rattle.format.specs.Message.{found}
+use Rattle.format.proofs.Tests.{sizes-of, refuted, confirmed}
 use Rattle.packets.specs.declared.Pending.{Pending}
 use Rattle.packets.specs.declared.Taken.{Taken}
 use Rattle.packets.specs.declared.PacketAnswer.{PacketAnswer}
-use Rattle.packets.specs.Memory.{list-lent, Memory, cache-of-size, memory-of-size, record-true, held}
+use Rattle.packets.specs.Memory.{Memory, cache-of-size, memory-of-size, record-true, held}
 use Rattle.packets.specs.Packet.{Kind, normal, starting, continuing, opening, Packet, rest, packet, judged}
 use Rattle.packets.specs.Calls.{taken, left-after, take-packet, after-packet}
 use Rattle.packets.specs.Answers.{packet-answer, taken-answer}
-use Rattle.format.proofs.Tests.{sizes-of}
 use Rattle.packets.proofs.Sizes.{all-sized}
 use Rattle.packets.specs.declared.PacketAnswer.the-variants as packets
 use Rattle.link.specs.Code.{OpensPacket, Takes}
@@ -25,32 +25,25 @@ use Rattle.link.specs.declared.Kind.the-variants as kinds
 
 -- ---- sizes
 
--- what a negated test says of what it tests
-test-failed : {t s : Bool} → t ≡ s → not t ≡ true → s ≡ false
-test-failed {t} e n = sym e ∙ not-true t n
-
-test-met : {t s : Bool} → t ≡ s → not t ≡ false → s ≡ true
-test-met {t} e n = sym e ∙ not-false t n
-
 -- one test after the other: the cache, the list for a plain packet, the list for the pending sequence, the gather buffer
 module _ (m : Memory) {a : Bool} (told : a ≡ cache-of-size (m .cache)) where
   pub cache-not : not a ≡ true → false ≡ memory-of-size m
   unfolding memory-of-size
-  cache-not failed = rw (test-failed told failed)
+  cache-not failed = rw (refuted told failed)
 
   module _ (met : not a ≡ false) {b : Bool} (told-plain : b ≡ of-size (m .plain-list)) where
     pub plain-not : not b ≡ true → false ≡ memory-of-size m
     unfolding memory-of-size
-    plain-not failed = rw (test-met told met, test-failed told-plain failed)
+    plain-not failed = rw (confirmed told met, refuted told-plain failed)
 
     module _ (met-plain : not b ≡ false) {p : Bool} (told-pending : p ≡ of-size (m .pending-list)) where
       pub pending-not : not p ≡ true → false ≡ memory-of-size m
       unfolding memory-of-size
-      pending-not failed = rw (test-met told met, test-met told-plain met-plain, test-failed told-pending failed)
+      pending-not failed = rw (confirmed told met, confirmed told-plain met-plain, refuted told-pending failed)
 
       pub gather-if : not p ≡ false → eqb (length (m .gather)) 65536 ≡ memory-of-size m
       unfolding memory-of-size
-      gather-if met-pending = rw (test-met told met, test-met told-plain met-plain, test-met told-pending met-pending)
+      gather-if met-pending = rw (confirmed told met, confirmed told-plain met-plain, confirmed told-pending met-pending)
 
 -- the lengths of all lent memory
 pub record Lengths (m : Memory) : Type 0 where
@@ -64,7 +57,7 @@ pub record Lengths (m : Memory) : Type 0 where
 
 pub lengths-told : (m : Memory) {b : Bool} → b ≡ memory-of-size m → not b ≡ false → Lengths m
 lengths-told m told met =
-    let z = all-sized m (test-met told met) in
+    let z = all-sized m (confirmed told met) in
     let one = sizes-of (m .plain-list) (z .plain-sized) in
     let two = sizes-of (m .pending-list) (z .pending-sized) in
     record {
@@ -101,17 +94,17 @@ module _ (agreed : Coding) (m : Memory) (s : List ℕ) where
 
   pub size-done : {b : Bool} → b ≡ memory-of-size m → not b ≡ true → Done (record { answer = packets.Refused (record { number = 13; place = 0 }); pending = m .pending }) m
   unfolding judged
-  size-done told failed = refused-done 13 (rw (judged, test-failed told failed))
+  size-done told failed = refused-done 13 (rw (judged, refuted told failed))
 
   module _ {b : Bool} (told : b ≡ memory-of-size m) (met : not b ≡ false) where
     pub false-done : 65536 < m .pending .gathered → Done (record { answer = packets.Refused (record { number = 14; place = 0 }); pending = m .pending }) m
     unfolding judged packet record-true
-    false-done e = refused-done 14 (rw (judged, test-met told met, lt-leb (m .pending .gathered) 65536 e))
+    false-done e = refused-done 14 (rw (judged, confirmed told met, lt-leb (m .pending .gathered) 65536 e))
 
     module _ (true-record : m .pending .gathered ≤ 65536) where
       opened : (o : Answer (Kind × Position)) → opening (at-offset s 0 0) ≡ o → judged agreed m s ≡ found (after o (λ k. rest agreed (held (m .cache)) (m .pending) k))
       unfolding judged packet record-true
-      opened o e = rw (judged, test-met told met, le-leb (m .pending .gathered) 65536 true-record) (ap (λ (x : Answer (Kind × Position)). found (after x (λ k. rest agreed (held (m .cache)) (m .pending) k))) e)
+      opened o e = rw (judged, confirmed told met, le-leb (m .pending .gathered) 65536 true-record) (ap (λ (x : Answer (Kind × Position)). found (after x (λ k. rest agreed (held (m .cache)) (m .pending) k))) e)
 
       pub opening-done : (k : ℕ) → OpensPacket s (kinds.Refused k) → Done (record { answer = packets.Refused (record { number = k; place = 0 }); pending = m .pending }) m
       unfolding OpensPacket

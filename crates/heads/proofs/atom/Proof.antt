@@ -1,5 +1,5 @@
 -- `heads::atom` meets its contract. Count, bytes, text. Assumes nothing.
-use Rattle.heads.proofs.LaterFields.{refuted, confirmed}
+use Rattle.format.proofs.Tests.{refuted, confirmed}
 use Rattle.heads.proofs.Texts.{atom-short, atom-cut, atom-bad, atom-there}
 use native.Mathlib.Omega.{arith}
 use borrow.Author.Needs.{needs}

@@ -1,6 +1,5 @@
 -- `heads::cached_atom` meets its contract. The index, then the length, then the text. Assumes nothing.
-use Rattle.heads.proofs.LaterFields.{refuted, confirmed}
-use Rattle.format.proofs.Tests.{sizes-of}
+use Rattle.format.proofs.Tests.{sizes-of, refuted, confirmed}
 use Rattle.heads.proofs.Texts.{cached-short, cached-past, cached-long, cached-bad, cached-there}
 use native.Mathlib.Omega.{arith}
 use borrow.Author.Needs.{needs}

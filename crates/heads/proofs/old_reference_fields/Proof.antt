@@ -1,5 +1,6 @@
 -- `heads::old_reference_fields` meets its contract. Assumes nothing.
-use Rattle.heads.proofs.LaterFields.{old-short, old-words, old-creation, old-there, refuted, confirmed}
+use Rattle.format.proofs.Tests.{refuted, confirmed}
+use Rattle.heads.proofs.LaterFields.{old-short, old-words, old-creation, old-there}
 use native.Mathlib.Omega.{arith}
 use borrow.Author.Needs.{needs}
 use Rattle.heads.proofs.old_reference_fields.Statement.{statement}

@@ -1,5 +1,6 @@
 -- `heads::pid_fields` meets its contract. Assumes nothing.
-use Rattle.heads.proofs.LaterFields.{pid-short, pid-cut, pid-id, pid-serial, pid-creation, pid-there, refuted, confirmed}
+use Rattle.format.proofs.Tests.{refuted, confirmed}
+use Rattle.heads.proofs.LaterFields.{pid-short, pid-cut, pid-id, pid-serial, pid-creation, pid-there}
 use native.Mathlib.Omega.{arith}
 use borrow.Author.Needs.{needs}
 use Rattle.heads.proofs.pid_fields.Statement.{statement}

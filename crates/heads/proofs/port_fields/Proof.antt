@@ -1,5 +1,6 @@
 -- `heads::port_fields` meets its contract. Assumes nothing.
-use Rattle.heads.proofs.LaterFields.{port-short, port-cut, port-id, port-creation, port-there, refuted, confirmed}
+use Rattle.format.proofs.Tests.{refuted, confirmed}
+use Rattle.heads.proofs.LaterFields.{port-short, port-cut, port-id, port-creation, port-there}
 use native.Mathlib.Omega.{arith}
 use borrow.Author.Needs.{needs}
 use Rattle.heads.proofs.port_fields.Statement.{statement}

@@ -1,8 +1,8 @@
 -- `heads::quick_at` meets its contract. Assumes nothing.
 use mathlib.Core.Path.{refl, ap, _∙_}
 use native.Mathlib.Omega.{arith}
+use Rattle.format.proofs.Tests.{confirmed}
 use Rattle.heads.specs.Quick.{quick-word}
-use Rattle.heads.proofs.LaterFields.{confirmed}
 use Rattle.heads.proofs.Tags.{head-known}
 use borrow.Author.Needs.{needs}
 use Rattle.heads.proofs.quick_at.Statement.{statement}

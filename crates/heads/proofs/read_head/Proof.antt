@@ -1,5 +1,5 @@
 -- `heads::read_head` meets its contract. No tag, a tag that may not stand, or its fields. Assumes nothing.
-use Rattle.heads.proofs.LaterFields.{refuted, confirmed}
+use Rattle.format.proofs.Tests.{refuted, confirmed}
 use Rattle.heads.proofs.Tags.{head-past, head-barred, head-known}
 use native.Mathlib.Omega.{arith}
 use borrow.Author.Needs.{needs}

@@ -1,5 +1,6 @@
 -- `heads::reference_fields` meets its contract. Assumes nothing.
-use Rattle.heads.proofs.LaterFields.{reference-short, reference-cut, reference-creation, reference-words, reference-there, refuted, confirmed}
+use Rattle.format.proofs.Tests.{refuted, confirmed}
+use Rattle.heads.proofs.LaterFields.{reference-short, reference-cut, reference-creation, reference-words, reference-there}
 use native.Mathlib.Omega.{arith}
 use borrow.Author.Needs.{needs}
 use Rattle.heads.proofs.reference_fields.Statement.{statement}
