@@ -88,7 +88,7 @@ pub fn half_of(packet: &[u8], at: usize, n: usize, i: ReferenceIndex) -> usize
 }
 
 // The count, the flags and the width of lengths of the header at `at`.
-pub fn open_header(packet: &[u8], at: usize) -> Opened
+fn open_header(packet: &[u8], at: usize) -> Opened
     requires { ⌜ at ≤ length (now packet) ⌝ }
     ensures { λ r. ⌜ Opens (now (packet .entry)) at r ⌝ }
 {

@@ -668,7 +668,7 @@ fn may_stand(wanted: Wanted, tag: u8) -> bool
 }
 
 // A term's tag and the fields before its first part.
-pub fn read_head(
+fn read_head(
     msg: &[u8],
     n: u8,
     places: &[u8],

@@ -102,7 +102,7 @@ fn same_rows(
 }
 
 // Whether the terms whose rows start at a and b mean the same.
-pub fn same_terms(
+fn same_terms(
     msg: &[u8],
     places: &[u8],
     lengths: &[u16],
@@ -136,7 +136,7 @@ fn pair_size(table: &[u64], at: usize) -> usize
 }
 
 // Whether the term at the row `key` means the same as a key of the pairs from the row `first` on.
-pub fn key_among(
+fn key_among(
     msg: &[u8],
     places: &[u8],
     lengths: &[u16],
