@@ -10,7 +10,7 @@
 #include "ikparumo.h"
 #include "libei.h"
 
-enum { MESSAGES_MOST = 1024, ROUNDS = 40, ROUNDS_SLOW = 5, OUTPUT_BYTES = 4 * BYTES_MOST };
+enum { MESSAGES_MOST = 1024, ROUNDS = 15, ROUNDS_SLOW = 2, OUTPUT_BYTES = 4 * BYTES_MOST };
 static const double LEAST_NS = 3e5, SLOW_NS = 2e7; /* a round lasts at least the one; rounds beyond the other are few */
 
 struct message {

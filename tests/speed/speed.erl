@@ -3,7 +3,7 @@
 -module(speed).
 -export([measure/2, judge/3]).
 
--define(ROUNDS, 60).
+-define(ROUNDS, 30).
 -define(LEAST_NS, 300000). % short, so that on a busy machine some rounds run undisturbed
 -define(HEAP_WORDS, 8 * 1024 * 1024).
 

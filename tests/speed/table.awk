@@ -1,21 +1,21 @@
-# Tables of what was measured. First file: Erlang's lines (name, reading, writing), of several runs, the best counts;
-# second file: the lines of speed.c. All numbers are nanoseconds a message.
+# Tables of what was measured. First file: Erlang's lines (name, reading, writing); second file: the lines of speed.c. Of several
+# passes the best counts. All numbers are nanoseconds a message.
 BEGIN { FS = "\t" }
 
-FNR == NR {
-    if (!($1 in read_erlang) || $2 < read_erlang[$1]) read_erlang[$1] = $2
-    if (!($1 in write_erlang) || $3 < write_erlang[$1]) write_erlang[$1] = $3
-    next
-}
+function best(times, ns) { if (!($1 in times) || ns < times[$1]) times[$1] = ns }
 
-{ bytes[$1] = $2; messages[$1] = $3 }
+FNR == NR { best(read_erlang, $2); best(write_erlang, $3); next }
 
-$1 ~ /^packet-/ { packets[++packet_count] = $1; alone[$1] = $4; with_reading[$1] = $5; next }
+{ first_pass = !($1 in bytes); bytes[$1] = $2; messages[$1] = $3 }
+
+$1 ~ /^packet-/ { if (first_pass) packets[++packet_count] = $1; best(alone, $4); best(with_reading, $5); next }
 
 {
-    read_exact[$1] = $4; read_full[$1] = $5; read_libei[$1] = $6
-    write_exact[$1] = $7; write_full[$1] = $8; write_libei[$1] = $9
+    best(read_exact, $4); best(read_full, $5); best(read_libei, $6)
+    best(write_exact, $7); best(write_full, $8); best(write_libei, $9)
 }
+
+!first_pass { next }
 
 $1 ~ /^small-/ { small[++small_count] = $1; next }
 
