@@ -668,14 +668,7 @@ fn may_stand(wanted: Wanted, tag: u8) -> bool
 }
 
 // A term's tag and the fields before its first part.
-fn read_head(
-    msg: &[u8],
-    n: u8,
-    places: &[u8],
-    lengths: &[u16],
-    at: usize,
-    wanted: Wanted,
-) -> Head
+fn read_head(msg: &[u8], n: u8, places: &[u8], lengths: &[u16], at: usize, wanted: Wanted) -> Head
     requires { ⌜ (at ≤ length (now msg)) × (length (now msg) ≤ 65536) × (of-size (lent n (now places) (now lengths)) ≡ true) ⌝ }
     ensures { λ r. ⌜ ((rows : ℕ) → r ≡ head-of (head (atoms-of (lent n (now (places .entry)) (now (lengths .entry)))) (wanted-of wanted) (at-offset (now (msg .entry)) at rows))) ⌝ }
 {

@@ -428,7 +428,7 @@ fn read_parts(
         wanted,
     ) {
         Step::Refused { number, place } => Parts::Refused { number, place },
-        Step::Got { next, rows } => match read_run(
+        Step::Got { next, rows } => match read_more(
             msg,
             n,
             places,
@@ -455,6 +455,50 @@ fn read_parts(
             },
         },
     }
+}
+
+// Terms as in a run, where there are any: most terms that go this way have none, and an empty run is no call.
+fn read_more(
+    msg: &[u8],
+    n: u8,
+    places: &[u8],
+    lengths: &[u16],
+    table: &mut [u64],
+    seen: &mut [u16],
+    at: usize,
+    row: usize,
+    whole: usize,
+    deep: usize,
+    cap: usize,
+    wanted: Wanted,
+    count: usize,
+) -> Step
+    requires { ⌜ Room (now msg) (lent n (now places) (now lengths)) (now table) cap at row whole ⌝ }
+    requires { ⌜ 0 < length (now seen) ⌝ }
+    ensures { λ r. ⌜ RunDone (now (msg .entry)) count cap row whole (now (table .entry)) (each (term (atoms-of (lent n (now (places .entry)) (now (lengths .entry)))) cap deep) (replicate count (wanted-of wanted)) (at-offset (now (msg .entry)) at row)) r (now (table .exit)) ⌝ }
+    ensures { λ _. ⌜ Keeps (now (seen .entry)) (now (seen .exit)) ⌝ }
+{
+    if count == 0 {
+        return Step::Got {
+            next: at,
+            rows: row,
+        };
+    }
+    read_run(
+        msg,
+        n,
+        places,
+        lengths,
+        table,
+        seen,
+        at,
+        row,
+        whole,
+        deep,
+        cap,
+        wanted,
+        count,
+    )
 }
 
 // `wanted` parts, each an atom; of three the last is an arity.
@@ -494,7 +538,7 @@ fn read_wanted(
         atoms,
     ) {
         Step::Refused { number, place } => Step::Refused { number, place },
-        Step::Got { next, rows } => read_run(
+        Step::Got { next, rows } => read_more(
             msg,
             n,
             places,

@@ -24,40 +24,43 @@ use borrow.Fn.Kinds.{In}
 use borrow.Fn.PlainCycle.{Measures, is, falls, and}
 use Rattle.terms.proofs.read_body.Reads as read-body
 use Rattle.terms.proofs.read_body.Kinds as read-body-kinds
-use Rattle.terms.proofs.+read_body+read_common+read_inner+read_last+read_list+read_pairs+read_parts+read_quick+read_run+read_tail+read_term+read_wanted.Lts-read_body as read-body-lts
+use Rattle.terms.proofs.+read_body+read_common+read_inner+read_last+read_list+read_more+read_pairs+read_parts+read_quick+read_run+read_tail+read_term+read_wanted.Lts-read_body as read-body-lts
 use Rattle.terms.proofs.read_common.Reads as read-common
 use Rattle.terms.proofs.read_common.Kinds as read-common-kinds
-use Rattle.terms.proofs.+read_body+read_common+read_inner+read_last+read_list+read_pairs+read_parts+read_quick+read_run+read_tail+read_term+read_wanted.Lts-read_common as read-common-lts
+use Rattle.terms.proofs.+read_body+read_common+read_inner+read_last+read_list+read_more+read_pairs+read_parts+read_quick+read_run+read_tail+read_term+read_wanted.Lts-read_common as read-common-lts
 use Rattle.terms.proofs.read_inner.Reads as read-inner
 use Rattle.terms.proofs.read_inner.Kinds as read-inner-kinds
-use Rattle.terms.proofs.+read_body+read_common+read_inner+read_last+read_list+read_pairs+read_parts+read_quick+read_run+read_tail+read_term+read_wanted.Lts-read_inner as read-inner-lts
+use Rattle.terms.proofs.+read_body+read_common+read_inner+read_last+read_list+read_more+read_pairs+read_parts+read_quick+read_run+read_tail+read_term+read_wanted.Lts-read_inner as read-inner-lts
 use Rattle.terms.proofs.read_last.Reads as read-last
 use Rattle.terms.proofs.read_last.Kinds as read-last-kinds
-use Rattle.terms.proofs.+read_body+read_common+read_inner+read_last+read_list+read_pairs+read_parts+read_quick+read_run+read_tail+read_term+read_wanted.Lts-read_last as read-last-lts
+use Rattle.terms.proofs.+read_body+read_common+read_inner+read_last+read_list+read_more+read_pairs+read_parts+read_quick+read_run+read_tail+read_term+read_wanted.Lts-read_last as read-last-lts
 use Rattle.terms.proofs.read_list.Reads as read-list
 use Rattle.terms.proofs.read_list.Kinds as read-list-kinds
-use Rattle.terms.proofs.+read_body+read_common+read_inner+read_last+read_list+read_pairs+read_parts+read_quick+read_run+read_tail+read_term+read_wanted.Lts-read_list as read-list-lts
+use Rattle.terms.proofs.+read_body+read_common+read_inner+read_last+read_list+read_more+read_pairs+read_parts+read_quick+read_run+read_tail+read_term+read_wanted.Lts-read_list as read-list-lts
+use Rattle.terms.proofs.read_more.Reads as read-more
+use Rattle.terms.proofs.read_more.Kinds as read-more-kinds
+use Rattle.terms.proofs.+read_body+read_common+read_inner+read_last+read_list+read_more+read_pairs+read_parts+read_quick+read_run+read_tail+read_term+read_wanted.Lts-read_more as read-more-lts
 use Rattle.terms.proofs.read_pairs.Reads as read-pairs
 use Rattle.terms.proofs.read_pairs.Kinds as read-pairs-kinds
-use Rattle.terms.proofs.+read_body+read_common+read_inner+read_last+read_list+read_pairs+read_parts+read_quick+read_run+read_tail+read_term+read_wanted.Lts-read_pairs as read-pairs-lts
+use Rattle.terms.proofs.+read_body+read_common+read_inner+read_last+read_list+read_more+read_pairs+read_parts+read_quick+read_run+read_tail+read_term+read_wanted.Lts-read_pairs as read-pairs-lts
 use Rattle.terms.proofs.read_parts.Reads as read-parts
 use Rattle.terms.proofs.read_parts.Kinds as read-parts-kinds
-use Rattle.terms.proofs.+read_body+read_common+read_inner+read_last+read_list+read_pairs+read_parts+read_quick+read_run+read_tail+read_term+read_wanted.Lts-read_parts as read-parts-lts
+use Rattle.terms.proofs.+read_body+read_common+read_inner+read_last+read_list+read_more+read_pairs+read_parts+read_quick+read_run+read_tail+read_term+read_wanted.Lts-read_parts as read-parts-lts
 use Rattle.terms.proofs.read_quick.Reads as read-quick
 use Rattle.terms.proofs.read_quick.Kinds as read-quick-kinds
-use Rattle.terms.proofs.+read_body+read_common+read_inner+read_last+read_list+read_pairs+read_parts+read_quick+read_run+read_tail+read_term+read_wanted.Lts-read_quick as read-quick-lts
+use Rattle.terms.proofs.+read_body+read_common+read_inner+read_last+read_list+read_more+read_pairs+read_parts+read_quick+read_run+read_tail+read_term+read_wanted.Lts-read_quick as read-quick-lts
 use Rattle.terms.proofs.read_run.Reads as read-run
 use Rattle.terms.proofs.read_run.Kinds as read-run-kinds
-use Rattle.terms.proofs.+read_body+read_common+read_inner+read_last+read_list+read_pairs+read_parts+read_quick+read_run+read_tail+read_term+read_wanted.Lts-read_run as read-run-lts
+use Rattle.terms.proofs.+read_body+read_common+read_inner+read_last+read_list+read_more+read_pairs+read_parts+read_quick+read_run+read_tail+read_term+read_wanted.Lts-read_run as read-run-lts
 use Rattle.terms.proofs.read_tail.Reads as read-tail
 use Rattle.terms.proofs.read_tail.Kinds as read-tail-kinds
-use Rattle.terms.proofs.+read_body+read_common+read_inner+read_last+read_list+read_pairs+read_parts+read_quick+read_run+read_tail+read_term+read_wanted.Lts-read_tail as read-tail-lts
+use Rattle.terms.proofs.+read_body+read_common+read_inner+read_last+read_list+read_more+read_pairs+read_parts+read_quick+read_run+read_tail+read_term+read_wanted.Lts-read_tail as read-tail-lts
 use Rattle.terms.proofs.read_term.Reads as read-term
 use Rattle.terms.proofs.read_term.Kinds as read-term-kinds
-use Rattle.terms.proofs.+read_body+read_common+read_inner+read_last+read_list+read_pairs+read_parts+read_quick+read_run+read_tail+read_term+read_wanted.Lts-read_term as read-term-lts
+use Rattle.terms.proofs.+read_body+read_common+read_inner+read_last+read_list+read_more+read_pairs+read_parts+read_quick+read_run+read_tail+read_term+read_wanted.Lts-read_term as read-term-lts
 use Rattle.terms.proofs.read_wanted.Reads as read-wanted
 use Rattle.terms.proofs.read_wanted.Kinds as read-wanted-kinds
-use Rattle.terms.proofs.+read_body+read_common+read_inner+read_last+read_list+read_pairs+read_parts+read_quick+read_run+read_tail+read_term+read_wanted.Lts-read_wanted as read-wanted-lts
+use Rattle.terms.proofs.+read_body+read_common+read_inner+read_last+read_list+read_more+read_pairs+read_parts+read_quick+read_run+read_tail+read_term+read_wanted.Lts-read_wanted as read-wanted-lts
 use Rattle.heads.proofs.leaf_at.Reads as leaf-at-reads
 use Rattle.heads.proofs.quick_at.Reads as quick-at-reads
 use Rattle.heads.proofs.read_later.Reads as read-later-reads
@@ -67,10 +70,10 @@ use Rattle.row.proofs.pack.Reads as pack-reads
 use Rattle.terms.proofs.at_most.Reads as at-most-reads
 use Rattle.terms.proofs.is_leaf.Reads as is-leaf-reads
 use Rattle.terms.proofs.read_characters.Reads as read-characters-reads
-use Rattle.terms.proofs.+read_body+read_common+read_inner+read_last+read_list+read_pairs+read_parts+read_quick+read_run+read_tail+read_term+read_wanted.{
+use Rattle.terms.proofs.+read_body+read_common+read_inner+read_last+read_list+read_more+read_pairs+read_parts+read_quick+read_run+read_tail+read_term+read_wanted.{
   statement,
 }
-use Rattle.terms.proofs.+read_body+read_common+read_inner+read_last+read_list+read_pairs+read_parts+read_quick+read_run+read_tail+read_term+read_wanted.Tie.{
+use Rattle.terms.proofs.+read_body+read_common+read_inner+read_last+read_list+read_more+read_pairs+read_parts+read_quick+read_run+read_tail+read_term+read_wanted.Tie.{
   close,
 }
 
@@ -81,7 +84,7 @@ abbrev μ-read-common : Measures 5 read-common-kinds.ps ℕ
 μ-read-common κs a = a .1 .1 .1 .1 .1 .1 .1 .0 * 8 + 5
 
 abbrev μ-read-inner : Measures 5 read-inner-kinds.ps ℕ
-μ-read-inner κs a = a .1 .1 .1 .1 .1 .1 .1 .1 .1 .0 * 8 + 5
+μ-read-inner κs a = a .1 .1 .1 .1 .1 .1 .1 .1 .1 .0 * 8 + 6
 
 abbrev μ-read-last : Measures 5 read-last-kinds.ps ℕ
 μ-read-last κs a = a .1 .1 .1 .1 .1 .1 .1 .1 .1 .1 .0 * 8 + 1
@@ -89,11 +92,14 @@ abbrev μ-read-last : Measures 5 read-last-kinds.ps ℕ
 abbrev μ-read-list : Measures 5 read-list-kinds.ps ℕ
 μ-read-list κs a = a .1 .1 .1 .1 .1 .1 .1 .1 .0 * 8 + 4
 
+abbrev μ-read-more : Measures 5 read-more-kinds.ps ℕ
+μ-read-more κs a = a .1 .1 .1 .1 .1 .1 .1 .1 .1 .0 * 8 + 3
+
 abbrev μ-read-pairs : Measures 5 read-pairs-kinds.ps ℕ
 μ-read-pairs κs a = a .1 .1 .1 .1 .1 .1 .1 .1 .0 * 8 + 3
 
 abbrev μ-read-parts : Measures 5 read-parts-kinds.ps ℕ
-μ-read-parts κs a = a .1 .1 .1 .1 .1 .1 .1 .1 .1 .0 * 8 + 4
+μ-read-parts κs a = a .1 .1 .1 .1 .1 .1 .1 .1 .1 .0 * 8 + 5
 
 abbrev μ-read-quick : Measures 5 read-quick-kinds.ps ℕ
 μ-read-quick κs a = a .1 .1 .1 .1 .1 .1 .1 .1 .1 .0 * 8 + 0
@@ -108,7 +114,7 @@ abbrev μ-read-term : Measures 5 read-term-kinds.ps ℕ
 μ-read-term κs a = a .1 .1 .1 .1 .1 .1 .1 .1 .1 .0 * 8 + 1
 
 abbrev μ-read-wanted : Measures 5 read-wanted-kinds.ps ℕ
-μ-read-wanted κs a = a .1 .1 .1 .1 .1 .1 .1 .1 .1 .0 * 8 + 3
+μ-read-wanted κs a = a .1 .1 .1 .1 .1 .1 .1 .1 .1 .0 * 8 + 4
 
 abbrev read-body-at : ℕ → In 5 read-body-kinds.ps
 read-body-at t = and 5 read-body-kinds.ps (is 5 read-body-kinds.ps μ-read-body t) read-body.Pre
@@ -145,6 +151,13 @@ read-list-at t = and 5 read-list-kinds.ps (is 5 read-list-kinds.ps μ-read-list 
 abbrev read-list-below : ℕ → In 5 read-list-kinds.ps
 read-list-below t =
     and 5 read-list-kinds.ps (falls 5 read-list-kinds.ps _<_ μ-read-list t) read-list.Pre
+
+abbrev read-more-at : ℕ → In 5 read-more-kinds.ps
+read-more-at t = and 5 read-more-kinds.ps (is 5 read-more-kinds.ps μ-read-more t) read-more.Pre
+
+abbrev read-more-below : ℕ → In 5 read-more-kinds.ps
+read-more-below t =
+    and 5 read-more-kinds.ps (falls 5 read-more-kinds.ps _<_ μ-read-more t) read-more.Pre
 
 abbrev read-pairs-at : ℕ → In 5 read-pairs-kinds.ps
 read-pairs-at t =
@@ -213,11 +226,14 @@ read-last-calls t = (read-characters-reads.Asked, read-characters-reads.Learnt, 
 abbrev read-list-calls : ℕ → read-list-lts.Claims
 read-list-calls t = (read-run-below t, read-run.Post, read-tail-below t, read-tail.Post)
 
+abbrev read-more-calls : ℕ → read-more-lts.Claims
+read-more-calls t = (read-run-below t, read-run.Post)
+
 abbrev read-pairs-calls : ℕ → read-pairs-lts.Claims
 read-pairs-calls t = (read-run-below t, read-run.Post, repeats-reads.Asked, repeats-reads.Learnt)
 
 abbrev read-parts-calls : ℕ → read-parts-lts.Claims
-read-parts-calls t = (read-wanted-below t, read-wanted.Post, read-run-below t, read-run.Post, read-later-reads.Asked, read-later-reads.Learnt)
+read-parts-calls t = (read-wanted-below t, read-wanted.Post, read-more-below t, read-more.Post, read-later-reads.Asked, read-later-reads.Learnt)
 
 abbrev read-quick-calls : ℕ → read-quick-lts.Claims
 read-quick-calls t = (read-common-below t, read-common.Post, pack-reads.Asked, pack-reads.Learnt)
@@ -232,7 +248,7 @@ abbrev read-term-calls : ℕ → read-term-lts.Claims
 read-term-calls t = (quick-at-reads.Asked, quick-at-reads.Learnt, read-quick-below t, read-quick.Post, read-opening-reads.Asked, read-opening-reads.Learnt, read-body-below t, read-body.Post)
 
 abbrev read-wanted-calls : ℕ → read-wanted-lts.Claims
-read-wanted-calls t = (at-most-reads.Asked, at-most-reads.Learnt, read-run-below t, read-run.Post)
+read-wanted-calls t = (at-most-reads.Asked, at-most-reads.Learnt, read-run-below t, read-run.Post, read-more-below t, read-more.Post)
 
 read-body-returns : (t : ℕ) → read-body-lts.Need-returns (read-body-calls t) (read-body-at t) read-body.Post
 read-body-returns t c = (λ h next e s. body-deep _ _ _ _ _ h next _ _ _ _ (c .if1 .taken), keeps-refl _)
@@ -420,6 +436,21 @@ read-list-same-length-4 t c = c .before .before .before .before .read-tail .kept
 read-list-returns-2 : (t : ℕ) → read-list-lts.Need-returns-2 (read-list-calls t) (read-list-at t) read-list.Post
 read-list-returns-2 t c = (λ place. list-then _ _ _ _ place _ _ _ _ _ _ (c .before .before .before .before .before .before .before .before .before .before .before .before .before .before .read-run .ensures .0) _ _ _ _ (c .before .before .before .before .before .before .before .before .next .given .1) (c .before .before .before .before .read-tail .ensures .0), keeps-trans (c .before .before .before .before .before .before .before .before .before .before .before .before .before .before .read-run .ensures .1) (c .before .before .before .before .read-tail .ensures .1))
 
+read-more-returns : (t : ℕ) → read-more-lts.Need-returns (read-more-calls t) (read-more-at t) read-more.Post
+read-more-returns t c = (run-none _ _ _ _ _ _ _ _ _ (c .if1 .taken) (c .before .before .before .before .before .before .pre .1 .0 .low) (c .before .before .before .before .before .before .pre .1 .0 .near), keeps-refl _)
+
+read-more-read-run-requires : (t : ℕ) → read-more-lts.Need-read-run-requires (read-more-calls t) (read-more-at t) read-more.Post
+read-more-read-run-requires t c κs = (omega (arith, c .before .before .before .before .before .before .before .before .pre .0), (c .before .before .before .before .before .before .before .before .pre .1 .0, c .before .before .before .before .before .before .before .before .pre .1 .1))
+
+read-more-same-length : (t : ℕ) → read-more-lts.Need-same-length (read-more-calls t) (read-more-at t) read-more.Post
+read-more-same-length t c = c .before .before .before .before .read-run .kept .1 .1 .1 .1 .0
+
+read-more-same-length-2 : (t : ℕ) → read-more-lts.Need-same-length-2 (read-more-calls t) (read-more-at t) read-more.Post
+read-more-same-length-2 t c = c .before .before .before .before .read-run .kept .1 .1 .1 .1 .1 .0
+
+read-more-returns-2 : (t : ℕ) → read-more-lts.Need-returns-2 (read-more-calls t) (read-more-at t) read-more.Post
+read-more-returns-2 t c = c .before .before .before .before .read-run .ensures
+
 abbrev read-pairs-Inv-loop : read-pairs-lts.InvT-loop
 read-pairs-Inv-loop msg n places lengths table₀ seen₀ at row deep cap count at-now₀ row-now₀ more₀ table seen at-now row-now more =
     Room msg (lent n places lengths) table cap at-now row-now row
@@ -530,8 +561,8 @@ read-parts-enum-known-number t c = search needs
 read-parts-enum-known-next : (t : ℕ) → read-parts-lts.Need-enum-known-next (read-parts-calls t) (read-parts-at t) read-parts.Post
 read-parts-enum-known-next t c = search needs
 
-read-parts-read-run-requires : (t : ℕ) → read-parts-lts.Need-read-run-requires (read-parts-calls t) (read-parts-at t) read-parts.Post
-read-parts-read-run-requires t c κs = (omega (arith, c .before .before .before .before .before .before .before .before .before .before .before .before .before .before .before .before .before .pre .0), (room-after _ _ _ _ _ _ _ _ _ _ _ _ _ _ _ (c .before .before .before .before .before .before .before .before .before .before .before .before .before .before .before .before .before .pre .1 .0) (c .before .before .before .before .before .before .before .before .before .read-wanted .ensures .0) (c .before .before .before .next .given .1) (c .before .before .before .before .before .before .before .before .before .read-wanted .kept .1 .1 .1 .1 .0), omega (arith, c .before .before .before .before .before .before .before .before .before .before .before .before .before .before .before .before .before .pre .1 .1, c .before .before .before .before .before .before .before .before .before .read-wanted .ensures .1 .as-many)))
+read-parts-read-more-requires : (t : ℕ) → read-parts-lts.Need-read-more-requires (read-parts-calls t) (read-parts-at t) read-parts.Post
+read-parts-read-more-requires t c κs = (omega (arith, c .before .before .before .before .before .before .before .before .before .before .before .before .before .before .before .before .before .pre .0), (room-after _ _ _ _ _ _ _ _ _ _ _ _ _ _ _ (c .before .before .before .before .before .before .before .before .before .before .before .before .before .before .before .before .before .pre .1 .0) (c .before .before .before .before .before .before .before .before .before .read-wanted .ensures .0) (c .before .before .before .next .given .1) (c .before .before .before .before .before .before .before .before .before .read-wanted .kept .1 .1 .1 .1 .0), omega (arith, c .before .before .before .before .before .before .before .before .before .before .before .before .before .before .before .before .before .pre .1 .1, c .before .before .before .before .before .before .before .before .before .read-wanted .ensures .1 .as-many)))
 
 read-parts-enum-known-number-2 : (t : ℕ) → read-parts-lts.Need-enum-known-number-2 (read-parts-calls t) (read-parts-at t) read-parts.Post
 read-parts-enum-known-number-2 t c = search needs
@@ -540,7 +571,7 @@ read-parts-enum-known-next-2 : (t : ℕ) → read-parts-lts.Need-enum-known-next
 read-parts-enum-known-next-2 t c = search needs
 
 read-parts-read-later-requires : (t : ℕ) → read-parts-lts.Need-read-later-requires (read-parts-calls t) (read-parts-at t) read-parts.Post
-read-parts-read-later-requires t c κs = run-many _ _ _ _ _ _ _ _ _ _ _ (c .before .before .before .before .before .before .before .read-run .ensures .0) (c .before .next2 .given .1) .1
+read-parts-read-later-requires t c κs = run-many _ _ _ _ _ _ _ _ _ _ _ (c .before .before .before .before .before .before .before .read-more .ensures .0) (c .before .next2 .given .1) .1
 
 read-parts-enum-known-number-3 : (t : ℕ) → read-parts-lts.Need-enum-known-number-3 (read-parts-calls t) (read-parts-at t) read-parts.Post
 read-parts-enum-known-number-3 t c = search needs
@@ -549,7 +580,7 @@ read-parts-enum-known-next-3 : (t : ℕ) → read-parts-lts.Need-enum-known-next
 read-parts-enum-known-next-3 t c = search needs
 
 read-parts-add-t42 : (t : ℕ) → read-parts-lts.Need-add-t42 (read-parts-calls t) (read-parts-at t) read-parts.Post
-read-parts-add-t42 t c = let a = run-many _ _ _ _ _ _ _ _ _ _ _ (c .before .before .before .before .before .before .before .before .before .before .before .before .before .before .before .before .before .before .before .before .before .read-wanted .ensures .0) (c .before .before .before .before .before .before .before .before .before .before .before .before .before .before .before .next .given .1) in let b = run-many _ _ _ _ _ _ _ _ _ _ _ (c .before .before .before .before .before .before .before .before .before .before .before .read-run .ensures .0) (c .before .before .before .before .before .next2 .given .1) in omega arith
+read-parts-add-t42 t c = let a = run-many _ _ _ _ _ _ _ _ _ _ _ (c .before .before .before .before .before .before .before .before .before .before .before .before .before .before .before .before .before .before .before .before .before .read-wanted .ensures .0) (c .before .before .before .before .before .before .before .before .before .before .before .before .before .before .before .next .given .1) in let b = run-many _ _ _ _ _ _ _ _ _ _ _ (c .before .before .before .before .before .before .before .before .before .before .before .read-more .ensures .0) (c .before .before .before .before .before .next2 .given .1) in omega arith
 
 read-parts-same-length : (t : ℕ) → read-parts-lts.Need-same-length (read-parts-calls t) (read-parts-at t) read-parts.Post
 read-parts-same-length t c = c .before .before .before .before .before .before .before .read-wanted .kept .1 .1 .1 .1 .0
@@ -561,31 +592,31 @@ read-parts-returns : (t : ℕ) → read-parts-lts.Need-returns (read-parts-calls
 read-parts-returns t c = (λ l kind later. parts-first _ _ _ _ _ _ _ _ _ _ l _ _ (c .before .before .before .before .before .before .before .read-wanted .ensures .0) _ _ _ (c .before .number .given .1), c .before .before .before .before .before .before .before .read-wanted .ensures .1)
 
 read-parts-same-length-3 : (t : ℕ) → read-parts-lts.Need-same-length-3 (read-parts-calls t) (read-parts-at t) read-parts.Post
-read-parts-same-length-3 t c = c .before .before .before .before .before .before .before .read-run .kept .1 .1 .1 .1 .0 ∙ c .before .before .before .before .before .before .before .before .before .before .before .before .before .before .before .before .before .read-wanted .kept .1 .1 .1 .1 .0
+read-parts-same-length-3 t c = c .before .before .before .before .before .before .before .read-more .kept .1 .1 .1 .1 .0 ∙ c .before .before .before .before .before .before .before .before .before .before .before .before .before .before .before .before .before .read-wanted .kept .1 .1 .1 .1 .0
 
 read-parts-same-length-4 : (t : ℕ) → read-parts-lts.Need-same-length-4 (read-parts-calls t) (read-parts-at t) read-parts.Post
-read-parts-same-length-4 t c = c .before .before .before .before .before .before .before .read-run .kept .1 .1 .1 .1 .1 .0 ∙ c .before .before .before .before .before .before .before .before .before .before .before .before .before .before .before .before .before .read-wanted .kept .1 .1 .1 .1 .1 .0
+read-parts-same-length-4 t c = c .before .before .before .before .before .before .before .read-more .kept .1 .1 .1 .1 .1 .0 ∙ c .before .before .before .before .before .before .before .before .before .before .before .before .before .before .before .before .before .read-wanted .kept .1 .1 .1 .1 .1 .0
 
 read-parts-returns-2 : (t : ℕ) → read-parts-lts.Need-returns-2 (read-parts-calls t) (read-parts-at t) read-parts.Post
-read-parts-returns-2 t c = (λ l kind later. parts-second _ _ _ _ _ _ _ _ _ _ l _ _ (c .before .before .before .before .before .before .before .before .before .before .before .before .before .before .before .before .before .read-wanted .ensures .0) _ _ (c .before .before .before .before .before .before .before .before .before .before .before .next .given .1) _ _ (c .before .before .before .before .before .before .before .read-run .ensures .0) _ _ _ (c .before .number2 .given .1), keeps-trans (c .before .before .before .before .before .before .before .before .before .before .before .before .before .before .before .before .before .read-wanted .ensures .1) (c .before .before .before .before .before .before .before .read-run .ensures .1))
+read-parts-returns-2 t c = (λ l kind later. parts-second _ _ _ _ _ _ _ _ _ _ l _ _ (c .before .before .before .before .before .before .before .before .before .before .before .before .before .before .before .before .before .read-wanted .ensures .0) _ _ (c .before .before .before .before .before .before .before .before .before .before .before .next .given .1) _ _ (c .before .before .before .before .before .before .before .read-more .ensures .0) _ _ _ (c .before .number2 .given .1), keeps-trans (c .before .before .before .before .before .before .before .before .before .before .before .before .before .before .before .before .before .read-wanted .ensures .1) (c .before .before .before .before .before .before .before .read-more .ensures .1))
 
 read-parts-same-length-5 : (t : ℕ) → read-parts-lts.Need-same-length-5 (read-parts-calls t) (read-parts-at t) read-parts.Post
-read-parts-same-length-5 t c = c .before .before .before .before .before .before .before .before .before .before .before .read-run .kept .1 .1 .1 .1 .0 ∙ c .before .before .before .before .before .before .before .before .before .before .before .before .before .before .before .before .before .before .before .before .before .read-wanted .kept .1 .1 .1 .1 .0
+read-parts-same-length-5 t c = c .before .before .before .before .before .before .before .before .before .before .before .read-more .kept .1 .1 .1 .1 .0 ∙ c .before .before .before .before .before .before .before .before .before .before .before .before .before .before .before .before .before .before .before .before .before .read-wanted .kept .1 .1 .1 .1 .0
 
 read-parts-same-length-6 : (t : ℕ) → read-parts-lts.Need-same-length-6 (read-parts-calls t) (read-parts-at t) read-parts.Post
-read-parts-same-length-6 t c = c .before .before .before .before .before .before .before .before .before .before .before .read-run .kept .1 .1 .1 .1 .1 .0 ∙ c .before .before .before .before .before .before .before .before .before .before .before .before .before .before .before .before .before .before .before .before .before .read-wanted .kept .1 .1 .1 .1 .1 .0
+read-parts-same-length-6 t c = c .before .before .before .before .before .before .before .before .before .before .before .read-more .kept .1 .1 .1 .1 .1 .0 ∙ c .before .before .before .before .before .before .before .before .before .before .before .before .before .before .before .before .before .before .before .before .before .read-wanted .kept .1 .1 .1 .1 .1 .0
 
 read-parts-returns-3 : (t : ℕ) → read-parts-lts.Need-returns-3 (read-parts-calls t) (read-parts-at t) read-parts.Post
-read-parts-returns-3 t c = (λ l kind later. parts-later-refused _ _ _ _ _ _ _ _ _ _ l _ _ (c .before .before .before .before .before .before .before .before .before .before .before .before .before .before .before .before .before .before .before .before .before .read-wanted .ensures .0) _ _ (c .before .before .before .before .before .before .before .before .before .before .before .before .before .before .before .next .given .1) _ _ (c .before .before .before .before .before .before .before .before .before .before .before .read-run .ensures .0) _ _ (c .before .before .before .before .before .next2 .given .1) _ (c .before .before .before .read-later .ensures l later _) _ _ _ (c .before .number3 .given .1), keeps-trans (c .before .before .before .before .before .before .before .before .before .before .before .before .before .before .before .before .before .before .before .before .before .read-wanted .ensures .1) (c .before .before .before .before .before .before .before .before .before .before .before .read-run .ensures .1))
+read-parts-returns-3 t c = (λ l kind later. parts-later-refused _ _ _ _ _ _ _ _ _ _ l _ _ (c .before .before .before .before .before .before .before .before .before .before .before .before .before .before .before .before .before .before .before .before .before .read-wanted .ensures .0) _ _ (c .before .before .before .before .before .before .before .before .before .before .before .before .before .before .before .next .given .1) _ _ (c .before .before .before .before .before .before .before .before .before .before .before .read-more .ensures .0) _ _ (c .before .before .before .before .before .next2 .given .1) _ (c .before .before .before .read-later .ensures l later _) _ _ _ (c .before .number3 .given .1), keeps-trans (c .before .before .before .before .before .before .before .before .before .before .before .before .before .before .before .before .before .before .before .before .before .read-wanted .ensures .1) (c .before .before .before .before .before .before .before .before .before .before .before .read-more .ensures .1))
 
 read-parts-same-length-7 : (t : ℕ) → read-parts-lts.Need-same-length-7 (read-parts-calls t) (read-parts-at t) read-parts.Post
-read-parts-same-length-7 t c = c .before .before .before .before .before .before .before .before .before .before .before .read-run .kept .1 .1 .1 .1 .0 ∙ c .before .before .before .before .before .before .before .before .before .before .before .before .before .before .before .before .before .before .before .before .before .read-wanted .kept .1 .1 .1 .1 .0
+read-parts-same-length-7 t c = c .before .before .before .before .before .before .before .before .before .before .before .read-more .kept .1 .1 .1 .1 .0 ∙ c .before .before .before .before .before .before .before .before .before .before .before .before .before .before .before .before .before .before .before .before .before .read-wanted .kept .1 .1 .1 .1 .0
 
 read-parts-same-length-8 : (t : ℕ) → read-parts-lts.Need-same-length-8 (read-parts-calls t) (read-parts-at t) read-parts.Post
-read-parts-same-length-8 t c = c .before .before .before .before .before .before .before .before .before .before .before .read-run .kept .1 .1 .1 .1 .1 .0 ∙ c .before .before .before .before .before .before .before .before .before .before .before .before .before .before .before .before .before .before .before .before .before .read-wanted .kept .1 .1 .1 .1 .1 .0
+read-parts-same-length-8 t c = c .before .before .before .before .before .before .before .before .before .before .before .read-more .kept .1 .1 .1 .1 .1 .0 ∙ c .before .before .before .before .before .before .before .before .before .before .before .before .before .before .before .before .before .before .before .before .before .read-wanted .kept .1 .1 .1 .1 .1 .0
 
 read-parts-returns-4 : (t : ℕ) → read-parts-lts.Need-returns-4 (read-parts-calls t) (read-parts-at t) read-parts.Post
-read-parts-returns-4 t c = (λ l kind later. parts-got _ _ _ _ _ _ _ _ _ _ l _ _ (c .before .before .before .before .before .before .before .before .before .before .before .before .before .before .before .before .before .before .before .before .before .read-wanted .ensures .0) _ _ (c .before .before .before .before .before .before .before .before .before .before .before .before .before .before .before .next .given .1) _ _ (c .before .before .before .before .before .before .before .before .before .before .before .read-run .ensures .0) _ _ (c .before .before .before .before .before .next2 .given .1) _ (c .before .before .before .read-later .ensures l later _) _ _ kind (c .before .next3 .given .1), keeps-trans (c .before .before .before .before .before .before .before .before .before .before .before .before .before .before .before .before .before .before .before .before .before .read-wanted .ensures .1) (c .before .before .before .before .before .before .before .before .before .before .before .read-run .ensures .1))
+read-parts-returns-4 t c = (λ l kind later. parts-got _ _ _ _ _ _ _ _ _ _ l _ _ (c .before .before .before .before .before .before .before .before .before .before .before .before .before .before .before .before .before .before .before .before .before .read-wanted .ensures .0) _ _ (c .before .before .before .before .before .before .before .before .before .before .before .before .before .before .before .next .given .1) _ _ (c .before .before .before .before .before .before .before .before .before .before .before .read-more .ensures .0) _ _ (c .before .before .before .before .before .next2 .given .1) _ (c .before .before .before .read-later .ensures l later _) _ _ kind (c .before .next3 .given .1), keeps-trans (c .before .before .before .before .before .before .before .before .before .before .before .before .before .before .before .before .before .before .before .before .before .read-wanted .ensures .1) (c .before .before .before .before .before .before .before .before .before .before .before .read-more .ensures .1))
 
 abbrev read-run-Inv-loop : read-run-lts.InvT-loop
 read-run-Inv-loop msg n places lengths table₀ seen₀ at row whole deep cap wanted count at-now₀ row-now₀ more₀ table seen at-now row-now more =
@@ -767,11 +798,11 @@ read-wanted-enum-known-number t c = search needs
 read-wanted-enum-known-next : (t : ℕ) → read-wanted-lts.Need-enum-known-next (read-wanted-calls t) (read-wanted-at t) read-wanted.Post
 read-wanted-enum-known-next t c = search needs
 
-read-wanted-sub-read-run : (t : ℕ) → read-wanted-lts.Need-sub-read-run (read-wanted-calls t) (read-wanted-at t) read-wanted.Post
-read-wanted-sub-read-run t c = omega (arith, c .before .before .before .before .before .before .before .before .before .before .before .before .at-most .ensures)
+read-wanted-sub-read-more : (t : ℕ) → read-wanted-lts.Need-sub-read-more (read-wanted-calls t) (read-wanted-at t) read-wanted.Post
+read-wanted-sub-read-more t c = omega (arith, c .before .before .before .before .before .before .before .before .before .before .before .before .at-most .ensures)
 
-read-wanted-read-run-requires-2 : (t : ℕ) → read-wanted-lts.Need-read-run-requires-2 (read-wanted-calls t) (read-wanted-at t) read-wanted.Post
-read-wanted-read-run-requires-2 t c κs = (omega (arith, c .before .before .before .before .before .before .before .before .before .before .before .before .before .before .before .before .before .before .pre .0), (room-after _ _ _ _ _ _ _ _ _ _ _ _ _ _ _ (c .before .before .before .before .before .before .before .before .before .before .before .before .before .before .before .before .before .before .pre .1 .0) (c .before .before .before .before .before .before .before .before .before .read-run .ensures .0) (c .before .before .before .next .given .1) (c .before .before .before .before .before .before .before .before .before .read-run .kept .1 .1 .1 .1 .0), omega (arith, c .before .before .before .before .before .before .before .before .before .before .before .before .before .before .before .before .before .before .pre .1 .1, c .before .before .before .before .before .before .before .before .before .read-run .ensures .1 .as-many)))
+read-wanted-read-more-requires : (t : ℕ) → read-wanted-lts.Need-read-more-requires (read-wanted-calls t) (read-wanted-at t) read-wanted.Post
+read-wanted-read-more-requires t c κs = (omega (arith, c .before .before .before .before .before .before .before .before .before .before .before .before .before .before .before .before .before .before .pre .0), (room-after _ _ _ _ _ _ _ _ _ _ _ _ _ _ _ (c .before .before .before .before .before .before .before .before .before .before .before .before .before .before .before .before .before .before .pre .1 .0) (c .before .before .before .before .before .before .before .before .before .read-run .ensures .0) (c .before .before .before .next .given .1) (c .before .before .before .before .before .before .before .before .before .read-run .kept .1 .1 .1 .1 .0), omega (arith, c .before .before .before .before .before .before .before .before .before .before .before .before .before .before .before .before .before .before .pre .1 .1, c .before .before .before .before .before .before .before .before .before .read-run .ensures .1 .as-many)))
 
 read-wanted-same-length : (t : ℕ) → read-wanted-lts.Need-same-length (read-wanted-calls t) (read-wanted-at t) read-wanted.Post
 read-wanted-same-length t c = c .before .before .before .before .before .before .before .read-run .kept .1 .1 .1 .1 .0
@@ -783,13 +814,13 @@ read-wanted-returns : (t : ℕ) → read-wanted-lts.Need-returns (read-wanted-ca
 read-wanted-returns t c = (wanted-refused _ _ _ _ _ _ _ _ _ (c .before .before .before .before .before .before .before .before .before .before .at-most .ensures) _ _ (c .before .before .before .before .before .before .before .read-run .ensures .0) _ _ _ (c .before .number .given .1), c .before .before .before .before .before .before .before .read-run .ensures .1)
 
 read-wanted-same-length-3 : (t : ℕ) → read-wanted-lts.Need-same-length-3 (read-wanted-calls t) (read-wanted-at t) read-wanted.Post
-read-wanted-same-length-3 t c = c .before .before .before .before .read-run2 .kept .1 .1 .1 .1 .0 ∙ c .before .before .before .before .before .before .before .before .before .before .before .before .before .before .read-run .kept .1 .1 .1 .1 .0
+read-wanted-same-length-3 t c = c .before .before .before .before .read-more .kept .1 .1 .1 .1 .0 ∙ c .before .before .before .before .before .before .before .before .before .before .before .before .before .before .read-run .kept .1 .1 .1 .1 .0
 
 read-wanted-same-length-4 : (t : ℕ) → read-wanted-lts.Need-same-length-4 (read-wanted-calls t) (read-wanted-at t) read-wanted.Post
-read-wanted-same-length-4 t c = c .before .before .before .before .read-run2 .kept .1 .1 .1 .1 .1 .0 ∙ c .before .before .before .before .before .before .before .before .before .before .before .before .before .before .read-run .kept .1 .1 .1 .1 .1 .0
+read-wanted-same-length-4 t c = c .before .before .before .before .read-more .kept .1 .1 .1 .1 .1 .0 ∙ c .before .before .before .before .before .before .before .before .before .before .before .before .before .before .read-run .kept .1 .1 .1 .1 .1 .0
 
 read-wanted-returns-2 : (t : ℕ) → read-wanted-lts.Need-returns-2 (read-wanted-calls t) (read-wanted-at t) read-wanted.Post
-read-wanted-returns-2 t c = (wanted-more _ _ _ _ _ _ _ _ _ (c .before .before .before .before .before .before .before .before .before .before .before .before .before .before .before .before .before .at-most .ensures) _ _ (c .before .before .before .before .before .before .before .before .before .before .before .before .before .before .read-run .ensures .0) _ _ _ _ (c .before .before .before .before .before .before .before .before .next .given .1) (c .before .before .before .before .read-run2 .ensures .0), keeps-trans (c .before .before .before .before .before .before .before .before .before .before .before .before .before .before .read-run .ensures .1) (c .before .before .before .before .read-run2 .ensures .1))
+read-wanted-returns-2 t c = (wanted-more _ _ _ _ _ _ _ _ _ (c .before .before .before .before .before .before .before .before .before .before .before .before .before .before .before .before .before .at-most .ensures) _ _ (c .before .before .before .before .before .before .before .before .before .before .before .before .before .before .read-run .ensures .0) _ _ _ _ (c .before .before .before .before .before .before .before .before .next .given .1) (c .before .before .before .before .read-more .ensures .0), keeps-trans (c .before .before .before .before .before .before .before .before .before .before .before .before .before .before .read-run .ensures .1) (c .before .before .before .before .read-more .ensures .1))
 
 read-common-returns : (t : ℕ) → read-common-lts.Need-returns (read-common-calls t) (read-common-at t) read-common.Post
 read-common-returns t c = (λ place h next told. common-leaf _ _ _ _ place _ _ _ told (c .if1 .taken) (omega (arith, told-next told, c .before .before .before .before .before .before .pre .1 .0 .near)) (c .before .before .before .before .before .before .pre .1 .0 .low), keeps-refl _)
@@ -934,15 +965,16 @@ read-term-same-length-4 t c = c .before .before .before .before .read-body .kept
 read-term-returns-3 : (t : ℕ) → read-term-lts.Need-returns-3 (read-term-calls t) (read-term-at t) read-term.Post
 read-term-returns-3 t c = (term-opened _ _ _ _ _ _ _ _ _ _ (opened _ _ _ (c .before .before .before .before .before .before .before .before .before .before .before .before .before .before .before .before .args .row) _ _ (c .before .before .before .before .before .before .before .before .read-opening .ensures) (λ k p e. miss (1 ∷ 2 ∷ 3 ∷ 4 ∷ []) 0 tt (rw e at (c .before .before .before .before .before .before .before .match .keys2))) (c .before .before .before .before .before .before .before .before .before .before .before .before .before .before .before .before .pre .1 .0 .near)) _ (c .before .before .before .before .read-body .ensures .0), c .before .before .before .before .read-body .ensures .1)
 
-pub +read-body+read-common+read-inner+read-last+read-list+read-pairs+read-parts+read-quick+read-run+read-tail+read-term+read-wanted-spec :
+pub +read-body+read-common+read-inner+read-last+read-list+read-more+read-pairs+read-parts+read-quick+read-run+read-tail+read-term+read-wanted-spec :
     {M : Type 1} → statement M
-+read-body+read-common+read-inner+read-last+read-list+read-pairs+read-parts+read-quick+read-run+read-tail+read-term+read-wanted-spec =
++read-body+read-common+read-inner+read-last+read-list+read-more+read-pairs+read-parts+read-quick+read-run+read-tail+read-term+read-wanted-spec =
     close
     μ-read-body
     μ-read-common
     μ-read-inner
     μ-read-last
     μ-read-list
+    μ-read-more
     μ-read-pairs
     μ-read-parts
     μ-read-quick
@@ -1040,6 +1072,13 @@ pub +read-body+read-common+read-inner+read-last+read-list+read-pairs+read-parts+
     (read-list-same-length-3 t)
     (read-list-same-length-4 t)
     (read-list-returns-2 t))
+    (λ t. read-more-lts.spec (read-more-calls t) (read-more-at t)
+    read-more.Post
+    (read-more-returns t)
+    (read-more-read-run-requires t)
+    (read-more-same-length t)
+    (read-more-same-length-2 t)
+    (read-more-returns-2 t))
     (λ t. read-pairs-lts.spec (read-pairs-calls t) (read-pairs-at t)
     read-pairs.Post
     read-pairs-Inv-loop
@@ -1073,7 +1112,7 @@ pub +read-body+read-common+read-inner+read-last+read-list+read-pairs+read-parts+
     (read-parts-read-wanted-requires t)
     (read-parts-enum-known-number t)
     (read-parts-enum-known-next t)
-    (read-parts-read-run-requires t)
+    (read-parts-read-more-requires t)
     (read-parts-enum-known-number-2 t)
     (read-parts-enum-known-next-2 t)
     (read-parts-read-later-requires t)
@@ -1181,8 +1220,8 @@ pub +read-body+read-common+read-inner+read-last+read-list+read-pairs+read-parts+
     (read-wanted-read-run-requires t)
     (read-wanted-enum-known-number t)
     (read-wanted-enum-known-next t)
-    (read-wanted-sub-read-run t)
-    (read-wanted-read-run-requires-2 t)
+    (read-wanted-sub-read-more t)
+    (read-wanted-read-more-requires t)
     (read-wanted-same-length t)
     (read-wanted-same-length-2 t)
     (read-wanted-returns t)
