@@ -5,3 +5,4 @@ pub mod Naming
 pub mod Taking
 pub mod Rests
 pub mod Whole
+pub mod Demand

@@ -19,7 +19,8 @@ use Rattle.packets.specs.declared.Pending.{Pending}
 use Rattle.packets.specs.Memory.{Memory, cache-of-size, memory-of-size, record-true, none-pending, empty-cache, text-if, held-as, held, text}
 use Rattle.packets.specs.Header.{flag-bytes, half, is-new, place-at, length-width, named, filled, held-or, text-field, new-reference, cached-reference, reference, references, header}
 use Rattle.packets.specs.Packet.{ids, kind-of, opening, payload-after, rest, packet, judged}
-use Rattle.packets.specs.Calls.{zeros-to, enter, entered, texts-in-places, lengths-of, list-of, record-after, told-after, told, left-by, Outcome, payload-at, pending-still, complete, take-packet, after-packet}
+use Rattle.packets.specs.Calls.{zeros-to, enter, entered, texts-in-places, lengths-of, list-of, record-after, told-after, told, left-by, Outcome, payload-at, pending-still, complete, take-packet, after-packet, drop-sequence}
+use Rattle.packets.specs.Look.{names, place-in, place-named, place-of-reference}
 
 -- an empty cache, lists and a gather buffer of zeros, no sequence pending
 abbrev pub fresh : Memory
@@ -112,4 +113,55 @@ cases = record {
   text-32-held = refl;
   text-33 = refl;
   run-whole = refl;
+}
+
+-- further examples: flags, 22, ids, drop, the two look-ups
+abbrev half-done : Memory
+half-done = then fresh (131 ∷ 69 ∷ 0 ∷ 0 ∷ 0 ∷ 0 ∷ 0 ∷ 0 ∷ 0 ∷ 7 ∷ 0 ∷ 0 ∷ 0 ∷ 0 ∷ 0 ∷ 0 ∷ 0 ∷ 3 ∷ 0 ∷ 104 ∷ 2 ∷ [])
+
+abbrev ids-of : ℕ → ℕ → List ℕ → List ℕ
+ids-of s f bs = 0 ∷ 0 ∷ 0 ∷ 0 ∷ 0 ∷ 0 ∷ 0 ∷ s ∷ 0 ∷ 0 ∷ 0 ∷ 0 ∷ 0 ∷ 0 ∷ 0 ∷ f ∷ bs
+
+unfoldable pub dropped : Pending → Answer Pending
+unfolding drop-sequence record-true
+dropped r = drop-sequence r
+
+unfoldable pub names-place : List ℕ → ℕ → Answer ℕ
+unfolding answer names place-in place-named place-of-reference
+names-place bs i = place-of-reference utf-8 bs i
+
+pub record Examples : Type 0 where
+  -- LongAtoms: odd n, the high half of the last flag byte; even n, the low half of the last, whose high half is ignored
+  pub long-odd : answer fresh (131 ∷ 68 ∷ 1 ∷ 24 ∷ 7 ∷ 0 ∷ 1 ∷ 97 ∷ []) ≡ good (payload-at 8 0)
+  pub long-even : answer fresh (131 ∷ 68 ∷ 2 ∷ 136 ∷ 241 ∷ 7 ∷ 0 ∷ 1 ∷ 99 ∷ 8 ∷ 0 ∷ 0 ∷ 106 ∷ []) ≡ good (payload-at 12 1)
+  -- 22 at the later one: new after new, cached after new
+  pub new-new : answer fresh (131 ∷ 68 ∷ 2 ∷ 136 ∷ 0 ∷ 7 ∷ 0 ∷ 7 ∷ 0 ∷ []) ≡ refused 22 1
+  pub new-cached : answer fresh (131 ∷ 68 ∷ 2 ∷ 8 ∷ 0 ∷ 7 ∷ 0 ∷ 7 ∷ []) ≡ refused 22 1
+  -- a start of one fragment is complete; ids
+  pub whole-start : answer fresh (131 ∷ 69 ∷ ids-of 9 1 (0 ∷ 106 ∷ [])) ≡ good (complete 1)
+  pub twice : answer half-done (131 ∷ 69 ∷ ids-of 8 2 (0 ∷ [])) ≡ refused 26 0
+  pub other : answer half-done (131 ∷ 70 ∷ ids-of 8 1 []) ≡ refused 25 0
+  pub wrong : answer half-done (131 ∷ 70 ∷ ids-of 7 1 []) ≡ refused 24 0
+  pub due : answer half-done (131 ∷ 70 ∷ ids-of 7 2 (97 ∷ [])) ≡ good (pending-still 1 3)
+  pub none-dropped : dropped none-pending ≡ refused 25 0
+  pub one-dropped : dropped (record { sequence = 7; due = 2; gathered = 5 }) ≡ good none-pending
+  pub second-named : names-place (131 ∷ 68 ∷ 2 ∷ 12 ∷ 0 ∷ 10 ∷ 1 ∷ 97 ∷ 5 ∷ 106 ∷ []) 1 ≡ good 5
+  pub first-named : names-place (131 ∷ 68 ∷ 2 ∷ 12 ∷ 0 ∷ 10 ∷ 1 ∷ 97 ∷ 5 ∷ 106 ∷ []) 0 ≡ good 1034
+
+pub examples : Examples
+unfolding then dropped names-place
+examples = record {
+  long-odd = refl;
+  long-even = refl;
+  new-new = refl;
+  new-cached = refl;
+  whole-start = refl;
+  twice = refl;
+  other = refl;
+  wrong = refl;
+  due = refl;
+  none-dropped = refl;
+  one-dropped = refl;
+  second-named = refl;
+  first-named = refl;
 }

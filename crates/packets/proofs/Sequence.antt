@@ -47,7 +47,7 @@ pub record Gathering (m : Memory) (sequence due : ℕ) (bytes : List ℕ) (list 
   pub when-done : due ≡ 0 → m .pending ≡ none-pending
 
 -- the record after a fragment
-record-due : (s f g : ℕ) → (f ≡ 0 → ⊥) → record-after s f g .due ≡ f - 1
+pub record-due : (s f g : ℕ) → (f ≡ 0 → ⊥) → record-after s f g .due ≡ f - 1
 unfolding record-after
 record-due s f g n = go (eqb f 1) refl
   where
@@ -55,7 +55,7 @@ record-due s f g n = go (eqb f 1) refl
     go true e = let is : f ≡ 1 = eqb-true f 1 e in omega arith
     go false e = refl
 
-record-more : (s f g : ℕ) → (f - 1 ≡ 0 → ⊥) → record-after s f g ≡ record { sequence = s; due = f - 1; gathered = g }
+pub record-more : (s f g : ℕ) → (f - 1 ≡ 0 → ⊥) → record-after s f g ≡ record { sequence = s; due = f - 1; gathered = g }
 unfolding record-after
 record-more s f g n = rw (ne-eqb f 1 (λ e. n (omega arith)))
 
