@@ -6,11 +6,11 @@ use Prim.Native.Nat.{ℕ, suc, _+_, _-_, _≤_, _<_}
 use native.Mathlib.Omega.{arith}
 use lib.ListN.{length, getD, length-append}
 use lib.Seq.{sets}
-use Rattle.format.specs.Numbers.{in-bytes, digits}
-use Rattle.format.specs.Text.{encodes}
-use Rattle.format.specs.Head.{clear-low}
-use Rattle.format.proofs.Numbers.{length-in-bytes}
-use Rattle.format.proofs.Heads.{length-clear}
+use Rattle.term_spec.specs.Numbers.{in-bytes, digits}
+use Rattle.term_spec.specs.Text.{encodes}
+use Rattle.term_spec.specs.Head.{clear-low}
+use Rattle.term_spec.proofs.Numbers.{length-in-bytes}
+use Rattle.term_spec.proofs.Heads.{length-clear}
 use Rattle.octets.specs.Parts.{stretch, source, high}
 use Rattle.octets.proofs.Parts.{length-part, part-last}
 use Rattle.octets.proofs.Bits.{clear-last}

@@ -7,8 +7,8 @@ use native.Mathlib.Omega.{arith}
 use lib.Dec.{eqb}
 use lib.ListN.{length}
 use borrow.Author.Tests.{eq-eqb, ne-eqb, eqb-false}
-use Rattle.format.specs.Numbers.{little-endian, digits-within, digits, Under}
-use Rattle.format.proofs.Numbers.{length-digits}
+use Rattle.term_spec.specs.Numbers.{little-endian, digits-within, digits, Under}
+use Rattle.term_spec.proofs.Numbers.{length-digits}
 
 -- one digit, and those of the rest
 abbrev split-off : Bool → ℕ → List ℕ → List ℕ

@@ -7,8 +7,8 @@ use lib.ListN.{length, set, length-append}
 use mathlib.Core.Logic.{_≢_}
 use native.Mathlib.Numerals.{add-one}
 use lib.Seq.{sets, length-sets, set-comm}
-use Rattle.format.specs.Numbers.{in-bytes, digits}
-use Rattle.format.proofs.Numbers.{length-in-bytes}
+use Rattle.term_spec.specs.Numbers.{in-bytes, digits}
+use Rattle.term_spec.proofs.Numbers.{length-in-bytes}
 use Rattle.octets.proofs.Stores.{sets-at}
 use Rattle.octets.proofs.Numbers.{bytes-halves}
 use Rattle.layout.proofs.Digits.{digits-more}

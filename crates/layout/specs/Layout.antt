@@ -4,9 +4,9 @@ use mathlib.Core.List.{List, [], _++_}
 use Prim.Native.Nat.{ℕ, _+_, _≤_}
 use lib.ListN.{length}
 use lib.Seq.{sets}
-use Rattle.format.specs.Numbers.{in-bytes, digits}
-use Rattle.format.specs.Text.{encodes}
-use Rattle.format.specs.Head.{clear-low}
+use Rattle.term_spec.specs.Numbers.{in-bytes, digits}
+use Rattle.term_spec.specs.Text.{encodes}
+use Rattle.term_spec.specs.Head.{clear-low}
 use Rattle.octets.specs.Parts.{stretch, source}
 use Rattle.layout.specs.declared.Body.{Body}
 use Rattle.layout.specs.declared.Body.the-variants.{Empty, Part, Latin1, Digits, Bits}

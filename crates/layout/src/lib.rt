@@ -2,9 +2,9 @@
 ghost use mathlib.Core.Path.{_≡_};
 ghost use Prim.Native.Nat.{_+_, _-_, _≤_};
 ghost use lib.ListN.{length};
-ghost use Rattle.format.specs.Numbers.{in-bytes, digits};
-ghost use Rattle.format.specs.Text.{encodes};
-ghost use Rattle.format.specs.Head.{clear-low};
+ghost use Rattle.term_spec.specs.Numbers.{in-bytes, digits};
+ghost use Rattle.term_spec.specs.Text.{encodes};
+ghost use Rattle.term_spec.specs.Head.{clear-low};
 ghost use Rattle.octets.specs.Parts.{stretch};
 ghost use Rattle.layout.specs.Layout.{body-bytes, layout-bytes, Inside, Body-inside, Layout-inside, Put, laid-of};
 

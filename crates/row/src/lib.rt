@@ -1,7 +1,7 @@
 // A row of the table as a word of 64 bits (docs/ROWS.md).
 ghost use mathlib.Core.Path.{_≡_};
 ghost use Prim.Native.Nat.{_<_};
-ghost use Rattle.format.specs.Rows.{Small-fields, pack, kind-in, offset-in, whole-in, parts-in, size-in};
+ghost use Rattle.term_spec.specs.Rows.{Small-fields, pack, kind-in, offset-in, whole-in, parts-in, size-in};
 
 // The word of a row; `whole` is the whole's row plus 1, or 0.
 pub fn pack(kind: usize, offset: usize, whole: usize, parts: usize, size: usize) -> u64

@@ -8,9 +8,9 @@ use native.Mathlib.Numerals.{add-one}
 use native.Mathlib.Omega.{arith}
 use lib.ListN.{length, getD, drop, drop-of-length-le}
 use lib.Seq.{drop-cons}
-use Rattle.format.specs.Text as text
-use Rattle.format.specs.Text.{Range, _to_, holds, Line, line, lines, begun, first, valid, invalid-at, emit, decode, utf-8, check}
-use Rattle.format.proofs.Text.{decode-first, between, pending}
+use Rattle.term_spec.specs.Text as text
+use Rattle.term_spec.specs.Text.{Range, _to_, holds, Line, line, lines, begun, first, valid, invalid-at, emit, decode, utf-8, check}
+use Rattle.term_spec.proofs.Text.{decode-first, between, pending}
 use Rattle.text.specs.Shown.{shown}
 use Rattle.text.specs.Characters.{more, text-from, onward, Within, due, Completes, CharacterAt}
 use Rattle.text.specs.declared.Checked.{Checked}

@@ -6,8 +6,8 @@ use native.Mathlib.Numerals.{add-one}
 use native.Mathlib.Omega.{arith}
 use lib.ListN.{length, getD, set, take, drop, length-append, length-drop}
 use lib.Seq.{take-suc, take-add, getD-drop, sets}
-use Rattle.format.specs.Text.{encode, encodes}
-use Rattle.format.proofs.Text.{encode-1, encode-2}
+use Rattle.term_spec.specs.Text.{encode, encodes}
+use Rattle.term_spec.proofs.Text.{encode-1, encode-2}
 use Rattle.octets.proofs.Stores.{sets-sets}
 
 encodes-append : (xs ys : List ℕ) → encodes (xs ++ ys) ≡ encodes xs ++ encodes ys

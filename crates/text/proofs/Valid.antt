@@ -4,7 +4,7 @@ use mathlib.Core.Bool.{Bool, true, false}
 use mathlib.Core.List.{List}
 use Prim.Native.Nat.{ℕ}
 use native.Mathlib.Omega.{arith}
-use Rattle.format.specs.Text.{Checked, valid, invalid-at, latin-1, utf-8, coding-of}
+use Rattle.term_spec.specs.Text.{Checked, valid, invalid-at, latin-1, utf-8, coding-of}
 use Rattle.text.specs.Shown.{shown, is-valid}
 use Rattle.text.specs.declared.Checked.the-variants.{Characters, Bad}
 

@@ -3,7 +3,7 @@ use mathlib.Core.Path.{_≡_}
 use mathlib.Core.List.{List, [], _∷_}
 use Prim.Native.Nat.{ℕ, zero, suc, _+_, _≤_}
 use lib.ListN.{length, drop}
-use Rattle.format.specs.Text.{Range, _to_, begun, emit, decode}
+use Rattle.term_spec.specs.Text.{Range, _to_, begun, emit, decode}
 use Rattle.text.specs.Shown.{shown}
 use Rattle.text.specs.declared.Checked.{Checked}
 use Rattle.text.specs.declared.Checked.the-variants.{Characters, Bad}

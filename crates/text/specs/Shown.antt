@@ -1,8 +1,8 @@
 -- What the code answers for a text: the number of its characters, or the offset at which it fails; or whether it is one.
 use mathlib.Core.Bool.{Bool, true, false}
 use lib.ListN.{length}
-use Rattle.format.specs.Text as text
-use Rattle.format.specs.Text.{valid, invalid-at}
+use Rattle.term_spec.specs.Text as text
+use Rattle.term_spec.specs.Text.{valid, invalid-at}
 use Rattle.text.specs.declared.Checked.{Checked}
 use Rattle.text.specs.declared.Checked.the-variants.{Characters, Bad}
 

@@ -3,8 +3,8 @@ ghost use mathlib.Core.Path.{_≡_};
 ghost use Prim.Native.Nat.{_+_, _*_, _≤_, _<_};
 ghost use lib.ListN.{length, take, drop};
 ghost use lib.Seq.{sets};
-ghost use Rattle.format.specs.Text.{_to_, holds, utf-8, latin-1, coding-of, check, encode, encodes};
-ghost use Rattle.format.specs.Text as format;
+ghost use Rattle.term_spec.specs.Text.{_to_, holds, utf-8, latin-1, coding-of, check, encode, encodes};
+ghost use Rattle.term_spec.specs.Text as format;
 ghost use Rattle.text.specs.Shown.{shown, is-valid};
 ghost use Rattle.text.specs.Characters.{due, Completes, CharacterAt};
 

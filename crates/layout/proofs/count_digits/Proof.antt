@@ -1,7 +1,7 @@
 -- `layout::count_digits` meets its contract. Digits counted and digits left come to all of them. Assumes nothing.
 use Rattle.layout.proofs.Puts.{one-digit-less}
 use Rattle.layout.proofs.Digits.{few-digits, digits-none}
-use Rattle.format.specs.Numbers.{digits}
+use Rattle.term_spec.specs.Numbers.{digits}
 use lib.ListN.{length}
 use native.Mathlib.Omega.{arith}
 use Prim.Native.Nat.{_+_, _≤_}

@@ -1,7 +1,7 @@
 -- `layout::put_digits` meets its contract. What is left to store comes to the whole, by `digit-first`. Assumes nothing.
 use Rattle.layout.proofs.Puts.{one-digit-less, digit-first}
 use Rattle.layout.proofs.Digits.{digits-none}
-use Rattle.format.specs.Numbers.{digits}
+use Rattle.term_spec.specs.Numbers.{digits}
 use lib.Seq.{sets}
 use lib.ListN.{length, length-set}
 use native.Mathlib.Omega.{arith}

@@ -1,7 +1,7 @@
 -- `layout::put_layout` meets its contract. Three numbers and the body, one after the other: `put-layout`. Assumes nothing.
 use Rattle.layout.proofs.Bodies.{length-layout, put-layout}
 use Rattle.layout.proofs.Puts.{put-length}
-use Rattle.format.proofs.Numbers.{length-in-bytes}
+use Rattle.term_spec.proofs.Numbers.{length-in-bytes}
 use native.Mathlib.Omega.{arith}
 use borrow.Author.Needs.{needs}
 use Rattle.layout.proofs.put_layout.Statement.{statement}

@@ -1,7 +1,7 @@
 -- `layout::put_number` meets its contract. The loop stores bytes from the last one on; what is left to store comes to the whole, by `number-last`. Assumes nothing.
 use Rattle.layout.proofs.Puts.{number-last}
-use Rattle.format.proofs.Numbers.{length-in-bytes}
-use Rattle.format.specs.Numbers.{in-bytes}
+use Rattle.term_spec.proofs.Numbers.{length-in-bytes}
+use Rattle.term_spec.specs.Numbers.{in-bytes}
 use lib.Seq.{sets}
 use lib.ListN.{length, length-set}
 use native.Mathlib.Omega.{arith}

@@ -1,5 +1,5 @@
 use native.Mathlib.Omega.{arith}
-use Rattle.format.specs.Rows.{kind-in}
+use Rattle.term_spec.specs.Rows.{kind-in}
 use Rattle.row.proofs.kind_in.Statement.{statement}
 use Rattle.row.proofs.kind_in.Tie as tie
 

@@ -1,5 +1,5 @@
 use native.Mathlib.Omega.{arith}
-use Rattle.format.specs.Rows.{offset-in}
+use Rattle.term_spec.specs.Rows.{offset-in}
 use Rattle.row.proofs.offset_in.Statement.{statement}
 use Rattle.row.proofs.offset_in.Tie as tie
 

@@ -1,5 +1,5 @@
 use native.Mathlib.Omega.{arith}
-use Rattle.format.specs.Rows.{pack}
+use Rattle.term_spec.specs.Rows.{pack}
 use Rattle.row.proofs.pack.Statement.{statement}
 use Rattle.row.proofs.pack.Tie as tie
 

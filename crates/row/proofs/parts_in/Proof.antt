@@ -1,5 +1,5 @@
 use native.Mathlib.Omega.{arith}
-use Rattle.format.specs.Rows.{parts-in}
+use Rattle.term_spec.specs.Rows.{parts-in}
 use Rattle.row.proofs.parts_in.Statement.{statement}
 use Rattle.row.proofs.parts_in.Tie as tie
 

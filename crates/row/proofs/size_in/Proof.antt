@@ -1,5 +1,5 @@
 use native.Mathlib.Omega.{arith}
-use Rattle.format.specs.Rows.{size-in}
+use Rattle.term_spec.specs.Rows.{size-in}
 use Rattle.row.proofs.size_in.Statement.{statement}
 use Rattle.row.proofs.size_in.Tie as tie
 

@@ -1,5 +1,5 @@
 use native.Mathlib.Omega.{arith}
-use Rattle.format.specs.Rows.{whole-in}
+use Rattle.term_spec.specs.Rows.{whole-in}
 use Rattle.row.proofs.whole_in.Statement.{statement}
 use Rattle.row.proofs.whole_in.Tie as tie
 

@@ -3,7 +3,7 @@ use mathlib.Core.Path.{refl}
 use native.Mathlib.Omega.{arith}
 use Prim.Native.Nat.{ℕ}
 use lib.ListN.{drop, getD}
-use Rattle.format.specs.Text.{lines}
+use Rattle.term_spec.specs.Text.{lines}
 use Rattle.text.specs.Characters.{due}
 use Rattle.text.proofs.Characters.{completes-none, Left, in-line, past-line, no-line}
 use borrow.Author.Needs.{needs}

@@ -1,6 +1,6 @@
 -- `text::check_latin1` meets its contract. The test is the definition's. Assumes nothing.
 use borrow.Author.Tests.{lt-leb, le-leb}
-use Rattle.format.specs.Text.{check}
+use Rattle.term_spec.specs.Text.{check}
 use Rattle.text.specs.Shown.{shown}
 use Rattle.text.proofs.check_latin1.Statement.{statement}
 use Rattle.text.proofs.check_latin1.Tie as tie

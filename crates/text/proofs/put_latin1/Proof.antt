@@ -4,7 +4,7 @@ use Prim.Native.Nat.{ℕ, _+_, _-_, _≤_}
 use native.Mathlib.Omega.{arith}
 use lib.ListN.{length, take, drop}
 use lib.Seq.{sets, length-sets}
-use Rattle.format.specs.Text.{encodes}
+use Rattle.term_spec.specs.Text.{encodes}
 use Rattle.text.proofs.Latin1.{encodes-none, length-more, room-for, put-more}
 use Rattle.text.proofs.put_latin1.Statement.{statement}
 use Rattle.text.proofs.put_latin1.Tie as tie

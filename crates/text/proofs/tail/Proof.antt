@@ -5,7 +5,7 @@ use native.Mathlib.Omega.{arith}
 use lib.ListN.{length}
 use borrow.Author.Needs.{needs}
 use borrow.Author.Tests.{not-true, not-false}
-use Rattle.format.specs.Text.{_to_}
+use Rattle.term_spec.specs.Text.{_to_}
 use Rattle.text.specs.Characters.{due, Completes}
 use Rattle.text.specs.declared.Character.{Character}
 use Rattle.text.proofs.Characters.{due-none, due-cut, due-bad, due-more}

@@ -4,7 +4,7 @@ use Prim.Native.Nat.{ℕ, _-_, _*_, _≤_}
 use native.Mathlib.Omega.{arith}
 use lib.ListN.{length, take, drop}
 use borrow.Author.Needs.{needs}
-use Rattle.format.specs.Text.{encodes}
+use Rattle.term_spec.specs.Text.{encodes}
 use Rattle.text.proofs.Latin1.{encodes-none, length-more}
 use Rattle.text.proofs.utf8_length.Statement.{statement}
 use Rattle.text.proofs.utf8_length.Tie as tie

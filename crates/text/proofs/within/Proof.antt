@@ -1,6 +1,6 @@
 -- `text::within` meets its contract. The tests are those of `holds`, in its order. Assumes nothing.
 use borrow.Author.Tests.{lt-leb, le-leb}
-use Rattle.format.specs.Text.{holds}
+use Rattle.term_spec.specs.Text.{holds}
 use Rattle.text.proofs.within.Statement.{statement}
 use Rattle.text.proofs.within.Tie as tie
 

@@ -1,0 +1,22 @@
+-- `firmware::ik_read_payload` meets its contract. Assumes nothing.
+use mathlib.Core.Path.{ap, _∙_}
+use borrow.Author.Needs.{needs}
+use Rattle.c_api.specs.Terms.{flat-read}
+use Rattle.c_api.proofs.ik_read_payload.Statement.{statement}
+use Rattle.c_api.proofs.ik_read_payload.Tie as tie
+
+read-payload-requires : tie.Need-read-payload-requires
+read-payload-requires c κs = search needs
+
+flat-read-requires : tie.Need-flat-read-requires
+flat-read-requires c κs = search needs
+
+same-length : tie.Need-same-length
+same-length c = search needs
+
+returns : tie.Need-returns
+returns c = (c .flat-read .ensures ∙ ap flat-read (c .before .before .before .read-payload .ensures .0), c .before .before .before .read-payload .ensures .1)
+
+pub ik-read-payload-spec : {M : Type 1} → statement M
+ik-read-payload-spec =
+    tie.close (tie.spec read-payload-requires flat-read-requires same-length returns)

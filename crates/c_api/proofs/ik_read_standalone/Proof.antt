@@ -1,0 +1,22 @@
+-- `firmware::ik_read_standalone` meets its contract. Assumes nothing.
+use mathlib.Core.Path.{ap, _∙_}
+use borrow.Author.Needs.{needs}
+use Rattle.c_api.specs.Terms.{flat-read}
+use Rattle.c_api.proofs.ik_read_standalone.Statement.{statement}
+use Rattle.c_api.proofs.ik_read_standalone.Tie as tie
+
+read-standalone-requires : tie.Need-read-standalone-requires
+read-standalone-requires c κs = search needs
+
+flat-read-requires : tie.Need-flat-read-requires
+flat-read-requires c κs = search needs
+
+same-length : tie.Need-same-length
+same-length c = search needs
+
+returns : tie.Need-returns
+returns c = (c .flat-read .ensures ∙ ap flat-read (c .before .before .before .read-standalone .ensures .0), c .before .before .before .read-standalone .ensures .1)
+
+pub ik-read-standalone-spec : {M : Type 1} → statement M
+ik-read-standalone-spec =
+    tie.close (tie.spec read-standalone-requires flat-read-requires same-length returns)

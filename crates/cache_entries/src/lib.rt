@@ -1,0 +1,159 @@
+// What an accepted header leaves: the atom list of its references' texts, and the cache with its new entries.
+ghost use mathlib.Core.Path.{_≡_};
+ghost use Prim.Native.Nat.{_+_, _*_, _≤_, _<_};
+ghost use lib.ListN.{length, take, drop, replicate};
+ghost use Rattle.packet_spec.specs.Memory.{cache-of, held};
+ghost use Rattle.term_spec.specs.Text.{coding-of};
+ghost use Rattle.dist_header.specs.Code.{TextFits, GoodHeader};
+ghost use Rattle.cache_entries.specs.Code.{Stands, StandsSome, StoresText, Lists, Enters, Listed, Entered};
+use dist_header::Spelled;
+use packet_spec::Place;
+use packet_spec::ReferenceIndex;
+
+// Sets every length to `value`.
+pub fn fill_lengths(d: &mut [u16], value: u16)
+    ensures { λ _. ⌜ now (d .exit) ≡ replicate (length (now (d .entry))) value ⌝ }
+{
+    let mut i = 0;
+    while i < d.len() {
+        d[i] = value;
+        i += 1;
+    }
+}
+
+// A text put into a list: its length, and the offset past its reference.
+struct Stored {
+    size: usize,
+    next: usize,
+}
+
+// Puts the text of the reference at `at` into place i of a list.
+fn list_reference(
+    utf8: bool,
+    packet: &[u8],
+    half: usize,
+    width: usize,
+    at: usize,
+    places: &[u8],
+    lengths: &[u16],
+    i: usize,
+    list: &mut [u8],
+) -> Stored
+    requires { ⌜ (half < 16) × (0 < width) × (width ≤ 2) × (at ≤ length (now packet)) × (length (now places) ≡ 65536) × (length (now lengths) ≡ 2048) × (i < 255) × (length (now list) ≡ 8160) × Stands (coding-of utf8) (held (cache-of (now places) (now lengths))) (now packet) half width at ⌝ }
+    ensures { λ r. ⌜ Lists (coding-of utf8) (held (cache-of (now (places .entry)) (now (lengths .entry)))) (now (packet .entry)) half width at (32 * i) (now (list .entry)) (now (list .exit)) r ⌝ }
+{
+    match dist_header::read_reference(packet, half, width, at) {
+        Spelled::Cut => Stored { size: 0, next: at },
+        Spelled::New { place, from, size } => {
+            let stored = dist_header::put_text(utf8, packet, from, size, list, 32 * i);
+            Stored {
+                size: stored,
+                next: from + size,
+            }
+        }
+        Spelled::Cached { place } => {
+            let k = place.0;
+            let size = dist_header::wide_length(lengths[k]);
+            octets::copy(places, 32 * k, list, 32 * i, size);
+            Stored {
+                size: size,
+                next: at + 1,
+            }
+        }
+    }
+}
+
+// Writes the list of the texts of the n references of the header at `at`.
+pub fn write_list(
+    utf8: bool,
+    packet: &[u8],
+    at: usize,
+    n: usize,
+    width: usize,
+    first: usize,
+    places: &[u8],
+    lengths: &[u16],
+    list: &mut [u8],
+    sizes: &mut [u16],
+)
+    requires { ⌜ (length (now places) ≡ 65536) × (length (now lengths) ≡ 2048) × (length (now list) ≡ 8160) × (length (now sizes) ≡ 255) × GoodHeader (coding-of utf8) (held (cache-of (now places) (now lengths))) (now packet) at n width first ⌝ }
+    ensures { λ _. ⌜ Listed (coding-of utf8) (held (cache-of (now (places .entry)) (now (lengths .entry)))) (now (packet .entry)) at n width first (now (list .exit)) (now (sizes .exit)) ⌝ }
+{
+    octets::clear_bytes(list, 0);
+    fill_lengths(sizes, 0);
+    let mut next = first;
+    let mut i = 0;
+    while i < n {
+        let half = dist_header::half_of(packet, at, n, ReferenceIndex(i));
+        let stored = list_reference(utf8, packet, half, width, next, places, lengths, i, list);
+        sizes[i] = stored.size as u16;
+        next = stored.next;
+        i += 1;
+    }
+}
+
+// Puts a text into a place of the cache, zeros after it, and its length.
+fn enter_text(
+    utf8: bool,
+    packet: &[u8],
+    place: Place,
+    from: usize,
+    size: usize,
+    places: &mut [u8],
+    lengths: &mut [u16],
+)
+    requires { ⌜ (place .0 < 2048) × (from + size ≤ length (now packet)) × (size < 65536) × (length (now places) ≡ 65536) × (length (now lengths) ≡ 2048) × TextFits (coding-of utf8) (take size (drop from (now packet))) 0 32 ⌝ }
+    ensures { λ _. ⌜ StoresText (coding-of utf8) (take size (drop from (now (packet .entry)))) (place .0) (cache-of (now (places .entry)) (now (lengths .entry))) (cache-of (now (places .exit)) (now (lengths .exit))) ⌝ }
+{
+    let k = place.0;
+    let zeros = [0u8; 32];
+    octets::copy(&zeros, 0, places, 32 * k, 32);
+    let stored = dist_header::put_text(utf8, packet, from, size, places, 32 * k);
+    lengths[k] = stored as u16;
+}
+
+// Enters the reference at `at` into the cache where it is new; the offset past it.
+fn enter_reference(
+    utf8: bool,
+    packet: &[u8],
+    half: usize,
+    width: usize,
+    at: usize,
+    places: &mut [u8],
+    lengths: &mut [u16],
+) -> usize
+    requires { ⌜ (half < 16) × (0 < width) × (width ≤ 2) × (at ≤ length (now packet)) × (length (now places) ≡ 65536) × (length (now lengths) ≡ 2048) × StandsSome (coding-of utf8) (now packet) half width at ⌝ }
+    ensures { λ r. ⌜ Enters (coding-of utf8) (now (packet .entry)) half width at (cache-of (now (places .entry)) (now (lengths .entry))) (cache-of (now (places .exit)) (now (lengths .exit))) r ⌝ }
+{
+    match dist_header::read_reference(packet, half, width, at) {
+        Spelled::Cut => at,
+        Spelled::New { place, from, size } => {
+            enter_text(utf8, packet, place, from, size, places, lengths);
+            from + size
+        }
+        Spelled::Cached { place } => at + 1,
+    }
+}
+
+// Enters the new references of the header at `at` into the cache.
+pub fn write_cache(
+    utf8: bool,
+    packet: &[u8],
+    at: usize,
+    n: usize,
+    width: usize,
+    first: usize,
+    places: &mut [u8],
+    lengths: &mut [u16],
+)
+    requires { ⌜ (length (now places) ≡ 65536) × (length (now lengths) ≡ 2048) × GoodHeader (coding-of utf8) (held (cache-of (now places) (now lengths))) (now packet) at n width first ⌝ }
+    ensures { λ _. ⌜ Entered (coding-of utf8) (now (packet .entry)) at n width first (cache-of (now (places .entry)) (now (lengths .entry))) (cache-of (now (places .exit)) (now (lengths .exit))) ⌝ }
+{
+    let mut next = first;
+    let mut i = 0;
+    while i < n {
+        let half = dist_header::half_of(packet, at, n, ReferenceIndex(i));
+        next = enter_reference(utf8, packet, half, width, next, places, lengths);
+        i += 1;
+    }
+}

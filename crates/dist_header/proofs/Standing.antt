@@ -1,0 +1,135 @@
+-- What stands in a header, as the code finds it at an offset of the packet: one law for each way out.
+use mathlib.Core.Path.{_≡_, refl, sym, _∙_, ap, ap₂, subst}
+use mathlib.Core.List.{List, []}
+use Prim.Native.Nat.{ℕ, _+_, _*_, _/_, _%_, _≤_, _<_}
+use native.Mathlib.Omega.{arith}
+use lib.ListN.{length, getD, take, drop}
+use lib.Seq.{getD-take, getD-drop}
+use borrow.Author.Tests.{eq-eqb, ne-eqb, le-leb, lt-leb}
+use Rattle.term_spec.specs.Numbers.{big-endian}
+use Rattle.term_spec.specs.Text.{Coding}
+use Rattle.term_spec.specs.Answer.{Answer, good, refused, Position, at-offset, after}
+use Rattle.term_spec.proofs.Bridge.{byte-at, byte-end, bytes-at, bytes-end, number-at, number-end}
+use Rattle.packet_spec.specs.Memory.{Held}
+use Rattle.packet_spec.specs.Header.{Reference, flag-bytes, half, is-new, place-at, length-width, text-field, new-reference, reference, references, header}
+use Rattle.dist_header.specs.Code.{flags-of, Opens, Spells}
+use Rattle.dist_header.specs.declared.Opened.the-variants as opened
+use Rattle.dist_header.specs.declared.Spelled.the-variants as spelled
+
+pub flag-count : (n : ℕ) → 0 < n → flag-bytes n ≡ n / 2 + 1
+unfolding flag-bytes
+flag-count n h = rw (ne-eqb n 0 (λ e. omega arith))
+
+flag-at : (s : List ℕ) (at n i : ℕ) → 0 < n → i ≤ n → getD (flags-of s at n) (i / 2) 0 ≡ getD s (at + 1 + i / 2) 0
+unfolding flags-of
+flag-at s at n i h k =
+    let f : flag-bytes n ≡ n / 2 + 1 = flag-count n h in
+    getD-take (flag-bytes n) (drop (at + 1) s) (i / 2) 0 (omega arith) ∙ getD-drop (at + 1) s (i / 2) 0
+
+-- half i is of flag byte i/2: the low half for even i, else the high half
+pub half-low : (s : List ℕ) (at n i : ℕ) → 0 < n → i ≤ n → i % 2 ≡ 0 → getD s (at + 1 + i / 2) 0 % 16 ≡ half (flags-of s at n) i
+unfolding half
+half-low s at n i h k e = rw (eq-eqb (i % 2) 0 e, flag-at s at n i h k)
+
+pub half-high : (s : List ℕ) (at n i : ℕ) → 0 < n → i ≤ n → (i % 2 ≡ 0 → ⊥) → getD s (at + 1 + i / 2) 0 / 16 ≡ half (flags-of s at n) i
+unfolding half
+half-high s at n i h k e = rw (ne-eqb (i % 2) 0 e, flag-at s at n i h k)
+
+-- ---- count and flags
+
+pub opens-end : (s : List ℕ) (at : ℕ) → length s ≤ at → Opens s at opened.Cut
+unfolding Opens header
+opens-end s at h agreed holding = rw (byte-end s 0 at 0 h)
+
+header-opens : (s : List ℕ) (at : ℕ) → at < length s → at + 1 + flag-bytes (getD s at 0) ≤ length s → (agreed : Coding) (holding : ℕ → Held)
+    → header agreed holding (at-offset s at 0)
+    ≡ references agreed holding (flags-of s at (getD s at 0)) (length-width (half (flags-of s at (getD s at 0)) (getD s at 0))) [] 0 (getD s at 0) (at-offset s (at + 1 + flag-bytes (getD s at 0)) 0)
+unfolding header flags-of
+header-opens s at h k agreed holding = rw (byte-at s 0 at 0 h, bytes-at s 0 (flag-bytes (getD s at 0)) (at + 1) 0 k)
+
+pub opens-cut : (s : List ℕ) (at : ℕ) → at < length s → 0 < getD s at 0 → length s < at + 1 + (getD s at 0 / 2 + 1) → Opens s at opened.Cut
+unfolding Opens header
+opens-cut s at h z k agreed holding =
+    let f : flag-bytes (getD s at 0) ≡ getD s at 0 / 2 + 1 = flag-count (getD s at 0) z in
+    rw (byte-at s 0 at 0 h, bytes-end s 0 (flag-bytes (getD s at 0)) (at + 1) 0 (omega arith) (omega arith))
+
+-- any count, with its width
+opens-as : (s : List ℕ) (at n width first : ℕ) → at < length s → getD s at 0 ≡ n → n < 256 → first ≡ at + 1 + flag-bytes n → first ≤ length s
+    → width ≡ length-width (half (flags-of s at n) n) → 0 < width → width ≤ 2 → Opens s at (opened.Header n width first)
+unfolding Opens
+opens-as s at n width first h is small e k w lo hi = (
+  λ agreed holding.
+      header-opens s at h (subst (λ (m : ℕ). at + 1 + flag-bytes m ≤ length s) (sym is) (omega arith)) agreed holding
+      ∙ ap (λ (m : ℕ). references agreed holding (flags-of s at m) (length-width (half (flags-of s at m) m)) [] 0 m (at-offset s (at + 1 + flag-bytes m) 0)) is
+      ∙ ap₂ (λ (w f : ℕ). references agreed holding (flags-of s at n) w [] 0 n (at-offset s f 0)) (sym w) (sym e),
+  lo,
+  hi,
+  e,
+  k,
+  small,
+)
+
+no-flags : (s : List ℕ) (at : ℕ) → length-width (half (flags-of s at 0) 0) ≡ 1
+unfolding length-width half flags-of flag-bytes
+no-flags s at = refl
+
+pub opens-none : (s : List ℕ) (at : ℕ) → at < length s → getD s at 0 ≡ 0 → Opens s at (opened.Header 0 1 (at + 1))
+unfolding flag-bytes
+opens-none s at h e = opens-as s at 0 1 (at + 1) h e (omega arith) (omega arith) (omega arith) (sym (no-flags s at)) (omega arith) (omega arith)
+
+width-of : (h : ℕ) → 1 + h % 2 ≡ length-width h
+unfolding length-width
+width-of h = refl
+
+pub opens-some : (s : List ℕ) (at n spare : ℕ) → at < length s → getD s at 0 ≡ n → 0 < n → n < 256 → at + 1 + (n / 2 + 1) ≤ length s
+    → spare ≡ half (flags-of s at n) n → Opens s at (opened.Header n (1 + spare % 2) (at + 1 + (n / 2 + 1)))
+opens-some s at n spare h is z small k e =
+    let f : flag-bytes n ≡ n / 2 + 1 = flag-count n z in
+    opens-as s at n (1 + spare % 2) (at + 1 + (n / 2 + 1)) h is small (omega arith) k (width-of spare ∙ ap length-width e) (omega arith) (omega arith)
+
+-- ---- one reference
+
+pub spells-end : (s : List ℕ) (h width at : ℕ) → length s ≤ at → Spells s h width at spelled.Cut
+unfolding Spells reference
+spells-end s h width at e agreed holding earlier i = rw (byte-end s i at 0 e)
+
+pub spells-cached : (s : List ℕ) (h width at b : ℕ) → at < length s → h < 8 → b ≡ getD s at 0 → b < 256
+    → Spells s h width at (spelled.Cached (record { 0 = 256 * (h % 8) + b }))
+unfolding Spells reference is-new place-at
+spells-cached s h width at b e low is small = (
+  λ agreed holding earlier i. rw (byte-at s i at 0 e, lt-leb 8 h low, is),
+  omega arith,
+  e,
+)
+
+module _ (s : List ℕ) (h width at : ℕ) (e : at < length s) (high : 8 ≤ h) where
+  new-field : (agreed : Coding) (holding : ℕ → Held) (earlier : List Reference) (i : ℕ) (o : Answer (List ℕ × Position)) → text-field i width (at-offset s (at + 1) 0) ≡ o
+      → reference agreed holding width earlier i h (at-offset s at 0)
+      ≡ after o (new-reference agreed holding earlier i (place-at h (getD s at 0)))
+  unfolding reference is-new
+  new-field agreed holding earlier i o f = rw (byte-at s i at 0 e, le-leb 8 h high, f)
+
+  pub spells-cut-length : length s < at + 1 + width → Spells s h width at spelled.Cut
+  unfolding Spells text-field
+  spells-cut-length k agreed holding earlier i = new-field agreed holding earlier i (refused 2 i) (rw (number-end s i width (at + 1) 0 (omega arith) k))
+
+  module _ (size : ℕ) (is : size ≡ big-endian (take width (drop (at + 1) s))) (there : at + 1 + width ≤ length s) where
+    pub spells-cut-text : length s < at + 1 + width + size → Spells s h width at spelled.Cut
+    unfolding Spells text-field
+    spells-cut-text k agreed holding earlier i =
+        new-field agreed holding earlier i (refused 2 i)
+        (rw (number-at s i width (at + 1) 0 there, sym is, bytes-end s i size (at + 1 + width) 0 there k))
+
+    pub spells-new : (b : ℕ) → h < 16 → b ≡ getD s at 0 → b < 256 → at + 1 + width + size ≤ length s → size < 65536
+        → Spells s h width at (spelled.New (record { 0 = 256 * (h % 8) + b }) (at + 1 + width) size)
+    unfolding Spells text-field place-at
+    spells-new b top as-read small k few = (
+      λ agreed holding earlier i.
+          new-field agreed holding earlier i (good (take size (drop (at + 1 + width) s), at-offset s (at + 1 + width + size) 0))
+          (rw (number-at s i width (at + 1) 0 there, sym is, bytes-at s i size (at + 1 + width) 0 k))
+          ∙ ap (λ (x : ℕ). new-reference agreed holding earlier i (256 * (h % 8) + x) (take size (drop (at + 1 + width) s)) (at-offset s (at + 1 + width + size) 0)) (sym as-read),
+      omega arith,
+      omega arith,
+      k,
+      few,
+    )

@@ -1,0 +1,217 @@
+-- The references of a header, one after the other.
+use mathlib.Core.Path.{_≡_, refl, sym, _∙_, ap}
+use mathlib.Core.List.{List, [], _∷_, _++_, append-assoc, append-nil}
+use Prim.Native.Nat.{ℕ, suc, _+_, _-_, _≤_, _<_}
+use native.Mathlib.Omega.{arith}
+use lib.ListN.{length, take, drop, replicate}
+use Rattle.term_spec.specs.Text.{Coding}
+use Rattle.term_spec.specs.Answer.{Answer, good, refused, Position, at-offset, after}
+use Rattle.packet_spec.specs.declared.Place.{Place}
+use Rattle.packet_spec.specs.Memory.{Held}
+use Rattle.packet_spec.specs.Header.{Reference, flag-bytes, half, reference, references}
+use Rattle.dist_header.specs.Code.{flags-of, Opens, Spells, Marked, Went, Judges, JudgesNew, JudgesCached, Steps, Ends, HeaderIs}
+use Rattle.dist_header.proofs.Marks.{marked-none}
+use Rattle.dist_header.specs.declared.Opened.the-variants as opened
+use Rattle.dist_header.specs.declared.Spelled.the-variants as spelled
+use Rattle.dist_header.specs.declared.Judged.the-variants as judged
+use Rattle.dist_header.specs.declared.Step.the-variants as step
+use Rattle.dist_header.specs.declared.References.the-variants as ends
+use Rattle.dist_header.specs.declared.HeaderAnswer.the-variants as headers
+
+-- ---- one reference, read and judged
+
+went-from : {o o′ : Answer (Reference × Position)} {t : Position} {marks : List ℕ} {earlier : List Reference} → o′ ≡ o → Went o t marks earlier → Went o′ t marks earlier
+went-from e w = record { found = w .found; is = e ∙ w .is; marked = w .marked }
+
+module _ (agreed : Coding) (holding : ℕ → Held) (s : List ℕ) (h width at : ℕ) (marks marks′ : List ℕ) where
+  pub step-cut : Spells s h width at spelled.Cut → Steps agreed holding s h width at marks marks′ (step.Refused 2)
+  unfolding Spells Steps
+  step-cut e earlier i m = e agreed holding earlier i
+
+  pub step-new-refused : (p : Place) (from size k : ℕ) → Spells s h width at (spelled.New p from size)
+      → JudgesNew agreed (p .0) (take size (drop from s)) marks marks′ (judged.Refused k) → Steps agreed holding s h width at marks marks′ (step.Refused k)
+  unfolding Spells Steps JudgesNew Judges
+  step-new-refused p from size k e j earlier i m = e .0 agreed holding earlier i ∙ j holding (at-offset s (from + size) 0) earlier i m
+
+  pub step-new : (p : Place) (from size : ℕ) → Spells s h width at (spelled.New p from size)
+      → JudgesNew agreed (p .0) (take size (drop from s)) marks marks′ judged.Good → Steps agreed holding s h width at marks marks′ (step.Next (from + size))
+  unfolding Spells Steps JudgesNew Judges
+  step-new p from size e j = (
+    λ earlier i m. went-from (e .0 agreed holding earlier i) (j holding (at-offset s (from + size) 0) earlier i m),
+    omega (arith, e .2),
+    e .3,
+  )
+
+  pub step-cached-refused : (p : Place) (k : ℕ) → Spells s h width at (spelled.Cached p)
+      → JudgesCached holding (p .0) marks marks′ (judged.Refused k) → Steps agreed holding s h width at marks marks′ (step.Refused k)
+  unfolding Spells Steps JudgesCached Judges
+  step-cached-refused p k e j earlier i m = e .0 agreed holding earlier i ∙ j agreed (at-offset s (at + 1) 0) earlier i m
+
+  pub step-cached : (p : Place) → Spells s h width at (spelled.Cached p)
+      → JudgesCached holding (p .0) marks marks′ judged.Good → Steps agreed holding s h width at marks marks′ (step.Next (at + 1))
+  unfolding Spells Steps JudgesCached Judges
+  step-cached p e j = (
+    λ earlier i m. went-from (e .0 agreed holding earlier i) (j agreed (at-offset s (at + 1) 0) earlier i m),
+    omega arith,
+    omega (arith, e .2),
+  )
+
+-- what is known of a reference that stands there
+pub new-inside : (s : List ℕ) (h width at : ℕ) (p : Place) (from size : ℕ) → Spells s h width at (spelled.New p from size)
+    → (p .0 < 2048) × (at < from) × (from + size ≤ length s) × (size < 65536)
+unfolding Spells
+new-inside s h width at p from size e = (e .1, e .2, e .3, e .4)
+
+pub cached-inside : (s : List ℕ) (h width at : ℕ) (p : Place) → Spells s h width at (spelled.Cached p) → (p .0 < 2048) × (at < length s)
+unfolding Spells
+cached-inside s h width at p e = (e .1, e .2)
+
+-- ---- references in turn
+
+-- these references before those found
+unfoldable pub prepended : List Reference → Answer (List Reference × Position) → Answer (List Reference × Position)
+prepended done (good r) = good (done ++ r .0, r .1)
+prepended done (refused n p) = refused n p
+
+prepended-none : (o : Answer (List Reference × Position)) → o ≡ prepended [] o
+unfolding prepended
+prepended-none (good r) = refl
+prepended-none (refused n p) = refl
+
+prepended-one : (done : List Reference) (r : Reference) (o : Answer (List Reference × Position))
+    → prepended done (after o (λ rs t. good (r ∷ rs, t))) ≡ prepended (done ++ (r ∷ [])) o
+unfolding prepended
+prepended-one done r (good x) = ap (λ (rs : List Reference). good (rs, x .1)) (sym (append-assoc done (r ∷ []) (x .0)))
+prepended-one done r (refused n p) = refl
+
+module _ (agreed : Coding) (holding : ℕ → Held) (s : List ℕ) (flags : List ℕ) (width : ℕ) where
+  -- reading `whole` stands before reference i at offset `next`, after the references `done`
+  pub record Along (whole : Answer (List Reference × Position)) (n i next : ℕ) (earlier done : List Reference) : Type 0 where
+    pub is : whole ≡ prepended done (references agreed holding flags width earlier i (n - i) (at-offset s next 0))
+
+  pub along-none : (n first : ℕ) → Along (references agreed holding flags width [] 0 n (at-offset s first 0)) n 0 first [] []
+  along-none n first =
+      let e : n ≡ n - 0 = omega arith in
+      record { is = prepended-none _ ∙ ap (λ (k : ℕ). prepended [] (references agreed holding flags width [] 0 k (at-offset s first 0))) e }
+
+  turn : (n i next m : ℕ) (earlier : List Reference) → n - i ≡ suc m → references agreed holding flags width earlier i (n - i) (at-offset s next 0)
+      ≡ after (reference agreed holding width earlier i (half flags i) (at-offset s next 0)) (λ r t. after (references agreed holding flags width (r ∷ earlier) (i + 1) m t) (λ rs u. good (r ∷ rs, u)))
+  unfolding references
+  turn n i next m earlier e = ap (λ (k : ℕ). references agreed holding flags width earlier i k (at-offset s next 0)) e
+
+  module _ (whole : Answer (List Reference × Position)) (n i next : ℕ) (earlier done : List Reference) (along : Along whole n i next earlier done) where
+    pub along-refused : (k p : ℕ) → i < n → reference agreed holding width earlier i (half flags i) (at-offset s next 0) ≡ refused k p → whole ≡ refused k p
+    unfolding prepended
+    along-refused k p less e =
+        along .is
+        ∙ ap (prepended done) (turn n i next (n - (i + 1)) earlier (omega arith)
+        ∙ ap (λ (o : Answer (Reference × Position)). after o (λ r t. after (references agreed holding flags width (r ∷ earlier) (i + 1) (n - (i + 1)) t) (λ rs u. good (r ∷ rs, u)))) e)
+
+    pub along-more : (r : Reference) (a : ℕ) → i < n → reference agreed holding width earlier i (half flags i) (at-offset s next 0) ≡ good (r, at-offset s a 0)
+        → Along whole n (i + 1) a (r ∷ earlier) (done ++ (r ∷ []))
+    along-more r a less e =
+        record {
+          is =
+              along .is
+              ∙ ap (prepended done) (turn n i next (n - (i + 1)) earlier (omega arith)
+              ∙ ap (λ (o : Answer (Reference × Position)). after o (λ r t. after (references agreed holding flags width (r ∷ earlier) (i + 1) (n - (i + 1)) t) (λ rs u. good (r ∷ rs, u)))) e)
+              ∙ prepended-one done r _;
+        }
+
+    -- where all references are good, so is the next one
+    pub record Turned : Type 0 where
+      pub found : Reference
+      pub end : Position
+      pub is : reference agreed holding width earlier i (half flags i) (at-offset s next 0) ≡ good (found, end)
+
+    pub turned : (rs : List Reference) (t : Position) → i < n → whole ≡ good (rs, t) → Turned
+    turned rs t less e = go (reference agreed holding width earlier i (half flags i) (at-offset s next 0)) refl
+      where
+        go : (o : Answer (Reference × Position)) → reference agreed holding width earlier i (half flags i) (at-offset s next 0) ≡ o → Turned
+        go (good x) f = record { found = x .0; end = x .1; is = f }
+        go (refused k p) f =
+            let g : whole ≡ refused k p = along-refused k p less f in
+            let no-way : _≡_ {A = ℕ} 0 1 = cc in absurd (omega arith)
+
+    -- the references done are the first of all
+    pub record Begins (rs : List Reference) : Type 0 where
+      pub rest : List Reference
+      pub is : rs ≡ done ++ rest
+
+    pub begins : (rs : List Reference) (t : Position) → whole ≡ good (rs, t) → Begins rs
+    unfolding prepended
+    begins rs t e = go (references agreed holding flags width earlier i (n - i) (at-offset s next 0)) (sym (along .is) ∙ e)
+      where
+        go : (o : Answer (List Reference × Position)) → prepended done o ≡ good (rs, t) → Begins rs
+        go (good x) f =
+            let g : _≡_ {A = List Reference × Position} (done ++ x .0, x .1) (rs, t) = cc in
+            record { rest = x .0; is = sym (ap (λ (y : List Reference × Position). y .0) g) }
+        go (refused k p) f = let no-way : _≡_ {A = ℕ} 0 1 = cc in absurd (omega arith)
+
+    pub along-all : i ≡ n → whole ≡ good (done, at-offset s next 0)
+    unfolding prepended references
+    along-all e =
+        along .is
+        ∙ ap (λ (k : ℕ). prepended done (references agreed holding flags width earlier i k (at-offset s next 0))) (none-left n i e)
+        ∙ ap (λ (rs : List Reference). good (rs, at-offset s next 0)) (append-nil done)
+      where
+        none-left : (n i : ℕ) → i ≡ n → n - i ≡ 0
+        none-left n i e = omega arith
+
+  -- where the check of the references stands
+  pub record Checking (whole : Answer (List Reference × Position)) (n i next : ℕ) (marks : List ℕ) : Type 0 where
+    pub earlier : List Reference
+    pub done : List Reference
+    pub marked : Marked marks earlier
+    pub along : Along whole n i next earlier done
+
+  pub checking-none : (n first : ℕ) → Checking (references agreed holding flags width [] 0 n (at-offset s first 0)) n 0 first (replicate 2048 0)
+  checking-none n first = record { earlier = []; done = []; marked = marked-none; along = along-none n first }
+
+  module _ (whole : Answer (List Reference × Position)) (n i next : ℕ) (marks : List ℕ) (c : Checking whole n i next marks) where
+    pub checking-refused : (k : ℕ) (marks′ : List ℕ) → i < n → Steps agreed holding s (half flags i) width next marks marks′ (step.Refused k)
+        → Ends whole s (ends.Refused (record { number = k; place = i }))
+    unfolding Steps Ends
+    checking-refused k marks′ less e = along-refused whole n i next (c .earlier) (c .done) (c .along) k i less (e (c .earlier) i (c .marked))
+
+    pub checking-more : (a : ℕ) (marks′ : List ℕ) → i < n → Steps agreed holding s (half flags i) width next marks marks′ (step.Next a) → Checking whole n (i + 1) a marks′
+    unfolding Steps
+    checking-more a marks′ less e =
+        let w : Went (reference agreed holding width (c .earlier) i (half flags i) (at-offset s next 0)) (at-offset s a 0) marks′ (c .earlier) = e .0 (c .earlier) i (c .marked) in
+        record {
+          earlier = w .found ∷ c .earlier;
+          done = c .done ++ (w .found ∷ []);
+          marked = w .marked;
+          along = along-more whole n i next (c .earlier) (c .done) (c .along) (w .found) a less (w .is);
+        }
+
+    pub checking-all : i ≡ n → next ≤ length s → Ends whole s (ends.End next)
+    unfolding Ends
+    checking-all e l = (record { found = c .done; is = along-all whole n i next (c .earlier) (c .done) (c .along) e }, l)
+
+pub next-inside : (agreed : Coding) (holding : ℕ → Held) (s : List ℕ) (h width at : ℕ) (marks marks′ : List ℕ) (a : ℕ)
+    → Steps agreed holding s h width at marks marks′ (step.Next a) → (at < a) × (a ≤ length s)
+unfolding Steps
+next-inside agreed holding s h width at marks marks′ a e = (e .1, e .2)
+
+-- ---- the whole header
+
+pub header-cut : (agreed : Coding) (holding : ℕ → Held) (s : List ℕ) (at : ℕ) → Opens s at opened.Cut
+    → HeaderIs agreed holding s at (headers.Refused (record { number = 2; place = 0 }))
+unfolding Opens HeaderIs
+header-cut agreed holding s at e = e agreed holding
+
+module _ (agreed : Coding) (holding : ℕ → Held) (s : List ℕ) (at n width first : ℕ) (o : Opens s at (opened.Header n width first)) where
+  pub opened-inside : (0 < width) × (width ≤ 2) × (n < 256) × (first ≡ at + 1 + flag-bytes n) × (first ≤ length s)
+  unfolding Opens
+  opened-inside = (o .1, o .2, o .5, o .3, o .4)
+
+  pub header-refused : (number place : ℕ) → Ends (references agreed holding (flags-of s at n) width [] 0 n (at-offset s first 0)) s (ends.Refused (record { number = number; place = place }))
+      → HeaderIs agreed holding s at (headers.Refused (record { number = number; place = place }))
+  unfolding Opens HeaderIs Ends
+  header-refused number place e = o .0 agreed holding ∙ e
+
+  pub header-good : (a : ℕ) → Ends (references agreed holding (flags-of s at n) width [] 0 n (at-offset s first 0)) s (ends.End a)
+      → HeaderIs agreed holding s at (headers.Header n width first a)
+  unfolding Opens HeaderIs Ends
+  header-good a e = (o, record { found = e .0 .found; is = o .0 agreed holding ∙ e .0 .is }, e .1)

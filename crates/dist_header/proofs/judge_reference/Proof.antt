@@ -1,0 +1,120 @@
+-- `headers::judge_reference` meets its contract. Assumes nothing.
+use native.Mathlib.Omega.{arith}
+use borrow.Author.Needs.{needs}
+use Rattle.term_spec.specs.Text.{coding-of}
+use Rattle.packet_spec.specs.Memory.{cache-of}
+use Rattle.dist_header.specs.Code.{holding-when, Spells}
+use Rattle.dist_header.proofs.Walk.{step-cut, step-new-refused, step-new, step-cached-refused, step-cached, new-inside, cached-inside}
+use Rattle.dist_header.specs.declared.Spelled.the-variants as spelled
+use Rattle.dist_header.proofs.judge_reference.Statement.{statement}
+use Rattle.dist_header.proofs.judge_reference.Tie as tie
+
+read-reference-requires : tie.Need-read-reference-requires
+read-reference-requires c κs = search needs
+
+enum-told : tie.Need-enum-told
+enum-told c = search needs
+
+enum-known-place : tie.Need-enum-known-place
+enum-known-place c = search needs
+
+judge-new-requires : tie.Need-judge-new-requires
+judge-new-requires c κs = let a = c .before .before .before .before .before .before .before .before .before .args in
+    let v = c .before .before .place .given in
+    let e : Spells (a .packet .now) (a .half) (a .width) (a .at) (spelled.New (v .0 .0) (v .0 .1 .0) (v .0 .1 .1 .0)) = rw (v .1) at (c .before .before .before .before .read-reference .ensures) in
+    let i = new-inside (a .packet .now) (a .half) (a .width) (a .at) (v .0 .0) (v .0 .1 .0) (v .0 .1 .1 .0) e in (i .0, i .2, i .3, c .before .before .before .before .before .before .before .before .before .pre .5)
+
+enum-known-number : tie.Need-enum-known-number
+enum-known-number c = search needs
+
+enum-told-2 : tie.Need-enum-told-2
+enum-told-2 c = search needs
+
+add-t22 : tie.Need-add-t22
+add-t22 c = let a = c .before .before .before .before .before .before .before .before .before .before .before .before .before .before .args in
+    let v = c .before .before .before .before .before .before .before .place .given in
+    let e : Spells (a .packet .now) (a .half) (a .width) (a .at) (spelled.New (v .0 .0) (v .0 .1 .0) (v .0 .1 .1 .0)) = rw (v .1) at (c .before .before .before .before .before .before .before .before .before .read-reference .ensures) in
+    let i = new-inside (a .packet .now) (a .half) (a .width) (a .at) (v .0 .0) (v .0 .1 .0) (v .0 .1 .1 .0) e in omega arith
+
+enum-known-place-2 : tie.Need-enum-known-place-2
+enum-known-place-2 c = search needs
+
+judge-cached-requires : tie.Need-judge-cached-requires
+judge-cached-requires c κs = let a = c .before .before .before .before .before .before .before .before .before .args in
+    let v = c .before .before .place2 .given in
+    let e : Spells (a .packet .now) (a .half) (a .width) (a .at) (spelled.Cached (v .0 .0)) = rw (v .1) at (c .before .before .before .before .read-reference .ensures) in
+    let i = cached-inside (a .packet .now) (a .half) (a .width) (a .at) (v .0 .0) e in (i .0, c .before .before .before .before .before .before .before .before .before .pre .4, c .before .before .before .before .before .before .before .before .before .pre .5)
+
+enum-known-number-2 : tie.Need-enum-known-number-2
+enum-known-number-2 c = search needs
+
+enum-told-3 : tie.Need-enum-told-3
+enum-told-3 c = search needs
+
+add-t27 : tie.Need-add-t27
+add-t27 c = search needs
+
+returns : tie.Need-returns
+returns c = let a = c .before .before .before .before .before .before .before .args in step-cut (coding-of (a .utf8)) (holding-when (a .look) (cache-of (a .places .now) (a .lengths .now))) (a .packet .now) (a .half) (a .width) (a .at) (a .marks .now) _ (rw (c .enum-told .given .1) at (c .before .before .read-reference .ensures))
+
+same-length : tie.Need-same-length
+same-length c = search needs
+
+returns-2 : tie.Need-returns-2
+returns-2 c = let a = c .before .before .before .before .before .before .before .before .before .before .before .before .before .before .before .args in
+    let v = c .before .before .before .before .before .before .before .before .place .given in
+    let e : Spells (a .packet .now) (a .half) (a .width) (a .at) (spelled.New (v .0 .0) (v .0 .1 .0) (v .0 .1 .1 .0)) = rw (v .1) at (c .before .before .before .before .before .before .before .before .before .before .read-reference .ensures) in
+    step-new-refused (coding-of (a .utf8)) (holding-when (a .look) (cache-of (a .places .now) (a .lengths .now))) (a .packet .now) (a .half) (a .width) (a .at) (a .marks .now) _ (v .0 .0) (v .0 .1 .0) (v .0 .1 .1 .0) _ e (rw (c .before .number .given .1) at (c .before .before .before .before .before .judge-new .ensures))
+
+same-length-2 : tie.Need-same-length-2
+same-length-2 c = search needs
+
+returns-3 : tie.Need-returns-3
+returns-3 c = let a = c .before .before .before .before .before .before .before .before .before .before .before .before .before .before .args in
+    let v = c .before .before .before .before .before .before .before .place .given in
+    let e : Spells (a .packet .now) (a .half) (a .width) (a .at) (spelled.New (v .0 .0) (v .0 .1 .0) (v .0 .1 .1 .0)) = rw (v .1) at (c .before .before .before .before .before .before .before .before .before .read-reference .ensures) in
+    step-new (coding-of (a .utf8)) (holding-when (a .look) (cache-of (a .places .now) (a .lengths .now))) (a .packet .now) (a .half) (a .width) (a .at) (a .marks .now) _ (v .0 .0) (v .0 .1 .0) (v .0 .1 .1 .0) e (rw (c .enum-told2 .given .1) at (c .before .before .before .before .judge-new .ensures))
+
+same-length-3 : tie.Need-same-length-3
+same-length-3 c = search needs
+
+returns-4 : tie.Need-returns-4
+returns-4 c = let a = c .before .before .before .before .before .before .before .before .before .before .before .before .before .before .before .args in
+    let v = c .before .before .before .before .before .before .before .before .place2 .given in
+    let e : Spells (a .packet .now) (a .half) (a .width) (a .at) (spelled.Cached (v .0 .0)) = rw (v .1) at (c .before .before .before .before .before .before .before .before .before .before .read-reference .ensures) in
+    step-cached-refused (coding-of (a .utf8)) (holding-when (a .look) (cache-of (a .places .now) (a .lengths .now))) (a .packet .now) (a .half) (a .width) (a .at) (a .marks .now) _ (v .0 .0) _ e (rw (c .before .number2 .given .1) at (c .before .before .before .before .before .judge-cached .ensures))
+
+same-length-4 : tie.Need-same-length-4
+same-length-4 c = search needs
+
+returns-5 : tie.Need-returns-5
+returns-5 c = let a = c .before .before .before .before .before .before .before .before .before .before .before .before .before .before .args in
+    let v = c .before .before .before .before .before .before .before .place2 .given in
+    let e : Spells (a .packet .now) (a .half) (a .width) (a .at) (spelled.Cached (v .0 .0)) = rw (v .1) at (c .before .before .before .before .before .before .before .before .before .read-reference .ensures) in
+    step-cached (coding-of (a .utf8)) (holding-when (a .look) (cache-of (a .places .now) (a .lengths .now))) (a .packet .now) (a .half) (a .width) (a .at) (a .marks .now) _ (v .0 .0) e (rw (c .enum-told3 .given .1) at (c .before .before .before .before .judge-cached .ensures))
+
+pub judge-reference-spec : {M : Type 1} → statement M
+judge-reference-spec =
+    tie.close
+    (tie.spec
+    read-reference-requires
+    enum-told
+    enum-known-place
+    judge-new-requires
+    enum-known-number
+    enum-told-2
+    add-t22
+    enum-known-place-2
+    judge-cached-requires
+    enum-known-number-2
+    enum-told-3
+    add-t27
+    returns
+    same-length
+    returns-2
+    same-length-2
+    returns-3
+    same-length-3
+    returns-4
+    same-length-4
+    returns-5)

@@ -1,0 +1,384 @@
+// Headers of packets: where their references stand, whether they may be taken, and the place that a reference names.
+ghost use mathlib.Core.Path.{_≡_};
+ghost use mathlib.Core.Bool.{true};
+ghost use mathlib.Core.List.{List, []};
+ghost use Prim.Native.Nat.{ℕ, _+_, _*_, _/_, _≤_, _<_};
+ghost use lib.ListN.{length, take, drop};
+ghost use lib.Seq.{sets};
+ghost use Rattle.term_spec.specs.Numbers.{big-endian};
+ghost use Rattle.term_spec.specs.Text.{coding-of, check, valid, encodes};
+ghost use Rattle.packet_spec.specs.Memory.{cache-of, held};
+ghost use Rattle.packet_spec.specs.Header.{flag-bytes, half, references};
+ghost use Rattle.term_spec.specs.Answer.{at-offset};
+ghost use Rattle.dist_header.specs.Code.{flags-of, holding-when, Opens, Spells, TextFits, held-case, JudgesNew, JudgesCached, Steps, Ends, HeaderIs};
+use packet_spec::Place;
+use packet_spec::ReferenceIndex;
+use term_spec::Refusal;
+
+// What stands before the references: their number, the width of lengths, the offset of the first.
+pub enum Opened {
+    Cut,
+    Header {
+        n: usize,
+        width: usize,
+        first: usize,
+    },
+}
+
+// A reference as it stands in a header: new, with the offset and the length of its text, or cached.
+pub enum Spelled {
+    Cut,
+    New {
+        place: Place,
+        from: usize,
+        size: usize,
+    },
+    Cached {
+        place: Place,
+    },
+}
+
+// What a place of the cache holds: nothing, what is no text, or a text of this length.
+pub enum Held {
+    Nothing,
+    NoText,
+    Text(usize),
+}
+
+// A reference judged: the number of its refusal, or that it is good.
+pub enum Judged {
+    Refused(u8),
+    Good,
+}
+
+// A reference read and judged: the number of its refusal, or the offset past it.
+pub enum Step {
+    Refused(u8),
+    Next(usize),
+}
+
+// The references of a header: the refusal, or the offset past the last.
+pub enum References {
+    Refused(Refusal),
+    End(usize),
+}
+
+// A header judged: the refusal, or where its references and its payload stand.
+pub enum HeaderAnswer {
+    Refused(Refusal),
+    Header {
+        n: usize,
+        width: usize,
+        first: usize,
+        payload: usize,
+    },
+}
+
+// Half i of the flag bytes of the header at `at`, which has n references.
+pub fn half_of(packet: &[u8], at: usize, n: usize, i: ReferenceIndex) -> usize
+    requires { ⌜ (0 < n) × (i .0 ≤ n) × (at + n / 2 + 2 ≤ length (now packet)) ⌝ }
+    ensures { λ r. ⌜ (r ≡ half (flags-of (now (packet .entry)) at n) (i .0)) × (r < 16) ⌝ }
+{
+    let k = i.0;
+    let flags = octets::wide(packet[at + 1 + k / 2]);
+    if k % 2 == 0 {
+        return flags % 16;
+    }
+    flags / 16
+}
+
+// The count, the flags and the width of lengths of the header at `at`.
+fn open_header(packet: &[u8], at: usize) -> Opened
+    requires { ⌜ at ≤ length (now packet) ⌝ }
+    ensures { λ r. ⌜ Opens (now (packet .entry)) at r ⌝ }
+{
+    if packet.len() <= at {
+        return Opened::Cut;
+    }
+    let n = octets::wide(packet[at]);
+    if n == 0 {
+        return Opened::Header {
+            n: 0,
+            width: 1,
+            first: at + 1,
+        };
+    }
+    let flags = n / 2 + 1;
+    if packet.len() - at - 1 < flags {
+        return Opened::Cut;
+    }
+    let spare = half_of(packet, at, n, ReferenceIndex(n));
+    Opened::Header {
+        n: n,
+        width: 1 + spare % 2,
+        first: at + 1 + flags,
+    }
+}
+
+// The number in the 1 or 2 bytes from `at` on.
+fn length_at(packet: &[u8], at: usize, width: usize) -> usize
+    requires { ⌜ (0 < width) × (width ≤ 2) × (at + width ≤ length (now packet)) ⌝ }
+    ensures { λ r. ⌜ (r ≡ big-endian (take width (drop at (now (packet .entry))))) × (r < 65536) ⌝ }
+{
+    if width == 1 {
+        return octets::big1(packet, at);
+    }
+    octets::big2(packet, at)
+}
+
+// The reference at `at`, with its half and the width of lengths: its place is 256 times the segment plus the internal index.
+pub fn read_reference(packet: &[u8], half: usize, width: usize, at: usize) -> Spelled
+    requires { ⌜ (half < 16) × (0 < width) × (width ≤ 2) × (at ≤ length (now packet)) ⌝ }
+    ensures { λ r. ⌜ Spells (now (packet .entry)) half width at r ⌝ }
+{
+    if packet.len() <= at {
+        return Spelled::Cut;
+    }
+    let place = Place(256 * (half % 8) + octets::wide(packet[at]));
+    if half < 8 {
+        return Spelled::Cached { place: place };
+    }
+    if packet.len() - at - 1 < width {
+        return Spelled::Cut;
+    }
+    let size = length_at(packet, at + 1, width);
+    let from = at + 1 + width;
+    if packet.len() - from < size {
+        return Spelled::Cut;
+    }
+    Spelled::New {
+        place: place,
+        from: from,
+        size: size,
+    }
+}
+
+// A length of a place as a number of a machine word.
+pub fn wide_length(x: u16) -> usize
+    ensures { λ r. ⌜ (r ≡ x) × (r < 65536) ⌝ }
+{
+    x as usize
+}
+
+// The length as UTF-8 of the text, in the coding agreed, from `from` on.
+fn stored_length(utf8: bool, packet: &[u8], from: usize, size: usize) -> usize
+    requires { ⌜ (from + size ≤ length (now packet)) × (size < 65536) ⌝ }
+    ensures { λ r. ⌜ ((cs : List ℕ) → check (coding-of utf8) (take size (drop from (now (packet .entry)))) ≡ valid cs → r ≡ length (encodes cs)) ⌝ }
+{
+    if utf8 {
+        return size;
+    }
+    text::utf8_length(packet, from, size)
+}
+
+// Writes that text as UTF-8 into `dst` from `at` on; the number of bytes.
+pub fn put_text(
+    utf8: bool,
+    packet: &[u8],
+    from: usize,
+    size: usize,
+    dst: &mut [u8],
+    at: usize,
+) -> usize
+    requires { ⌜ (from + size ≤ length (now packet)) × (size < 65536) × TextFits (coding-of utf8) (take size (drop from (now packet))) at (length (now dst)) ⌝ }
+    ensures { λ r. ⌜ ((cs : List ℕ) → check (coding-of utf8) (take size (drop from (now (packet .entry)))) ≡ valid cs → (r ≡ length (encodes cs)) × (now (dst .exit) ≡ sets (now (dst .entry)) at (encodes cs))) ⌝ }
+{
+    if utf8 {
+        octets::copy(packet, from, dst, at, size);
+        return size;
+    }
+    text::put_latin1(packet, from, size, dst, at)
+}
+
+// What a place of the cache holds.
+pub fn held_at(places: &[u8], lengths: &[u16], place: Place) -> Held
+    requires { ⌜ (place .0 < 2048) × (length (now places) ≡ 65536) × (length (now lengths) ≡ 2048) ⌝ }
+    ensures { λ r. ⌜ r ≡ held-case (held (cache-of (now (places .entry)) (now (lengths .entry))) (place .0)) ⌝ }
+{
+    let k = place.0;
+    let size = wide_length(lengths[k]);
+    if size == 65535 {
+        return Held::Nothing;
+    }
+    if 32 < size {
+        return Held::NoText;
+    }
+    let from = 32 * k;
+    let end = from + size;
+    if text::is_text(&places[from..end], true) {
+        return Held::Text(size);
+    }
+    Held::NoText
+}
+
+// What a place holds where the cache is looked at; else a text.
+fn looked_at(look: bool, places: &[u8], lengths: &[u16], place: Place) -> Held
+    requires { ⌜ (place .0 < 2048) × (look ≡ true → (length (now places) ≡ 65536) × (length (now lengths) ≡ 2048)) ⌝ }
+    ensures { λ r. ⌜ r ≡ held-case (holding-when look (cache-of (now (places .entry)) (now (lengths .entry))) (place .0)) ⌝ }
+{
+    if look {
+        return held_at(places, lengths, place);
+    }
+    Held::Text(0)
+}
+
+// Judges a new reference: 22, 5, 23. `marks` has 2 for a place that an earlier reference fills new, 1 for one named otherwise.
+fn judge_new(
+    utf8: bool,
+    packet: &[u8],
+    place: Place,
+    from: usize,
+    size: usize,
+    marks: &mut [u8],
+) -> Judged
+    requires { ⌜ (place .0 < 2048) × (from + size ≤ length (now packet)) × (size < 65536) × (length (now marks) ≡ 2048) ⌝ }
+    ensures { λ r. ⌜ JudgesNew (coding-of utf8) (place .0) (take size (drop from (now (packet .entry)))) (now (marks .entry)) (now (marks .exit)) r ⌝ }
+{
+    let k = place.0;
+    if marks[k] != 0 {
+        return Judged::Refused(22);
+    }
+    let end = from + size;
+    if !text::is_text(&packet[from..end], utf8) {
+        return Judged::Refused(5);
+    }
+    if 32 < stored_length(utf8, packet, from, size) {
+        return Judged::Refused(23);
+    }
+    marks[k] = 2;
+    Judged::Good
+}
+
+// Judges a cached reference: 22, 21, 14.
+fn judge_cached(
+    look: bool,
+    places: &[u8],
+    lengths: &[u16],
+    place: Place,
+    marks: &mut [u8],
+) -> Judged
+    requires { ⌜ (place .0 < 2048) × (look ≡ true → (length (now places) ≡ 65536) × (length (now lengths) ≡ 2048)) × (length (now marks) ≡ 2048) ⌝ }
+    ensures { λ r. ⌜ JudgesCached (holding-when look (cache-of (now (places .entry)) (now (lengths .entry)))) (place .0) (now (marks .entry)) (now (marks .exit)) r ⌝ }
+{
+    let k = place.0;
+    if marks[k] == 2 {
+        return Judged::Refused(22);
+    }
+    match looked_at(look, places, lengths, place) {
+        Held::Nothing => Judged::Refused(21),
+        Held::NoText => Judged::Refused(14),
+        Held::Text(_) => {
+            marks[k] = 1;
+            Judged::Good
+        }
+    }
+}
+
+// Reads and judges the reference at `at`, with its half and the width of lengths.
+fn judge_reference(
+    utf8: bool,
+    look: bool,
+    packet: &[u8],
+    half: usize,
+    width: usize,
+    at: usize,
+    places: &[u8],
+    lengths: &[u16],
+    marks: &mut [u8],
+) -> Step
+    requires { ⌜ (half < 16) × (0 < width) × (width ≤ 2) × (at ≤ length (now packet)) × (look ≡ true → (length (now places) ≡ 65536) × (length (now lengths) ≡ 2048)) × (length (now marks) ≡ 2048) ⌝ }
+    ensures { λ r. ⌜ Steps (coding-of utf8) (holding-when look (cache-of (now (places .entry)) (now (lengths .entry)))) (now (packet .entry)) half width at (now (marks .entry)) (now (marks .exit)) r ⌝ }
+{
+    match read_reference(packet, half, width, at) {
+        Spelled::Cut => Step::Refused(2),
+        Spelled::New { place, from, size } => {
+            match judge_new(utf8, packet, place, from, size, marks) {
+                Judged::Refused(number) => Step::Refused(number),
+                Judged::Good => Step::Next(from + size),
+            }
+        }
+        Spelled::Cached { place } => {
+            match judge_cached(look, places, lengths, place, marks) {
+                Judged::Refused(number) => Step::Refused(number),
+                Judged::Good => Step::Next(at + 1),
+            }
+        }
+    }
+}
+
+// Reads and judges the n references of the header at `at`, the first at `first`, each in turn.
+fn check_references(
+    utf8: bool,
+    look: bool,
+    packet: &[u8],
+    at: usize,
+    n: usize,
+    width: usize,
+    first: usize,
+    places: &[u8],
+    lengths: &[u16],
+) -> References
+    requires { ⌜ (0 < width) × (width ≤ 2) × (n < 256) × (first ≡ at + 1 + flag-bytes n) × (first ≤ length (now packet)) × (look ≡ true → (length (now places) ≡ 65536) × (length (now lengths) ≡ 2048)) ⌝ }
+    ensures { λ r. ⌜ Ends (references (coding-of utf8) (holding-when look (cache-of (now (places .entry)) (now (lengths .entry)))) (flags-of (now (packet .entry)) at n) width [] 0 n (at-offset (now (packet .entry)) first 0)) (now (packet .entry)) r ⌝ }
+{
+    let mut marks = [0u8; 2048];
+    let mut next = first;
+    let mut i = 0;
+    while i < n {
+        let half = half_of(packet, at, n, ReferenceIndex(i));
+        match judge_reference(
+            utf8,
+            look,
+            packet,
+            half,
+            width,
+            next,
+            places,
+            lengths,
+            &mut marks,
+        ) {
+            Step::Refused(number) => {
+                return References::Refused(Refusal {
+                    number: number,
+                    place: i,
+                });
+            }
+            Step::Next(offset) => {
+                next = offset;
+            }
+        }
+        i += 1;
+    }
+    References::End(next)
+}
+
+// Judges the header at `at`: 2 on the count and flags, then each reference in turn. Where `look` is false, the cache is not looked at.
+pub fn check_header(
+    utf8: bool,
+    look: bool,
+    packet: &[u8],
+    at: usize,
+    places: &[u8],
+    lengths: &[u16],
+) -> HeaderAnswer
+    requires { ⌜ (at ≤ length (now packet)) × (look ≡ true → (length (now places) ≡ 65536) × (length (now lengths) ≡ 2048)) ⌝ }
+    ensures { λ r. ⌜ HeaderIs (coding-of utf8) (holding-when look (cache-of (now (places .entry)) (now (lengths .entry)))) (now (packet .entry)) at r ⌝ }
+{
+    match open_header(packet, at) {
+        Opened::Cut => HeaderAnswer::Refused(Refusal {
+            number: 2,
+            place: 0,
+        }),
+        Opened::Header { n, width, first } => {
+            match check_references(utf8, look, packet, at, n, width, first, places, lengths) {
+                References::Refused(refusal) => HeaderAnswer::Refused(refusal),
+                References::End(payload) => HeaderAnswer::Header {
+                    n: n,
+                    width: width,
+                    first: first,
+                    payload: payload,
+                },
+            }
+        }
+    }
+}

@@ -1,0 +1,147 @@
+-- Terms whose rows stand in the table and that the message backs compare as their meanings do.
+use mathlib.Core.Path.{_≡_, refl, sym, _∙_, ap, ap₂}
+use mathlib.Core.Bool.{Bool, false}
+use mathlib.Core.List.{List, [], _∷_}
+use mathlib.Core.Option.{Option, some}
+use Prim.Native.Nat.{ℕ, _+_}
+use native.Mathlib.Omega.{arith}
+use lib.Dec.{eqb}
+use borrow.Author.Tests.{ne-eqb}
+use Rattle.term_spec.specs.Tree.{node, empty, _▹_, _▹▹_, size, sizes}
+use Rattle.term_spec.specs.Term.{Label, Term}
+use Rattle.term_spec.specs.Equal.{same, among}
+use Rattle.term_spec.specs.Head.{Atoms}
+use Rattle.term_spec.specs.AtomList.{AtomList, atoms-of}
+use Rattle.term_spec.specs.Reading.{Place, tag-at, character-at, Located, meaning}
+use Rattle.term_spec.specs.Message.{Terms}
+use Rattle.term_spec.specs.Rows.{Row, tree-rows, rows, word, kind-of, kind-at, Tree-here, Rows-here}
+use Rattle.term_spec.proofs.Backed.{Label-at, Backed, Backeds}
+use Rattle.term_spec.proofs.Rows.{rows-join}
+use Rattle.term_spec.proofs.Words.{Each-row, each-row-join, Small-row, Word-of, word-packed, Between, kind-of-range, left-here, right-here, first-here}
+use Rattle.row_fields.specs.Found.{choose}
+use Rattle.row_fields.specs.Meaning.{term-kind}
+use Rattle.map_keys.specs.Compare.{same-fields, same-row, same-terms-raw, among-rows}
+use Rattle.row_fields.proofs.Says.{Lent}
+use Rattle.row_fields.proofs.Alike.{Agree, through, numbers-agree}
+use Rattle.row_fields.proofs.Again.{contents-agree}
+use Rattle.map_keys.proofs.Compare.{and-then, own, each-row-split, Known-tree, Known-rows, same-from-same, among-from-among, Keys-of}
+
+each-row-both : (P Q : Row → Type 0) (rs : List Row) → Each-row P rs → Each-row Q rs → Each-row (λ r. P r × Q r) rs
+unfolding Each-row
+each-row-both P Q [] h g = tt
+each-row-both P Q (r ∷ rs) h g = ((h .0, g .0), each-row-both P Q rs (h .1) (g .1))
+
+module _ (message : List ℕ) (cap : ℕ) (atoms : Atoms) where
+  -- the message says the row's label at the row's place
+  abbrev pub Backed-row : Row → Type 0
+  Backed-row r = Label-at message cap atoms (r .place) (r .label)
+
+  mutual
+    unfolding tree-rows Each-row
+
+    backed-tree-rows : (whole : Option ℕ) (n : ℕ) (t : Located) → Backed message cap atoms t → Each-row Backed-row (tree-rows whole n t)
+    backed-tree-rows whole n (node l ts) b = (b .0, backed-rows (some n) (n + 1) ts (b .1))
+
+    pub backed-rows : (whole : Option ℕ) (n : ℕ) (ts : Terms) → Backeds message cap atoms ts → Each-row Backed-row (rows whole n ts)
+    backed-rows whole n empty b = tt
+    backed-rows whole n (t ▹ ts) b =
+        each-row-join Backed-row (tree-rows whole n t) (rows whole (n + size t) ts) (backed-tree-rows whole n t (b .0)) (backed-rows whole (n + size t) ts (b .1))
+
+  -- without the kind of characters a kind is that of the label
+  term-kind-of : (l : Label) (p : Place) → Label-at message cap atoms p l → term-kind (kind-at l p) ≡ kind-of l
+  unfolding term-kind choose kind-at kind-of
+  term-kind-of l (tag-at p) h = let r : Between 1 13 (kind-of l) = kind-of-range l in rw (ne-eqb (kind-of l) 14 (λ e. omega arith))
+  term-kind-of l (character-at p) h = sym (ap kind-of (h .1))
+
+  -- the rows of a term, of terms, stand in the table from row n on and are small, and the message backs them
+  pub record Held (T : List ℕ) (whole : Option ℕ) (n : ℕ) (t : Located) : Type 0 where
+    pub stands : Tree-here T whole n t
+    pub small : Each-row Small-row (tree-rows whole n t)
+    pub backed : Backed message cap atoms t
+
+  pub record Held-rows (T : List ℕ) (whole : Option ℕ) (n : ℕ) (ts : Terms) : Type 0 where
+    pub stand : Rows-here T whole n ts
+    pub all-small : Each-row Small-row (rows whole n ts)
+    pub all-backed : Backeds message cap atoms ts
+
+  backed-left : (ts us : Terms) → Backeds message cap atoms (ts ▹▹ us) → Backeds message cap atoms ts
+  backed-left empty us b = tt
+  backed-left (t ▹ ts) us b = (b .0, backed-left ts us (b .1))
+
+  backed-right : (ts us : Terms) → Backeds message cap atoms (ts ▹▹ us) → Backeds message cap atoms us
+  backed-right empty us b = b
+  backed-right (t ▹ ts) us b = backed-right ts us (b .1)
+
+  -- a run of terms after another
+  module _ {T : List ℕ} {whole : Option ℕ} {n : ℕ} (ts us : Terms) (h : Held-rows T whole n (ts ▹▹ us)) where
+    small-both : Each-row Small-row (rows whole n ts) × Each-row Small-row (rows whole (n + sizes ts) us)
+    small-both = each-row-split Small-row (rows whole n ts) (rows whole (n + sizes ts) us) (rw rows-join at (h .all-small))
+
+    pub held-left : Held-rows T whole n ts
+    held-left = record { stand = left-here ts us (h .stand); all-small = small-both .0; all-backed = backed-left ts us (h .all-backed) }
+
+    pub held-right : Held-rows T whole (n + sizes ts) us
+    held-right = record { stand = right-here ts us (h .stand); all-small = small-both .1; all-backed = backed-right ts us (h .all-backed) }
+
+  pub held-first : {T : List ℕ} {whole : Option ℕ} {n : ℕ} (t : Located) (ts : Terms) → Held-rows T whole n (t ▹ ts) → Held T whole n t
+  unfolding rows
+  held-first {T} {whole} {n} t ts h =
+      record {
+        stands = first-here (h .stand);
+        small = each-row-split Small-row (tree-rows whole n t) (rows whole (n + size t) ts) (h .all-small) .0;
+        backed = h .all-backed .0;
+      }
+
+module _ (list : AtomList) (message : List ℕ) (lent : Lent list message) (cap : ℕ) where
+  -- what reading asks of the list
+  abbrev pub atoms : Atoms
+  atoms = atoms-of list
+
+  abbrev pub Known : Row → Type 0
+  Known r = Small-row r × Backed-row message cap atoms r
+
+  row-agrees : (r q : Row) → Known r → Known q → Agree (same-row message (list .places) (list .lengths) (word r) (word q)) (own r ≡ own q)
+  unfolding same-row same-fields
+  row-agrees r q k m =
+      let v : Word-of r (word r) = word-packed r (k .0) in
+      let w : Word-of q (word q) = word-packed q (m .0) in
+      let x : term-kind (kind-at (r .label) (r .place)) ≡ kind-of (r .label) = term-kind-of message cap atoms (r .label) (r .place) (k .1) in
+      let y : term-kind (kind-at (q .label) (q .place)) ≡ kind-of (q .label) = term-kind-of message cap atoms (q .label) (q .place) (m .1) in
+      rw (v .kind-is, w .kind-is, v .offset-is, w .offset-is, v .parts-is, w .parts-is, x, y)
+      (one (kind-of (r .label)) (kind-of (q .label)) (r .parts) (q .parts) _ (ap kind-of)
+      (λ e. contents-agree list message lent cap (r .label) (q .label) (r .place) (q .place) (k .1) (m .1) (x ∙ e ∙ sym y)))
+    where
+      one : (i j n n′ : ℕ) (c : Bool) → (r .label ≡ q .label → i ≡ j) → (i ≡ j → Agree c (r .label ≡ q .label))
+          → Agree (choose (eqb i j) (choose (eqb n n′) c false) false) (_≡_ {A = Label × ℕ} (r .label, n) (q .label, n′))
+      one i j n n′ c f g =
+          through
+          (λ z. ap₂ (λ (a : Label) (b : ℕ). (a, b)) (z .1 .1) (z .1 .0))
+          (λ e. let a : r .label ≡ q .label = ap (λ (x : Label × ℕ). x .0) e in (f a, (ap (λ (x : Label × ℕ). x .1) e, a)))
+          (and-then (eqb i j) _ (numbers-agree i j) (λ e. and-then (eqb n n′) c (numbers-agree n n′) (λ _. g e)))
+
+  module _ (T : List ℕ) where
+    known-tree : {whole : Option ℕ} {n : ℕ} (t : Located) → Held message cap atoms T whole n t → Known-tree Known T whole n t
+    known-tree {whole} {n} t h =
+        record { stands = h .stands; known = each-row-both Small-row (Backed-row message cap atoms) (tree-rows whole n t) (h .small) (backed-tree-rows message cap atoms whole n t (h .backed)) }
+
+    known-rows : {whole : Option ℕ} {n : ℕ} (ts : Terms) → Held-rows message cap atoms T whole n ts → Known-rows Known T whole n ts
+    known-rows {whole} {n} ts h =
+        record { stand = h .stand; all-known = each-row-both Small-row (Backed-row message cap atoms) (rows whole n ts) (h .all-small) (backed-rows message cap atoms whole n ts (h .all-backed)) }
+
+    -- two terms compare as their meanings do
+    pub same-terms-same : {whole whole′ : Option ℕ} {a b : ℕ} (t u : Located) → Held message cap atoms T whole a t → Held message cap atoms T whole′ b u
+        → same-terms-raw message (list .places) (list .lengths) T a b ≡ same (meaning t) (meaning u)
+    same-terms-same {whole} {whole′} {a} {b} t u h g =
+        same-from-same (same-row message (list .places) (list .lengths)) Known (λ r k. k .0) row-agrees T whole whole′ a b t u (known-tree t h) (known-tree u g)
+
+    -- a term right past pairs is compared with each of their keys
+    pub among-rows-among : {whole whole′ : Option ℕ} {first key : ℕ} (ts : Terms) (u : Located) {ks : List Term} → Keys-of ts ks → key ≡ first + sizes ts
+        → Held-rows message cap atoms T whole first ts → Held message cap atoms T whole′ key u → among-rows message (list .places) (list .lengths) T first key ≡ among (meaning u) ks
+    among-rows-among {whole} {whole′} {first} {key} ts u p e h g =
+        among-from-among (same-row message (list .places) (list .lengths)) Known (λ r k. k .0) row-agrees T whole whole′ key u (known-tree u g) first p e (known-rows ts h)
+
+    -- the same of the last of terms, after pairs
+    pub last-among : {whole : Option ℕ} {first : ℕ} (ts : Terms) (u : Located) {ks : List Term} → Keys-of ts ks → Held-rows message cap atoms T whole first (ts ▹▹ (u ▹ empty))
+        → among-rows message (list .places) (list .lengths) T first (first + sizes ts) ≡ among (meaning u) ks
+    last-among ts u p h =
+        among-rows-among ts u p refl (held-left message cap atoms ts (u ▹ empty) h) (held-first message cap atoms u empty (held-right message cap atoms ts (u ▹ empty) h))

@@ -1,0 +1,63 @@
+-- Keys that were read, remembered in slots by their hash. A slot is 0 (empty) or the row of a key plus 1.
+use mathlib.Core.Path.{_≡_}
+use mathlib.Core.Bool.{false}
+use mathlib.Core.List.{List, [], _∷_}
+use Prim.Native.Nat.{ℕ, zero, suc, _+_, _*_, _-_, _/_, _%_, _<_}
+use lib.ListN.{length, getD}
+use Rattle.term_spec.specs.Rows.{kind-in, offset-in, parts-in, size-in}
+use Rattle.row_fields.specs.Found.{content-of}
+use Rattle.row_fields.specs.Meaning.{term-kind}
+use Rattle.row_fields.specs.Hash.{mix, hash-contents}
+use Rattle.map_keys.specs.Compare.{same-terms-raw, pair-size}
+
+-- the d-th slot from the hash h on
+abbrev pub slot : List ℕ → ℕ → ℕ → ℕ
+slot L h d = getD L ((h + d) % length L) 0
+
+-- the key at the row k, whose hash is h, stands in a slot before the first empty one, if one is empty
+pub record Known (L : List ℕ) (h k : ℕ) : Type 0 where
+  pub stands : (d : ℕ) → d < length L → slot L h d ≡ 0 → (e : ℕ) × (e < d) × (slot L h e ≡ k + 1)
+
+-- taken slots stay as they are, and so does the number of slots
+pub record Keeps (L L′ : List ℕ) : Type 0 where
+  pub as-many : length L′ ≡ length L
+  pub taken : (i : ℕ) → (getD L i 0 ≡ 0 → ⊥) → getD L′ i 0 ≡ getD L i 0
+
+-- hashes of terms, over the words of their rows
+module _ (m places lengths : List ℕ) where
+  -- what a row says: its kind, its number of parts and its own fields
+  unfoldable pub hash-row : ℕ → ℕ → ℕ
+  hash-row h w =
+      hash-contents m places (mix h (16 * parts-in w + term-kind (kind-in w))) (content-of m places lengths (kind-in w) (offset-in w))
+
+  unfoldable pub hash-all : ℕ → List ℕ → ℕ
+  hash-all h [] = h
+  hash-all h (w ∷ ws) = hash-all (hash-row h w) ws
+
+  -- equal keys of two maps get two hashes: each map's start from the row of its first key; the step at the end and the half that is taken part keys that differ in their last byte alone
+  unfoldable pub hash-words : ℕ → List ℕ → ℕ
+  hash-words first ws = mix (hash-all (mix 0 first) ws) 0 / 65536
+
+  -- the same of the n rows of a table from a on
+  unfoldable pub hash-rows : List ℕ → ℕ → ℕ → ℕ → ℕ
+  hash-rows T h zero a = h
+  hash-rows T h (suc n) a = hash-rows T (hash-row h (getD T a 0)) n (a + 1)
+
+  -- of the term at a row, as a key of the map whose first key is at the row `first`
+  unfoldable pub term-hash : List ℕ → ℕ → ℕ → ℕ
+  term-hash T first row = mix (hash-rows T (mix 0 first) (size-in (getD T row 0)) row) 0 / 65536
+
+  -- an empty slot comes from the hash h on, and no row in the slots before it means the same as the key
+  unfoldable pub Unmet : List ℕ → ℕ → List ℕ → ℕ → Type 0
+  Unmet T key L h =
+      (d : ℕ) × (d < length L) × (slot L h d ≡ 0) × ((e : ℕ) → e < d → same-terms-raw m places lengths T key (slot L h e - 1) ≡ false)
+
+  module _ (T : List ℕ) (first key : ℕ) (L : List ℕ) where
+    -- the keys at which among-steps looks are known: in n steps from the row `at` on
+    unfoldable pub Recalls-from : ℕ → ℕ → Type 0
+    Recalls-from zero at = Unit {0}
+    Recalls-from (suc n) at = at < key → Known L (term-hash T first at) at × Recalls-from n (at + pair-size T at)
+
+    -- each key before the row `key` is known
+    abbrev pub Recalls : Type 0
+    Recalls = Recalls-from (key - first) first

@@ -1,0 +1,292 @@
+// Terms compared by their rows: whether they mean the same, whatever their encoding.
+ghost use mathlib.Core.Path.{_≡_};
+ghost use mathlib.Core.Bool.{false};
+ghost use Prim.Native.Nat.{_+_, _%_, _<_};
+ghost use lib.ListN.{length, getD};
+ghost use Rattle.row_fields.specs.Meaning.{term-kind};
+ghost use Rattle.map_keys.specs.Compare.{same-fields, same-row, same-rows, pair-size, same-terms-raw, among-rows};
+ghost use Rattle.map_keys.specs.Seen.{Known, Keeps, hash-row, term-hash, Unmet, Recalls};
+use row::kind_in;
+use row::offset_in;
+use row::parts_in;
+use row::size_in;
+use row_fields::content_at;
+use row_fields::hash_content;
+use row_fields::mix;
+use row_fields::same_content;
+use row_fields::wide16;
+
+// The word at an index of the table, 0 past its end.
+pub fn word_at(table: &[u64], i: usize) -> u64
+    ensures { λ r. ⌜ r ≡ getD (now (table .entry)) i 0 ⌝ }
+{
+    if i < table.len() {
+        return table[i];
+    }
+    0
+}
+
+// A character of a 107 is an integer.
+fn term_kind(kind: usize) -> usize
+    ensures { λ r. ⌜ r ≡ term-kind kind ⌝ }
+{
+    if kind == 14 {
+        return 1;
+    }
+    kind
+}
+
+// Whether the own fields of the terms of these kinds at these offsets are equal.
+fn same_fields(
+    msg: &[u8],
+    places: &[u8],
+    lengths: &[u16],
+    kind: usize,
+    offset: usize,
+    kind2: usize,
+    offset2: usize,
+) -> bool
+    ensures { λ r. ⌜ r ≡ same-fields (now (msg .entry)) (now (places .entry)) (now (lengths .entry)) kind offset kind2 offset2 ⌝ }
+{
+    let a = content_at(msg, places, lengths, kind, offset);
+    let b = content_at(msg, places, lengths, kind2, offset2);
+    same_content(msg, places, a, b)
+}
+
+// Whether two words of rows say the same fields and number of parts.
+fn same_row(msg: &[u8], places: &[u8], lengths: &[u16], v: u64, w: u64) -> bool
+    ensures { λ r. ⌜ r ≡ same-row (now (msg .entry)) (now (places .entry)) (now (lengths .entry)) v w ⌝ }
+{
+    let kind = kind_in(v);
+    let other = kind_in(w);
+    if term_kind(kind) != term_kind(other) {
+        return false;
+    }
+    if parts_in(v) != parts_in(w) {
+        return false;
+    }
+    same_fields(
+        msg,
+        places,
+        lengths,
+        kind,
+        offset_in(v),
+        other,
+        offset_in(w),
+    )
+}
+
+// The n rows from a on, and those from b on.
+fn same_rows(
+    msg: &[u8],
+    places: &[u8],
+    lengths: &[u16],
+    table: &[u64],
+    n: usize,
+    a: usize,
+    b: usize,
+) -> bool
+    requires { ⌜ (a + n < 4611686018427387904) × (b + n < 4611686018427387904) ⌝ }
+    ensures { λ r. ⌜ r ≡ same-rows (same-row (now (msg .entry)) (now (places .entry)) (now (lengths .entry))) (now (table .entry)) n a b ⌝ }
+{
+    let mut i = 0usize;
+    while i < n {
+        let v = word_at(table, a + i);
+        let w = word_at(table, b + i);
+        if !same_row(msg, places, lengths, v, w) {
+            return false;
+        }
+        i += 1;
+    }
+    true
+}
+
+// Whether the terms whose rows start at a and b mean the same.
+fn same_terms(msg: &[u8], places: &[u8], lengths: &[u16], table: &[u64], a: usize, b: usize) -> bool
+    ensures { λ r. ⌜ r ≡ same-terms-raw (now (msg .entry)) (now (places .entry)) (now (lengths .entry)) (now (table .entry)) a b ⌝ }
+{
+    if table.len() <= a {
+        return false;
+    }
+    if table.len() <= b {
+        return false;
+    }
+    let n = size_in(table[a]);
+    if n != size_in(table[b]) {
+        return false;
+    }
+    same_rows(msg, places, lengths, table, n, a, b)
+}
+
+// How many rows the term at a row and the next one have.
+fn pair_size(table: &[u64], at: usize) -> usize
+    requires { ⌜ at < 4611686018427387904 ⌝ }
+    ensures { λ r. ⌜ (r ≡ pair-size (now (table .entry)) at) × (r < 32768) ⌝ }
+{
+    let k = size_in(word_at(table, at));
+    let v = size_in(word_at(table, at + k));
+    k + v
+}
+
+// Whether the term at the row `key` means the same as a key of the pairs from the row `first` on.
+fn key_among(
+    msg: &[u8],
+    places: &[u8],
+    lengths: &[u16],
+    table: &[u64],
+    first: usize,
+    key: usize,
+) -> bool
+    ensures { λ r. ⌜ r ≡ among-rows (now (msg .entry)) (now (places .entry)) (now (lengths .entry)) (now (table .entry)) first key ⌝ }
+{
+    if table.len() <= key {
+        return false;
+    }
+    let mut at = first;
+    while at < key {
+        if same_terms(msg, places, lengths, table, key, at) {
+            return true;
+        }
+        let step = pair_size(table, at);
+        if step == 0 {
+            return false;
+        }
+        at += step;
+    }
+    false
+}
+
+// A hash after what a row says of its term.
+fn hash_row(msg: &[u8], places: &[u8], lengths: &[u16], h: u64, w: u64) -> u64
+    requires { ⌜ h < 4294967296 ⌝ }
+    ensures { λ r. ⌜ (r ≡ hash-row (now (msg .entry)) (now (places .entry)) (now (lengths .entry)) h w) × (r < 4294967296) ⌝ }
+{
+    let kind = kind_in(w);
+    let sum = mix(h, (16 * parts_in(w) + term_kind(kind)) as u64);
+    let own = content_at(msg, places, lengths, kind, offset_in(w));
+    hash_content(msg, places, sum, own)
+}
+
+// The hash of the term at a row, as a key of the map whose first key is at the row `first`.
+fn term_hash(
+    msg: &[u8],
+    places: &[u8],
+    lengths: &[u16],
+    table: &[u64],
+    first: usize,
+    row: usize,
+) -> usize
+    requires { ⌜ row < 4611686018427387904 ⌝ }
+    ensures { λ r. ⌜ r ≡ term-hash (now (msg .entry)) (now (places .entry)) (now (lengths .entry)) (now (table .entry)) first row ⌝ }
+{
+    let n = size_in(word_at(table, row));
+    let mut h = mix(0, first as u64);
+    let mut i = 0usize;
+    while i < n {
+        h = hash_row(msg, places, lengths, h, word_at(table, row + i));
+        i += 1;
+    }
+    (mix(h, 0) / 65536) as usize
+}
+
+// The slot after slot i, of n; after the last comes the first.
+fn next_slot(i: usize, n: usize) -> usize
+    requires { ⌜ i < n ⌝ }
+    ensures { λ r. ⌜ (r ≡ (i + 1) % n) × (r < n) ⌝ }
+{
+    if i + 1 == n {
+        return 0;
+    }
+    i + 1
+}
+
+// Whether a row in the slots from the hash on, before an empty one, means the same as the key; or no slot is empty.
+fn met(
+    msg: &[u8],
+    places: &[u8],
+    lengths: &[u16],
+    table: &[u64],
+    seen: &[u16],
+    key: usize,
+    hash: usize,
+) -> bool
+    requires { ⌜ 0 < length (now seen) ⌝ }
+    ensures { λ r. ⌜ (r ≡ false → Unmet (now (msg .entry)) (now (places .entry)) (now (lengths .entry)) (now (table .entry)) key (now (seen .entry)) hash) ⌝ }
+{
+    let n = seen.len();
+    let mut i = hash % n;
+    let mut d = 0usize;
+    while d < n {
+        let taken = wide16(seen[i]);
+        if taken == 0 {
+            return false;
+        }
+        if same_terms(msg, places, lengths, table, key, taken - 1) {
+            return true;
+        }
+        i = next_slot(i, n);
+        d += 1;
+    }
+    true
+}
+
+// Puts the key's row into the first empty slot from the hash on, if there is one.
+fn remember(seen: &mut [u16], hash: usize, key: usize)
+    requires { ⌜ (0 < length (now seen)) × (key < 65535) ⌝ }
+    ensures { λ _. ⌜ Keeps (now (seen .entry)) (now (seen .exit)) × Known (now (seen .exit)) hash key ⌝ }
+{
+    let n = seen.len();
+    let mut i = hash % n;
+    let mut d = 0usize;
+    while d < n {
+        if seen[i] == 0 {
+            seen[i] = (key + 1) as u16;
+            return;
+        }
+        i = next_slot(i, n);
+        d += 1;
+    }
+}
+
+// Whether the key means the same as an earlier key of its map; all are compared only where the slots do not rule it out.
+fn equals_earlier(
+    msg: &[u8],
+    places: &[u8],
+    lengths: &[u16],
+    table: &[u64],
+    seen: &[u16],
+    first: usize,
+    key: usize,
+    hash: usize,
+) -> bool
+    requires { ⌜ (0 < length (now seen)) × (hash ≡ term-hash (now msg) (now places) (now lengths) (now table) first key) ⌝ }
+    ensures { λ r. ⌜ (Recalls (now (msg .entry)) (now (places .entry)) (now (lengths .entry)) (now (table .entry)) first key (now (seen .entry)) → r ≡ among-rows (now (msg .entry)) (now (places .entry)) (now (lengths .entry)) (now (table .entry)) first key) ⌝ }
+{
+    if !met(msg, places, lengths, table, seen, key, hash) {
+        return false;
+    }
+    key_among(msg, places, lengths, table, first, key)
+}
+
+// Whether the key at the row `key` means the same as a key of the pairs from the row `first` on; if not, it is remembered.
+pub fn repeats(
+    msg: &[u8],
+    places: &[u8],
+    lengths: &[u16],
+    table: &[u64],
+    seen: &mut [u16],
+    first: usize,
+    key: usize,
+) -> bool
+    requires { ⌜ (0 < length (now seen)) × (key < 65535) ⌝ }
+    ensures { λ r. ⌜ Keeps (now (seen .entry)) (now (seen .exit)) ⌝ }
+    ensures { λ r. ⌜ (Recalls (now (msg .entry)) (now (places .entry)) (now (lengths .entry)) (now (table .entry)) first key (now (seen .entry)) → r ≡ among-rows (now (msg .entry)) (now (places .entry)) (now (lengths .entry)) (now (table .entry)) first key) ⌝ }
+    ensures { λ r. ⌜ (r ≡ false → Known (now (seen .exit)) (term-hash (now (msg .entry)) (now (places .entry)) (now (lengths .entry)) (now (table .entry)) first key) key) ⌝ }
+{
+    let hash = term_hash(msg, places, lengths, table, first, key);
+    if equals_earlier(msg, places, lengths, table, seen, first, key, hash) {
+        return true;
+    }
+    remember(seen, hash, key);
+    false
+}

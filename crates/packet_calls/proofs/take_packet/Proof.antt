@@ -1,0 +1,205 @@
+-- `link::take_packet` meets its contract. Assumes nothing.
+use mathlib.Core.Path.{refl}
+use borrow.Author.Needs.{needs}
+use Rattle.packet_spec.specs.Memory.{none-pending}
+use Rattle.packet_calls.proofs.Naming.{plain-there, start-there, more-there}
+use Rattle.packet_calls.proofs.Whole.{lengths-told, size-done, false-done, opening-done, plain-done, start-done, more-done}
+use Rattle.packet_calls.proofs.take_packet.Statement.{statement}
+use Rattle.packet_calls.proofs.take_packet.Tie as tie
+
+memory-fits-requires : tie.Need-memory-fits-requires
+memory-fits-requires c κs = search needs
+
+refused-requires : tie.Need-refused-requires
+refused-requires c κs = search needs
+
+same-length : tie.Need-same-length
+same-length c = search needs
+
+same-length-2 : tie.Need-same-length-2
+same-length-2 c = search needs
+
+same-length-3 : tie.Need-same-length-3
+same-length-3 c = search needs
+
+same-length-4 : tie.Need-same-length-4
+same-length-4 c = search needs
+
+same-length-5 : tie.Need-same-length-5
+same-length-5 c = search needs
+
+same-length-6 : tie.Need-same-length-6
+same-length-6 c = search needs
+
+same-length-7 : tie.Need-same-length-7
+same-length-7 c = search needs
+
+returns : tie.Need-returns
+returns c = rw (c .refused .ensures) (size-done _ _ _ (c .before .before .memory-fits .ensures _ _ _) (c .before .if1 .taken))
+
+refused-requires-2 : tie.Need-refused-requires-2
+refused-requires-2 c κs = search needs
+
+same-length-8 : tie.Need-same-length-8
+same-length-8 c = search needs
+
+same-length-9 : tie.Need-same-length-9
+same-length-9 c = search needs
+
+same-length-10 : tie.Need-same-length-10
+same-length-10 c = search needs
+
+same-length-11 : tie.Need-same-length-11
+same-length-11 c = search needs
+
+same-length-12 : tie.Need-same-length-12
+same-length-12 c = search needs
+
+same-length-13 : tie.Need-same-length-13
+same-length-13 c = search needs
+
+same-length-14 : tie.Need-same-length-14
+same-length-14 c = search needs
+
+returns-2 : tie.Need-returns-2
+returns-2 c = rw (c .refused2 .ensures) (false-done _ _ _ (c .before .before .before .before .memory-fits .ensures _ _ _) (c .before .before .before .if1 .left) (c .before .if2 .taken))
+
+open-packet-requires : tie.Need-open-packet-requires
+open-packet-requires c κs = search needs
+
+enum-known-number : tie.Need-enum-known-number
+enum-known-number c = search needs
+
+refused-requires-3 : tie.Need-refused-requires-3
+refused-requires-3 c κs = search needs
+
+enum-told : tie.Need-enum-told
+enum-told c = search needs
+
+take-plain-requires : tie.Need-take-plain-requires
+take-plain-requires c κs = let z = lengths-told _ (c .before .before .before .before .before .before .before .before .before .before .before .memory-fits .ensures 0 0 none-pending) (c .before .before .before .before .before .before .before .before .before .before .if1 .left) in
+    (plain-there _ (rw (c .before .before .before .before .before .enum-told .given .1) at (c .before .before .before .before .before .before .before .open-packet .ensures)), z .places, z .lengths, z .plain-places, z .plain-lengths)
+
+enum-known-sequence : tie.Need-enum-known-sequence
+enum-known-sequence c = search needs
+
+take-start-requires : tie.Need-take-start-requires
+take-start-requires c κs = let z = lengths-told _ (c .before .before .before .before .before .before .before .before .before .before .before .before .before .memory-fits .ensures 0 0 none-pending) (c .before .before .before .before .before .before .before .before .before .before .before .before .if1 .left) in
+    let t = start-there _ _ _ (rw (c .before .before .before .before .before .before .before .sequence .given .1) at (c .before .before .before .before .before .before .before .before .before .open-packet .ensures)) in
+    (t .0, z .places, z .lengths, z .pending-places, z .pending-lengths, z .gathered, t .1)
+
+enum-known-sequence-2 : tie.Need-enum-known-sequence-2
+enum-known-sequence-2 c = search needs
+
+take-continuation-requires : tie.Need-take-continuation-requires
+take-continuation-requires c κs = let z = lengths-told _ (c .before .before .before .before .before .before .before .before .memory-fits .ensures 0 0 none-pending) (c .before .before .before .before .before .before .before .if1 .left) in
+    let t = more-there _ _ _ (rw (c .before .before .sequence2 .given .1) at (c .before .before .before .before .open-packet .ensures)) in
+    (t .0, z .gathered, t .1, c .before .before .before .before .before .if2 .left)
+
+same-length-15 : tie.Need-same-length-15
+same-length-15 c = search needs
+
+same-length-16 : tie.Need-same-length-16
+same-length-16 c = search needs
+
+same-length-17 : tie.Need-same-length-17
+same-length-17 c = search needs
+
+same-length-18 : tie.Need-same-length-18
+same-length-18 c = search needs
+
+same-length-19 : tie.Need-same-length-19
+same-length-19 c = search needs
+
+same-length-20 : tie.Need-same-length-20
+same-length-20 c = search needs
+
+same-length-21 : tie.Need-same-length-21
+same-length-21 c = search needs
+
+returns-3 : tie.Need-returns-3
+returns-3 c = rw (c .refused3 .ensures) (opening-done _ _ _ (c .before .before .before .before .before .before .before .before .memory-fits .ensures _ _ _) (c .before .before .before .before .before .before .before .if1 .left) (c .before .before .before .before .before .if2 .left) _ (rw (c .before .before .number .given .1) at (c .before .before .before .before .open-packet .ensures)))
+
+same-length-22 : tie.Need-same-length-22
+same-length-22 c = search needs
+
+same-length-23 : tie.Need-same-length-23
+same-length-23 c = search needs
+
+same-length-24 : tie.Need-same-length-24
+same-length-24 c = search needs
+
+same-length-25 : tie.Need-same-length-25
+same-length-25 c = search needs
+
+same-length-26 : tie.Need-same-length-26
+same-length-26 c = search needs
+
+same-length-27 : tie.Need-same-length-27
+same-length-27 c = search needs
+
+same-length-28 : tie.Need-same-length-28
+same-length-28 c = search needs
+
+returns-4 : tie.Need-returns-4
+returns-4 c = plain-done _ _ _ (c .before .before .before .before .before .before .before .before .before .before .before .before .before .before .before .before .before .before .before .before .memory-fits .ensures _ _ _) (c .before .before .before .before .before .before .before .before .before .before .before .before .before .before .before .before .before .before .before .if1 .left) (c .before .before .before .before .before .before .before .before .before .before .before .before .before .before .before .before .before .if2 .left) (rw (c .before .before .before .before .before .before .before .before .before .before .before .before .before .before .enum-told .given .1) at (c .before .before .before .before .before .before .before .before .before .before .before .before .before .before .before .before .open-packet .ensures)) _ _ refl (c .before .before .before .before .before .before .before .before .take-plain .ensures _ _ _)
+
+same-length-29 : tie.Need-same-length-29
+same-length-29 c = search needs
+
+same-length-30 : tie.Need-same-length-30
+same-length-30 c = search needs
+
+same-length-31 : tie.Need-same-length-31
+same-length-31 c = search needs
+
+same-length-32 : tie.Need-same-length-32
+same-length-32 c = search needs
+
+same-length-33 : tie.Need-same-length-33
+same-length-33 c = search needs
+
+same-length-34 : tie.Need-same-length-34
+same-length-34 c = search needs
+
+same-length-35 : tie.Need-same-length-35
+same-length-35 c = search needs
+
+returns-5 : tie.Need-returns-5
+returns-5 c = start-done _ _ _ (c .before .before .before .before .before .before .before .before .before .before .before .before .before .before .before .before .before .before .before .before .before .before .before .before .memory-fits .ensures _ _ _) (c .before .before .before .before .before .before .before .before .before .before .before .before .before .before .before .before .before .before .before .before .before .before .before .if1 .left) (c .before .before .before .before .before .before .before .before .before .before .before .before .before .before .before .before .before .before .before .before .before .if2 .left) _ _ (rw (c .before .before .before .before .before .before .before .before .before .before .before .before .before .before .before .before .before .before .sequence .given .1) at (c .before .before .before .before .before .before .before .before .before .before .before .before .before .before .before .before .before .before .before .before .open-packet .ensures)) _ _ refl (c .before .before .before .before .before .before .before .before .before .before .take-start .ensures _)
+
+same-length-36 : tie.Need-same-length-36
+same-length-36 c = search needs
+
+same-length-37 : tie.Need-same-length-37
+same-length-37 c = search needs
+
+same-length-38 : tie.Need-same-length-38
+same-length-38 c = search needs
+
+same-length-39 : tie.Need-same-length-39
+same-length-39 c = search needs
+
+same-length-40 : tie.Need-same-length-40
+same-length-40 c = search needs
+
+same-length-41 : tie.Need-same-length-41
+same-length-41 c = search needs
+
+same-length-42 : tie.Need-same-length-42
+same-length-42 c = search needs
+
+returns-6 : tie.Need-returns-6
+returns-6 c = more-done _ _ _ (c .before .before .before .before .before .before .before .before .before .before .before .memory-fits .ensures _ _ _) (c .before .before .before .before .before .before .before .before .before .before .if1 .left) (c .before .before .before .before .before .before .before .before .if2 .left) _ _ (rw (c .before .before .before .before .before .sequence2 .given .1) at (c .before .before .before .before .before .before .before .open-packet .ensures)) _ _ refl (c .before .before .take-continuation .ensures _ _ _ _)
+
+pub take-packet-spec : {M : Type 1} → statement M
+take-packet-spec =
+    tie.close
+    (tie.spec
+    memory-fits-requires refused-requires same-length same-length-2 same-length-3 same-length-4 same-length-5 same-length-6 same-length-7 returns
+    refused-requires-2 same-length-8 same-length-9 same-length-10 same-length-11 same-length-12 same-length-13 same-length-14 returns-2
+    open-packet-requires enum-known-number refused-requires-3 enum-told take-plain-requires enum-known-sequence take-start-requires enum-known-sequence-2
+    take-continuation-requires same-length-15 same-length-16 same-length-17 same-length-18 same-length-19 same-length-20 same-length-21 returns-3
+    same-length-22 same-length-23 same-length-24 same-length-25 same-length-26 same-length-27 same-length-28 returns-4
+    same-length-29 same-length-30 same-length-31 same-length-32 same-length-33 same-length-34 same-length-35 returns-5
+    same-length-36 same-length-37 same-length-38 same-length-39 same-length-40 same-length-41 same-length-42 returns-6)

@@ -1,0 +1,159 @@
+-- Over a run of calls: what the gather buffer begins with, the pending list and the id due are what the accepted packets give, in turn.
+use mathlib.Core.Path.{_≡_, refl, sym, _∙_, ap, subst}
+use mathlib.Core.Bool.{Bool, true, false, cond}
+use mathlib.Core.List.{List, [], _∷_, _++_}
+use Prim.Native.Nat.{ℕ, _+_, _-_, _≤_}
+use native.Mathlib.Nat.{zero-add}
+use native.Mathlib.Omega.{arith}
+use lib.Dec.{eqb}
+use lib.ListN.{length, take, length-append}
+use lib.Seq.{sets}
+use borrow.Author.Tests.{eqb-true}
+use Rattle.term_spec.specs.Text.{Coding}
+use Rattle.term_spec.specs.Answer.{Answer, good, refused}
+use Rattle.term_spec.specs.AtomList.{AtomList}
+use Rattle.packet_spec.specs.declared.Pending.{Pending}
+use Rattle.packet_spec.specs.Memory.{Cache, Memory, cache-of-size, record-true, none-pending, empty-cache}
+use Rattle.packet_spec.specs.Header.{Reference}
+use Rattle.packet_spec.specs.Packet.{Packet, plain, start, continuation, judged}
+use Rattle.packet_spec.specs.Calls.{Outcome, complete, pending-still, list-of, record-after, told, told-after, left-by, left-after, taken, take-packet, after-packet, drop-sequence, reset, unless-refused}
+use Rattle.packet_spec.specs.Runs.{Call, taking, dropping, resetting, after-call, after-calls}
+use Rattle.packet_spec.proofs.Stores.{sets-joined}
+use Rattle.packet_spec.proofs.Judged.{Accepted, accepted, Sound-packet}
+use Rattle.packet_spec.proofs.SizesKept.{All-sized, all-sized, Bytes}
+use Rattle.packet_spec.proofs.Runs.{All-bytes}
+use Rattle.packet_spec.proofs.Sequence.{record-due, record-more}
+
+-- The sequence so far: the list that its start fixed, its payloads joined in order, the id due (0: none pending)
+pub record So-far : Type 0 where
+  pub list : AtomList
+  pub bytes : List ℕ
+  pub due : ℕ
+
+-- after a packet judged so: a start begins anew, a continuation's payload is joined on, and all else leaves it
+unfoldable pub gathered-by : Answer Packet → So-far → So-far
+gathered-by (good (plain rs at bs)) g = g
+gathered-by (good (start sequence fragment rs bs)) g = record { list = list-of rs; bytes = bs; due = fragment - 1 }
+gathered-by (good (continuation sequence fragment bs)) g = record { list = g .list; bytes = g .bytes ++ bs; due = g .due - 1 }
+gathered-by (refused number place) g = g
+
+-- after a drop or a reset, unless it is refused, none is pending
+unfoldable pub ended-by : {A : Type 0} → Answer A → So-far → So-far
+ended-by (good a) g = record { list = g .list; bytes = g .bytes; due = 0 }
+ended-by (refused number place) g = g
+
+unfoldable pub gathered-after : Memory → Call → So-far → So-far
+gathered-after m (taking agreed bs) g = gathered-by (judged agreed m bs) g
+gathered-after m dropping g = ended-by (drop-sequence (m .pending)) g
+gathered-after m resetting g = ended-by (reset (m .cache)) g
+
+unfoldable pub gathered-after-all : Memory → List Call → So-far → So-far
+gathered-after-all m [] g = g
+gathered-after-all m (c ∷ cs) g = gathered-after-all (after-call m c) cs (gathered-after m c g)
+
+-- the memory has it
+pub record Has (m : Memory) (g : So-far) : Type 0 where
+  pub first-bytes : take (length (g .bytes)) (m .gather) ≡ g .bytes
+  pub its-list : m .pending-list ≡ g .list
+  pub its-due : m .pending .due ≡ g .due
+  pub counted : (g .due ≡ 0 → ⊥) → m .pending .gathered ≡ length (g .bytes)
+
+has-left : (m : Memory) (p : Packet) (g : So-far) → All-sized m → Sound-packet (m .pending) p → Has m g → Has (left-by m p) (gathered-by (good p) g)
+unfolding left-by gathered-by
+has-left m (plain rs at bs) g s a h = record { first-bytes = h .first-bytes; its-list = h .its-list; its-due = h .its-due; counted = h .counted }
+has-left m (start q f rs bs) g s a h =
+    let big : length (m .gather) ≡ 65536 = s .gather-sized in
+    let small : length bs ≤ 65536 = a .2 in
+    record {
+      first-bytes =
+          ap (λ (n : ℕ). take n (sets (m .gather) 0 bs)) (sym (zero-add (length bs)))
+          ∙ sets-joined bs (m .gather) 0 (omega arith);
+      its-list = refl;
+      its-due = record-due q f (length bs) (a .3);
+      counted = λ n. ap (λ (r : Pending). r .gathered) (record-more q f (length bs) n);
+    }
+has-left m (continuation q f bs) g s a h =
+    let big : length (m .gather) ≡ 65536 = s .gather-sized in
+    let fits : m .pending .gathered + length bs ≤ 65536 = a .0 in
+    let is-due : f ≡ g .due = a .2 ∙ h .its-due in
+    let so-far : m .pending .gathered ≡ length (g .bytes) = h .counted (λ e. a .3 (is-due ∙ e)) in
+    let total : m .pending .gathered + length bs ≡ length (g .bytes ++ bs) = rw (length-append (g .bytes) bs) (omega arith) in
+    let down : f - 1 ≡ g .due - 1 = ap (λ (n : ℕ). n - 1) is-due in
+    record {
+      first-bytes =
+          ap (λ (n : ℕ). take n (sets (m .gather) (m .pending .gathered) bs)) (sym total)
+          ∙ sets-joined bs (m .gather) (m .pending .gathered) (omega arith)
+          ∙ ap (λ (front : List ℕ). front ++ bs) (ap (λ (n : ℕ). take n (m .gather)) so-far ∙ h .first-bytes);
+      its-list = h .its-list;
+      its-due = record-due q f (m .pending .gathered + length bs) (a .3) ∙ down;
+      counted = λ n. ap (λ (r : Pending). r .gathered) (record-more q f (m .pending .gathered + length bs) (λ e. n (sym down ∙ e))) ∙ total;
+    }
+
+pub call-gathers : (m : Memory) (c : Call) (g : So-far) → Bytes c → Has m g → Has (after-call m c) (gathered-after m c g)
+unfolding after-call gathered-after after-packet gathered-by drop-sequence reset ended-by
+call-gathers m (taking agreed bs) g u h = go (judged agreed m bs) refl
+  where
+    go : (o : Answer Packet) → judged agreed m bs ≡ o → Has (left-after m o) (gathered-by o g)
+    go (good p) e = let a : Accepted m p = accepted agreed m bs p u e in has-left m p g (all-sized m (a .of-its-size)) (a .sound) h
+    go (refused n q) e = h
+call-gathers m dropping g u h = go (record-true (m .pending)) (eqb (m .pending .due) 0)
+  where
+    go : (x y : Bool) → Has (record {
+      cache = m .cache;
+      plain-list = m .plain-list;
+      pending-list = m .pending-list;
+      pending = unless-refused (m .pending) (cond x (cond y (refused 25 0) (good none-pending)) (refused 14 0));
+      gather = m .gather;
+    })
+        (ended-by (cond x (cond y (refused 25 0) (good none-pending)) (refused 14 0)) g)
+    go false y = record { first-bytes = h .first-bytes; its-list = h .its-list; its-due = h .its-due; counted = h .counted }
+    go true true = record { first-bytes = h .first-bytes; its-list = h .its-list; its-due = h .its-due; counted = h .counted }
+    go true false = record { first-bytes = h .first-bytes; its-list = h .its-list; its-due = refl; counted = λ n. absurd (n refl) }
+call-gathers m resetting g u h = go (cache-of-size (m .cache))
+  where
+    go : (b : Bool) → Has (record {
+      cache = unless-refused {A = Cache × Pending} (m .cache, m .pending) (cond b (good (empty-cache, none-pending)) (refused 13 0)) .0;
+      plain-list = m .plain-list;
+      pending-list = m .pending-list;
+      pending = unless-refused {A = Cache × Pending} (m .cache, m .pending) (cond b (good (empty-cache, none-pending)) (refused 13 0)) .1;
+      gather = m .gather;
+    })
+        (ended-by {A = Cache × Pending} (cond b (good (empty-cache, none-pending)) (refused 13 0)) g)
+    go true = record { first-bytes = h .first-bytes; its-list = h .its-list; its-due = refl; counted = λ n. absurd (n refl) }
+    go false = record { first-bytes = h .first-bytes; its-list = h .its-list; its-due = h .its-due; counted = h .counted }
+
+-- after any run of calls
+pub run-gathers : (cs : List Call) (m : Memory) (g : So-far) → All-bytes cs → Has m g → Has (after-calls m cs) (gathered-after-all m cs g)
+unfolding after-calls gathered-after-all
+run-gathers [] m g u h = h
+run-gathers (c ∷ cs) m g u h = run-gathers cs (after-call m c) (gathered-after m c g) (u .1) (call-gathers m c g (u .0) h)
+
+-- with no sequence pending at first, whatever the gather buffer and the list are
+pub none-yet : (m : Memory) → m .pending .due ≡ 0 → Has m (record { list = m .pending-list; bytes = []; due = 0 })
+none-yet m e = record { first-bytes = refl; its-list = refl; its-due = e; counted = λ n. absurd (n refl) }
+
+-- A packet that is answered complete: the bytes gathered are those of the sequence, and none is due then
+pub completes : (agreed : Coding) (m : Memory) (bs : List ℕ) (g : So-far) (k : ℕ) → Bytes (taking agreed bs) → Has m g
+    → take-packet agreed m bs ≡ good (complete k) → (k ≡ length (gathered-by (judged agreed m bs) g .bytes)) × (gathered-by (judged agreed m bs) g .due ≡ 0)
+unfolding take-packet told told-after gathered-by
+completes agreed m bs g k u h t = go (judged agreed m bs) refl t
+  where
+    one : (f n : ℕ) (x : Bool) → eqb f 1 ≡ x → _≡_ {A = Answer Outcome} (good (cond x (complete n) (pending-still (f - 1) n))) (good (complete k)) → (k ≡ n) × (eqb f 1 ≡ true)
+    one f n true e c = (cc, e)
+    one f n false e c = let no-way : _≡_ {A = ℕ} 0 1 = cc in absurd (omega arith)
+
+    go : (o : Answer Packet) → judged agreed m bs ≡ o → taken m o ≡ good (complete k) → (k ≡ length (gathered-by o g .bytes)) × (gathered-by o g .due ≡ 0)
+    go (good (plain rs at p)) e c = let no-way : _≡_ {A = ℕ} 0 1 = cc in absurd (omega arith)
+    go (good (start q f rs p)) e c =
+        let w : (k ≡ length p) × (eqb f 1 ≡ true) = one f (length p) (eqb f 1) refl c in
+        let is : f ≡ 1 = eqb-true f 1 (w .1) in
+        (w .0, omega arith)
+    go (good (continuation q f p)) e c =
+        let a : Accepted m (continuation q f p) = accepted agreed m bs (continuation q f p) u e in
+        let w : (k ≡ m .pending .gathered + length p) × (eqb f 1 ≡ true) = one f (m .pending .gathered + length p) (eqb f 1) refl c in
+        let is : f ≡ 1 = eqb-true f 1 (w .1) in
+        let is-due : f ≡ g .due = a .sound .2 ∙ h .its-due in
+        let so-far : m .pending .gathered ≡ length (g .bytes) = h .counted (λ z. a .sound .3 (is-due ∙ z)) in
+        let total : length (g .bytes ++ p) ≡ length (g .bytes) + length p = length-append (g .bytes) p in
+        (omega (arith, w .0), omega arith)
+    go (refused n q) e c = let no-way : _≡_ {A = ℕ} 0 1 = cc in absurd (omega arith)

@@ -1,0 +1,11 @@
+pub mod Stores
+pub mod Cache
+pub mod Judged
+pub mod Frame
+pub mod SizesKept
+pub mod Calls
+pub mod Listed
+pub mod Runs
+pub mod Sequence
+pub mod Gathered
+pub mod Cases

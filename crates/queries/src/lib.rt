@@ -1,0 +1,315 @@
+// Two questions on a message: a row's number, and an atom's text with its mark.
+ghost use mathlib.Core.Path.{_≡_};
+ghost use Prim.Native.Nat.{_<_};
+ghost use lib.IntN.{pos, negsuc};
+ghost use Rattle.term_spec.specs.Answers.{number-case, number-answer, mark-answer};
+ghost use Rattle.term_spec.specs.Look.{number-in, text-in, text-bytes};
+ghost use Rattle.term_spec.specs.Message.{standalone, payload};
+ghost use Rattle.queries.specs.Code.{signed-number, float-number, content-number, number-found, atom-row, atom-among, text-said, located, text-at, mark-at, Inside, bytes-at};
+ghost use Rattle.term_spec.specs.AtomList.{lent-list};
+use map_keys::word_at;
+use reader::read_payload;
+use reader::read_standalone;
+use row::kind_in;
+use row::offset_in;
+use row_fields::Content;
+use row_fields::content_at;
+use term_spec::MarkAnswer;
+use term_spec::NumberAnswer;
+use term_spec::ReadAnswer;
+use term_spec::Refusal;
+
+// Where an atom's text stands: in the message, or in the list's places.
+pub enum TextAt {
+    Message {
+        start: usize,
+        length: usize,
+        latin1: bool,
+    },
+    List {
+        start: usize,
+        length: usize,
+    },
+    Refused(Refusal),
+}
+
+// -(k + 1): every negative i64, the least one too.
+fn below_zero(k: u64) -> i64
+    requires { ⌜ k < 9223372036854775808 ⌝ }
+    ensures { λ r. ⌜ r ≡ negsuc k ⌝ }
+{
+    -1 - (k as i64)
+}
+
+fn from_zero(k: u64) -> i64
+    requires { ⌜ k < 9223372036854775808 ⌝ }
+    ensures { λ r. ⌜ r ≡ pos k ⌝ }
+{
+    k as i64
+}
+
+// The whole number with this sign and magnitude, where an i64 holds it.
+fn signed_number(negative: bool, n: u64) -> NumberAnswer
+    ensures { λ r. ⌜ r ≡ number-case (signed-number negative n) ⌝ }
+{
+    if negative {
+        if n == 0 {
+            return NumberAnswer::Whole(0);
+        }
+        if 9223372036854775808 < n {
+            return NumberAnswer::Neither;
+        }
+        return NumberAnswer::Whole(below_zero(n - 1));
+    }
+    if n < 9223372036854775808 {
+        return NumberAnswer::Whole(from_zero(n));
+    }
+    NumberAnswer::Neither
+}
+
+// The float that has these 64 bits, neither infinite nor no number.
+fn float_number(bits: u64) -> NumberAnswer
+    ensures { λ r. ⌜ r ≡ number-case (float-number bits) ⌝ }
+{
+    if bits % 9223372036854775808 < 9218868437227405312 {
+        return NumberAnswer::Float(f64::from_bits(bits));
+    }
+    NumberAnswer::Neither
+}
+
+// The number that a term's own fields say.
+fn content_number(c: Content) -> NumberAnswer
+    ensures { λ r. ⌜ r ≡ number-case (content-number c) ⌝ }
+{
+    match c {
+        Content::Whole {
+            negative,
+            magnitude,
+        } => signed_number(negative, magnitude),
+        Content::Float { bits } => float_number(bits),
+        _ => NumberAnswer::Neither,
+    }
+}
+
+// The number of a row of a message, whose reading gave this answer and this table.
+fn number_found(
+    msg: &[u8],
+    places: &[u8],
+    lengths: &[u16],
+    table: &[u64],
+    read: ReadAnswer,
+    row: usize,
+) -> NumberAnswer
+    ensures { λ r. ⌜ r ≡ number-found (now (msg .entry)) (now (places .entry)) (now (lengths .entry)) (now (table .entry)) read row ⌝ }
+{
+    match read {
+        ReadAnswer::Terms { terms, rows } => {
+            if rows <= row {
+                return NumberAnswer::Neither;
+            }
+            let w = word_at(table, row);
+            content_number(content_at(msg, places, lengths, kind_in(w), offset_in(w)))
+        }
+        ReadAnswer::Refused(refusal) => NumberAnswer::Refused(refusal),
+    }
+}
+
+// Whether a row is that of an atom whose tag is at this offset.
+fn atom_row(w: u64, at: usize) -> bool
+    ensures { λ r. ⌜ r ≡ atom-row w at ⌝ }
+{
+    if kind_in(w) != 3 {
+        return false;
+    }
+    offset_in(w) == at
+}
+
+// Whether one of the rows is that of an atom whose tag is at this offset.
+fn atom_among(table: &[u64], rows: usize, at: usize) -> bool
+    ensures { λ r. ⌜ r ≡ atom-among (now (table .entry)) rows 0 at ⌝ }
+{
+    let mut i = 0usize;
+    while i < rows {
+        if atom_row(word_at(table, i), at) {
+            return true;
+        }
+        i += 1;
+    }
+    false
+}
+
+// Where the text stands that an atom's own fields say; 4 where they are no atom's.
+fn text_said(c: Content, at: usize) -> TextAt
+    ensures { λ r. ⌜ r ≡ text-said at c ⌝ }
+{
+    match c {
+        Content::Text {
+            latin1,
+            listed,
+            start,
+            length,
+        } => {
+            if listed {
+                return TextAt::List { start, length };
+            }
+            TextAt::Message {
+                start,
+                length,
+                latin1,
+            }
+        }
+        _ => TextAt::Refused(Refusal {
+            number: 4,
+            place: at,
+        }),
+    }
+}
+
+// Where the text of the atom at this offset of a message stands, whose reading gave this answer and this table.
+fn located(
+    msg: &[u8],
+    places: &[u8],
+    lengths: &[u16],
+    table: &[u64],
+    read: ReadAnswer,
+    at: usize,
+) -> TextAt
+    ensures { λ r. ⌜ r ≡ located (now (msg .entry)) (now (places .entry)) (now (lengths .entry)) (now (table .entry)) read at ⌝ }
+{
+    match read {
+        ReadAnswer::Terms { terms, rows } => {
+            if !atom_among(table, rows, at) {
+                return TextAt::Refused(Refusal {
+                    number: 4,
+                    place: at,
+                });
+            }
+            text_said(content_at(msg, places, lengths, 3, at), at)
+        }
+        ReadAnswer::Refused(refusal) => TextAt::Refused(refusal),
+    }
+}
+
+// The mark of a text that stands there.
+fn mark_at(t: TextAt) -> MarkAnswer
+    ensures { λ r. ⌜ r ≡ mark-at t ⌝ }
+{
+    match t {
+        TextAt::Message {
+            start,
+            length,
+            latin1,
+        } => {
+            if latin1 {
+                return MarkAnswer::Latin1;
+            }
+            MarkAnswer::Utf8
+        }
+        TextAt::List { start, length } => MarkAnswer::Utf8,
+        TextAt::Refused(refusal) => MarkAnswer::Refused(refusal),
+    }
+}
+
+// The bytes of a text that stands there.
+fn bytes_at<'a>(msg: &'a [u8], places: &'a [u8], t: TextAt) -> &'a [u8]
+    requires { ⌜ Inside (now msg) (now places) t ⌝ }
+    ensures { λ r. ⌜ now r ≡ bytes-at (now (msg .entry)) (now (places .entry)) t ⌝ }
+{
+    match t {
+        TextAt::Message {
+            start,
+            length,
+            latin1,
+        } => {
+            let end = start + length;
+            &msg[start..end]
+        }
+        TextAt::List { start, length } => {
+            let end = start + length;
+            &places[start..end]
+        }
+        TextAt::Refused(refusal) => &msg[0..0],
+    }
+}
+
+// The number of a row of a standalone term, with this atom list.
+pub fn number_standalone(
+    msg: &[u8],
+    n: u8,
+    places: &[u8],
+    lengths: &[u16],
+    row: usize,
+) -> NumberAnswer
+    ensures { λ r. ⌜ r ≡ number-answer (number-in standalone (lent-list n (now (places .entry)) (now (lengths .entry))) (now (msg .entry)) row) ⌝ }
+{
+    let mut table = [0u64; 8192];
+    let read = read_standalone(msg, n, places, lengths, &mut table);
+    number_found(msg, places, lengths, &table, read, row)
+}
+
+// Where the text stands of the atom whose tag is at this offset of a standalone term.
+pub fn locate_standalone(msg: &[u8], n: u8, places: &[u8], lengths: &[u16], at: usize) -> TextAt
+    ensures { λ r. ⌜ (r ≡ text-at (text-in standalone (lent-list n (now (places .entry)) (now (lengths .entry))) (now (msg .entry)) at)) × Inside (now (msg .entry)) (now (places .entry)) r ⌝ }
+{
+    let mut table = [0u64; 8192];
+    let read = read_standalone(msg, n, places, lengths, &mut table);
+    located(msg, places, lengths, &table, read, at)
+}
+
+// The text of the atom whose tag is at this offset of a standalone term, empty where refused.
+pub fn text_standalone<'a>(
+    msg: &'a [u8],
+    n: u8,
+    places: &'a [u8],
+    lengths: &[u16],
+    at: usize,
+) -> &'a [u8]
+    ensures { λ r. ⌜ now r ≡ text-bytes (now (msg .entry)) (lent-list n (now (places .entry)) (now (lengths .entry))) (text-in standalone (lent-list n (now (places .entry)) (now (lengths .entry))) (now (msg .entry)) at) ⌝ }
+{
+    bytes_at(msg, places, locate_standalone(msg, n, places, lengths, at))
+}
+
+// The mark of that text, or the refusal.
+pub fn mark_standalone(msg: &[u8], n: u8, places: &[u8], lengths: &[u16], at: usize) -> MarkAnswer
+    ensures { λ r. ⌜ r ≡ mark-answer (text-in standalone (lent-list n (now (places .entry)) (now (lengths .entry))) (now (msg .entry)) at) ⌝ }
+{
+    mark_at(locate_standalone(msg, n, places, lengths, at))
+}
+
+// The number of a row of a payload, with this atom list.
+pub fn number_payload(msg: &[u8], n: u8, places: &[u8], lengths: &[u16], row: usize) -> NumberAnswer
+    ensures { λ r. ⌜ r ≡ number-answer (number-in payload (lent-list n (now (places .entry)) (now (lengths .entry))) (now (msg .entry)) row) ⌝ }
+{
+    let mut table = [0u64; 8192];
+    let read = read_payload(msg, n, places, lengths, &mut table);
+    number_found(msg, places, lengths, &table, read, row)
+}
+
+// Where the text stands of the atom whose tag is at this offset of a payload.
+pub fn locate_payload(msg: &[u8], n: u8, places: &[u8], lengths: &[u16], at: usize) -> TextAt
+    ensures { λ r. ⌜ (r ≡ text-at (text-in payload (lent-list n (now (places .entry)) (now (lengths .entry))) (now (msg .entry)) at)) × Inside (now (msg .entry)) (now (places .entry)) r ⌝ }
+{
+    let mut table = [0u64; 8192];
+    let read = read_payload(msg, n, places, lengths, &mut table);
+    located(msg, places, lengths, &table, read, at)
+}
+
+// The text of the atom whose tag is at this offset of a payload, empty where refused.
+pub fn text_payload<'a>(
+    msg: &'a [u8],
+    n: u8,
+    places: &'a [u8],
+    lengths: &[u16],
+    at: usize,
+) -> &'a [u8]
+    ensures { λ r. ⌜ now r ≡ text-bytes (now (msg .entry)) (lent-list n (now (places .entry)) (now (lengths .entry))) (text-in payload (lent-list n (now (places .entry)) (now (lengths .entry))) (now (msg .entry)) at) ⌝ }
+{
+    bytes_at(msg, places, locate_payload(msg, n, places, lengths, at))
+}
+
+// The mark of that text, or the refusal.
+pub fn mark_payload(msg: &[u8], n: u8, places: &[u8], lengths: &[u16], at: usize) -> MarkAnswer
+    ensures { λ r. ⌜ r ≡ mark-answer (text-in payload (lent-list n (now (places .entry)) (now (lengths .entry))) (now (msg .entry)) at) ⌝ }
+{
+    mark_at(locate_payload(msg, n, places, lengths, at))
+}

@@ -1,0 +1,296 @@
+-- Messages: one law for each way through `standalone_terms`, `payload_terms` and the public calls. Assumes nothing.
+use mathlib.Core.Path.{_≡_, refl, sym, ap, ap₂, _∙_}
+use mathlib.Core.Bool.{Bool, true, false}
+use mathlib.Core.List.{List, [], _∷_, _++_, append-nil}
+use mathlib.Core.Option as option
+use Prim.Native.Nat.{ℕ, _+_, _-_, _≤_, _<_, min}
+use native.Mathlib.Omega.{arith}
+use lib.Dec.{leb}
+use lib.ListN.{length, getD, drop, replicate, drop-of-length-le}
+use lib.Seq.{sets, drop-cons}
+use borrow.Author.Tests.{eq-eqb, ne-eqb, le-leb, lt-leb, leb-true}
+use Rattle.term_spec.specs.Tree.{empty, _▹_, count, size, sizes, Each-node}
+use Rattle.term_spec.specs.Answer.{Answer, good, refused, Position, at-offset, Reading, after, done}
+use Rattle.term_spec.specs.Answers.{read-answer}
+use Rattle.term_spec.specs.AtomList.{AtomList, of-size, atoms-of}
+use Rattle.term_spec.specs.Head.{Atoms, any}
+use Rattle.term_spec.specs.Message as message
+use Rattle.term_spec.specs.Message.{Terms, version, ending, standalone-term, payload-terms, terms-framed, result-of, first-check, read}
+use Rattle.term_spec.specs.Reading.{Located, term}
+use Rattle.term_spec.specs.Rows.{Row, tree-rows, rows, row-words, table-after, Placed}
+use Rattle.term_spec.specs.declared.Refusal.{Refusal}
+use Rattle.term_spec.specs.declared.ReadAnswer.{ReadAnswer}
+use Rattle.term_spec.specs.declared.ReadAnswer.the-variants as reads
+use Rattle.term_spec.proofs.Rows.{length-rows}
+use Rattle.term_spec.proofs.Words.{length-words-of}
+use Rattle.octets.specs.Cleared.{cleared}
+use Rattle.octets.proofs.Cleared.{cleared-all, cleared-sets}
+use Rattle.reader.specs.declared.Step.{Step}
+use Rattle.reader.specs.declared.Step.the-variants.{Got, Refused}
+use Rattle.reader.specs.declared.Framing.{Framing}
+use Rattle.reader.specs.declared.Framing.the-variants.{Standalone, Payload}
+use Rattle.reader.specs.Code.{whole-of, framing-of, Room, Done, TermDone, MessageDone, first-number, first-refusal, rows-in}
+use Rattle.reader.proofs.Runs.{after-same}
+use Rattle.reader.proofs.Found.{Found, step-found, step-refused, joined-words}
+
+abbrev pub refusal : ℕ → ℕ → ReadAnswer
+refusal n p = reads.Refused (record { number = n; place = p })
+
+-- the bytes left after a term: some, or none
+left-over : (m : List ℕ) (at r : ℕ) → at < length m → ending (drop at m) (at-offset m at r) ≡ refused 10 at
+unfolding ending
+left-over m at r h = rw (drop-cons m at 0 h)
+
+none-left : (m : List ℕ) (at r : ℕ) → length m ≤ at → ending (drop at m) (at-offset m at r) ≡ good (tt, at-offset m at r)
+unfolding ending
+none-left m at r h = rw (drop-of-length-le m h)
+
+-- one term is read and nothing is left
+one-done : (m : List ℕ) (cap : ℕ) (T T′ : List ℕ) (t : Located) (next end : ℕ) → T′ ≡ sets T 0 (row-words (tree-rows (whole-of 0) 0 t)) → next ≤ length m → end ≡ 0 + size t → end ≤ cap
+    → MessageDone m cap T (good (t ▹ empty, at-offset m next end)) (reads.Terms 1 end) T′
+unfolding Done rows whole-of
+one-done m cap T T′ t next end e near f room =
+    let a : end ≡ 0 + (size t + 0) = omega arith in (
+      ap (reads.Terms 1) a,
+      record {
+        table-is = e ∙ ap (λ (rs : List Row). sets T 0 (row-words rs)) (sym (append-nil (tree-rows option.none 0 t)));
+        stands = ap (λ (k : ℕ). at-offset m next k) a;
+        near = near;
+        room = omega arith;
+        from = tt;
+      },
+    )
+
+-- ---- a standalone term
+
+version-empty : (s : List ℕ) → length s ≡ 0 → version (record { at = 0; left = s; rows = 0 }) ≡ refused 1 0
+unfolding version
+version-empty [] h = refl
+version-empty (b ∷ bs) h = absurd (omega arith)
+
+version-other : (s : List ℕ) → (getD s 0 0 ≡ 131 → ⊥) → version (record { at = 0; left = s; rows = 0 }) ≡ refused 1 0
+unfolding version
+version-other [] h = refl
+version-other (b ∷ bs) h = rw (ne-eqb b 131 h, version)
+
+version-there : (s : List ℕ) → (length s ≡ 0 → ⊥) → getD s 0 0 ≡ 131 → version (record { at = 0; left = s; rows = 0 }) ≡ good (tt, at-offset s 1 0)
+unfolding version
+version-there [] h e = absurd (h refl)
+version-there (b ∷ bs) h e = rw (eq-eqb b 131 e, version)
+
+module _ (atoms : Atoms) (cap : ℕ) (m : List ℕ) (T : List ℕ) where
+  abbrev Standalone-done : ReadAnswer → List ℕ → Type 0
+  Standalone-done r U = MessageDone m cap T (standalone-term atoms cap (at-offset m 0 0)) r U
+
+  pub standalone-empty : (U : List ℕ) → length m ≡ 0 → Standalone-done (refusal 1 0) U
+  unfolding standalone-term Done
+  standalone-empty U e = rw (version-empty m e)
+
+  pub standalone-other : (U : List ℕ) → (getD m 0 0 ≡ 131 → ⊥) → Standalone-done (refusal 1 0) U
+  unfolding standalone-term Done
+  standalone-other U e = rw (version-other m e)
+
+  module _ (some : length m ≡ 0 → ⊥) (first : getD m 0 0 ≡ 131) (r : Step) (T′ : List ℕ) (d : TermDone m cap 0 0 T (term atoms cap 64 any (at-offset m 1 0)) r T′) where
+    pub standalone-refused : (k p : ℕ) (U : List ℕ) → r ≡ Refused k p → Standalone-done (refusal k p) U
+    unfolding standalone-term Done
+    standalone-refused k p U e = rw (version-there m some first, step-refused _ _ _ m cap 0 T (term atoms cap 64 any (at-offset m 1 0)) r T′ k p e d)
+
+    module _ (next end : ℕ) (e : r ≡ Got next end) where
+      abbrev only : Found size (λ t. row-words (tree-rows (whole-of 0) 0 t)) (Each-node (Placed 65536)) m cap 0 T (term atoms cap 64 any (at-offset m 1 0)) next end T′
+      only = step-found size _ _ m cap 0 T (term atoms cap 64 any (at-offset m 1 0)) r T′ next end e d
+
+      pub standalone-over : (U : List ℕ) → next < length m → Standalone-done (refusal 10 next) U
+      unfolding standalone-term Done
+      standalone-over U h = rw (version-there m some first, only .is, left-over m next end h)
+
+      pub standalone-one : length m ≤ next → Standalone-done (reads.Terms 1 end) T′
+      unfolding standalone-term
+      standalone-one h =
+          rw (version-there m some first, only .is, none-left m next end h)
+          (one-done m cap T T′ (only .x) next end (only .table-is) (only .near) (only .rows-are) (only .room))
+
+-- ---- a payload
+
+module _ (atoms : Atoms) (cap : ℕ) where
+  -- what is read where a first term ends
+  abbrev rest : Located → List ℕ → Reading Terms
+  rest t [] = done (t ▹ empty)
+  rest t (b ∷ bs) = λ s. after (term atoms cap 64 any s) (λ u. λ v. after (ending (v .left) v) (λ _. done (t ▹ u ▹ empty)))
+
+module _ (atoms : Atoms) (cap : ℕ) (m : List ℕ) (T : List ℕ) (r : Step) (T′ : List ℕ) (d : TermDone m cap 0 0 T (term atoms cap 64 any (at-offset m 0 0)) r T′) where
+  abbrev Payload-done : ReadAnswer → List ℕ → Type 0
+  Payload-done a U = MessageDone m cap T (payload-terms atoms cap (at-offset m 0 0)) a U
+
+  pub payload-refused : (k p : ℕ) (U : List ℕ) → r ≡ Refused k p → Payload-done (refusal k p) U
+  unfolding payload-terms Done
+  payload-refused k p U e = rw (step-refused _ _ _ m cap 0 T (term atoms cap 64 any (at-offset m 0 0)) r T′ k p e d)
+
+  module _ (next end : ℕ) (e : r ≡ Got next end) where
+    abbrev one : Found size (λ t. row-words (tree-rows (whole-of 0) 0 t)) (Each-node (Placed 65536)) m cap 0 T (term atoms cap 64 any (at-offset m 0 0)) next end T′
+    one = step-found size _ _ m cap 0 T (term atoms cap 64 any (at-offset m 0 0)) r T′ next end e d
+
+    payload-is : payload-terms atoms cap (at-offset m 0 0) ≡ rest atoms cap (one .x) (drop next m) (at-offset m next end)
+    unfolding payload-terms
+    payload-is =
+        after-same (term atoms cap 64 any (at-offset m 0 0)) _ (λ t. λ s. rest atoms cap t (s .left) s) (λ t u. rest-is t (u .left) u)
+        ∙ ap (λ (o : Answer (Located × Position)). after o (λ t. λ s. rest atoms cap t (s .left) s)) (one .is)
+      where
+        rest-is : (t : Located) (l : List ℕ) (s : Position)
+            → (elim l as (λ _. Reading Terms) [
+              | [] ↦ done (t ▹ empty)
+              | b ∷ bs ↦ λ s. after (term atoms cap 64 any s) (λ u. λ v. after (ending (v .left) v) (λ _. done (t ▹ u ▹ empty)))
+            ]) s ≡ rest atoms cap t l s
+        rest-is t [] s = refl
+        rest-is t (b ∷ bs) s = refl
+
+    pub payload-one : length m ≤ next → Payload-done (reads.Terms 1 end) T′
+    payload-one h =
+        rw (payload-is ∙ ap (λ (l : List ℕ). rest atoms cap (one .x) l (at-offset m next end)) (drop-of-length-le m h)) (one-done m cap T T′ (one .x) next end (one .table-is) (one .near) (one .rows-are) (one .room))
+
+    module _ (more : next < length m) (r′ : Step) (T″ : List ℕ) (d′ : TermDone m cap end 0 T′ (term atoms cap 64 any (at-offset m next end)) r′ T″) where
+      -- a second term is read where the first ends
+      second : payload-terms atoms cap (at-offset m 0 0)
+          ≡ after (term atoms cap 64 any (at-offset m next end)) (λ u. λ s. after (ending (s .left) s) (λ _. done (one .x ▹ u ▹ empty)))
+      second = payload-is ∙ ap (λ (l : List ℕ). rest atoms cap (one .x) l (at-offset m next end)) (drop-cons m next 0 more)
+
+      pub payload-second-refused : (k p : ℕ) (U : List ℕ) → r′ ≡ Refused k p → Payload-done (refusal k p) U
+      unfolding Done
+      payload-second-refused k p U f = rw (second, step-refused _ _ _ m cap end T′ (term atoms cap 64 any (at-offset m next end)) r′ T″ k p f d′)
+
+      module _ (next′ end′ : ℕ) (f : r′ ≡ Got next′ end′) where
+        abbrev two : Found size (λ t. row-words (tree-rows (whole-of 0) end t)) (Each-node (Placed 65536)) m cap end T′ (term atoms cap 64 any (at-offset m next end)) next′ end′ T″
+        two = step-found size _ _ m cap end T′ (term atoms cap 64 any (at-offset m next end)) r′ T″ next′ end′ f d′
+
+        pub payload-over : (U : List ℕ) → next′ < length m → Payload-done (refusal 10 next′) U
+        unfolding Done
+        payload-over U h = rw (second, two .is, left-over m next′ end′ h)
+
+        pub payload-two : length m ≤ next′ → Payload-done (reads.Terms 2 end′) T″
+        unfolding Done rows whole-of
+        payload-two h =
+            let t : Located = one .x in
+            let u : Located = two .x in
+            let a : end′ ≡ 0 + (size t + (size u + 0)) = omega (arith, one .rows-are, two .rows-are) in
+            let o : end ≡ 0 + (size t + 0) = omega (arith, one .rows-are) in
+            let e₁ : T′ ≡ sets T 0 (row-words (rows (whole-of 0) 0 (t ▹ empty)))
+            = one .table-is ∙ ap (λ (rs : List Row). sets T 0 (row-words rs)) (sym (append-nil (tree-rows (whole-of 0) 0 t))) in
+            let e₂ : T″ ≡ sets T′ end (row-words (rows (whole-of 0) end (u ▹ empty)))
+            = two .table-is ∙ ap (λ (rs : List Row). sets T′ end (row-words rs)) (sym (append-nil (tree-rows (whole-of 0) end u))) in
+            rw (second, two .is, none-left m next′ end′ h) (
+              ap (reads.Terms 2) a,
+              record {
+                table-is = e₂ ∙ joined-words m cap 0 0 T T′ (t ▹ empty) end e₁ o (u ▹ empty);
+                stands = ap (λ (k : ℕ). at-offset m next′ k) a;
+                near = two .near;
+                room = omega (arith, two .room);
+                from = tt;
+              },
+            )
+
+-- ---- either
+
+module _ (atoms : Atoms) (cap : ℕ) (m T : List ℕ) (framing : Framing) (r : ReadAnswer) (U : List ℕ) where
+  abbrev Framed-done : Type 0
+  Framed-done = MessageDone m cap T (terms-framed atoms cap (framing-of framing) (at-offset m 0 0)) r U
+
+  pub framed-standalone : framing ≡ Standalone → MessageDone m cap T (standalone-term atoms cap (at-offset m 0 0)) r U → Framed-done
+  unfolding framing-of
+  framed-standalone e d = rw e d
+
+  pub framed-payload : framing ≡ Payload → MessageDone m cap T (payload-terms atoms cap (at-offset m 0 0)) r U → Framed-done
+  unfolding framing-of
+  framed-payload e d = rw e d
+
+-- ---- `first_refusal`
+
+module _ (list : AtomList) (m : List ℕ) where
+  pub first-places : (length (list .places) ≡ 8160 → ⊥) → 13 ≡ first-refusal list m
+  unfolding first-refusal first-number of-size
+  first-places h = rw (ne-eqb (length (list .places)) 8160 h)
+
+  pub first-lengths : length (list .places) ≡ 8160 → (length (list .lengths) ≡ 255 → ⊥) → 13 ≡ first-refusal list m
+  unfolding first-refusal first-number of-size
+  first-lengths e h = rw (eq-eqb (length (list .places)) 8160 e, ne-eqb (length (list .lengths)) 255 h)
+
+  pub first-long : length (list .places) ≡ 8160 → length (list .lengths) ≡ 255 → 65536 < length m → 12 ≡ first-refusal list m
+  unfolding first-refusal first-number of-size
+  first-long e f h = rw (eq-eqb (length (list .places)) 8160 e, eq-eqb (length (list .lengths)) 255 f, lt-leb (length m) 65536 h)
+
+  pub first-none : length (list .places) ≡ 8160 → length (list .lengths) ≡ 255 → length m ≤ 65536 → 0 ≡ first-refusal list m
+  unfolding first-refusal first-number of-size
+  first-none e f h = rw (eq-eqb (length (list .places)) 8160 e, eq-eqb (length (list .lengths)) 255 f, le-leb (length m) 65536 h)
+
+  -- what reading answers after it
+  pub read-refused : (framing : message.Framing) (lent k : ℕ) → k ≡ first-refusal list m → (k ≡ 0 → ⊥) → read framing list lent m ≡ refused k 0
+  unfolding first-refusal first-number read
+  read-refused framing lent k e h = go (of-size list) (leb (length m) 65536) e
+    where
+      go : (a b : Bool) → k ≡ first-number a b
+          → first-check a 13 (first-check b 12 (result-of (terms-framed (atoms-of list) (min 8192 lent) framing (record { at = 0; left = m; rows = 0 })))) ≡ refused k 0
+      go false b e = ap (λ (n : ℕ). refused n 0) (sym e)
+      go true false e = ap (λ (n : ℕ). refused n 0) (sym e)
+      go true true e = absurd (h e)
+
+  pub read-first : 0 ≡ first-refusal list m → (of-size list ≡ true) × (length m ≤ 65536)
+  unfolding first-refusal first-number
+  read-first e = go (of-size list) (leb (length m) 65536) refl refl e
+    where
+      go : (a b : Bool) → of-size list ≡ a → leb (length m) 65536 ≡ b → 0 ≡ first-number a b
+          → (of-size list ≡ true) × (length m ≤ 65536)
+      go false b x y e = absurd (omega arith)
+      go true false x y e = absurd (omega arith)
+      go true true x y e = (x, leb-true (length m) 65536 y)
+
+  pub read-goes : (framing : message.Framing) (lent : ℕ) → 0 ≡ first-refusal list m
+      → read framing list lent m ≡ result-of (terms-framed (atoms-of list) (min 8192 lent) framing (at-offset m 0 0))
+  unfolding read
+  read-goes framing lent e = let h = read-first e in rw (h .0, le-leb (length m) 65536 (h .1))
+
+-- ---- `settle`
+
+pub settled-terms : (a : ReadAnswer) (T U : List ℕ) (n r : ℕ) → a ≡ reads.Terms n r → U ≡ cleared r T → U ≡ cleared (rows-in a) T
+unfolding rows-in
+settled-terms a T U n r e f = f ∙ ap (λ (k : ℕ). cleared k T) (sym (ap rows-in e))
+
+pub settled-refused : (a : ReadAnswer) (T U : List ℕ) (x : Refusal) → a ≡ reads.Refused x → U ≡ cleared 0 T → U ≡ cleared (rows-in a) T
+unfolding rows-in
+settled-refused a T U x e f = f ∙ ap (λ (k : ℕ). cleared k T) (sym (ap rows-in e))
+
+-- ---- the public calls: what is read, and then the rest cleared
+
+pub settled : (m : List ℕ) (cap : ℕ) (T : List ℕ) (o : Answer (Terms × Position)) (a : ReadAnswer) (T′ U : List ℕ) → cap ≤ length T → length T′ ≡ length T
+    → MessageDone m cap T o a T′ → U ≡ cleared (rows-in a) T′ → (a ≡ read-answer (result-of o)) × (U ≡ table-after (length T) (result-of o))
+unfolding Done read-answer table-after rows-in
+settled m cap T (refused n p) a T′ U wide long d e =
+    let f : rows-in a ≡ 0 = ap rows-in d in
+    (d, e ∙ ap (λ (k : ℕ). cleared k T′) f ∙ cleared-all T′ ∙ ap (λ (k : ℕ). replicate k 0) long)
+settled m cap T (good y) a T′ U wide long d e =
+    let ts : Terms = y .0 in
+    let ws : List ℕ = row-words (rows option.none 0 ts) in
+    let n : length ws ≡ sizes ts = length-words-of (rows option.none 0 ts) ∙ length-rows option.none 0 ts in
+    let f : rows-in a ≡ sizes ts = ap rows-in (d .0) ∙ omega arith in
+    let z : 0 + sizes ts ≡ sizes ts = omega arith in (
+      d .0 ∙ ap (reads.Terms (count ts)) z,
+      e ∙ ap₂ cleared f (d .1 .table-is) ∙ cleared-sets T ws (sizes ts) n (omega (arith, d .1 .room)) ∙ ap (λ (k : ℕ). ws ++ replicate (length T - k) 0) (sym n),
+    )
+
+pub refused-first : (framing : message.Framing) (list : AtomList) (m T : List ℕ) (k : ℕ) (a : ReadAnswer) (U : List ℕ) → k ≡ first-refusal list m → (k ≡ 0 → ⊥)
+    → (a ≡ refusal k 0) × (U ≡ cleared (rows-in (refusal k 0)) T) → (a ≡ read-answer (read framing list (length T) m)) × (U ≡ table-after (length T) (read framing list (length T) m))
+unfolding rows-in read-answer table-after
+refused-first framing list m T k a U e h d =
+    rw (read-refused list m framing (length T) k e h) (d .0, d .1 ∙ cleared-all T)
+
+pub read-whole : (framing : message.Framing) (list : AtomList) (m T : List ℕ) (k cap : ℕ) (r a : ReadAnswer) (T′ U : List ℕ) → k ≡ first-refusal list m → k ≡ 0 → cap ≡ min (length T) 8192 → length T′ ≡ length T
+    → MessageDone m cap T (terms-framed (atoms-of list) cap framing (at-offset m 0 0)) r T′ → (a ≡ r) × (U ≡ cleared (rows-in r) T′)
+    → (a ≡ read-answer (read framing list (length T) m)) × (U ≡ table-after (length T) (read framing list (length T) m))
+read-whole framing list m T k cap r a T′ U e z c long d f =
+    let g : cap ≡ min 8192 (length T) = omega arith in
+    let h = settled m cap T (terms-framed (atoms-of list) cap framing (at-offset m 0 0)) r T′ U (omega arith) long d (f .1) in
+    let w : read framing list (length T) m ≡ result-of (terms-framed (atoms-of list) cap framing (at-offset m 0 0))
+    = read-goes list m framing (length T) (sym z ∙ e) ∙ ap (λ (n : ℕ). result-of (terms-framed (atoms-of list) n framing (at-offset m 0 0))) (sym g) in
+    rw w (f .0 ∙ h .0, h .1)
+
+pub room-first : (list : AtomList) (m T : List ℕ) (k cap : ℕ) → k ≡ first-refusal list m → k ≡ 0 → cap ≡ min (length T) 8192 → Room m list T cap 0 0 0
+room-first list m T k cap e z c =
+    let h = read-first list m (sym z ∙ e) in
+    record { sized = h .0; short = h .1; near = omega arith; few = omega arith; wide = omega arith; low = omega arith; inside = omega arith }

@@ -1,0 +1,93 @@
+-- What the code's opening says of the definition's. Assumes nothing.
+use mathlib.Core.Path.{_≡_, refl, sym, ap, ap₂, _∙_, subst}
+use mathlib.Core.List.{List, [], _∷_}
+use Prim.Native.Nat.{ℕ, _+_, _≤_, _<_}
+use native.Mathlib.Omega.{arith}
+use lib.ListN.{length, drop}
+use Rattle.term_spec.specs.Answer.{Answer, good, refused, Position, at-offset}
+use Rattle.term_spec.specs.Head.{Atoms, Wanted, Head, parts, characters, elements, pairs, Later, later}
+use Rattle.term_spec.specs.Reading.{opening}
+use Rattle.term_spec.proofs.Backed.{Chars-at, On-chars, opening-backed}
+use Rattle.term_spec.proofs.Backed as backing
+use Rattle.term_spec.proofs.Holds.{Holds}
+use Rattle.term_spec.proofs.Invariant.{later-kept}
+use Rattle.term_head.specs.declared.Head as code
+use Rattle.term_head.specs.declared.Head.the-variants as heads
+use Rattle.term_head.specs.declared.Opening.{Opening}
+use Rattle.term_head.specs.Code.{head-at, opening-of}
+use Rattle.term_head.proofs.Found.{Past, past-byte, past-row, past-is, Wants, no-part, one-node, a-function, Wanting}
+use Rattle.term_head.proofs.OpeningFacts.{opening-opens, refused-found}
+use Rattle.term_head.proofs.OpeningFacts as facts
+use Rattle.reader.specs.Code.{asked, Fits, Sound, Opens}
+
+-- later fields end in the message too, with no row taken
+pub later-past : (m : List ℕ) (r p : ℕ) (l : Later) (from : ℕ) → from ≤ length m → Holds (later p l (at-offset m from r)) (λ x t. Past m from r t)
+later-past m r p l from h =
+    later-kept 0 (Past m from r) (past-byte m from r) (past-row m from r) p l (at-offset m from r)
+    (record { in-step = record { bytes-are = refl; inside = h; room = omega arith }; later = omega arith; rows-are = refl })
+
+wants-asked : (ws : List Wanted) → Wants ws → ws ≡ asked (length ws)
+unfolding asked
+wants-asked ws no-part = refl
+wants-asked ws one-node = refl
+wants-asked ws a-function = refl
+
+-- characters that stand in a message end in it
+characters-end : (m : List ℕ) (cap : ℕ) (atoms : Atoms) (off : ℕ) (cs : List ℕ) → Chars-at m cap atoms off cs → (length cs ≡ 0 → ⊥) → off + length cs ≤ length m
+characters-end m cap atoms off [] h some = absurd (some refl)
+characters-end m cap atoms off (c ∷ []) h some = omega (arith, h .0)
+characters-end m cap atoms off (c ∷ d ∷ cs) h some = omega (arith, characters-end m cap atoms (off + 1) (d ∷ cs) (h .2) (λ e. omega arith))
+
+head-fits : (m : List ℕ) (cap : ℕ) (atoms : Atoms) (place : ℕ) (h : Head) → Wanting h → On-chars m cap atoms place h → Fits m place h
+unfolding Wanting Fits
+head-fits m cap atoms place (parts ws n l) w c = wants-asked ws w
+head-fits m cap atoms place (characters cs) w c = λ some. characters-end m cap atoms (place + 3) cs c some
+head-fits m cap atoms place (elements n) w c = tt
+head-fits m cap atoms place (pairs n) w c = tt
+
+pub head-refused : (h : Head) (next n p : ℕ) → head-at h next ≡ heads.Refused n p → ⊥
+unfolding head-at
+head-refused (parts ws n′ l) next n p e = let z : _≡_ {A = ℕ} 0 1 = cc in omega arith
+head-refused (characters cs) next n p e = let z : _≡_ {A = ℕ} 0 1 = cc in omega arith
+head-refused (elements n′) next n p e = let z : _≡_ {A = ℕ} 0 1 = cc in omega arith
+head-refused (pairs n′) next n p e = let z : _≡_ {A = ℕ} 0 1 = cc in omega arith
+
+module _ (atoms : Atoms) (m : List ℕ) (at row : ℕ) (w : Wanted) where
+  pub record Opened-at (place : ℕ) (head′ : code.Head) : Type 0 where
+    pub h : Head
+    pub next : ℕ
+    pub is : opening atoms (drop at m) w (at-offset m at row) ≡ good ((place, h), at-offset m next row)
+    pub head-is : head′ ≡ head-at h next
+    pub further : at < next
+    pub sound : Sound m place next h
+
+  opened-by : (o : Answer ((ℕ × Head) × Position)) (R : Opening) → opening atoms (drop at m) w (at-offset m at row) ≡ o → R ≡ opening-of o → ((n p : ℕ) → R .head ≡ heads.Refused n p → ⊥)
+      → at ≤ length m → Opened-at (R .place) (R .head)
+  unfolding opening-of
+  opened-by (refused k q) R f e other near = absurd (other k q (ap (λ (x : Opening). x .head) e))
+  opened-by (good y) R f e other near =
+      let k : facts.Opens m at row (y .0 .0) (y .0 .1) (y .1) = opening-opens atoms m (drop at m) at row w .known (y .0) (y .1) f in
+      let b : backing.Opened m row atoms (y .0) (y .1)
+      = opening-backed m row atoms (drop at m) w (at-offset m at row) (record { bytes-are = refl; inside = near; room = omega arith }) .known (y .0) (y .1) f in
+      let p : R .place ≡ y .0 .0 = ap (λ (x : Opening). x .place) e in
+      let ends : y .0 .0 < y .1 .at = omega (arith, k .past .later) in
+      record {
+        h = y .0 .1;
+        next = y .1 .at;
+        is = f ∙ ap₂ (λ (a : ℕ) (s : Position). good ((a, y .0 .1), s)) (sym p) (past-is m (y .0 .0 + 1) row (y .1) (k .past));
+        head-is = ap (λ (x : Opening). x .head) e;
+        further = omega (arith, k .from);
+        sound = subst (λ (a : ℕ). Sound m a (y .1 .at) (y .0 .1)) (sym p)
+            (record { before = ends; end = k .past .in-step .inside; fits = head-fits m row atoms (y .0 .0) (y .0 .1) (k .wanting) (b .3) });
+      }
+
+  pub opened : (R : Opening) → ((rows : ℕ) → R ≡ opening-of (opening atoms (drop at m) w (at-offset m at rows))) → ((n p : ℕ) → R .head ≡ heads.Refused n p → ⊥)
+      → at ≤ length m → Opened-at (R .place) (R .head)
+  opened R e other near = opened-by _ R refl (e row) other near
+
+  pub opened-refused : (R : Opening) (n p : ℕ) → ((rows : ℕ) → R ≡ opening-of (opening atoms (drop at m) w (at-offset m at rows))) → R .head ≡ heads.Refused n p
+      → opening atoms (drop at m) w (at-offset m at row) ≡ refused n p
+  opened-refused R n p e f = refused-found _ R (e row) n p f .0
+
+  pub opens : {place : ℕ} {head′ : code.Head} → Opened-at place head′ → Opens m place head′
+  opens o = record { h = o .h; next = o .next; is = o .head-is; sound = o .sound }

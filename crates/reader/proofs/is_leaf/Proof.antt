@@ -1,0 +1,20 @@
+-- `terms::is_leaf` meets its contract. Assumes nothing.
+use mathlib.Core.Bool.{false≢true}
+use borrow.Author.Needs.{needs}
+use Rattle.reader.proofs.is_leaf.Statement.{statement}
+use Rattle.reader.proofs.is_leaf.Tie as tie
+
+returns : tie.Need-returns
+returns c = λ e. absurd (false≢true e)
+
+returns-2 : tie.Need-returns-2
+returns-2 c = λ e. absurd (false≢true e)
+
+returns-3 : tie.Need-returns-3
+returns-3 c = λ e. absurd (false≢true e)
+
+returns-4 : tie.Need-returns-4
+returns-4 c = search needs
+
+pub is-leaf-spec : {M : Type 1} → statement M
+is-leaf-spec = tie.close (tie.spec returns returns-2 returns-3 returns-4)

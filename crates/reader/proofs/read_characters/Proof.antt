@@ -1,0 +1,52 @@
+-- `terms::read_characters` meets its contract. Assumes nothing.
+use Rattle.reader.proofs.Characters.{characters-none, characters-deep, characters-full, characters-got}
+use native.Mathlib.Omega.{arith}
+use mathlib.Core.Path.{refl}
+use borrow.Author.Needs.{needs}
+use Rattle.reader.proofs.read_characters.Statement.{statement}
+use Rattle.reader.proofs.read_characters.Tie as tie
+
+returns : tie.Need-returns
+returns c = λ atoms m cs same near. characters-none atoms m cs _ _ _ _ _ _ _ _ _ _ same (c .if1 .taken) near (omega arith) refl
+
+returns-2 : tie.Need-returns-2
+returns-2 c = λ atoms m cs same near. characters-deep atoms m cs _ _ _ _ _ _ _ _ _ _ same (c .before .if1 .left) (c .if2 .taken)
+
+sub-if3 : tie.Need-sub-if3
+sub-if3 c = search needs
+
+returns-3 : tie.Need-returns-3
+returns-3 c = λ atoms m cs same near. characters-full atoms m cs _ _ _ _ _ _ _ _ _ _ same (c .before .if2 .left) (omega arith) (c .if3 .taken)
+
+add-put-characters : tie.Need-add-put-characters
+add-put-characters c = let f = c .before .before .before .before .before .pre .5 (c .before .before .before .if1 .left) in omega arith
+
+put-characters-requires : tie.Need-put-characters-requires
+put-characters-requires c κs = let f = c .before .before .before .before .before .pre .5 (c .before .before .before .if1 .left) in (omega arith, omega arith, omega arith, omega arith)
+
+add-t11 : tie.Need-add-t11
+add-t11 c = search needs
+
+add-t15 : tie.Need-add-t15
+add-t15 c = search needs
+
+same-length : tie.Need-same-length
+same-length c = search needs
+
+returns-4 : tie.Need-returns-4
+returns-4 c = λ atoms m cs same near. characters-got atoms m cs _ _ _ _ _ _ _ _ _ _ same (c .before .before .before .before .before .if2 .left) near (omega arith) (c .before .before .before .before .before .before .before .before .pre .5 (c .before .before .before .before .before .before .if1 .left)) (c .before .before .put-characters .ensures)
+
+pub read-characters-spec : {M : Type 1} → statement M
+read-characters-spec =
+    tie.close
+    (tie.spec
+    returns
+    returns-2
+    sub-if3
+    returns-3
+    add-put-characters
+    put-characters-requires
+    add-t11
+    add-t15
+    same-length
+    returns-4)

@@ -1,0 +1,23 @@
+-- `terms::read_standalone` meets its contract. Assumes nothing.
+use Rattle.reader.specs.Code.{framing-of}
+use borrow.Author.Needs.{needs}
+use Rattle.reader.proofs.read_standalone.Statement.{statement}
+use Rattle.reader.proofs.read_standalone.Tie as tie
+
+read-framed-requires : tie.Need-read-framed-requires
+read-framed-requires c κs = search needs
+
+same-length : tie.Need-same-length
+same-length c = search needs
+
+returns : tie.Need-returns
+unfolding framing-of
+returns c = c .before .before .read-framed .ensures
+
+pub read-standalone-spec : {M : Type 1} → statement M
+read-standalone-spec =
+    tie.close
+    (tie.spec
+    read-framed-requires
+    same-length
+    returns)

@@ -1,0 +1,247 @@
+-- What the fields before the first part say, from the tests that the code makes. Assumes nothing.
+use mathlib.Core.Path.{_≡_, refl, sym, ap, ap₂, _∙_}
+use mathlib.Core.Bool.{Bool, true, false, _&&_, _||_}
+use mathlib.Core.List.{List}
+use Prim.Native.Nat.{ℕ, zero, suc, _+_, _-_, _/_, _%_, _<_, _≤_}
+use native.Mathlib.Omega.{arith}
+use lib.Dec.{eqb, leb}
+use lib.IntN.{ℤ}
+use lib.ListN.{length, take, drop}
+use borrow.Author.Tests.{le-leb, lt-leb, eq-eqb, ne-eqb}
+use Rattle.term_spec.specs.Numbers.{big-endian}
+use Rattle.term_spec.specs.Term.{Label, integer, binary, bitstring}
+use Rattle.term_spec.specs.Answer.{after, done, number, at-offset}
+use Rattle.term_spec.specs.Head.{Atoms, fields, leaf, tuple-ext, list-ext, map-ext, string-ext, binary-ext, bit-binary-ext, big-ext, new-float-ext, new-reference-ext, finite, bits-rule, bits-meaning, clear-low}
+use Rattle.term_spec.specs.Rows.{kind-of}
+use Rattle.term_spec.proofs.Bridge.{number-at, number-end, bytes-at, bytes-end}
+use Rattle.term_spec.proofs.Tests.{by-less}
+use Rattle.octets.proofs.Parts.{length-part}
+use Rattle.term_head.specs.declared.Later.the-variants.{Known, Reference}
+use Rattle.term_head.specs.declared.Head.the-variants.{Refused, Parts, Characters, Elements, Pairs}
+use Rattle.term_head.specs.Code.{Bits, head-of, head-at, fields-of, kind-later, later-of}
+
+module _ (m : List ℕ) (at w : ℕ) (value : ℕ → ℤ) (rows : ℕ) (inside : at < length m) where
+  pub integer-short : length m - at - 1 < w → Refused 2 at ≡ head-of (after (number at w (at-offset m (at + 1) rows)) (λ n. done (leaf (integer (value n)))))
+  unfolding head-of
+  integer-short h = rw (number-end m at w (at + 1) rows (omega arith) (omega arith))
+
+  pub integer-there : w ≤ length m - at - 1 → Parts 1 0 0 Known (at + 1 + w) ≡ head-of (after (number at w (at-offset m (at + 1) rows)) (λ n. done (leaf (integer (value n)))))
+  unfolding head-of head-at kind-later kind-of later-of
+  integer-there h = rw (number-at m at w (at + 1) rows (omega arith))
+
+module _ (atoms : Atoms) (m : List ℕ) (at rows : ℕ) (inside : at < length m) where
+  pub tuple-short : (w : ℕ) → length m - at - 1 < w → Refused 2 at ≡ fields-of atoms m at (tuple-ext w) rows
+  unfolding fields-of fields head-of
+  tuple-short w h = rw (number-end m at w (at + 1) rows (omega arith) (omega arith))
+
+  pub tuple-there : (w n : ℕ) → w ≤ length m - at - 1 → n ≡ big-endian (take w (drop (at + 1) m))
+      → Parts 4 0 n Known (at + 1 + w) ≡ fields-of atoms m at (tuple-ext w) rows
+  unfolding fields-of fields head-of head-at kind-later kind-of later-of
+  tuple-there w n h e = rw (number-at m at w (at + 1) rows (omega arith), ← e)
+
+  pub list-short : length m - at - 1 < 4 → Refused 2 at ≡ fields-of atoms m at list-ext rows
+  unfolding fields-of fields head-of
+  list-short h = rw (number-end m at 4 (at + 1) rows (omega arith) (omega arith))
+
+  pub list-there : (n : ℕ) → 4 ≤ length m - at - 1 → n ≡ big-endian (take 4 (drop (at + 1) m)) → Elements n (at + 1 + 4) ≡ fields-of atoms m at list-ext rows
+  unfolding fields-of fields head-of head-at
+  list-there n h e = rw (number-at m at 4 (at + 1) rows (omega arith), ← e)
+
+  pub map-short : length m - at - 1 < 4 → Refused 2 at ≡ fields-of atoms m at map-ext rows
+  unfolding fields-of fields head-of
+  map-short h = rw (number-end m at 4 (at + 1) rows (omega arith) (omega arith))
+
+  pub map-there : (n : ℕ) → 4 ≤ length m - at - 1 → n ≡ big-endian (take 4 (drop (at + 1) m)) → Pairs n (at + 1 + 4) ≡ fields-of atoms m at map-ext rows
+  unfolding fields-of fields head-of head-at
+  map-there n h e = rw (number-at m at 4 (at + 1) rows (omega arith), ← e)
+
+  pub string-short : length m - at - 1 < 2 → Refused 2 at ≡ fields-of atoms m at string-ext rows
+  unfolding fields-of fields head-of
+  string-short h = rw (number-end m at 2 (at + 1) rows (omega arith) (omega arith))
+
+  pub string-cut : (n : ℕ) → 2 ≤ length m - at - 1 → n ≡ big-endian (take 2 (drop (at + 1) m)) → length m - at - 1 - 2 < n
+      → Refused 2 at ≡ fields-of atoms m at string-ext rows
+  unfolding fields-of fields head-of
+  string-cut n h e k = rw (number-at m at 2 (at + 1) rows (omega arith), ← e, bytes-end m at n (at + 1 + 2) rows (omega arith) (omega arith))
+
+  pub string-there : (n : ℕ) → 2 ≤ length m - at - 1 → n ≡ big-endian (take 2 (drop (at + 1) m)) → n ≤ length m - at - 1 - 2
+      → Characters n (at + 1 + 2 + n) ≡ fields-of atoms m at string-ext rows
+  unfolding fields-of fields head-of head-at
+  string-there n h e k =
+      rw (number-at m at 2 (at + 1) rows (omega arith), ← e, bytes-at m at n (at + 1 + 2) rows (omega arith))
+      (ap (λ (k : ℕ). Characters k (at + 1 + 2 + n)) (sym (length-part m (at + 1 + 2) n (omega arith))))
+
+  pub binary-short : length m - at - 1 < 4 → Refused 2 at ≡ fields-of atoms m at binary-ext rows
+  unfolding fields-of fields head-of
+  binary-short h = rw (number-end m at 4 (at + 1) rows (omega arith) (omega arith))
+
+  pub binary-cut : (n : ℕ) → 4 ≤ length m - at - 1 → n ≡ big-endian (take 4 (drop (at + 1) m)) → length m - at - 1 - 4 < n
+      → Refused 2 at ≡ fields-of atoms m at binary-ext rows
+  unfolding fields-of fields head-of
+  binary-cut n h e k = rw (number-at m at 4 (at + 1) rows (omega arith), ← e, bytes-end m at n (at + 1 + 4) rows (omega arith) (omega arith))
+
+  pub binary-there : (n : ℕ) → 4 ≤ length m - at - 1 → n ≡ big-endian (take 4 (drop (at + 1) m)) → n ≤ length m - at - 1 - 4
+      → Parts 7 0 0 Known (at + 1 + 4 + n) ≡ fields-of atoms m at binary-ext rows
+  unfolding fields-of fields head-of head-at kind-later kind-of later-of
+  binary-there n h e k = rw (number-at m at 4 (at + 1) rows (omega arith), ← e, bytes-at m at n (at + 1 + 4) rows (omega arith))
+
+  pub big-short : (w : ℕ) → length m - at - 1 ≤ w → Refused 2 at ≡ fields-of atoms m at (big-ext w) rows
+  unfolding fields-of fields head-of
+  big-short w h =
+      by-less (length m - at - 1) w (λ less. rw (number-end m at w (at + 1) rows (omega arith) (omega arith)))
+      (λ over. rw (number-at m at w (at + 1) rows (omega arith), number-end m at 1 (at + 1 + w) rows (omega arith) (omega arith)))
+
+  module _ (w n : ℕ) (there : w < length m - at - 1) (e : n ≡ big-endian (take w (drop (at + 1) m))) where
+    pub big-cut : length m - at - 1 - w - 1 < n → Refused 2 at ≡ fields-of atoms m at (big-ext w) rows
+    unfolding fields-of fields head-of
+    big-cut k =
+        rw (
+          number-at m at w (at + 1) rows (omega arith),
+          number-at m at 1 (at + 1 + w) rows (omega arith),
+          ← e,
+          bytes-end m at n (at + 1 + w + 1) rows (omega arith) (omega arith),
+        )
+
+    module _ (sign : ℕ) (f : sign ≡ big-endian (take 1 (drop (at + 1 + w) m))) (whole : n ≤ length m - at - 1 - w - 1) where
+      pub big-sign : 1 < sign → Refused 4 at ≡ fields-of atoms m at (big-ext w) rows
+      unfolding fields-of fields head-of
+      big-sign k =
+          rw (
+            number-at m at w (at + 1) rows (omega arith),
+            number-at m at 1 (at + 1 + w) rows (omega arith),
+            ← e,
+            bytes-at m at n (at + 1 + w + 1) rows (omega arith),
+            ← f,
+            lt-leb sign 1 k,
+          )
+
+      pub big-there : sign ≤ 1 → Parts 1 0 0 Known (at + 1 + w + 1 + n) ≡ fields-of atoms m at (big-ext w) rows
+      unfolding fields-of fields head-of head-at kind-later kind-of later-of
+      big-there k =
+          rw (
+            number-at m at w (at + 1) rows (omega arith),
+            number-at m at 1 (at + 1 + w) rows (omega arith),
+            ← e,
+            bytes-at m at n (at + 1 + w + 1) rows (omega arith),
+            ← f,
+            le-leb sign 1 k,
+          )
+
+  pub bits-short : length m - at - 1 ≤ 4 → Refused 2 at ≡ fields-of atoms m at bit-binary-ext rows
+  unfolding fields-of fields head-of
+  bits-short h =
+      by-less (length m - at - 1) 4 (λ less. rw (number-end m at 4 (at + 1) rows (omega arith) (omega arith)))
+      (λ over. rw (number-at m at 4 (at + 1) rows (omega arith), number-end m at 1 (at + 1 + 4) rows (omega arith) (omega arith)))
+
+  module _ (n : ℕ) (there : 4 < length m - at - 1) (e : n ≡ big-endian (take 4 (drop (at + 1) m))) where
+    pub bits-cut : length m - at - 1 - 4 - 1 < n → Refused 2 at ≡ fields-of atoms m at bit-binary-ext rows
+    unfolding fields-of fields head-of
+    bits-cut k =
+        rw (
+          number-at m at 4 (at + 1) rows (omega arith),
+          number-at m at 1 (at + 1 + 4) rows (omega arith),
+          ← e,
+          bytes-end m at n (at + 1 + 4 + 1) rows (omega arith) (omega arith),
+        )
+
+    module _ (bits kind : ℕ) (f : bits ≡ big-endian (take 1 (drop (at + 1 + 4) m))) (whole : n ≤ length m - at - 1 - 4 - 1) (found : Bits n bits kind) where
+      pub bits-broken : kind ≡ 0 → Refused 4 at ≡ fields-of atoms m at bit-binary-ext rows
+      unfolding fields-of fields head-of
+      bits-broken k =
+          rw (
+            number-at m at 4 (at + 1) rows (omega arith),
+            number-at m at 1 (at + 1 + 4) rows (omega arith),
+            ← e,
+            bytes-at m at n (at + 1 + 4 + 1) rows (omega arith),
+            ← f,
+            found .broken k,
+          )
+
+      pub bits-there : (kind ≡ 0 → ⊥) → Parts kind 0 0 Known (at + 1 + 4 + 1 + n) ≡ fields-of atoms m at bit-binary-ext rows
+      unfolding fields-of fields head-of head-at kind-later later-of
+      bits-there k =
+          rw (
+            number-at m at 4 (at + 1) rows (omega arith),
+            number-at m at 1 (at + 1 + 4) rows (omega arith),
+            ← e,
+            bytes-at m at n (at + 1 + 4 + 1) rows (omega arith),
+            ← f,
+            found .kept k,
+            found .kind k,
+          )
+
+  pub float-short : length m - at - 1 < 8 → Refused 2 at ≡ fields-of atoms m at new-float-ext rows
+  unfolding fields-of fields head-of
+  float-short h = rw (number-end m at 8 (at + 1) rows (omega arith) (omega arith))
+
+  module _ (bits : ℕ) (there : 8 ≤ length m - at - 1) (e : bits ≡ big-endian (take 8 (drop (at + 1) m))) where
+    pub float-odd : bits / 4503599627370496 % 2048 ≡ 2047 → Refused 4 at ≡ fields-of atoms m at new-float-ext rows
+    unfolding fields-of fields finite head-of
+    float-odd h = rw (number-at m at 8 (at + 1) rows (omega arith), ← e, eq-eqb (bits / 4503599627370496 % 2048) 2047 h)
+
+    pub float-there : (bits / 4503599627370496 % 2048 ≡ 2047 → ⊥) → Parts 2 0 0 Known (at + 1 + 8) ≡ fields-of atoms m at new-float-ext rows
+    unfolding fields-of fields finite head-of head-at kind-later kind-of later-of
+    float-there h = rw (number-at m at 8 (at + 1) rows (omega arith), ← e, ne-eqb (bits / 4503599627370496 % 2048) 2047 h)
+
+  pub reference-short : (w : ℕ) → length m - at - 1 < 2 → Refused 2 at ≡ fields-of atoms m at (new-reference-ext w) rows
+  unfolding fields-of fields head-of
+  reference-short w h = rw (number-end m at 2 (at + 1) rows (omega arith) (omega arith))
+
+  module _ (w n : ℕ) (there : 2 ≤ length m - at - 1) (e : n ≡ big-endian (take 2 (drop (at + 1) m))) where
+    pub reference-none : n < 1 → Refused 4 at ≡ fields-of atoms m at (new-reference-ext w) rows
+    unfolding fields-of fields head-of
+    reference-none h = rw (number-at m at 2 (at + 1) rows (omega arith), ← e, lt-leb 1 n h)
+
+    pub reference-many : 1 ≤ n → 3 < n → Refused 4 at ≡ fields-of atoms m at (new-reference-ext w) rows
+    unfolding fields-of fields head-of
+    reference-many g h = rw (number-at m at 2 (at + 1) rows (omega arith), ← e, le-leb 1 n g, lt-leb n 3 h)
+
+    pub reference-there : 1 ≤ n → n ≤ 3 → Parts 12 1 0 (Reference n w) (at + 1 + 2) ≡ fields-of atoms m at (new-reference-ext w) rows
+    unfolding fields-of fields head-of head-at kind-later later-of
+    reference-there g h = rw (number-at m at 2 (at + 1) rows (omega arith), ← e, le-leb 1 n g, le-leb n 3 h)
+
+-- the bits of the last byte
+part-kind : (bits : ℕ) (bs : List ℕ) → kind-of (bitstring bits bs) ≡ 8
+unfolding kind-of
+part-kind bits bs = refl
+
+pub bits-none : (n bits : ℕ) → n ≡ 0 → bits ≡ 0 → Bits n bits 7
+unfolding bits-rule bits-meaning kind-of
+bits-none n bits z e = record { broken = λ z. absurd (omega arith); kept = λ _. rw (z, e); kind = λ _ bs. rw e }
+
+broken : (n bits : ℕ) → bits-rule n bits ≡ false → Bits n bits 0
+broken n bits e = record { broken = λ _. e; kept = λ z. absurd (z refl); kind = λ z. absurd (z refl) }
+
+pub bits-over-none : (n bits : ℕ) → n ≡ 0 → (bits ≡ 0 → ⊥) → Bits n bits 0
+unfolding bits-rule
+bits-over-none n bits z f = broken n bits (rw (z, ne-eqb bits 0 f))
+
+rule-some : (n bits : ℕ) → (n ≡ 0 → ⊥) → bits-rule n bits ≡ (leb 1 bits && leb bits 8)
+unfolding bits-rule
+rule-some zero bits f = absurd (f refl)
+rule-some (suc n) bits f = refl
+
+module _ (n bits : ℕ) (some : n ≡ 0 → ⊥) where
+  pub bits-few : bits < 1 → Bits n bits 0
+  bits-few h = broken n bits (rw (rule-some n bits some, lt-leb 1 bits h))
+
+  pub bits-many : 1 ≤ bits → 8 < bits → Bits n bits 0
+  bits-many g h = broken n bits (rw (rule-some n bits some, le-leb 1 bits g, lt-leb bits 8 h))
+
+  pub bits-all : bits ≡ 8 → Bits n bits 7
+  unfolding bits-meaning kind-of
+  bits-all e = record { broken = λ z. absurd (omega arith); kept = λ _. rw (rule-some n bits some, e); kind = λ _ bs. rw e }
+
+  pub bits-part : 1 ≤ bits → bits ≤ 8 → (bits ≡ 8 → ⊥) → Bits n bits 8
+  unfolding bits-meaning
+  bits-part g h f =
+      let low : eqb bits 0 ≡ false = ne-eqb bits 0 (λ z. omega arith) in
+      let high : eqb bits 8 ≡ false = ne-eqb bits 8 f in
+      record {
+        broken = λ z. absurd (omega arith);
+        kept = λ _. rw (rule-some n bits some, le-leb 1 bits g, le-leb bits 8 h);
+        kind =
+            λ _ bs.
+            ap₂ (λ (s t : Bool). kind-of (elim (s || t) as (λ _. Label) [ true ↦ binary bs | false ↦ bitstring bits (clear-low bits bs) ])) low high
+            ∙ part-kind bits (clear-low bits bs);
+      }

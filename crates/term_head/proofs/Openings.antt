@@ -1,0 +1,156 @@
+-- A term's opening, from the 108s of length 0 that the code skips. Assumes nothing.
+use mathlib.Core.Path.{_≡_, refl, sym, ap, _∙_}
+use mathlib.Core.Bool.{Bool, true, false, _&&_}
+use mathlib.Core.List.{List, [], _∷_}
+use Prim.Native.Nat.{ℕ, zero, suc, _+_, _-_, _<_, _≤_}
+use native.Mathlib.Omega.{arith}
+use lib.Dec.{eqb, leb}
+use lib.ListN.{length, getD, take, drop, length-drop}
+use borrow.Author.Tests.{eqb-true, eqb-false, leb-true, le-leb, lt-leb, eq-eqb, ne-eqb}
+use Rattle.term_spec.specs.Numbers.{big-endian}
+use Rattle.term_spec.specs.Answer.{Answer, good, refused, Position, at-offset, Reading, after, done}
+use Rattle.term_spec.specs.Head.{Atoms, any, forms, form-in, form-or, form, fields, list-ext, term-head, parts, characters, elements, pairs}
+use Rattle.term_spec.specs.Head as format
+use Rattle.term_spec.specs.Reading.{empty-108, opening}
+use Rattle.term_spec.proofs.Bridge.{byte-at, byte-end, number-at, number-end}
+use Rattle.term_spec.proofs.Holds.{Holds, done-holds, refused-holds}
+use Rattle.term_spec.proofs.Tests.{both-true, by-less}
+use Rattle.term_head.specs.declared.Wanted.{Wanted}
+use Rattle.term_head.specs.declared.Wanted.the-variants.{Any}
+use Rattle.term_head.specs.declared.Head.{Head}
+use Rattle.term_head.specs.declared.Opening.{Opening}
+use Rattle.term_head.specs.Code.{head-of, head-at, opening-of, opened-at, wanted-of, allowed, empty-at, Skipped}
+use Rattle.term_head.proofs.Found.{not-108}
+
+module _ (m : List ℕ) (p : ℕ) where
+  pub empty-short : length m - p < 5 → false ≡ empty-at m p
+  unfolding empty-at
+  empty-short h = rw (lt-leb 5 (length m - p) h)
+
+  pub empty-other : 5 ≤ length m - p → (getD m p 0 ≡ 108 → ⊥) → false ≡ empty-at m p
+  unfolding empty-at
+  empty-other h f = rw (le-leb 5 (length m - p) h, ne-eqb (getD m p 0) 108 f)
+
+  pub empty-count : (n : ℕ) → 5 ≤ length m - p → getD m p 0 ≡ 108 → n ≡ big-endian (take 4 (drop (p + 1) m)) → eqb n 0 ≡ empty-at m p
+  unfolding empty-at
+  empty-count n h e f = rw (le-leb 5 (length m - p) h, eq-eqb (getD m p 0) 108 e, f)
+
+  -- what such a 108 is
+  record Empty : Type 0 where
+    whole : 5 ≤ length m - p
+    tag-is : getD m p 0 ≡ 108
+    none-is : big-endian (take 4 (drop (p + 1) m)) ≡ 0
+
+  empty-is : empty-at m p ≡ true → Empty
+  unfolding empty-at
+  empty-is e =
+      let b = both-true (leb 5 (length m - p) && eqb (getD m p 0) 108) (eqb (big-endian (take 4 (drop (p + 1) m))) 0) e in
+      let c = both-true (leb 5 (length m - p)) (eqb (getD m p 0) 108) (b .0) in
+      record { whole = leb-true 5 (length m - p) (c .0); tag-is = eqb-true _ _ (c .1); none-is = eqb-true _ _ (b .1) }
+
+  pub empty-inside : empty-at m p ≡ true → p + 5 ≤ length m
+  empty-inside e = let i = empty-is e in omega (arith, i .whole)
+
+  module _ (atoms : Atoms) (rows : ℕ) where
+    empty-head : empty-at m p ≡ true → term-head atoms any (at-offset m p rows) ≡ good (elements 0, at-offset m (p + 5) rows)
+    unfolding term-head form form-or form-in forms fields
+    empty-head e =
+        let i = empty-is e in
+        let whole : 5 ≤ length m - p = i .whole in
+        rw (byte-at m p p rows (omega arith), i .tag-is, number-at m p 4 (p + 1) rows (omega arith), i .none-is)
+        (ap (λ (k : ℕ). good (elements 0, at-offset m k rows)) (omega arith))
+
+    -- one such 108 is passed
+    empty-step : (bound : List ℕ) → length m - p ≤ length bound → empty-at m p ≡ true
+        → (rest : List ℕ) × (length m - (p + 5) ≤ length rest) × (opening atoms bound any (at-offset m p rows) ≡ opening atoms rest any (at-offset m (p + 5) rows))
+    unfolding opening
+    empty-step [] h e = let i = empty-is e in absurd (omega (arith, i .whole))
+    empty-step (b ∷ bound) h e = (bound, omega arith, rw (empty-head e))
+
+    list-full : empty-at m p ≡ false → getD m p 0 ≡ 108 → p < length m → Holds (fields atoms p list-ext (at-offset m (p + 1) rows)) (λ h _. empty-108 h ≡ false)
+    unfolding fields
+    list-full e t inside =
+        by-less (length m) (p + 5)
+        (λ short. rw (number-end m p 4 (p + 1) rows (omega arith) (omega arith)) (refused-holds 2 p))
+        (λ long.
+        rw (number-at m p 4 (p + 1) rows (omega arith))
+        (done-holds _ _ (some-elements (big-endian (take 4 (drop (p + 1) m))) (λ z.
+        let d : true ≡ empty-at m p = sym (eq-eqb (big-endian (take 4 (drop (p + 1) m))) 0 z) ∙ empty-count (big-endian (take 4 (drop (p + 1) m))) (omega arith) t refl in
+        let y : _≡_ {A = ℕ} 0 1 = cc in omega arith))))
+      where
+        some-elements : (n : ℕ) → (n ≡ 0 → ⊥) → empty-108 (elements n) ≡ false
+        some-elements zero f = absurd (f refl)
+        some-elements (suc n) f = refl
+
+    -- no such 108
+    head-full : empty-at m p ≡ false → Holds (term-head atoms any (at-offset m p rows)) (λ h _. empty-108 h ≡ false)
+    unfolding wanted-of term-head form form-or form-in forms
+    head-full e = go (eqb (getD m p 0) 108) refl
+      where
+        go : (b : Bool) → eqb (getD m p 0) 108 ≡ b → Holds (term-head atoms any (at-offset m p rows)) (λ h _. empty-108 h ≡ false)
+        go true t =
+            by-less p (length m)
+            (λ inside. rw (byte-at m p p rows inside, eqb-true (getD m p 0) 108 t) (list-full e (eqb-true (getD m p 0) 108 t) inside))
+            (λ over. rw (byte-end m p p rows over) (refused-holds 2 p))
+        go false t = not-108 atoms m p rows Any (λ _. eqb-false (getD m p 0) 108 t)
+
+-- 108s of length 0 from `at` on are passed up to `place`
+abbrev pub Passed : List ℕ → ℕ → ℕ → Type 0
+Passed m at place =
+    (atoms : Atoms) (rows : ℕ) (bound : List ℕ) → length m - at ≤ length bound
+    → (rest : List ℕ) × (length m - place ≤ length rest) × (opening atoms bound any (at-offset m at rows) ≡ opening atoms rest any (at-offset m place rows))
+
+pub passed-none : (m : List ℕ) (at : ℕ) → Passed m at at
+passed-none m at = λ atoms rows bound h. (bound, h, refl)
+
+pub passed-more : (m : List ℕ) (at place : ℕ) → Passed m at place → empty-at m place ≡ true → Passed m at (place + 5)
+passed-more m at place o e =
+    λ atoms rows bound h.
+    let x = o atoms rows bound h in
+    let y = empty-step m place atoms rows (x .0) (x .1) e in
+    (y .0, y .1, x .2 ∙ y .2)
+
+module _ (atoms : Atoms) (m : List ℕ) (at rows : ℕ) (w : format.Wanted) where
+  -- an opening with no such 108 is its head
+  plain-opening : (bound : List ℕ) → length m - at ≤ length bound → Holds (term-head atoms w (at-offset m at rows)) (λ h _. empty-108 h ≡ false)
+      → opening atoms bound w (at-offset m at rows) ≡ after (term-head atoms w (at-offset m at rows)) (λ h. done (at, h))
+  unfolding opening term-head
+  plain-opening [] h f = rw (byte-end m at at rows (omega arith))
+  plain-opening (b ∷ bound) h f = go (term-head atoms w (at-offset m at rows)) f
+    where
+      go : (o : Answer (format.Head × Position)) → Holds o (λ h _. empty-108 h ≡ false)
+          → after {B = ℕ × format.Head} o (λ h. elim (empty-108 h) as (λ _. Reading (ℕ × format.Head)) [ true ↦ opening atoms bound any | false ↦ done (at, h) ]) ≡ after o (λ h. done (at, h))
+      go (good x) f =
+          ap (λ (t : Bool). (elim t as (λ _. Reading (ℕ × format.Head)) [ true ↦ opening atoms bound any | false ↦ done (at, x .0) ]) (x .1))
+          (f .known (x .0) (x .1) refl)
+      go (refused n p) f = refl
+
+-- an opening as the code has it
+opened-head : (at : ℕ) (h : format.Head) (next : ℕ) → opened-at at (head-at h next) ≡ record { place = at; head = head-at h next }
+unfolding opened-at head-at
+opened-head at (parts ws n l) next = refl
+opened-head at (characters cs) next = refl
+opened-head at (elements n) next = refl
+opened-head at (pairs n) next = refl
+
+opened-is : (at : ℕ) (o : Answer (format.Head × Position)) → opened-at at (head-of o) ≡ opening-of (after o (λ h. done (at, h)))
+unfolding opened-at head-of opening-of
+opened-is at (good x) = opened-head at (x .0) (x .1 .at)
+opened-is at (refused n p) = refl
+
+module _ (atoms : Atoms) (m : List ℕ) (at rows : ℕ) (hd : Head) (r : Opening) where
+  pub opening-any : (w : Wanted) (place : ℕ) → w ≡ Any → Skipped m at place → hd ≡ head-of (term-head atoms (wanted-of Any) (at-offset m place rows)) → r ≡ opened-at place hd
+      → r ≡ opening-of (opening atoms (drop at m) (wanted-of w) (at-offset m at rows))
+  unfolding wanted-of
+  opening-any w place e s f g =
+      let x = s .opens atoms rows (drop at m) (simp length-drop (omega arith)) in
+      let y = plain-opening atoms m place rows any (x .0) (x .1) (head-full m place atoms rows (s .stops)) in
+      rw (e, g, f) (opened-is place (term-head atoms any (at-offset m place rows)) ∙ ap opening-of (sym (x .2 ∙ y)))
+
+  pub opening-only : (w : Wanted) → allowed w 108 ≡ false → hd ≡ head-of (term-head atoms (wanted-of w) (at-offset m at rows)) → r ≡ opened-at at hd
+      → r ≡ opening-of (opening atoms (drop at m) (wanted-of w) (at-offset m at rows))
+  opening-only w e f g =
+      let y = plain-opening atoms m at rows (wanted-of w) (drop at m) (simp length-drop (omega arith)) (not-108 atoms m at rows w (λ a t.
+      let b : allowed w 108 ≡ true = rw t at a in
+      let z : _≡_ {A = ℕ} 0 1 = cc in omega arith)) in
+      rw (g, f) (opened-is at (term-head atoms (wanted-of w) (at-offset m at rows)) ∙ ap opening-of (sym y))

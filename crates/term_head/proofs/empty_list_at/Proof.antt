@@ -1,0 +1,31 @@
+-- `heads::empty_list_at` meets its contract. Assumes nothing.
+use Rattle.term_head.proofs.Openings.{empty-short, empty-other, empty-count}
+use borrow.Author.Needs.{needs}
+use Rattle.term_head.proofs.empty_list_at.Statement.{statement}
+use Rattle.term_head.proofs.empty_list_at.Tie as tie
+
+sub-if1 : tie.Need-sub-if1
+sub-if1 c = search needs
+
+returns : tie.Need-returns
+returns c = empty-short _ _ (c .if1 .taken)
+
+shared-slice-read-if2 : tie.Need-shared-slice-read-if2
+shared-slice-read-if2 c = search needs
+
+returns-2 : tie.Need-returns-2
+returns-2 c = empty-other _ _ (c .before .before .if1 .left) (c .if2 .taken)
+
+add-big4 : tie.Need-add-big4
+add-big4 c = search needs
+
+big4-requires : tie.Need-big4-requires
+big4-requires c κs = search needs
+
+returns-3 : tie.Need-returns-3
+returns-3 c = empty-count _ _ _ (c .before .before .before .if1 .left) (c .before .if2 .left) (c .big4 .ensures .0)
+
+pub empty-list-at-spec : {M : Type 1} → statement M
+empty-list-at-spec =
+    tie.close
+    (tie.spec sub-if1 returns shared-slice-read-if2 returns-2 add-big4 big4-requires returns-3)

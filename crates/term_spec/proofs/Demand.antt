@@ -1,0 +1,125 @@
+-- Demand 3 over the definitions, as one statement: `demand-3`, at the end. Before it: the canonical standalone term of a tree within the limits is read
+-- back, and an accepted message is written in canonical form.
+use mathlib.Core.Path.{_≡_, refl, sym, _∙_, ap, subst}
+use mathlib.Core.Logic.{_↔_, _⊎_, inl, inr}
+use mathlib.Core.Bool.{true}
+use mathlib.Core.List.{List, [], _++_, append-nil}
+use Prim.Native.Nat.{ℕ, _+_, _≤_, min}
+use native.Mathlib.Omega.{arith}
+use lib.ListN.{length}
+use borrow.Author.Tests.{le-leb}
+use Rattle.term_spec.specs.Tree.{Forest, empty, _▹_, count, size, sizes}
+use Rattle.term_spec.specs.Term.{Label, Term}
+use Rattle.term_spec.specs.Answer.{Answer, good}
+use Rattle.term_spec.specs.Head.{any}
+use Rattle.term_spec.specs.Reading.{Located, meaning, term}
+use Rattle.term_spec.specs.AtomList.{AtomList, of-size, atoms-of}
+use Rattle.term_spec.specs.Message.{Framing, standalone, Terms, meanings, ending, version, standalone-term, read}
+use Rattle.term_spec.specs.Canonical.{canonical, canonical-standalone, standalones}
+use Rattle.term_spec.specs.Writing.{written, write}
+use Rattle.term_spec.specs.Numbers.{Under}
+use Rattle.term_spec.proofs.Steps.{spot}
+use Rattle.term_spec.proofs.Parts.{Reads}
+use Rattle.term_spec.proofs.RoundTrip.{read-tree}
+use Rattle.term_spec.proofs.Injective.{canonical-injective}
+use Rattle.term_spec.proofs.Capacity.{enough}
+use Rattle.term_spec.proofs.Message.{Allowed, All-allowed, accepted-message}
+
+-- The canonical standalone term of a tree within the limits is read back, with any atom list of its size and any table of as many rows.
+
+pub record Read-again (t : Term) (list : AtomList) (lent : ℕ) : Type 0 where
+  pub tree : Located
+  -- it is accepted
+  pub accepted : read standalone list lent (canonical-standalone t) ≡ good (tree ▹ empty)
+  -- it means the same
+  pub means : meaning tree ≡ t
+  -- written again, it is one term with the same bytes
+  pub again : (room : ℕ) → length (canonical-standalone t) ≤ room → write standalone list lent room (canonical-standalone t) ≡ good (record { terms = 1; bytes = canonical-standalone t })
+
+read-back : (t : Term) → Allowed t → (list : AtomList) → of-size list ≡ true → (lent : ℕ) → size t ≤ lent → length (canonical-standalone t) ≤ 65536
+    → (tree : Located) × (read standalone list lent (canonical-standalone t) ≡ good (tree ▹ empty)) × (meaning tree ≡ t)
+unfolding read standalone-term version ending canonical-standalone
+read-back t a list sized lent enough short =
+    let cap : ℕ = min 8192 lent in
+    let r : Reads (atoms-of list) cap 64 any (canonical t ++ []) [] 1 0 t = read-tree (atoms-of list) cap t (a .valid-tree) 64 (a .levels) 1 0 [] (omega (arith, a .rows)) in
+    let e : term (atoms-of list) cap 64 any (spot 1 (canonical t) 0) ≡ good (r .tree, spot (r .end) [] (0 + size t)) = rw (append-nil (canonical t)) at (r .reads) in
+    (r .tree, rw (sized, le-leb _ 65536 short, e) refl, r .means)
+
+-- what is written where the room is enough
+pub written-good : (ts : Terms) (bs : List ℕ) → standalones (meanings ts) ≡ bs → (room : ℕ) → length bs ≤ room
+    → written room (good ts) ≡ good (record { terms = count ts; bytes = bs })
+unfolding written
+written-good ts bs e room enough = rw (e, le-leb (length bs) room enough, written) (ap (λ (x : List ℕ). good (record { terms = count ts; bytes = x })) e)
+
+-- the writer writes each accepted message in canonical form where room and scratch rows are enough
+pub writes : (framing : Framing) (list : AtomList) (message : List ℕ) (ts : Terms) → read framing list 8192 message ≡ good ts → (scratch room : ℕ) → sizes ts ≤ scratch
+    → length (standalones (meanings ts)) ≤ room → write framing list scratch room message ≡ good (record { terms = count ts; bytes = standalones (meanings ts) })
+unfolding write
+writes framing list message ts e scratch room rows fits =
+    ap (written room) (enough framing list message 8192 scratch ts e rows) ∙ written-good ts (standalones (meanings ts)) refl room fits
+
+written-back : (t : Term) (tree : Located) (o : Answer Terms) → o ≡ good (tree ▹ empty) → meaning tree ≡ t → (room : ℕ) → length (canonical-standalone t) ≤ room
+    → written room o ≡ good (record { terms = 1; bytes = canonical-standalone t })
+unfolding standalones
+written-back t tree o e m room enough =
+    let is : standalones (meaning tree ▹ empty) ≡ canonical-standalone t = append-nil _ ∙ ap canonical-standalone m in
+    ap (written room) e ∙ written-good (tree ▹ empty) (canonical-standalone t) is room enough
+
+pub read-again : (t : Term) → Allowed t → (list : AtomList) → of-size list ≡ true → (lent : ℕ) → size t ≤ lent → length (canonical-standalone t) ≤ 65536
+    → Read-again t list lent
+unfolding write
+read-again t a list sized lent enough short =
+    let b = read-back t a list sized lent enough short in
+    record { tree = b .0; accepted = b .1; means = b .2; again = λ room fits. written-back t (b .0) _ (b .1) (b .2) room fits }
+
+-- equal bytes exactly where the meanings are equal
+pub same-bytes : (t u : Term) → Allowed t → Allowed u → (canonical-standalone t ≡ canonical-standalone u) ↔ (t ≡ u)
+unfolding canonical-standalone
+same-bytes t u a b =
+    (λ e. canonical-injective t u (a .valid-tree) (b .valid-tree) (let rest : canonical t ≡ canonical u = cc in rest), λ e. ap canonical-standalone e)
+
+-- Demand 3.
+
+abbrev pub One-of : Term → Forest Label → Type 0
+One-of t empty = ⊥
+One-of t (u ▹ us) = (t ≡ u) ⊎ One-of t us
+
+-- An accepted term: a term of a message, standalone or payload, that the rules allow whole, with its own atom list and 8,192 rows. A message is bytes
+pub record Accepted-term (t : Term) : Type 0 where
+  pub framing : Framing
+  pub list : AtomList
+  pub message : List ℕ
+  pub are-bytes : Under 256 message
+  pub terms : Terms
+  pub accepted : read framing list 8192 message ≡ good terms
+  pub one-of-them : One-of t (meanings terms)
+
+-- For any two accepted terms, of one message or of two:
+pub record Demand-3 (t u : Term) (a : Accepted-term t) : Type 0 where
+  -- where room and scratch rows are enough, the writer writes the message of the first in canonical form: the canonical standalone terms of its terms,
+  -- one after the other. What scratch and output held before is no input of `write`
+  pub canonical-written : (scratch room : ℕ) → sizes (a .terms) ≤ scratch → length (standalones (meanings (a .terms))) ≤ room
+      → write (a .framing) (a .list) scratch room (a .message) ≡ good (record { terms = count (a .terms); bytes = standalones (meanings (a .terms)) })
+  -- the outputs are the same bytes exactly when the terms mean the same
+  pub same-output : (canonical-standalone t ≡ canonical-standalone u) ↔ (t ≡ u)
+  -- an output of at most 65,536 bytes is itself accepted, with any atom list of the stated size, so with an empty one, and any table of at least as many
+  -- rows as its term has; it means the same term; and written again it gives the same bytes
+  pub read-and-written-again : (list : AtomList) → of-size list ≡ true → (lent : ℕ) → size t ≤ lent → length (canonical-standalone t) ≤ 65536
+      → Read-again t list lent
+
+one-allowed : (t : Term) (ts : Forest Label) → All-allowed ts → One-of t ts → Allowed t
+one-allowed t empty a o = absurd o
+one-allowed t (u ▹ us) a (inl e) = subst Allowed (sym e) (a .0)
+one-allowed t (u ▹ us) a (inr o) = one-allowed t us (a .1) o
+
+term-allowed : (t : Term) → Accepted-term t → Allowed t
+term-allowed t a = one-allowed t (meanings (a .terms)) (accepted-message (a .framing) (a .list) 8192 (a .message) (a .are-bytes) (a .terms) (a .accepted) .known .all-allowed) (a .one-of-them)
+
+pub demand-3 : (t u : Term) (a : Accepted-term t) → Accepted-term u → Demand-3 t u a
+demand-3 t u a b =
+    let p : Allowed t = term-allowed t a in
+    record {
+      canonical-written = λ scratch room rows fits. writes (a .framing) (a .list) (a .message) (a .terms) (a .accepted) scratch room rows fits;
+      same-output = same-bytes t u p (term-allowed u b);
+      read-and-written-again = λ list sized lent enough short. read-again t p list sized lent enough short;
+    }

@@ -1,0 +1,35 @@
+-- Two valid terms have the same canonical form only where they are the same, and neither form begins the other's.
+use mathlib.Core.Path.{_≡_, sym, _∙_, ap}
+use mathlib.Core.List.{List, [], _++_, append-nil}
+use Prim.Native.Nat.{ℕ, _+_}
+use native.Mathlib.Omega.{arith}
+use Rattle.term_spec.specs.Tree.{size, depth}
+use Rattle.term_spec.specs.Text.{invalid-at}
+use Rattle.term_spec.specs.Term.{Term}
+use Rattle.term_spec.specs.Answer.{Answer, good, Position}
+use Rattle.term_spec.specs.Head.{Atoms, any}
+use Rattle.term_spec.specs.Reading.{Located, meaning, term}
+use Rattle.term_spec.specs.Canonical.{canonical}
+use Rattle.term_spec.specs.Valid.{Valid}
+use Rattle.term_spec.proofs.Steps.{spot}
+use Rattle.term_spec.proofs.Parts.{Reads}
+use Rattle.term_spec.proofs.RoundTrip.{read-tree}
+
+-- what a good answer holds
+pub good-is : {A : Type 0} {a b : A} → _≡_ {A = Answer A} (good a) (good b) → a ≡ b
+good-is e = cc
+
+pub canonical-prefix : (t u : Term) → Valid t → Valid u → (x y : List ℕ) → canonical t ++ x ≡ canonical u ++ y → (t ≡ u) × (x ≡ y)
+canonical-prefix t u v w x y e =
+    let none-known : Atoms = record { n = 0; text = λ i. invalid-at 0 } in
+    let cap : ℕ = size t + size u in
+    let d : ℕ = depth t + depth u in
+    let a : Reads none-known cap d any (canonical t ++ x) x 0 0 t = read-tree none-known cap t v d (omega arith) 0 0 x (omega arith) in
+    let b : Reads none-known cap d any (canonical u ++ y) y 0 0 u = read-tree none-known cap u w d (omega arith) 0 0 y (omega arith) in
+    let same : _≡_ {A = Located × Position} (a .tree, spot (a .end) x (0 + size t)) (b .tree, spot (b .end) y (0 + size u))
+    = good-is (sym (a .reads) ∙ ap (λ (left : List ℕ). term none-known cap d any (spot 0 left 0)) e ∙ b .reads) in
+    (sym (a .means) ∙ ap (λ (p : Located × Position). meaning (p .0)) same ∙ b .means, ap (λ (p : Located × Position). p .1 .left) same)
+
+pub canonical-injective : (t u : Term) → Valid t → Valid u → canonical t ≡ canonical u → t ≡ u
+canonical-injective t u v w e =
+    (canonical-prefix t u v w [] [] (append-nil (canonical t) ∙ e ∙ sym (append-nil (canonical u)))) .0

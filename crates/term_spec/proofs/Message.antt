@@ -1,0 +1,136 @@
+-- An accepted message: its terms are valid trees within the limits, have a row for each node, and the message backs every node.
+use mathlib.Core.Path.{_≡_, refl, ap, subst}
+use mathlib.Core.Bool.{Bool, true, false}
+use mathlib.Core.List.{List, [], _∷_}
+use Prim.Native.Nat.{ℕ, _+_, _≤_, min}
+use native.Mathlib.Omega.{arith}
+use lib.Dec.{leb}
+use lib.ListN.{length}
+use borrow.Author.Tests.{leb-true}
+use Rattle.term_spec.specs.Tree.{Forest, empty, _▹_, size, sizes, depth}
+use Rattle.term_spec.specs.Text.{Checked, valid, invalid-at, utf-8, check, Characters}
+use Rattle.term_spec.specs.Term.{Label, Term}
+use Rattle.term_spec.specs.Answer.{Answer, good, refused, Position, Reading, after, done}
+use Rattle.term_spec.specs.Head.{Atoms, any}
+use Rattle.term_spec.specs.Reading.{Located, meaning, term}
+use Rattle.term_spec.specs.AtomList.{AtomList, of-size, atoms-of, place-length, place-text, place-bytes}
+use Rattle.term_spec.specs.Message.{Framing, standalone, payload, Terms, meanings, ending, result-of, first-check, standalone-term, payload-terms, terms-framed, read}
+use Rattle.term_spec.specs.Numbers.{Under}
+use Rattle.term_spec.specs.Valid.{Valid, Valids}
+use Rattle.term_spec.proofs.Steps.{spot}
+use Rattle.term_spec.proofs.Text.{utf8-spells}
+use Rattle.term_spec.proofs.Rows.{size-meaning}
+use Rattle.term_spec.proofs.Holds.{Holds, Fine, both, bind, done-holds, next, version-holds, ending-holds}
+use Rattle.term_spec.proofs.Heads.{True-atoms, for-any}
+use Rattle.term_spec.proofs.Accepted.{Found, term-holds}
+use Rattle.term_spec.proofs.Invariant.{In-step, on-byte}
+use Rattle.term_spec.proofs.Backed.{Backed, Backeds, term-backed}
+
+-- a tree within the limits: valid, 64 levels at most, 8,192 rows at most
+pub record Allowed (t : Term) : Type 0 where
+  pub valid-tree : Valid t
+  pub levels : depth t ≤ 64
+  pub rows : size t ≤ 8192
+
+abbrev pub All-allowed : Forest Label → Type 0
+All-allowed empty = Unit {0}
+All-allowed (t ▹ ts) = Allowed t × All-allowed ts
+
+pub allowed-valid : (ts : Forest Label) → All-allowed ts → Valids ts
+allowed-valid empty a = tt
+allowed-valid (t ▹ ts) a = (a .0 .valid-tree, allowed-valid ts (a .1))
+
+-- what is known of the terms of a message, read with `cap` rows
+pub record Known (message : List ℕ) (cap : ℕ) (atoms : Atoms) (ts : Terms) : Type 0 where
+  pub all-allowed : All-allowed (meanings ts)
+  pub few : sizes ts ≤ cap
+  pub all-backed : Backeds message cap atoms ts
+
+module _ (atoms : Atoms) (true-atoms : True-atoms atoms) (cap : ℕ) (least : cap ≤ 8192) (message : List ℕ) (under : Under 256 message) where
+  -- a term that is no part, with r rows before its own
+  abbrev Outer : ℕ → Located → Position → Type 0
+  Outer r x t = Found cap for-any 64 r x t × (In-step message cap t × Backed message cap atoms x)
+
+  outer : (r : ℕ) (s : Position) → Fine r s → r ≤ cap → In-step message cap s → Holds (term atoms cap 64 any s) (Outer r)
+  outer r s g h i = both _ _ (term-holds cap atoms true-atoms (omega arith) 64 for-any r s g h) (term-backed message cap atoms 64 any s i)
+
+  start : In-step message cap (spot 0 message 0)
+  start = record { bytes-are = refl; inside = omega arith; room = omega arith }
+
+  allowed : (r : ℕ) (x : Located) (t : Position) → Outer r x t → Allowed (meaning x)
+  allowed r x t f = record { valid-tree = f .0 .valid; levels = f .0 .deep; rows = omega (arith, f .0 .room) }
+
+  one-known : (x : Located) (t : Position) → Outer 0 x t → Known message cap atoms (x ▹ empty)
+  one-known x t f = record { all-allowed = (allowed 0 x t f, tt); few = omega (arith, size-meaning x, f .0 .room); all-backed = (f .1 .1, tt) }
+
+  two-known : (x y : Located) (t s : Position) → Outer 0 x t → Outer (0 + size (meaning x)) y s → Known message cap atoms (x ▹ y ▹ empty)
+  two-known x y t s f g =
+      record {
+        all-allowed = (allowed 0 x t f, (allowed (0 + size (meaning x)) y s g, tt));
+        few = omega (arith, size-meaning x, size-meaning y, g .0 .room);
+        all-backed = (f .1 .1, (g .1 .1, tt));
+      }
+
+  standalone-known : Holds (standalone-term atoms cap (spot 0 message 0)) (λ ts t. Known message cap atoms ts)
+  unfolding standalone-term
+  standalone-known =
+      bind (version-holds (spot 0 message 0) λ b bs e.
+      next (Outer 0)
+      (outer 0 (spot 1 bs 0) (record { bytes-under = subst (Under 256) e under .1; rows-are = refl }) (omega arith) (on-byte message cap (spot 0 message 0) b bs e start)) λ x t f.
+      bind (ending-holds (t .left) t (done-holds _ t (one-known x t f))))
+
+  payload-known : Holds (payload-terms atoms cap (spot 0 message 0)) (λ ts t. Known message cap atoms ts)
+  unfolding payload-terms
+  payload-known = next (Outer 0) (outer 0 (spot 0 message 0) (record { bytes-under = under; rows-are = refl }) (omega arith) start) λ x t f. go x t f (t .left)
+    where
+      go : (x : Located) (t : Position) → Outer 0 x t → (left : List ℕ)
+          → Holds ((elim left as (λ _. Reading Terms) [
+            | [] ↦ done (x ▹ empty)
+            | b ∷ bs ↦ λ t. after (term atoms cap 64 any t) (λ u. λ t. after (ending (t .left) t) (λ _. done (x ▹ u ▹ empty)))
+          ]) t) (λ ts t. Known message cap atoms ts)
+      go x t f [] = done-holds _ t (one-known x t f)
+      go x t f (b ∷ bs) =
+          next (Outer (0 + size (meaning x))) (outer (0 + size (meaning x)) t (f .0 .fine) (f .0 .room) (f .1 .0)) λ y s g.
+          bind (ending-holds (s .left) s (done-holds _ s (two-known x y t s f g)))
+
+  framed-known : (framing : Framing) → Holds (terms-framed atoms cap framing (spot 0 message 0)) (λ ts t. Known message cap atoms ts)
+  framed-known standalone = standalone-known
+  framed-known payload = payload-known
+
+-- the lent atom list holds texts of characters
+list-true : (list : AtomList) → True-atoms (atoms-of list)
+unfolding atoms-of place-text
+list-true list i cs e = go (leb (place-length list i) 32) e
+  where
+    go : (z : Bool) → _≡_ {A = Checked} (elim z [ true ↦ check utf-8 (place-bytes list i) | false ↦ invalid-at 32 ]) (valid cs) → Characters cs × (length cs ≤ 255)
+    go true f = let s = utf8-spells (place-bytes list i) cs f in (s .characters, s .few)
+    go false f = let no-way : _≡_ {A = ℕ} 0 1 = cc in absurd (omega arith)
+
+-- a good answer has passed the first checks, and has a position
+passed : {A : Type 0} (t : Bool) (n : ℕ) (o : Answer A) (a : A) → first-check t n o ≡ good a → (t ≡ true) × (o ≡ good a)
+passed true n o a e = (refl, e)
+passed false n o a e = let no-way : _≡_ {A = ℕ} 0 1 = cc in absurd (omega arith)
+
+found-good : {A : Type 0} (o : Answer (A × Position)) (a : A) → result-of o ≡ good a → (s : Position) × (o ≡ good (a, s))
+found-good (good r) a e = let is : r .0 ≡ a = cc in (r .1, ap (λ x. good (x, r .1)) is)
+found-good (refused n p) a e = let no-way : _≡_ {A = ℕ} 0 1 = cc in absurd (omega arith)
+
+pub record Accepted-message (list : AtomList) (lent : ℕ) (message : List ℕ) (ts : Terms) : Type 0 where
+  pub sized : of-size list ≡ true
+  pub short : length message ≤ 65536
+  pub known : Known message (min 8192 lent) (atoms-of list) ts
+
+pub accepted-message : (framing : Framing) (list : AtomList) (lent : ℕ) (message : List ℕ) → Under 256 message → (ts : Terms)
+    → read framing list lent message ≡ good ts → Accepted-message list lent message ts
+unfolding read
+accepted-message framing list lent message under ts e =
+    let cap : ℕ = min 8192 lent in
+    let o : Answer (Terms × Position) = terms-framed (atoms-of list) cap framing (spot 0 message 0) in
+    let a = passed (of-size list) 13 _ ts e in
+    let b = passed (leb (length message) 65536) 12 (result-of o) ts (a .1) in
+    let g = found-good o ts (b .1) in
+    record {
+      sized = a .0;
+      short = leb-true (length message) 65536 (b .0);
+      known = framed-known (atoms-of list) (list-true list) cap (omega arith) message under framing .known ts (g .0) (g .1);
+    }

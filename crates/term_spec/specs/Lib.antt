@@ -1,0 +1,17 @@
+pub mod Tree
+pub mod Numbers
+pub mod Text
+pub mod Term
+pub mod Equal
+pub mod Answer
+pub mod Head
+pub mod Reading
+pub mod AtomList
+pub mod Message
+pub mod Rows
+pub mod Canonical
+pub mod Valid
+pub mod Writing
+pub mod Look
+pub mod Answers
+pub mod Promises

@@ -1,0 +1,54 @@
+-- `cases::ask::put_answers` meets its contract. What is put stays inside dst. Assumes nothing.
+use Prim.Native.Nat.{_-_, _≤_}
+use mathlib.Core.Path.{_≡_}
+use native.Mathlib.Omega.{arith}
+use borrow.Author.Needs.{needs}
+use lib.ListN.{length}
+use Rattle.io.proofs.Counting.{counts}
+use Rattle.vectors.proofs.ask.put_answers.Statement.{statement}
+use Rattle.vectors.proofs.ask.put_answers.Tie as tie
+
+abbrev Inv-loop : tie.InvT-loop
+Inv-loop dst₀ at question case msg places lengths n next₀ i₀ dst next i = (i ≤ n) × (next ≤ length dst) × (length dst ≡ length dst₀)
+
+abbrev μ-loop : tie.MeasureT-loop
+μ-loop dst₀ at question case msg places lengths n next₀ i₀ dst next i = n - i
+
+returns : tie.Need-returns Inv-loop μ-loop
+returns c = counts _ _ (omega arith)
+
+loop-holds : tie.Need-loop-holds Inv-loop μ-loop
+loop-holds c = search needs
+
+put-answer-requires : tie.Need-put-answer-requires Inv-loop μ-loop
+put-answer-requires c κs = search needs
+
+add-i : tie.Need-add-i Inv-loop μ-loop
+add-i c = search needs
+
+loop-less : tie.Need-loop-less Inv-loop μ-loop
+loop-less c = search needs
+
+loop-again : tie.Need-loop-again Inv-loop μ-loop
+loop-again c = search needs
+
+same-length : tie.Need-same-length Inv-loop μ-loop
+same-length c = search needs
+
+returns-2 : tie.Need-returns-2 Inv-loop μ-loop
+returns-2 c = counts _ _ (omega arith)
+
+pub put-answers-spec : {M : Type 1} → statement M
+put-answers-spec =
+    tie.close
+    (tie.spec
+    Inv-loop
+    μ-loop
+    returns
+    loop-holds
+    put-answer-requires
+    add-i
+    loop-less
+    loop-again
+    same-length
+    returns-2)
