@@ -15,11 +15,11 @@ use Rattle.term_spec.specs.Message.{payload, ending, version, standalone-term, 
 use Rattle.term_spec.specs.Canonical.{big-bytes, integer-bytes, atom-bytes, tuple-bytes, port-bytes, words-bytes, small, all-small, long-list, list-bytes, term-bytes, canonical, canonical-standalone, standalones}
 use Rattle.term_spec.specs.Writing.{Written, written, write}
 use Rattle.packet_spec.specs.declared.Pending.{Pending}
-use Rattle.packet_spec.specs.Memory.{Memory, cache-of-size, memory-of-size, record-true, none-pending, empty-cache, text-if, held-as, held, text}
+use Rattle.packet_spec.specs.Memory.{Cache, Memory, cache-of, cache-of-size, memory-of-size, record-true, none-pending, empty-cache, text-if, held-as, Held, held, text}
 use Rattle.packet_spec.specs.Header.{flag-bytes, half, is-new, place-at, length-width, named, filled, held-or, text-field, new-reference, cached-reference, reference, references, header}
 use Rattle.packet_spec.specs.Packet.{ids, packet-kind, preamble, payload-after, rest, packet, judged}
 use Rattle.packet_spec.specs.Calls.{zeros-to, enter, entered, texts-in-places, lengths-of, list-of, record-after, told-after, told, left-by, Outcome, payload-at, pending-still, complete, take-packet, after-packet, drop-sequence}
-use Rattle.packet_spec.specs.Look.{names, place-in, place-named, place-of-reference}
+use Rattle.packet_spec.specs.Look.{names, place-in, place-named, place-of-reference, text-held, text-of-place}
 
 -- an empty cache, lists and a gather buffer of zeros, no sequence pending
 abbrev pub fresh : Memory
@@ -58,18 +58,35 @@ first-packet =
 abbrev pub second-packet : List ℕ
 second-packet = 131 ∷ 70 ∷ 0 ∷ 0 ∷ 2 ∷ 168 ∷ 0 ∷ 0 ∷ 5 ∷ 83 ∷ 0 ∷ 0 ∷ 0 ∷ 0 ∷ 0 ∷ 0 ∷ 0 ∷ 1 ∷ replicate 25 0
 
+-- its five texts: `recv@host`, `send@host`, `reg`, `call`, `set_get_state`
+abbrev pub recv : List ℕ
+recv = 114 ∷ 101 ∷ 99 ∷ 118 ∷ 64 ∷ 104 ∷ 111 ∷ 115 ∷ 116 ∷ []
+
+abbrev pub send : List ℕ
+send = 115 ∷ 101 ∷ 110 ∷ 100 ∷ 64 ∷ 104 ∷ 111 ∷ 115 ∷ 116 ∷ []
+
+abbrev pub reg : List ℕ
+reg = 114 ∷ 101 ∷ 103 ∷ []
+
+abbrev pub call : List ℕ
+call = 99 ∷ 97 ∷ 108 ∷ 108 ∷ []
+
+abbrev pub set-get-state : List ℕ
+set-get-state = 115 ∷ 101 ∷ 116 ∷ 95 ∷ 103 ∷ 101 ∷ 116 ∷ 95 ∷ 115 ∷ 116 ∷ 97 ∷ 116 ∷ 101 ∷ []
+
 -- places 1,034 and 5 filled before: `recv@host`, `send@host`
 abbrev pub filling : List ℕ
 filling =
     131 ∷ 68 ∷ 2 ∷ 140 ∷ 0 ∷ 10 ∷ 9 ∷ 114 ∷ 101 ∷ 99 ∷ 118 ∷ 64 ∷ 104 ∷ 111 ∷ 115 ∷ 116
     ∷ 5 ∷ 9 ∷ 115 ∷ 101 ∷ 110 ∷ 100 ∷ 64 ∷ 104 ∷ 111 ∷ 115 ∷ 116 ∷ []
 
--- what is seen of the example: the three answers; at its end the bytes gathered, the texts of the pending list, the record,
--- and what the writer answers for the payload with that list
+-- what is seen of the example: the three answers; at its end all bytes gathered, the five texts of the pending list, what the five places hold that its
+-- header names, the record, and what the writer answers for the payload with that list
 pub record Seen : Type 0 where
   pub answers : List (Answer Outcome)
   pub gathered : List ℕ
   pub texts : List (List ℕ)
+  pub places-hold : List Held
   pub record-then : Pending
   pub payload-written : Answer Written
 
@@ -77,8 +94,9 @@ abbrev seen-of : Answer Outcome → Answer Outcome → Answer Outcome → Memory
 seen-of a b c m =
     record {
       answers = a ∷ b ∷ c ∷ [];
-      gathered = take 30 (m .gather);
-      texts = place-bytes (m .pending-list) 0 ∷ place-bytes (m .pending-list) 2 ∷ place-bytes (m .pending-list) 4 ∷ [];
+      gathered = take 173 (m .gather);
+      texts = place-bytes (m .pending-list) 0 ∷ place-bytes (m .pending-list) 1 ∷ place-bytes (m .pending-list) 2 ∷ place-bytes (m .pending-list) 3 ∷ place-bytes (m .pending-list) 4 ∷ [];
+      places-hold = held (m .cache) 1034 ∷ held (m .cache) 5 ∷ held (m .cache) 492 ∷ held (m .cache) 9 ∷ held (m .cache) 494 ∷ [];
       record-then = m .pending;
       payload-written = write payload (m .pending-list) 8192 65536 (take 173 (m .gather));
     }
@@ -98,9 +116,10 @@ pub record Cases : Type 0 where
   -- the fragmented example of source document 001, places 1,034 and 5 filled before
   pub run-whole : example ≡ record {
     answers = good (payload-at 27 0) ∷ good (pending-still 1 148) ∷ good (complete 173) ∷ [];
-    gathered = 104 ∷ 4 ∷ 97 ∷ 6 ∷ 103 ∷ 82 ∷ 0 ∷ 0 ∷ 0 ∷ 0 ∷ 85 ∷ 0 ∷ 0 ∷ 0 ∷ 0 ∷ 2 ∷ 82 ∷ 1 ∷ 82 ∷ 2 ∷ 104 ∷ 3 ∷ 82 ∷ 3 ∷ 103 ∷ 82 ∷ 0 ∷ 0 ∷ 0 ∷ 0 ∷ [];
-    texts = (114 ∷ 101 ∷ 99 ∷ 118 ∷ 64 ∷ 104 ∷ 111 ∷ 115 ∷ 116 ∷ []) ∷ (114 ∷ 101 ∷ 103 ∷ [])
-        ∷ (115 ∷ 101 ∷ 116 ∷ 95 ∷ 103 ∷ 101 ∷ 116 ∷ 95 ∷ 115 ∷ 116 ∷ 97 ∷ 116 ∷ 101 ∷ []) ∷ [];
+    gathered = 104 ∷ 4 ∷ 97 ∷ 6 ∷ 103 ∷ 82 ∷ 0 ∷ 0 ∷ 0 ∷ 0 ∷ 85 ∷ 0 ∷ 0 ∷ 0 ∷ 0 ∷ 2 ∷ 82 ∷ 1 ∷ 82 ∷ 2
+        ∷ 104 ∷ 3 ∷ 82 ∷ 3 ∷ 103 ∷ 82 ∷ 0 ∷ 0 ∷ 0 ∷ 0 ∷ 245 ∷ 0 ∷ 0 ∷ 0 ∷ 2 ∷ 2 ∷ 104 ∷ 2 ∷ 82 ∷ 4 ∷ 109 ∷ 0 ∷ 0 ∷ 0 ∷ 128 ∷ replicate 128 0;
+    texts = recv ∷ send ∷ reg ∷ call ∷ set-get-state ∷ [];
+    places-hold = text recv ∷ text send ∷ text reg ∷ text call ∷ text set-get-state ∷ [];
     record-then = none-pending;
     payload-written = good (record { terms = 2; bytes = 131 ∷ 104 ∷ 4 ∷ 97 ∷ 6 ∷ 88 ∷ 119 ∷ 9 ∷ 114 ∷ 101 ∷ 99 ∷ 118 ∷ 64 ∷ 104 ∷ 111 ∷ 115 ∷ 116 ∷ 0 ∷ 0 ∷ 0 ∷ 85 ∷ 0 ∷ 0 ∷ 0 ∷ 0 ∷ 0 ∷ 0 ∷ 0 ∷ 2 ∷ 119 ∷ 9 ∷ 115 ∷ 101 ∷ 110 ∷ 100 ∷ 64 ∷ 104 ∷ 111 ∷ 115 ∷ 116 ∷ 119 ∷ 3 ∷ 114 ∷ 101 ∷ 103 ∷ 131 ∷ 104 ∷ 3 ∷ 119 ∷ 4 ∷ 99 ∷ 97 ∷ 108 ∷ 108 ∷ 88 ∷ 119 ∷ 9 ∷ 114 ∷ 101 ∷ 99 ∷ 118 ∷ 64 ∷ 104 ∷ 111 ∷ 115 ∷ 116 ∷ 0 ∷ 0 ∷ 0 ∷ 245 ∷ 0 ∷ 0 ∷ 0 ∷ 2 ∷ 0 ∷ 0 ∷ 0 ∷ 2 ∷ 104 ∷ 2 ∷ 119 ∷ 13 ∷ 115 ∷ 101 ∷ 116 ∷ 95 ∷ 103 ∷ 101 ∷ 116 ∷ 95 ∷ 115 ∷ 116 ∷ 97 ∷ 116 ∷ 101 ∷ 109 ∷ 0 ∷ 0 ∷ 0 ∷ 128 ∷ replicate 128 0 });
   }
@@ -114,13 +133,19 @@ cases = record {
   run-whole = refl;
 }
 
--- further examples: flags, 22, ids, drop, the two look-ups
-abbrev half-done : Memory
-half-done = then fresh (131 ∷ 69 ∷ 0 ∷ 0 ∷ 0 ∷ 0 ∷ 0 ∷ 0 ∷ 0 ∷ 7 ∷ 0 ∷ 0 ∷ 0 ∷ 0 ∷ 0 ∷ 0 ∷ 0 ∷ 3 ∷ 0 ∷ 104 ∷ 2 ∷ [])
-
+-- SequenceId and FragmentId, and what follows
 abbrev ids-of : ℕ → ℕ → List ℕ → List ℕ
 ids-of s f bs = 0 ∷ 0 ∷ 0 ∷ 0 ∷ 0 ∷ 0 ∷ 0 ∷ s ∷ 0 ∷ 0 ∷ 0 ∷ 0 ∷ 0 ∷ 0 ∷ 0 ∷ f ∷ bs
 
+-- a sequence 7 of three fragments, the first taken, with two bytes
+abbrev half-done : Memory
+half-done = then fresh (131 ∷ 69 ∷ ids-of 7 3 (0 ∷ 104 ∷ 2 ∷ []))
+
+-- place 7 holds `a`
+abbrev seven-held : Memory
+seven-held = then fresh (131 ∷ 68 ∷ 1 ∷ 8 ∷ 7 ∷ 1 ∷ 97 ∷ [])
+
+-- what a drop answers, the place that a reference names, the text that a place holds
 unfoldable pub dropped : Pending → Answer Pending
 unfolding drop-sequence record-true
 dropped r = drop-sequence r
@@ -129,38 +154,76 @@ unfoldable pub names-place : List ℕ → ℕ → Answer ℕ
 unfolding answer names place-in place-named place-of-reference
 names-place bs i = place-of-reference utf-8 bs i
 
+unfoldable pub holds-text : Cache → ℕ → Answer (List ℕ)
+unfolding answer text-held text-of-place
+holds-text c p = text-of-place c p
+
+-- Further examples: flags, refusals 22 and 24 to 26 and their order, a drop, the two look-ups
 pub record Examples : Type 0 where
   -- LongAtoms: odd n, the high half of the last flag byte; even n, the low half of the last, whose high half is ignored
   pub long-odd : answer fresh (131 ∷ 68 ∷ 1 ∷ 24 ∷ 7 ∷ 0 ∷ 1 ∷ 97 ∷ []) ≡ good (payload-at 8 0)
   pub long-even : answer fresh (131 ∷ 68 ∷ 2 ∷ 136 ∷ 241 ∷ 7 ∷ 0 ∷ 1 ∷ 99 ∷ 8 ∷ 0 ∷ 0 ∷ 106 ∷ []) ≡ good (payload-at 12 1)
-  -- 22 at the later one: new after new, cached after new
+  -- 22 at the later one: new after new, cached after new (before 21), new after cached; two cached ones may name one place
   pub new-new : answer fresh (131 ∷ 68 ∷ 2 ∷ 136 ∷ 0 ∷ 7 ∷ 0 ∷ 7 ∷ 0 ∷ []) ≡ refused 22 1
   pub new-cached : answer fresh (131 ∷ 68 ∷ 2 ∷ 8 ∷ 0 ∷ 7 ∷ 0 ∷ 7 ∷ []) ≡ refused 22 1
-  -- a start of one fragment is complete; ids
+  pub cached-new : answer seven-held (131 ∷ 68 ∷ 2 ∷ 128 ∷ 0 ∷ 7 ∷ 7 ∷ 0 ∷ []) ≡ refused 22 1
+  pub cached-cached : answer seven-held (131 ∷ 68 ∷ 2 ∷ 0 ∷ 0 ∷ 7 ∷ 7 ∷ []) ≡ good (payload-at 7 0)
+  -- a start of one fragment is complete; a continuation that is due is taken
   pub whole-start : answer fresh (131 ∷ 69 ∷ ids-of 9 1 (0 ∷ 106 ∷ [])) ≡ good (complete 1)
-  pub twice : answer half-done (131 ∷ 69 ∷ ids-of 8 2 (0 ∷ [])) ≡ refused 26 0
-  pub other : answer half-done (131 ∷ 70 ∷ ids-of 8 1 []) ≡ refused 25 0
-  pub wrong : answer half-done (131 ∷ 70 ∷ ids-of 7 1 []) ≡ refused 24 0
   pub due : answer half-done (131 ∷ 70 ∷ ids-of 7 2 (97 ∷ [])) ≡ good (pending-still 1 3)
+  -- 24 for zero comes before 26 and 25
+  pub zero-start : answer half-done (131 ∷ 69 ∷ ids-of 8 0 (0 ∷ [])) ≡ refused 24 0
+  pub zero-continued : answer fresh (131 ∷ 70 ∷ ids-of 7 0 []) ≡ refused 24 0
+  -- 26, before the 2 of a header that is cut
+  pub twice : answer half-done (131 ∷ 69 ∷ ids-of 8 2 (0 ∷ [])) ≡ refused 26 0
+  pub twice-cut : answer half-done (131 ∷ 69 ∷ ids-of 8 2 []) ≡ refused 26 0
+  -- 25: none pending; another id, before 24 for the wrong one
+  pub none-pending-yet : answer fresh (131 ∷ 70 ∷ ids-of 7 2 []) ≡ refused 25 0
+  pub other : answer half-done (131 ∷ 70 ∷ ids-of 8 1 []) ≡ refused 25 0
+  -- 24: not the one due
+  pub wrong : answer half-done (131 ∷ 70 ∷ ids-of 7 1 []) ≡ refused 24 0
+  -- a drop
   pub none-dropped : dropped none-pending ≡ refused 25 0
   pub one-dropped : dropped (record { sequence = 7; due = 2; gathered = 5 }) ≡ good none-pending
+  pub false-dropped : dropped (record { sequence = 7; due = 2; gathered = 65537 }) ≡ refused 14 0
+  -- the place that a reference names; 6
   pub second-named : names-place (131 ∷ 68 ∷ 2 ∷ 12 ∷ 0 ∷ 10 ∷ 1 ∷ 97 ∷ 5 ∷ 106 ∷ []) 1 ≡ good 5
   pub first-named : names-place (131 ∷ 68 ∷ 2 ∷ 12 ∷ 0 ∷ 10 ∷ 1 ∷ 97 ∷ 5 ∷ 106 ∷ []) 0 ≡ good 1034
+  pub third-named : names-place (131 ∷ 68 ∷ 2 ∷ 12 ∷ 0 ∷ 10 ∷ 1 ∷ 97 ∷ 5 ∷ 106 ∷ []) 2 ≡ refused 6 0
+  -- the text that a place holds; 13 for place 2,048 and for a cache not of its size, 21, 14 for a length over 32
+  pub text-there : holds-text (seven-held .cache) 7 ≡ good (97 ∷ [])
+  pub no-place : holds-text empty-cache 2048 ≡ refused 13 0
+  pub no-cache : holds-text (cache-of [] []) 0 ≡ refused 13 0
+  pub empty-place : holds-text (seven-held .cache) 8 ≡ refused 21 0
+  pub false-place : holds-text (cache-of (replicate 65536 0) (33 ∷ replicate 2047 65535)) 0 ≡ refused 14 0
 
 pub examples : Examples
-unfolding then dropped names-place
+unfolding then dropped names-place holds-text
 examples = record {
   long-odd = refl;
   long-even = refl;
   new-new = refl;
   new-cached = refl;
+  cached-new = refl;
+  cached-cached = refl;
   whole-start = refl;
+  due = refl;
+  zero-start = refl;
+  zero-continued = refl;
   twice = refl;
+  twice-cut = refl;
+  none-pending-yet = refl;
   other = refl;
   wrong = refl;
-  due = refl;
   none-dropped = refl;
   one-dropped = refl;
+  false-dropped = refl;
   second-named = refl;
   first-named = refl;
+  third-named = refl;
+  text-there = refl;
+  no-place = refl;
+  no-cache = refl;
+  empty-place = refl;
+  false-place = refl;
 }
