@@ -19,6 +19,7 @@ use Rattle.packet_spec.specs.Memory.{Cache, Memory, cache-of, cache-of-s
 use Rattle.packet_spec.specs.Header.{flag-bytes, half, is-new, place-at, length-width, named, filled, held-or, text-field, new-reference, cached-reference, reference, references, header}
 use Rattle.packet_spec.specs.Packet.{ids, packet-kind, preamble, payload-after, rest, packet, judged}
 use Rattle.packet_spec.specs.Calls.{zeros-to, enter, entered, texts-in-places, lengths-of, list-of, record-after, told-after, told, left-by, Outcome, payload-at, pending-still, complete, take-packet, after-packet, drop-sequence}
+use Rattle.packet_spec.specs.Runs.{with-state}
 use Rattle.packet_spec.specs.Look.{names, place-in, place-named, place-of-reference, text-held, text-of-place}
 
 -- an empty cache, lists and a gather buffer of zeros, no sequence pending
@@ -137,9 +138,9 @@ cases = record {
 abbrev ids-of : ℕ → ℕ → List ℕ → List ℕ
 ids-of s f bs = 0 ∷ 0 ∷ 0 ∷ 0 ∷ 0 ∷ 0 ∷ 0 ∷ s ∷ 0 ∷ 0 ∷ 0 ∷ 0 ∷ 0 ∷ 0 ∷ 0 ∷ f ∷ bs
 
--- a sequence 7 of three fragments, the first taken, with two bytes
+-- of sequence 7 two bytes are gathered, and id 2 is due
 abbrev half-done : Memory
-half-done = then fresh (131 ∷ 69 ∷ ids-of 7 3 (0 ∷ 104 ∷ 2 ∷ []))
+half-done = with-state fresh (empty-cache, record { sequence = 7; due = 2; gathered = 2 })
 
 -- place 7 holds `a`
 abbrev seven-held : Memory
