@@ -11,7 +11,7 @@ use borrow.Author.Tests.{eqb-true, eqb-false, eq-eqb, ne-eqb, le-leb}
 use Rattle.term_spec.specs.Text.{valid, utf-8, check}
 use Rattle.term_spec.proofs.Tests.{both-true, by-less}
 use Rattle.octets.proofs.Stores.{drop-after, part-sets}
-use Rattle.packet_spec.specs.Memory.{Cache, cache-of-size, cache-length, cache-bytes, text, text-if, held-as, held}
+use Rattle.packet_spec.specs.Memory.{Cache, cache-of-size, text, text-if, held-as, held}
 use Rattle.packet_spec.specs.Header.{Reference}
 use Rattle.packet_spec.specs.Calls.{zeros-to, enter}
 use Rattle.packet_spec.specs.Places.{Same, Holding}

@@ -10,7 +10,7 @@ use Rattle.term_spec.proofs.Tests.{both-true}
 use Rattle.packet_spec.specs.Memory.{Cache, text, held}
 use Rattle.packet_spec.specs.Header.{Reference, named, filled}
 use Rattle.packet_spec.specs.Calls.{enter, entered}
-use Rattle.packet_spec.specs.Places.{Same, Holding, Held-new, filled-by, filled-in-turn}
+use Rattle.packet_spec.specs.Places.{Same, Held-new, filled-by, filled-in-turn}
 use Rattle.packet_spec.proofs.Cache.{same-refl, same-trans, same-holding, held-same, held-new, Sized, enter-sized, enter-other, enter-new}
 use Rattle.packet_spec.proofs.Judged.{Sound, All-sound}
 

@@ -11,12 +11,10 @@ use lib.Seq.{sets}
 use borrow.Author.Tests.{eqb-true, eqb-false, eq-eqb, ne-eqb}
 use Rattle.term_spec.specs.Text.{Coding}
 use Rattle.term_spec.specs.Answer.{Answer, good, refused}
-use Rattle.term_spec.specs.AtomList.{AtomList}
 use Rattle.packet_spec.specs.declared.Pending.{Pending}
 use Rattle.packet_spec.specs.Memory.{Cache, Memory, cache-of-size, record-true, none-pending, empty-cache}
-use Rattle.packet_spec.specs.Header.{Reference}
 use Rattle.packet_spec.specs.Packet.{Packet, plain, start, continuation, judged}
-use Rattle.packet_spec.specs.Calls.{Outcome, complete, pending-still, list-of, record-after, told, told-after, left-by, left-after, taken, take-packet, after-packet, drop-sequence, reset, unless-refused}
+use Rattle.packet_spec.specs.Calls.{Outcome, complete, pending-still, record-after, told, told-after, left-by, left-after, taken, take-packet, after-packet, drop-sequence, reset, unless-refused}
 use Rattle.packet_spec.specs.Runs.{Call, taking, dropping, resetting, Bytes, All-bytes, after-call, after-calls}
 use Rattle.packet_spec.specs.Gathering.{So-far, none-begun, gathered-by, ended-by, gathered-after, gathered-after-all, Has, fragment-told, packet-told}
 use Rattle.packet_spec.proofs.Stores.{sets-joined}

@@ -16,7 +16,7 @@ use Rattle.packet_spec.specs.Packet.{Packet, plain, start, continuation,
 use Rattle.packet_spec.specs.Calls.{zeros-to, texts-in-places, lengths-of, list-of}
 use Rattle.packet_spec.specs.Places.{At, first, later, Listed, brought}
 use Rattle.packet_spec.proofs.Stores.{length-zeros-to}
-use Rattle.packet_spec.proofs.Judged.{Text, All-sound, Sound-packet, Accepted, accepted}
+use Rattle.packet_spec.proofs.Judged.{Text, All-sound, Sound-packet, accepted}
 
 length-at : {rs : List Reference} {i : ℕ} {r : Reference} → At rs i r → (z : List ℕ) → getD (lengths-of rs ++ z) i 0 ≡ length (r .text)
 unfolding lengths-of

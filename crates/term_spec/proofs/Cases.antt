@@ -1,8 +1,11 @@
--- The cases P of document 01, as a single statement: `cases`. Proved by computing what the definitions answer.
-use mathlib.Core.Path.{_≡_, refl}
+-- The cases P of document 01, for any empty atom list, as a single statement: `cases`. Proved by computing what the definitions answer.
+use mathlib.Core.Path.{_≡_, refl, _∙_, ap}
+use mathlib.Core.Bool.{Bool, true, false}
 use mathlib.Core.List.{List, [], _∷_}
-use Prim.Native.Nat.{ℕ, zero, suc}
-use lib.ListN.{replicate}
+use Prim.Native.Nat.{ℕ, _≤_, min}
+use native.Mathlib.Omega.{arith}
+use lib.Dec.{leb}
+use lib.ListN.{length}
 use native.Mathlib.Decide.{ℕ-discrete}
 use Rattle.term_spec.specs.Numbers.{big-endian, in-bytes, little-endian, digits-within, digits, signed32, with-sign}
 use Rattle.term_spec.specs.Text.{holds, lines, first, emit, decode, check, is-character, encode, encodes}
@@ -10,12 +13,15 @@ use Rattle.term_spec.specs.Equal.{list-discrete, integer-discrete, term-
 use Rattle.term_spec.specs.Answer.{Answer, good, refused, bytes, number}
 use Rattle.term_spec.specs.Head.{forms, form-in, form-or, form, text-or, finite, bits-rule, clear-low, bits-meaning, fields, term-head, creation-rule, id-words, words-rule, later}
 use Rattle.term_spec.specs.Reading.{opening, each, run, entries, row, string, list-tail, contents, body, one-term}
-use Rattle.term_spec.specs.AtomList.{AtomList, of-size, place-length, place-bytes, place-text, atoms-of, empty-list}
-use Rattle.term_spec.specs.Message.{standalone, ending, version, standalone-term, payload-terms, read}
+use Rattle.term_spec.specs.AtomList.{AtomList, of-size, place-length, place-bytes, place-text, atoms-of, empty-list, lent-list}
+use Rattle.term_spec.specs.Message.{standalone, Terms, meanings, ending, version, standalone-term, payload-terms, terms-framed, result-of, first-check, read}
 use Rattle.term_spec.specs.Canonical.{big-bytes, integer-bytes, atom-bytes, tuple-bytes, port-bytes, words-bytes, small, all-small, long-list, list-bytes, term-bytes, canonical, canonical-standalone, standalones}
 use Rattle.term_spec.specs.Writing.{Written, written, write}
+use Rattle.term_spec.specs.Tree.{count}
+use Rattle.term_spec.specs.Cases.{nested, Cases, Writes, Refuses}
+use Rattle.term_spec.proofs.Demand.{written-good}
 
--- what the writer answers for a standalone term, with that list, 8,192 rows and 65,536 bytes of output
+-- what the writer answers for a standalone term, with an empty list of zeros, 8,192 rows and 65,536 bytes of output
 unfoldable pub output : List ℕ → Answer Written
 unfolding ℕ-discrete big-endian in-bytes little-endian digits-within digits signed32 with-sign holds lines first emit decode check is-character encode encodes list-discrete integer-discrete term-discrete same among bytes number forms form-in form-or form text-or finite bits-rule clear-low bits-meaning fields term-head creation-rule id-words words-rule later opening each run entries row string list-tail contents body one-term of-size place-length place-bytes place-text atoms-of big-bytes integer-bytes atom-bytes tuple-bytes port-bytes words-bytes small all-small long-list list-bytes term-bytes canonical canonical-standalone standalones ending version standalone-term payload-terms read written write
 output message = write standalone empty-list 8192 65536 message
@@ -24,40 +30,84 @@ output message = write standalone empty-list 8192 65536 message
 abbrev pub one : List ℕ → Answer Written
 one bs = good (record { terms = 1; bytes = bs })
 
--- n tuples of one element around what follows
-unfoldable pub nested : ℕ → List ℕ → List ℕ
-nested zero bs = bs
-nested (suc n) bs = 104 ∷ 1 ∷ nested n bs
+-- what is computed: the bytes written in 65,536 bytes of output, or the refusal of the reading; each with 8,192 rows
+abbrev Computed : AtomList → List ℕ → List ℕ → Type 0
+Computed list message bs = write standalone list 8192 65536 message ≡ one bs
 
-pub record Cases : Type 0 where
-  pub p1 : output (131 ∷ 98 ∷ 0 ∷ 0 ∷ 0 ∷ 5 ∷ []) ≡ one (131 ∷ 97 ∷ 5 ∷ [])
-  pub p2 : output (131 ∷ 110 ∷ 2 ∷ 0 ∷ 5 ∷ 0 ∷ []) ≡ one (131 ∷ 97 ∷ 5 ∷ [])
-  pub p4 : output (131 ∷ 110 ∷ 4 ∷ 1 ∷ 0 ∷ 0 ∷ 0 ∷ 128 ∷ []) ≡ one (131 ∷ 98 ∷ 128 ∷ 0 ∷ 0 ∷ 0 ∷ [])
-  pub p6 : output (131 ∷ 108 ∷ 0 ∷ 0 ∷ 0 ∷ 2 ∷ 97 ∷ 7 ∷ 97 ∷ 8 ∷ 106 ∷ []) ≡ one (131 ∷ 107 ∷ 0 ∷ 2 ∷ 7 ∷ 8 ∷ [])
-  pub p8 : output (131 ∷ 77 ∷ 0 ∷ 0 ∷ 0 ∷ 1 ∷ 3 ∷ 191 ∷ []) ≡ one (131 ∷ 77 ∷ 0 ∷ 0 ∷ 0 ∷ 1 ∷ 3 ∷ 160 ∷ [])
-  pub p9 : output (131 ∷ 100 ∷ 0 ∷ 1 ∷ 233 ∷ []) ≡ one (131 ∷ 119 ∷ 2 ∷ 195 ∷ 169 ∷ [])
-  pub p10 : output (131 ∷ 82 ∷ 0 ∷ []) ≡ refused 6 1
-  pub p11 : output (131 ∷ []) ≡ refused 2 1
-  pub p13 : output (131 ∷ 116 ∷ 0 ∷ 0 ∷ 0 ∷ 2 ∷ 97 ∷ 1 ∷ 97 ∷ 5 ∷ 98 ∷ 0 ∷ 0 ∷ 0 ∷ 1 ∷ 97 ∷ 6 ∷ []) ≡ refused 7 10
-  -- 64 nested tuples, the inmost empty, pass; 65 is 8
-  pub deep64 : output (131 ∷ nested 63 (104 ∷ 0 ∷ [])) ≡ one (131 ∷ nested 63 (104 ∷ 0 ∷ []))
-  pub deep65 : output (131 ∷ nested 64 (104 ∷ 0 ∷ [])) ≡ refused 8 129
+abbrev Found-wrong : AtomList → List ℕ → ℕ → ℕ → Type 0
+Found-wrong list message number place = read standalone list 8192 message ≡ refused number place
 
-pub cases : Cases
-unfolding output nested
-cases = record {
-  p1 = refl;
-  p2 = refl;
-  p4 = refl;
-  p6 = refl;
-  p8 = refl;
-  p9 = refl;
-  p10 = refl;
-  p11 = refl;
-  p13 = refl;
-  deep64 = refl;
-  deep65 = refl;
+-- With any list that is empty: n = 0, of its stated size, whatever its places and lengths hold
+module _ (places lengths : List ℕ) (sized : of-size (lent-list 0 places lengths) ≡ true) where
+  computed : Cases (Computed (lent-list 0 places lengths)) (Found-wrong (lent-list 0 places lengths))
+  unfolding output nested write read
+  computed = record {
+    p1 = rw sized refl;
+    p2 = rw sized refl;
+    p4 = rw sized refl;
+    p6 = rw sized refl;
+    p8 = rw sized refl;
+    p9 = rw sized refl;
+    p10 = rw sized refl;
+    p11 = rw sized refl;
+    p13 = rw sized refl;
+    deep64 = rw sized refl;
+    deep65 = rw sized refl;
+  }
+
+-- the same cases, said in another way
+pub said-so : {W W₂ : List ℕ → List ℕ → Type 0} {R R₂ : List ℕ → ℕ → ℕ → Type 0}
+    → ((message bs : List ℕ) → W message bs → W₂ message bs) → ((message : List ℕ) (number place : ℕ) → R message number place → R₂ message number place)
+    → Cases W R → Cases W₂ R₂
+said-so w r c = record {
+  p1 = w _ _ (c .p1);
+  p2 = w _ _ (c .p2);
+  p4 = w _ _ (c .p4);
+  p6 = w _ _ (c .p6);
+  p8 = w _ _ (c .p8);
+  p9 = w _ _ (c .p9);
+  p10 = r _ _ _ (c .p10);
+  p11 = r _ _ _ (c .p11);
+  p13 = r _ _ _ (c .p13);
+  deep64 = w _ _ (c .deep64);
+  deep65 = r _ _ _ (c .deep65);
 }
+
+-- more than 8,192 rows are as good as 8,192
+more-rows : (list : AtomList) (message : List ℕ) (lent : ℕ) → 8192 ≤ lent → read standalone list lent message ≡ read standalone list 8192 message
+unfolding read
+more-rows list message lent h =
+    let same : min 8192 lent ≡ 8192 = omega arith in
+    ap (λ (cap : ℕ). first-check (of-size list) 13 (first-check (leb (length message) 65536) 12
+    (result-of (terms-framed (atoms-of list) cap standalone (record { at = 0; left = message; rows = 0 }))))) same
+
+-- what is written in 65,536 bytes of output is written in any that has room for it
+written-in-room : (o : Answer Terms) (bs : List ℕ) → written 65536 o ≡ one bs → (room : ℕ) → length bs ≤ room → written room o ≡ one bs
+unfolding written
+written-in-room (refused n p) bs e room fits = let no-way : _≡_ {A = ℕ} 0 1 = cc in absurd (omega arith)
+written-in-room (good ts) bs e room fits = go (leb (length (standalones (meanings ts))) 65536) e
+  where
+    go : (b : Bool) → _≡_ {A = Answer Written} (elim b [ true ↦ good (record { terms = count ts; bytes = standalones (meanings ts) }) | false ↦ refused 11 0 ]) (one bs)
+        → written room (good ts) ≡ one bs
+    go true e =
+        let same : _≡_ {A = Written} (record { terms = count ts; bytes = standalones (meanings ts) }) (record { terms = 1; bytes = bs }) = cc in
+        written-good ts bs (ap (λ (w : Written). w .bytes) same) room fits ∙ ap (λ (w : Written). good (record { terms = w .terms; bytes = bs })) same
+    go false e = let no-way : _≡_ {A = ℕ} 0 1 = cc in absurd (omega arith)
+
+writes-so : (list : AtomList) (message bs : List ℕ) → Computed list message bs → Writes list message bs
+unfolding write
+writes-so list message bs e rows room enough fits =
+    ap (written room) (more-rows list message rows enough) ∙ written-in-room (read standalone list 8192 message) bs e room fits
+
+refuses-so : (list : AtomList) (message : List ℕ) (number place : ℕ) → Found-wrong list message number place → Refuses list message number place
+unfolding write written
+refuses-so list message number place e rows room enough = ap (written room) (more-rows list message rows enough ∙ e)
+
+pub cases : (places lengths : List ℕ) → of-size (lent-list 0 places lengths) ≡ true
+    → Cases (Writes (lent-list 0 places lengths)) (Refuses (lent-list 0 places lengths))
+cases places lengths sized =
+    let list : AtomList = lent-list 0 places lengths in
+    said-so {W = Computed list} {W₂ = Writes list} {R = Found-wrong list} {R₂ = Refuses list} (writes-so list) (refuses-so list) (computed places lengths sized)
 
 -- Further examples, at the ends of the rules of the canonical form
 pub record Examples : Type 0 where

@@ -1,9 +1,9 @@
 -- Demand 3 over the definitions, as one statement: `demand-3`, at the end. Before it: the canonical standalone term of a tree within the limits is read
 -- back, and an accepted message is written in canonical form.
 use mathlib.Core.Path.{_≡_, refl, sym, _∙_, ap, subst}
-use mathlib.Core.Logic.{_↔_, _⊎_, inl, inr}
+use mathlib.Core.Logic.{_↔_, inl, inr}
 use mathlib.Core.Bool.{true}
-use mathlib.Core.List.{List, [], _++_, append-nil}
+use mathlib.Core.List.{List, [], _++_, append-nil, append-assoc}
 use Prim.Native.Nat.{ℕ, _+_, _≤_, min}
 use native.Mathlib.Omega.{arith}
 use lib.ListN.{length}
@@ -17,7 +17,7 @@ use Rattle.term_spec.specs.AtomList.{AtomList, of-size, atoms-of}
 use Rattle.term_spec.specs.Message.{Framing, standalone, Terms, meanings, ending, version, standalone-term, read}
 use Rattle.term_spec.specs.Canonical.{canonical, canonical-standalone, standalones}
 use Rattle.term_spec.specs.Writing.{written, write}
-use Rattle.term_spec.specs.Numbers.{Under}
+use Rattle.term_spec.specs.Demands.{One-of, Accepted-term, Own-output, Read-again, Demand-3-defined}
 use Rattle.term_spec.proofs.Steps.{spot}
 use Rattle.term_spec.proofs.Parts.{Reads}
 use Rattle.term_spec.proofs.RoundTrip.{read-tree}
@@ -26,16 +26,6 @@ use Rattle.term_spec.proofs.Capacity.{enough}
 use Rattle.term_spec.proofs.Message.{Allowed, All-allowed, accepted-message}
 
 -- The canonical standalone term of a tree within the limits is read back, with any atom list of its size and any table of as many rows.
-
-pub record Read-again (t : Term) (list : AtomList) (lent : ℕ) : Type 0 where
-  pub tree : Located
-  -- it is accepted
-  pub accepted : read standalone list lent (canonical-standalone t) ≡ good (tree ▹ empty)
-  -- it means the same
-  pub means : meaning tree ≡ t
-  -- written again, it is one term with the same bytes
-  pub again : (room : ℕ) → length (canonical-standalone t) ≤ room → write standalone list lent room (canonical-standalone t) ≡ good (record { terms = 1; bytes = canonical-standalone t })
-
 read-back : (t : Term) → Allowed t → (list : AtomList) → of-size list ≡ true → (lent : ℕ) → size t ≤ lent → length (canonical-standalone t) ≤ 65536
     → (tree : Located) × (read standalone list lent (canonical-standalone t) ≡ good (tree ▹ empty)) × (meaning tree ≡ t)
 unfolding read standalone-term version ending canonical-standalone
@@ -78,35 +68,6 @@ unfolding canonical-standalone
 same-bytes t u a b =
     (λ e. canonical-injective t u (a .valid-tree) (b .valid-tree) (let rest : canonical t ≡ canonical u = cc in rest), λ e. ap canonical-standalone e)
 
--- Demand 3.
-
-abbrev pub One-of : Term → Forest Label → Type 0
-One-of t empty = ⊥
-One-of t (u ▹ us) = (t ≡ u) ⊎ One-of t us
-
--- An accepted term: a term of a message, standalone or payload, that the rules allow whole, with its own atom list and 8,192 rows. A message is bytes
-pub record Accepted-term (t : Term) : Type 0 where
-  pub framing : Framing
-  pub list : AtomList
-  pub message : List ℕ
-  pub are-bytes : Under 256 message
-  pub terms : Terms
-  pub accepted : read framing list 8192 message ≡ good terms
-  pub one-of-them : One-of t (meanings terms)
-
--- For any two accepted terms, of one message or of two:
-pub record Demand-3 (t u : Term) (a : Accepted-term t) : Type 0 where
-  -- where room and scratch rows are enough, the writer writes the message of the first in canonical form: the canonical standalone terms of its terms,
-  -- one after the other. What scratch and output held before is no input of `write`
-  pub canonical-written : (scratch room : ℕ) → sizes (a .terms) ≤ scratch → length (standalones (meanings (a .terms))) ≤ room
-      → write (a .framing) (a .list) scratch room (a .message) ≡ good (record { terms = count (a .terms); bytes = standalones (meanings (a .terms)) })
-  -- the outputs are the same bytes exactly when the terms mean the same
-  pub same-output : (canonical-standalone t ≡ canonical-standalone u) ↔ (t ≡ u)
-  -- an output of at most 65,536 bytes is itself accepted, with any atom list of the stated size, so with an empty one, and any table of at least as many
-  -- rows as its term has; it means the same term; and written again it gives the same bytes
-  pub read-and-written-again : (list : AtomList) → of-size list ≡ true → (lent : ℕ) → size t ≤ lent → length (canonical-standalone t) ≤ 65536
-      → Read-again t list lent
-
 one-allowed : (t : Term) (ts : Forest Label) → All-allowed ts → One-of t ts → Allowed t
 one-allowed t empty a o = absurd o
 one-allowed t (u ▹ us) a (inl e) = subst Allowed (sym e) (a .0)
@@ -115,11 +76,34 @@ one-allowed t (u ▹ us) a (inr o) = one-allowed t us (a .1) o
 term-allowed : (t : Term) → Accepted-term t → Allowed t
 term-allowed t a = one-allowed t (meanings (a .terms)) (accepted-message (a .framing) (a .list) 8192 (a .message) (a .are-bytes) (a .terms) (a .accepted) .known .all-allowed) (a .one-of-them)
 
-pub demand-3 : (t u : Term) (a : Accepted-term t) → Accepted-term u → Demand-3 t u a
+-- a term's own output stands in what is written for its message
+own-output : (t : Term) (ts : Forest Label) → One-of t ts → Own-output t ts
+unfolding standalones
+own-output t empty o = absurd o
+own-output t (u ▹ us) (inl e) =
+    record {
+      earlier = empty;
+      others = us;
+      terms-are = ap (λ (x : Term). x ▹ us) (sym e);
+      stands = ap (λ (x : Term). canonical-standalone x ++ standalones us) (sym e);
+    }
+own-output t (u ▹ us) (inr o) =
+    let r : Own-output t us = own-output t us o in
+    record {
+      earlier = u ▹ r .earlier;
+      others = r .others;
+      terms-are = ap (λ (x : Forest Label). u ▹ x) (r .terms-are);
+      stands =
+          ap (λ (x : List ℕ). canonical-standalone u ++ x) (r .stands)
+          ∙ sym (append-assoc (canonical-standalone u) (standalones (r .earlier)) (canonical-standalone t ++ standalones (r .others)));
+    }
+
+pub demand-3 : (t u : Term) (a : Accepted-term t) → Accepted-term u → Demand-3-defined t u a
 demand-3 t u a b =
     let p : Allowed t = term-allowed t a in
     record {
       canonical-written = λ scratch room rows fits. writes (a .framing) (a .list) (a .message) (a .terms) (a .accepted) scratch room rows fits;
+      own-output = own-output t (meanings (a .terms)) (a .one-of-them);
       same-output = same-bytes t u p (term-allowed u b);
       read-and-written-again = λ list sized lent enough short. read-again t p list sized lent enough short;
     }

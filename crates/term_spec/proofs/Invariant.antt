@@ -233,9 +233,6 @@ module _ (message : List ℕ) (cap : ℕ) where
   abbrev In-step-after : {A : Type 0} → Answer (A × Position) → Type 0
   In-step-after {A} o = Holds {A = A} o (λ _ t. In-step message cap t)
 
-  pub number-in-step : (p n : ℕ) (s : Position) → In-step message cap s → In-step-after (number p n s)
-  number-in-step = number-kept cap (In-step message cap) on-byte on-row
-
   pub later-in-step : (p : ℕ) (l : Later) (s : Position) → In-step message cap s → In-step-after (later p l s)
   later-in-step = later-kept cap (In-step message cap) on-byte on-row
 
@@ -243,12 +240,6 @@ module _ (message : List ℕ) (cap : ℕ) where
   rule-in-step = rule-kept cap (In-step message cap) on-byte on-row
 
   module _ (atoms : Atoms) where
-    pub fields-in-step : (p : ℕ) (f : Form) (s : Position) → In-step message cap s → In-step-after (fields atoms p f s)
-    fields-in-step = fields-kept cap (In-step message cap) on-byte on-row atoms
-
-    pub form-in-step : (p : ℕ) (w : Wanted) (tag : ℕ) (s : Position) → In-step message cap s → In-step-after (form p w tag s)
-    form-in-step = form-kept cap (In-step message cap) on-byte on-row atoms
-
     pub head-in-step : (w : Wanted) (s : Position) → In-step message cap s → In-step-after (term-head atoms w s)
     head-in-step = head-kept cap (In-step message cap) on-byte on-row atoms
 
