@@ -1,11 +1,11 @@
 -- The cases P of document 01, for any empty atom list, as a single statement: `cases`. Proved by computing what the definitions answer.
 use mathlib.Core.Path.{_≡_, refl, _∙_, ap}
 use mathlib.Core.Bool.{Bool, true, false}
-use mathlib.Core.List.{List, [], _∷_}
+use mathlib.Core.List.{List, [], _∷_, _++_}
 use Prim.Native.Nat.{ℕ, _≤_, min}
 use native.Mathlib.Omega.{arith}
 use lib.Dec.{leb}
-use lib.ListN.{length}
+use lib.ListN.{length, replicate}
 use native.Mathlib.Decide.{ℕ-discrete}
 use Rattle.term_spec.specs.Numbers.{big-endian, in-bytes, little-endian, digits-within, digits, signed32, with-sign}
 use Rattle.term_spec.specs.Text.{holds, lines, first, emit, decode, check, is-character, encode, encodes}
@@ -14,10 +14,11 @@ use Rattle.term_spec.specs.Answer.{Answer, good, refused, bytes, number}
 use Rattle.term_spec.specs.Head.{forms, form-in, form-or, form, text-or, finite, bits-rule, clear-low, bits-meaning, fields, term-head, creation-rule, id-words, words-rule, later}
 use Rattle.term_spec.specs.Reading.{opening, each, run, entries, row, string, list-tail, contents, body, one-term}
 use Rattle.term_spec.specs.AtomList.{AtomList, of-size, place-length, place-bytes, place-text, atoms-of, empty-list, lent-list}
-use Rattle.term_spec.specs.Message.{standalone, Terms, meanings, ending, version, standalone-term, payload-terms, terms-framed, result-of, first-check, read}
+use Rattle.term_spec.specs.Message.{standalone, payload, Terms, meanings, ending, version, standalone-term, payload-terms, terms-framed, result-of, first-check, read}
 use Rattle.term_spec.specs.Canonical.{big-bytes, integer-bytes, atom-bytes, tuple-bytes, port-bytes, words-bytes, small, all-small, long-list, list-bytes, term-bytes, canonical, canonical-standalone, standalones}
 use Rattle.term_spec.specs.Writing.{Written, written, write}
 use Rattle.term_spec.specs.Tree.{count}
+use Rattle.term_spec.specs.Rows.{rows, tree-rows, kind-of, kind-at, offset-of, whole-code, pack, word, row-words, table-after}
 use Rattle.term_spec.specs.Cases.{nested, Cases, Writes, Refuses}
 use Rattle.term_spec.proofs.Demand.{written-good}
 
@@ -109,7 +110,24 @@ cases places lengths sized =
     let list : AtomList = lent-list 0 places lengths in
     said-so {W = Computed list} {W₂ = Writes list} {R = Found-wrong list} {R₂ = Refuses list} (writes-so list) (refuses-so list) (computed places lengths sized)
 
--- Further examples, at the ends of the rules of the canonical form
+-- what the writer answers for a payload, with an empty list of zeros, so many rows and 100 bytes of output; and the table after reading it
+unfoldable pub output-of : ℕ → List ℕ → Answer Written
+unfolding output
+output-of rows message = write payload empty-list rows 100 message
+
+unfoldable pub table-of : ℕ → List ℕ → List ℕ
+unfolding output table-after rows tree-rows row-words word kind-at kind-of offset-of whole-code pack
+table-of lent message = table-after lent (read payload empty-list lent message)
+
+-- a list of two: a length of 33, a text that is not UTF-8
+abbrev pub false-list : AtomList
+false-list = lent-list 2 (replicate 32 0 ++ (255 ∷ replicate 8127 0)) (33 ∷ 1 ∷ replicate 253 0)
+
+unfoldable pub output-false : List ℕ → Answer Written
+unfolding output
+output-false message = write payload false-list 9 100 message
+
+-- Further examples, at the ends of the rules of the canonical form, and where two refusals compete
 pub record Examples : Type 0 where
   -- high zero digits go; 2^31 has no room in a 98
   pub high-zero : output (131 ∷ 110 ∷ 5 ∷ 0 ∷ 0 ∷ 0 ∷ 0 ∷ 128 ∷ 0 ∷ []) ≡ one (131 ∷ 110 ∷ 4 ∷ 0 ∷ 0 ∷ 0 ∷ 0 ∷ 128 ∷ [])
@@ -130,9 +148,30 @@ pub record Examples : Type 0 where
   -- a character may end at U+D7FF, and none is a surrogate
   pub before-surrogates : output (131 ∷ 119 ∷ 3 ∷ 0xED ∷ 0x9F ∷ 0xBF ∷ []) ≡ one (131 ∷ 119 ∷ 3 ∷ 0xED ∷ 0x9F ∷ 0xBF ∷ [])
   pub surrogate : output (131 ∷ 119 ∷ 3 ∷ 0xED ∷ 0xA0 ∷ 0x80 ∷ []) ≡ refused 5 1
+  -- a 120 with a small ID is a 89
+  pub small-port : output-of 9 (120 ∷ 119 ∷ 0 ∷ 0 ∷ 0 ∷ 0 ∷ 0 ∷ 0 ∷ 0 ∷ 0 ∷ 5 ∷ 0 ∷ 0 ∷ 0 ∷ 9 ∷ []) ≡ one (131 ∷ 89 ∷ 119 ∷ 0 ∷ 0 ∷ 0 ∷ 0 ∷ 5 ∷ 0 ∷ 0 ∷ 0 ∷ 9 ∷ [])
+  -- later fields, 2 before 4: a 103 with an ID over its limit, with no Creation and with one
+  pub cut-later : output-of 9 (103 ∷ 119 ∷ 0 ∷ 255 ∷ 0 ∷ 0 ∷ 0 ∷ 0 ∷ 0 ∷ 0 ∷ 0 ∷ []) ≡ refused 2 0
+  pub bad-later : output-of 9 (103 ∷ 119 ∷ 0 ∷ 255 ∷ 0 ∷ 0 ∷ 0 ∷ 0 ∷ 0 ∷ 0 ∷ 0 ∷ 1 ∷ []) ≡ refused 4 0
+  -- 9 before a part's tag; a character of a joined 107 at that 107's tag
+  pub row-first : output-of 0 (103 ∷ 97 ∷ 0 ∷ []) ≡ refused 9 0
+  pub row-joined : output-of 2 (108 ∷ 0 ∷ 0 ∷ 0 ∷ 1 ∷ 97 ∷ 7 ∷ 107 ∷ 0 ∷ 1 ∷ 8 ∷ []) ≡ refused 9 7
+  -- a 108 of length 0 is no atom; where it is a key that is equal to an earlier one, 7 is at the 108
+  pub no-atom : output-of 9 (103 ∷ 108 ∷ 0 ∷ 0 ∷ 0 ∷ 0 ∷ 119 ∷ 0 ∷ []) ≡ refused 4 1
+  pub equal-key : output-of 9 (116 ∷ 0 ∷ 0 ∷ 0 ∷ 2 ∷ 97 ∷ 1 ∷ 106 ∷ 108 ∷ 0 ∷ 0 ∷ 0 ∷ 0 ∷ 97 ∷ 1 ∷ []) ≡ refused 7 8
+  -- at depth 65 a 97 that is cut is 2; a character at depth 65 is 8 at its 107's tag, but 9 where the 107 has no row
+  pub deep-cut : output-of 99 (nested 64 (97 ∷ [])) ≡ refused 2 128
+  pub deep-character : output-of 64 (nested 63 (107 ∷ 0 ∷ 1 ∷ 9 ∷ [])) ≡ refused 8 126
+  pub deep-no-row : output-of 63 (nested 63 (107 ∷ 0 ∷ 1 ∷ 9 ∷ [])) ≡ refused 9 126
+  -- lent state false: 14 at 0
+  pub long-place : output-false (82 ∷ 0 ∷ []) ≡ refused 14 0
+  pub no-utf8 : output-false (82 ∷ 1 ∷ []) ≡ refused 14 0
+  -- two terms, the row numbers running on; characters; all past the rows zero
+  pub two-terms : table-of 6 (104 ∷ 1 ∷ 106 ∷ 107 ∷ 0 ∷ 2 ∷ 7 ∷ 8 ∷ [])
+      ≡ pack 4 0 0 1 2 ∷ pack 5 2 1 0 1 ∷ pack 5 3 0 2 3 ∷ pack 14 6 3 0 1 ∷ pack 14 7 3 0 1 ∷ 0 ∷ []
 
 pub examples : Examples
-unfolding output
+unfolding output output-of output-false table-of nested
 examples = record {
   high-zero = refl;
   minus-zero = refl;
@@ -144,4 +183,17 @@ examples = record {
   two-bytes = refl;
   before-surrogates = refl;
   surrogate = refl;
+  small-port = refl;
+  cut-later = refl;
+  bad-later = refl;
+  row-first = refl;
+  row-joined = refl;
+  no-atom = refl;
+  equal-key = refl;
+  deep-cut = refl;
+  deep-character = refl;
+  deep-no-row = refl;
+  long-place = refl;
+  no-utf8 = refl;
+  two-terms = refl;
 }
