@@ -19,8 +19,8 @@ use Rattle.term_spec.specs.Canonical.{big-bytes, integer-bytes, atom-byt
 use Rattle.term_spec.specs.Writing.{Written, written, write}
 use Rattle.term_spec.specs.Tree.{count}
 use Rattle.term_spec.specs.Rows.{rows, tree-rows, kind-of, kind-at, offset-of, whole-code, pack, word, row-words, table-after}
-use Rattle.term_spec.specs.Cases.{nested, Cases, Writes, Refuses}
-use Rattle.term_spec.proofs.Demand.{written-good}
+use Rattle.term_spec.specs.Cases.{nested, Cases, Writes, Refuses, Call-writes, Call-refuses}
+use Rattle.term_spec.proofs.Demand.{written-good, written-by, refused-by}
 
 -- what the writer answers for a standalone term, with an empty list of zeros, 8,192 rows and 65,536 bytes of output
 unfoldable pub output : List ℕ → Answer Written
@@ -109,6 +109,16 @@ pub cases : (places lengths : List ℕ) → of-size (lent-list 0 places lengths)
 cases places lengths sized =
     let list : AtomList = lent-list 0 places lengths in
     said-so {W = Computed list} {W₂ = Writes list} {R = Found-wrong list} {R₂ = Refuses list} (writes-so list) (refuses-so list) (computed places lengths sized)
+
+-- and so for any call of the writer, by its promise
+pub called-cases : (places lengths : List ℕ) → of-size (lent-list 0 places lengths) ≡ true
+    → Cases (Call-writes (lent-list 0 places lengths)) (Call-refuses (lent-list 0 places lengths))
+called-cases places lengths sized =
+    let list : AtomList = lent-list 0 places lengths in
+    said-so {W = Writes list} {W₂ = Call-writes list} {R = Refuses list} {R₂ = Call-refuses list}
+    (λ message bs e scratch output rows fits answer s o w. written-by (record { terms = 1; bytes = bs }) (e (length scratch) (length output) rows fits) w)
+    (λ message number place e scratch output rows answer s o w. refused-by number place (e (length scratch) (length output) rows) w)
+    (cases places lengths sized)
 
 -- what the writer answers for a payload, with an empty list of zeros, so many rows and 100 bytes of output; and the table after reading it
 unfoldable pub output-of : ℕ → List ℕ → Answer Written

@@ -1,4 +1,5 @@
--- Demand 3 over the definitions, as one statement: `demand-3`, at the end. Before it: the canonical standalone term of a tree within the limits is read
+-- Demand 3 over the promises of the calls that read and write, as one statement: `demand-3`, at the end. Before it the same over the definitions,
+-- `demand-3-defined`, and what that rests on: the canonical standalone term of a tree within the limits is read
 -- back, and an accepted message is written in canonical form.
 use mathlib.Core.Path.{_≡_, refl, sym, _∙_, ap, subst}
 use mathlib.Core.Logic.{_↔_, inl, inr}
@@ -10,18 +11,25 @@ use lib.ListN.{length}
 use borrow.Author.Tests.{le-leb}
 use Rattle.term_spec.specs.Tree.{Forest, empty, _▹_, count, size, sizes}
 use Rattle.term_spec.specs.Term.{Label, Term}
-use Rattle.term_spec.specs.Answer.{Answer, good}
+use Rattle.term_spec.specs.Answer.{Answer, good, refused}
 use Rattle.term_spec.specs.Head.{any}
 use Rattle.term_spec.specs.Reading.{Located, meaning, term}
 use Rattle.term_spec.specs.AtomList.{AtomList, of-size, atoms-of}
 use Rattle.term_spec.specs.Message.{Framing, standalone, Terms, meanings, ending, version, standalone-term, read}
 use Rattle.term_spec.specs.Canonical.{canonical, canonical-standalone, standalones}
-use Rattle.term_spec.specs.Writing.{written, write}
-use Rattle.term_spec.specs.Demands.{One-of, Accepted-term, Own-output, Read-again, Demand-3-defined}
+use Rattle.term_spec.specs.Writing.{Written, written, write, output-after, scratch-after}
+use Rattle.term_spec.specs.Demands.{One-of, Accepted-term, Own-output, Read-again, Demand-3-defined, Written-out, Refused-out, Means, Demand-3}
+use Rattle.term_spec.specs.Rows.{table-after}
+use Rattle.term_spec.specs.Answers.{read-answer, write-answer}
+use Rattle.term_spec.specs.Promises.{Read-call, Write-call}
+use Rattle.term_spec.specs.declared.ReadAnswer.{ReadAnswer}
+use Rattle.term_spec.specs.declared.ReadAnswer.the-variants as reads
+use Rattle.term_spec.specs.declared.WriteAnswer.{WriteAnswer}
 use Rattle.term_spec.proofs.Steps.{spot}
 use Rattle.term_spec.proofs.Parts.{Reads}
 use Rattle.term_spec.proofs.RoundTrip.{read-tree}
 use Rattle.term_spec.proofs.Injective.{canonical-injective}
+use Rattle.term_spec.proofs.Rows.{size-meaning}
 use Rattle.term_spec.proofs.Capacity.{enough}
 use Rattle.term_spec.proofs.Message.{Allowed, All-allowed, accepted-message}
 
@@ -98,12 +106,66 @@ own-output t (u ▹ us) (inr o) =
           ∙ sym (append-assoc (canonical-standalone u) (standalones (r .earlier)) (canonical-standalone t ++ standalones (r .others)));
     }
 
-pub demand-3 : (t u : Term) (a : Accepted-term t) → Accepted-term u → Demand-3-defined t u a
-demand-3 t u a b =
+pub demand-3-defined : (t u : Term) (a : Accepted-term t) → Accepted-term u → Demand-3-defined t u a
+demand-3-defined t u a b =
     let p : Allowed t = term-allowed t a in
     record {
       canonical-written = λ scratch room rows fits. writes (a .framing) (a .list) (a .message) (a .terms) (a .accepted) scratch room rows fits;
       own-output = own-output t (meanings (a .terms)) (a .one-of-them);
       same-output = same-bytes t u p (term-allowed u b);
       read-and-written-again = λ list sized lent enough short. read-again t p list sized lent enough short;
+    }
+
+-- ---- over the promises of the calls
+
+-- What the calls come to where the definitions' answers are known
+pub written-by : {framing : Framing} {list : AtomList} {message scratch output : List ℕ} {answer : WriteAnswer} {scratch-is output-is : List ℕ} (w : Written)
+    → write framing list (length scratch) (length output) message ≡ good w
+    → Write-call framing list message scratch output answer scratch-is output-is
+    → Written-out (w .terms) (w .bytes) scratch output answer scratch-is output-is
+unfolding write-answer output-after scratch-after
+written-by {output = output} w e c =
+    record {
+      answer-is = c .write-answered ∙ ap write-answer e;
+      output-holds = c .output-left ∙ ap (output-after output) e;
+      scratch-zero = c .scratch-left;
+    }
+
+means-by : (t : Term) (list : AtomList) (table : List ℕ) (answer : ReadAnswer) (left : List ℕ) → Read-again t list (length table)
+    → Read-call standalone list (canonical-standalone t) table answer left → Means t table answer left
+unfolding read-answer
+means-by t list table answer left g w =
+    let k : size (g .tree) + 0 ≡ size t = omega (arith, size-meaning (g .tree), ap size (g .means)) in
+    record {
+      tree = g .tree;
+      meaning-is = g .means;
+      answer-is = w .read-answered ∙ ap read-answer (g .accepted) ∙ ap (λ (n : ℕ). reads.Terms 1 n) k;
+      rows-are = w .table-left ∙ ap (table-after (length table)) (g .accepted);
+    }
+
+pub refused-by : {framing : Framing} {list : AtomList} {message scratch output : List ℕ} {answer : WriteAnswer} {scratch-is output-is : List ℕ} (number place : ℕ)
+    → write framing list (length scratch) (length output) message ≡ refused number place
+    → Write-call framing list message scratch output answer scratch-is output-is
+    → Refused-out number place scratch output answer scratch-is output-is
+unfolding write-answer output-after scratch-after
+refused-by {output = output} number place e c =
+    record {
+      answer-is = c .write-answered ∙ ap write-answer e;
+      output-stays = c .output-left ∙ ap (output-after output) e;
+      scratch-zero = c .scratch-left;
+    }
+
+pub demand-3 : (t u : Term) (a : Accepted-term t) → Accepted-term u → Demand-3 t u a
+demand-3 t u a b =
+    let d = demand-3-defined t u a b in
+    record {
+      canonical-written = λ scratch output rows fits answer s o w.
+          written-by (record { terms = count (a .terms); bytes = standalones (meanings (a .terms)) })
+          (d .canonical-written (length scratch) (length output) rows fits) w;
+      own-output = d .own-output;
+      same-output = d .same-output;
+      read-again = λ list sized short table rows answer left w. means-by t list table answer left (d .read-and-written-again list sized (length table) rows short) w;
+      written-again = λ list sized short scratch output rows fits answer s o w.
+          written-by (record { terms = 1; bytes = canonical-standalone t })
+          (d .read-and-written-again list sized (length scratch) rows short .again (length output) fits) w;
     }

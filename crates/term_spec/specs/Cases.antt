@@ -7,6 +7,9 @@ use Rattle.term_spec.specs.Answer.{good, refused}
 use Rattle.term_spec.specs.AtomList.{AtomList}
 use Rattle.term_spec.specs.Message.{standalone}
 use Rattle.term_spec.specs.Writing.{write}
+use Rattle.term_spec.specs.Promises.{Write-call}
+use Rattle.term_spec.specs.Demands.{Written-out, Refused-out}
+use Rattle.term_spec.specs.declared.WriteAnswer.{WriteAnswer}
 
 -- n tuples of one element around what follows
 unfoldable pub nested : ℕ → List ℕ → List ℕ
@@ -35,3 +38,15 @@ Writes list message bs = (rows room : ℕ) → 8192 ≤ rows → length bs ≤ r
 -- with this list and 8,192 rows or more it is refused, whatever the room
 abbrev pub Refuses : AtomList → List ℕ → ℕ → ℕ → Type 0
 Refuses list message number place = (rows room : ℕ) → 8192 ≤ rows → write standalone list rows room message ≡ refused number place
+
+-- any call of the writer on a standalone term, with this list, 8,192 scratch rows or more, and room for these bytes, leaves them
+abbrev pub Call-writes : AtomList → List ℕ → List ℕ → Type 0
+Call-writes list message bs =
+    (scratch output : List ℕ) → 8192 ≤ length scratch → length bs ≤ length output → (answer : WriteAnswer) (scratch-is output-is : List ℕ)
+    → Write-call standalone list message scratch output answer scratch-is output-is → Written-out 1 bs scratch output answer scratch-is output-is
+
+-- any call of the writer on a standalone term, with this list and 8,192 scratch rows or more, refuses
+abbrev pub Call-refuses : AtomList → List ℕ → ℕ → ℕ → Type 0
+Call-refuses list message number place =
+    (scratch output : List ℕ) → 8192 ≤ length scratch → (answer : WriteAnswer) (scratch-is output-is : List ℕ)
+    → Write-call standalone list message scratch output answer scratch-is output-is → Refused-out number place scratch output answer scratch-is output-is

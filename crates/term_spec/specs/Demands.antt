@@ -74,6 +74,12 @@ pub record Written-out (terms : ℕ) (bs scratch output : List ℕ) (answer : Wr
   pub output-holds : output-is ≡ bs ++ drop (length bs) output
   pub scratch-zero : scratch-is ≡ replicate (length scratch) 0
 
+-- What a call that writes leaves where it refuses: the refusal's number and place, the output as it was, the scratch table all zero
+pub record Refused-out (number place : ℕ) (scratch output : List ℕ) (answer : WriteAnswer) (scratch-is output-is : List ℕ) : Type 0 where
+  pub answer-is : answer ≡ writes.Refused (record { number = number; place = place })
+  pub output-stays : output-is ≡ output
+  pub scratch-zero : scratch-is ≡ replicate (length scratch) 0
+
 -- What is read: one term that means t, its rows in the table and all past them zero
 pub record Means (t : Term) (table : List ℕ) (answer : ReadAnswer) (left : List ℕ) : Type 0 where
   pub tree : Located
