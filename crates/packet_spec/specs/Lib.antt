@@ -9,3 +9,4 @@ pub mod Gathering
 pub mod Answers
 pub mod Promises
 pub mod Demands
+pub mod Cases
