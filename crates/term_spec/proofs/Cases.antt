@@ -80,7 +80,7 @@ unfolding read
 more-rows list message lent h =
     let same : min 8192 lent ≡ 8192 = omega arith in
     ap (λ (cap : ℕ). first-check (of-size list) 13 (first-check (leb (length message) 65536) 12
-    (result-of (terms-framed (atoms-of list) cap standalone (record { at = 0; left = message; rows = 0 }))))) same
+    (result-of (terms-framed (atoms-of list) cap standalone (record { at = 0; left = message; rows-taken = 0 }))))) same
 
 -- what is written in 65,536 bytes of output is written in any that has room for it
 written-in-room : (o : Answer Terms) (bs : List ℕ) → written 65536 o ≡ one bs → (room : ℕ) → length bs ≤ room → written room o ≡ one bs

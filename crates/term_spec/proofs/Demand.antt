@@ -39,7 +39,7 @@ read-back : (t : Term) → Allowed t → (list : AtomList) → of-size list ≡ 
 unfolding read standalone-term version ending canonical-standalone
 read-back t a list sized lent enough short =
     let cap : ℕ = min 8192 lent in
-    let r : Reads (atoms-of list) cap 64 any (canonical t ++ []) [] 1 0 t = read-tree (atoms-of list) cap t (a .valid-tree) 64 (a .levels) 1 0 [] (omega (arith, a .rows)) in
+    let r : Reads (atoms-of list) cap 64 any (canonical t ++ []) [] 1 0 t = read-tree (atoms-of list) cap t (a .valid-tree) 64 (a .levels) 1 0 [] (omega (arith, a .few-rows)) in
     let e : term (atoms-of list) cap 64 any (spot 1 (canonical t) 0) ≡ good (r .tree, spot (r .end) [] (0 + size t)) = rw (append-nil (canonical t)) at (r .reads) in
     (r .tree, rw (sized, le-leb _ 65536 short, e) refl, r .means)
 
