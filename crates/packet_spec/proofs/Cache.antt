@@ -11,20 +11,11 @@ use borrow.Author.Tests.{eqb-true, eqb-false, eq-eqb, ne-eqb, le-leb}
 use Rattle.term_spec.specs.Text.{valid, utf-8, check}
 use Rattle.term_spec.proofs.Tests.{both-true, by-less}
 use Rattle.octets.proofs.Stores.{drop-after, part-sets}
-use Rattle.packet_spec.specs.Memory.{Cache, cache-of-size, cache-length, cache-bytes, text, text-if, held-as, held}
+use Rattle.packet_spec.specs.Memory.{Cache, cache-of-size, text, text-if, held-as, held}
 use Rattle.packet_spec.specs.Header.{Reference}
 use Rattle.packet_spec.specs.Calls.{zeros-to, enter}
+use Rattle.packet_spec.specs.Places.{Same, Holding}
 use Rattle.packet_spec.proofs.Stores.{sets-before-at, length-zeros-to, take-zeros-to}
-
--- a place has the same bytes and the same length
-pub record Same (c d : Cache) (p : ℕ) : Type 0 where
-  pub bytes : cache-bytes d p ≡ cache-bytes c p
-  pub long : cache-length d p ≡ cache-length c p
-
--- a place holds a text, zeros after it
-pub record Holding (c : Cache) (p : ℕ) (t : List ℕ) : Type 0 where
-  pub bytes : cache-bytes c p ≡ zeros-to 32 t
-  pub long : cache-length c p ≡ length t
 
 pub same-refl : (c : Cache) (p : ℕ) → Same c c p
 same-refl c p = record { bytes = refl; long = refl }

@@ -10,14 +10,14 @@ use Rattle.term_spec.specs.Numbers.{Under}
 use Rattle.packet_spec.specs.Memory.{Memory, memory-of-size}
 use Rattle.packet_spec.specs.Header.{filled}
 use Rattle.packet_spec.specs.Packet.{Packet, plain, start, continuation, judged}
-use Rattle.packet_spec.specs.Calls.{left-by, left-after, taken, take-packet, after-packet, unless-refused}
-use Rattle.packet_spec.specs.Runs.{brought}
-use Rattle.packet_spec.proofs.Cache.{Same, same-refl}
+use Rattle.packet_spec.specs.Calls.{left-by, left-after, taken, take-packet, after-packet}
+use Rattle.packet_spec.specs.Places.{Same, Held-new, brought}
+use Rattle.packet_spec.proofs.Cache.{same-refl}
 use Rattle.packet_spec.proofs.Judged.{Accepted, accepted, Sound-packet}
-use Rattle.packet_spec.proofs.Frame.{entered-other, entered-new, Held-new}
+use Rattle.packet_spec.proofs.Frame.{entered-other, entered-new}
 use Rattle.packet_spec.proofs.SizesKept.{All-sized, all-sized, all-sized-back, packet-sized}
 
--- 1. a refused call leaves all memory equal
+-- A refused packet leaves all memory as it was
 pub refused-keeps : (agreed : Coding) (m : Memory) (bs : List ℕ) (number place : ℕ)
     → take-packet agreed m bs ≡ refused number place → after-packet agreed m bs ≡ m
 unfolding take-packet after-packet
@@ -27,12 +27,6 @@ refused-keeps agreed m bs number place e = go (judged agreed m bs) e
     go (good p) f = let no-way : _≡_ {A = ℕ} 0 1 = cc in absurd (omega arith)
     go (refused n q) f = refl
 
--- and so of a drop and of a reset, or of any call that gives new memory
-pub refused-kept : {A : Type 0} (old : A) (o : Answer A) (number place : ℕ) → o ≡ refused number place → unless-refused old o ≡ old
-refused-kept old (good new) number place e = let no-way : _≡_ {A = ℕ} 0 1 = cc in absurd (omega arith)
-refused-kept old (refused n p) number place e = refl
-
--- 2. an accepted packet: every place that it does not fill new has the same bytes and length, every other holds its reference's text
 left-other : (m : Memory) (p : Packet) (q : ℕ) → Sound-packet (m .pending) p → filled q (brought p) ≡ false → Same (m .cache) (left-by m p .cache) q
 unfolding left-by brought
 left-other m (plain rs at bs) q a e = entered-other rs [] (m .cache) q (a .0) e
@@ -50,14 +44,16 @@ module _ (agreed : Coding) (m : Memory) (bs : List ℕ) (p : Packet) (u : Under 
   unfolding after-packet
   after-good = ap (left-after m) j
 
+  -- An accepted packet: every place that it does not fill new has the same bytes and length
   pub packet-frame : (q : ℕ) → filled q (brought p) ≡ false → Same (m .cache) (after-packet agreed m bs .cache) q
   packet-frame q e = subst (λ (n : Memory). Same (m .cache) (n .cache) q) (sym after-good) (left-other m p q (accepted agreed m bs p u j .sound) e)
 
+  -- and each place that it fills new holds its reference's text
   pub packet-new : Held-new (after-packet agreed m bs .cache) (brought p)
   packet-new =
       let a : Accepted m p = accepted agreed m bs p u j in
       subst (λ (n : Memory). Held-new (n .cache) (brought p)) (sym after-good) (left-new m p (all-sized m (a .of-its-size)) (a .sound))
 
--- 5. the sizes are kept, after any packet
+-- All lent memory keeps its sizes, after any packet
 pub sizes-kept : (agreed : Coding) (m : Memory) (bs : List ℕ) → Under 256 bs → memory-of-size m ≡ true → memory-of-size (after-packet agreed m bs) ≡ true
 sizes-kept agreed m bs u s = all-sized-back (packet-sized agreed m bs u (all-sized m s))

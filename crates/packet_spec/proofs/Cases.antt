@@ -2,108 +2,15 @@
 use mathlib.Core.Path.{_≡_, refl}
 use mathlib.Core.List.{List, [], _∷_}
 use Prim.Native.Nat.{ℕ}
-use native.Mathlib.Decide.{ℕ-discrete}
-use lib.ListN.{take, replicate}
-use Rattle.term_spec.specs.Numbers.{big-endian, in-bytes, little-endian, digits-within, digits, signed32, with-sign}
-use Rattle.term_spec.specs.Text.{utf-8, holds, lines, first, emit, decode, check, is-character, encode, encodes}
-use Rattle.term_spec.specs.Equal.{list-discrete, integer-discrete, term-discrete, same, among}
-use Rattle.term_spec.specs.Answer.{Answer, good, refused, bytes, number}
-use Rattle.term_spec.specs.Head.{forms, form-in, form-or, form, text-or, finite, bits-rule, clear-low, bits-meaning, fields, term-head, creation-rule, id-words, words-rule, later}
-use Rattle.term_spec.specs.Reading.{opening, each, run, entries, row, string, list-tail, contents, body, one-term}
-use Rattle.term_spec.specs.AtomList.{of-size, place-length, place-bytes, place-text, atoms-of, empty-list}
-use Rattle.term_spec.specs.Message.{payload, ending, version, standalone-term, payload-terms, read}
-use Rattle.term_spec.specs.Canonical.{big-bytes, integer-bytes, atom-bytes, tuple-bytes, port-bytes, words-bytes, small, all-small, long-list, list-bytes, term-bytes, canonical, canonical-standalone, standalones}
-use Rattle.term_spec.specs.Writing.{Written, written, write}
+use lib.ListN.{replicate}
+use Rattle.term_spec.specs.Text.{utf-8}
+use Rattle.term_spec.specs.Answer.{Answer, good, refused}
 use Rattle.packet_spec.specs.declared.Pending.{Pending}
-use Rattle.packet_spec.specs.Memory.{Memory, cache-of-size, memory-of-size, record-true, none-pending, empty-cache, text-if, held-as, held, text}
-use Rattle.packet_spec.specs.Header.{flag-bytes, half, is-new, place-at, length-width, named, filled, held-or, text-field, new-reference, cached-reference, reference, references, header}
-use Rattle.packet_spec.specs.Packet.{ids, packet-kind, preamble, payload-after, rest, packet, judged}
-use Rattle.packet_spec.specs.Calls.{zeros-to, enter, entered, texts-in-places, lengths-of, list-of, record-after, told-after, told, left-by, Outcome, payload-at, pending-still, complete, take-packet, after-packet, drop-sequence}
-use Rattle.packet_spec.specs.Look.{names, place-in, place-named, place-of-reference}
-
--- an empty cache, lists and a gather buffer of zeros, no sequence pending
-abbrev pub fresh : Memory
-fresh =
-    record {
-      cache = empty-cache;
-      plain-list = empty-list;
-      pending-list = empty-list;
-      pending = none-pending;
-      gather = replicate 65536 0;
-    }
-
--- what a packet answers with a memory, in UTF-8, and what it leaves
-unfoldable pub answer : Memory → List ℕ → Answer Outcome
-unfolding big-endian holds lines first emit decode check encode encodes bytes number text-or version of-size cache-of-size memory-of-size record-true empty-cache text-if held-as held flag-bytes half is-new place-at length-width named filled held-or text-field new-reference cached-reference reference references header ids packet-kind preamble payload-after rest packet judged zeros-to enter entered texts-in-places lengths-of list-of record-after told-after told left-by take-packet after-packet
-answer m bs = take-packet utf-8 m bs
-
-unfoldable pub then : Memory → List ℕ → Memory
-unfolding answer
-then m bs = after-packet utf-8 m bs
-
--- a plain packet with one new reference to place 0, whose text is that many letters `a`
-abbrev pub letters : ℕ → List ℕ
-letters n = 131 ∷ 68 ∷ 1 ∷ 8 ∷ 0 ∷ n ∷ replicate n 97
-
--- source document 001: the two packets of the fragmented example
-abbrev pub first-packet : List ℕ
-first-packet =
-    131 ∷ 69 ∷ 0 ∷ 0 ∷ 2 ∷ 168 ∷ 0 ∷ 0 ∷ 5 ∷ 83 ∷ 0 ∷ 0 ∷ 0 ∷ 0 ∷ 0 ∷ 0 ∷ 0 ∷ 2
-    ∷ 5 ∷ 4 ∷ 137 ∷ 9 ∷ 10 ∷ 5 ∷ 236 ∷ 3 ∷ 114 ∷ 101 ∷ 103 ∷ 9 ∷ 4 ∷ 99 ∷ 97 ∷ 108 ∷ 108
-    ∷ 238 ∷ 13 ∷ 115 ∷ 101 ∷ 116 ∷ 95 ∷ 103 ∷ 101 ∷ 116 ∷ 95 ∷ 115 ∷ 116 ∷ 97 ∷ 116 ∷ 101
-    ∷ 104 ∷ 4 ∷ 97 ∷ 6 ∷ 103 ∷ 82 ∷ 0 ∷ 0 ∷ 0 ∷ 0 ∷ 85 ∷ 0 ∷ 0 ∷ 0 ∷ 0 ∷ 2 ∷ 82 ∷ 1 ∷ 82 ∷ 2
-    ∷ 104 ∷ 3 ∷ 82 ∷ 3 ∷ 103 ∷ 82 ∷ 0 ∷ 0 ∷ 0 ∷ 0 ∷ 245 ∷ 0 ∷ 0 ∷ 0 ∷ 2 ∷ 2
-    ∷ 104 ∷ 2 ∷ 82 ∷ 4 ∷ 109 ∷ 0 ∷ 0 ∷ 0 ∷ 128 ∷ replicate 103 0
-
-abbrev pub second-packet : List ℕ
-second-packet = 131 ∷ 70 ∷ 0 ∷ 0 ∷ 2 ∷ 168 ∷ 0 ∷ 0 ∷ 5 ∷ 83 ∷ 0 ∷ 0 ∷ 0 ∷ 0 ∷ 0 ∷ 0 ∷ 0 ∷ 1 ∷ replicate 25 0
-
--- places 1,034 and 5 filled before: `recv@host`, `send@host`
-abbrev pub filling : List ℕ
-filling =
-    131 ∷ 68 ∷ 2 ∷ 140 ∷ 0 ∷ 10 ∷ 9 ∷ 114 ∷ 101 ∷ 99 ∷ 118 ∷ 64 ∷ 104 ∷ 111 ∷ 115 ∷ 116
-    ∷ 5 ∷ 9 ∷ 115 ∷ 101 ∷ 110 ∷ 100 ∷ 64 ∷ 104 ∷ 111 ∷ 115 ∷ 116 ∷ []
-
--- what is seen of the example: the three answers; at its end the bytes gathered, the texts of the pending list, the record,
--- and what the writer answers for the payload with that list
-pub record Seen : Type 0 where
-  pub answers : List (Answer Outcome)
-  pub gathered : List ℕ
-  pub texts : List (List ℕ)
-  pub record-then : Pending
-  pub payload-written : Answer Written
-
-abbrev seen-of : Answer Outcome → Answer Outcome → Answer Outcome → Memory → Seen
-seen-of a b c m =
-    record {
-      answers = a ∷ b ∷ c ∷ [];
-      gathered = take 30 (m .gather);
-      texts = place-bytes (m .pending-list) 0 ∷ place-bytes (m .pending-list) 2 ∷ place-bytes (m .pending-list) 4 ∷ [];
-      record-then = m .pending;
-      payload-written = write payload (m .pending-list) 8192 65536 (take 173 (m .gather));
-    }
-
-unfoldable pub example : Seen
-unfolding then ℕ-discrete in-bytes little-endian digits-within digits signed32 with-sign is-character list-discrete integer-discrete term-discrete same among forms form-in form-or form finite bits-rule clear-low bits-meaning fields term-head creation-rule id-words words-rule later opening each run entries row string list-tail contents body one-term place-length place-bytes place-text atoms-of big-bytes integer-bytes atom-bytes tuple-bytes port-bytes words-bytes small all-small long-list list-bytes term-bytes canonical canonical-standalone standalones ending standalone-term payload-terms read written write
-example =
-    let m : Memory = then fresh filling in
-    let n : Memory = then m first-packet in
-    seen-of (answer fresh filling) (answer m first-packet) (answer n second-packet) (then n second-packet)
-
-pub record Cases : Type 0 where
-  -- a text of 32 bytes enters the cache, 33 is 23
-  pub text-32 : answer fresh (letters 32) ≡ good (payload-at 38 0)
-  pub text-32-held : held (then fresh (letters 32) .cache) 0 ≡ text (replicate 32 97)
-  pub text-33 : answer fresh (letters 33) ≡ refused 23 0
-  -- the fragmented example of source document 001, places 1,034 and 5 filled before
-  pub run-whole : example ≡ record {
-    answers = good (payload-at 27 0) ∷ good (pending-still 1 148) ∷ good (complete 173) ∷ [];
-    gathered = 104 ∷ 4 ∷ 97 ∷ 6 ∷ 103 ∷ 82 ∷ 0 ∷ 0 ∷ 0 ∷ 0 ∷ 85 ∷ 0 ∷ 0 ∷ 0 ∷ 0 ∷ 2 ∷ 82 ∷ 1 ∷ 82 ∷ 2 ∷ 104 ∷ 3 ∷ 82 ∷ 3 ∷ 103 ∷ 82 ∷ 0 ∷ 0 ∷ 0 ∷ 0 ∷ [];
-    texts = (114 ∷ 101 ∷ 99 ∷ 118 ∷ 64 ∷ 104 ∷ 111 ∷ 115 ∷ 116 ∷ []) ∷ (114 ∷ 101 ∷ 103 ∷ [])
-        ∷ (115 ∷ 101 ∷ 116 ∷ 95 ∷ 103 ∷ 101 ∷ 116 ∷ 95 ∷ 115 ∷ 116 ∷ 97 ∷ 116 ∷ 101 ∷ []) ∷ [];
-    record-then = none-pending;
-    payload-written = good (record { terms = 2; bytes = 131 ∷ 104 ∷ 4 ∷ 97 ∷ 6 ∷ 88 ∷ 119 ∷ 9 ∷ 114 ∷ 101 ∷ 99 ∷ 118 ∷ 64 ∷ 104 ∷ 111 ∷ 115 ∷ 116 ∷ 0 ∷ 0 ∷ 0 ∷ 85 ∷ 0 ∷ 0 ∷ 0 ∷ 0 ∷ 0 ∷ 0 ∷ 0 ∷ 2 ∷ 119 ∷ 9 ∷ 115 ∷ 101 ∷ 110 ∷ 100 ∷ 64 ∷ 104 ∷ 111 ∷ 115 ∷ 116 ∷ 119 ∷ 3 ∷ 114 ∷ 101 ∷ 103 ∷ 131 ∷ 104 ∷ 3 ∷ 119 ∷ 4 ∷ 99 ∷ 97 ∷ 108 ∷ 108 ∷ 88 ∷ 119 ∷ 9 ∷ 114 ∷ 101 ∷ 99 ∷ 118 ∷ 64 ∷ 104 ∷ 111 ∷ 115 ∷ 116 ∷ 0 ∷ 0 ∷ 0 ∷ 245 ∷ 0 ∷ 0 ∷ 0 ∷ 2 ∷ 0 ∷ 0 ∷ 0 ∷ 2 ∷ 104 ∷ 2 ∷ 119 ∷ 13 ∷ 115 ∷ 101 ∷ 116 ∷ 95 ∷ 103 ∷ 101 ∷ 116 ∷ 95 ∷ 115 ∷ 116 ∷ 97 ∷ 116 ∷ 101 ∷ 109 ∷ 0 ∷ 0 ∷ 0 ∷ 128 ∷ replicate 128 0 });
-  }
+use Rattle.packet_spec.specs.Memory.{Cache, Memory, cache-of, record-true, none-pending, empty-cache}
+use Rattle.packet_spec.specs.Calls.{payload-at, pending-still, complete, drop-sequence}
+use Rattle.packet_spec.specs.Runs.{with-state}
+use Rattle.packet_spec.specs.Cases.{fresh, answer, then, example, Cases}
+use Rattle.packet_spec.specs.Look.{names, place-in, place-named, place-of-reference, text-held, text-of-place}
 
 pub cases : Cases
 unfolding example
@@ -114,13 +21,19 @@ cases = record {
   run-whole = refl;
 }
 
--- further examples: flags, 22, ids, drop, the two look-ups
-abbrev half-done : Memory
-half-done = then fresh (131 ∷ 69 ∷ 0 ∷ 0 ∷ 0 ∷ 0 ∷ 0 ∷ 0 ∷ 0 ∷ 7 ∷ 0 ∷ 0 ∷ 0 ∷ 0 ∷ 0 ∷ 0 ∷ 0 ∷ 3 ∷ 0 ∷ 104 ∷ 2 ∷ [])
-
+-- SequenceId and FragmentId, and what follows
 abbrev ids-of : ℕ → ℕ → List ℕ → List ℕ
 ids-of s f bs = 0 ∷ 0 ∷ 0 ∷ 0 ∷ 0 ∷ 0 ∷ 0 ∷ s ∷ 0 ∷ 0 ∷ 0 ∷ 0 ∷ 0 ∷ 0 ∷ 0 ∷ f ∷ bs
 
+-- of sequence 7 two bytes are gathered, and id 2 is due
+abbrev half-done : Memory
+half-done = with-state fresh (empty-cache, record { sequence = 7; due = 2; gathered = 2 })
+
+-- place 7 holds `a`
+abbrev seven-held : Memory
+seven-held = then fresh (131 ∷ 68 ∷ 1 ∷ 8 ∷ 7 ∷ 1 ∷ 97 ∷ [])
+
+-- what a drop answers, the place that a reference names, the text that a place holds
 unfoldable pub dropped : Pending → Answer Pending
 unfolding drop-sequence record-true
 dropped r = drop-sequence r
@@ -129,38 +42,76 @@ unfoldable pub names-place : List ℕ → ℕ → Answer ℕ
 unfolding answer names place-in place-named place-of-reference
 names-place bs i = place-of-reference utf-8 bs i
 
+unfoldable pub holds-text : Cache → ℕ → Answer (List ℕ)
+unfolding answer text-held text-of-place
+holds-text c p = text-of-place c p
+
+-- Further examples: flags, refusals 22 and 24 to 26 and their order, a drop, the two look-ups
 pub record Examples : Type 0 where
   -- LongAtoms: odd n, the high half of the last flag byte; even n, the low half of the last, whose high half is ignored
   pub long-odd : answer fresh (131 ∷ 68 ∷ 1 ∷ 24 ∷ 7 ∷ 0 ∷ 1 ∷ 97 ∷ []) ≡ good (payload-at 8 0)
   pub long-even : answer fresh (131 ∷ 68 ∷ 2 ∷ 136 ∷ 241 ∷ 7 ∷ 0 ∷ 1 ∷ 99 ∷ 8 ∷ 0 ∷ 0 ∷ 106 ∷ []) ≡ good (payload-at 12 1)
-  -- 22 at the later one: new after new, cached after new
+  -- 22 at the later one: new after new, cached after new (before 21), new after cached; two cached ones may name one place
   pub new-new : answer fresh (131 ∷ 68 ∷ 2 ∷ 136 ∷ 0 ∷ 7 ∷ 0 ∷ 7 ∷ 0 ∷ []) ≡ refused 22 1
   pub new-cached : answer fresh (131 ∷ 68 ∷ 2 ∷ 8 ∷ 0 ∷ 7 ∷ 0 ∷ 7 ∷ []) ≡ refused 22 1
-  -- a start of one fragment is complete; ids
+  pub cached-new : answer seven-held (131 ∷ 68 ∷ 2 ∷ 128 ∷ 0 ∷ 7 ∷ 7 ∷ 0 ∷ []) ≡ refused 22 1
+  pub cached-cached : answer seven-held (131 ∷ 68 ∷ 2 ∷ 0 ∷ 0 ∷ 7 ∷ 7 ∷ []) ≡ good (payload-at 7 0)
+  -- a start of one fragment is complete; a continuation that is due is taken
   pub whole-start : answer fresh (131 ∷ 69 ∷ ids-of 9 1 (0 ∷ 106 ∷ [])) ≡ good (complete 1)
-  pub twice : answer half-done (131 ∷ 69 ∷ ids-of 8 2 (0 ∷ [])) ≡ refused 26 0
-  pub other : answer half-done (131 ∷ 70 ∷ ids-of 8 1 []) ≡ refused 25 0
-  pub wrong : answer half-done (131 ∷ 70 ∷ ids-of 7 1 []) ≡ refused 24 0
   pub due : answer half-done (131 ∷ 70 ∷ ids-of 7 2 (97 ∷ [])) ≡ good (pending-still 1 3)
+  -- 24 for zero comes before 26 and 25
+  pub zero-start : answer half-done (131 ∷ 69 ∷ ids-of 8 0 (0 ∷ [])) ≡ refused 24 0
+  pub zero-continued : answer fresh (131 ∷ 70 ∷ ids-of 7 0 []) ≡ refused 24 0
+  -- 26, before the 2 of a header that is cut
+  pub twice : answer half-done (131 ∷ 69 ∷ ids-of 8 2 (0 ∷ [])) ≡ refused 26 0
+  pub twice-cut : answer half-done (131 ∷ 69 ∷ ids-of 8 2 []) ≡ refused 26 0
+  -- 25: none pending; another id, before 24 for the wrong one
+  pub none-pending-yet : answer fresh (131 ∷ 70 ∷ ids-of 7 2 []) ≡ refused 25 0
+  pub other : answer half-done (131 ∷ 70 ∷ ids-of 8 1 []) ≡ refused 25 0
+  -- 24: not the one due
+  pub wrong : answer half-done (131 ∷ 70 ∷ ids-of 7 1 []) ≡ refused 24 0
+  -- a drop
   pub none-dropped : dropped none-pending ≡ refused 25 0
   pub one-dropped : dropped (record { sequence = 7; due = 2; gathered = 5 }) ≡ good none-pending
+  pub false-dropped : dropped (record { sequence = 7; due = 2; gathered = 65537 }) ≡ refused 14 0
+  -- the place that a reference names; 6
   pub second-named : names-place (131 ∷ 68 ∷ 2 ∷ 12 ∷ 0 ∷ 10 ∷ 1 ∷ 97 ∷ 5 ∷ 106 ∷ []) 1 ≡ good 5
   pub first-named : names-place (131 ∷ 68 ∷ 2 ∷ 12 ∷ 0 ∷ 10 ∷ 1 ∷ 97 ∷ 5 ∷ 106 ∷ []) 0 ≡ good 1034
+  pub third-named : names-place (131 ∷ 68 ∷ 2 ∷ 12 ∷ 0 ∷ 10 ∷ 1 ∷ 97 ∷ 5 ∷ 106 ∷ []) 2 ≡ refused 6 0
+  -- the text that a place holds; 13 for place 2,048 and for a cache not of its size, 21, 14 for a length over 32
+  pub text-there : holds-text (seven-held .cache) 7 ≡ good (97 ∷ [])
+  pub no-place : holds-text empty-cache 2048 ≡ refused 13 0
+  pub no-cache : holds-text (cache-of [] []) 0 ≡ refused 13 0
+  pub empty-place : holds-text (seven-held .cache) 8 ≡ refused 21 0
+  pub false-place : holds-text (cache-of (replicate 65536 0) (33 ∷ replicate 2047 65535)) 0 ≡ refused 14 0
 
 pub examples : Examples
-unfolding then dropped names-place
+unfolding then dropped names-place holds-text
 examples = record {
   long-odd = refl;
   long-even = refl;
   new-new = refl;
   new-cached = refl;
+  cached-new = refl;
+  cached-cached = refl;
   whole-start = refl;
+  due = refl;
+  zero-start = refl;
+  zero-continued = refl;
   twice = refl;
+  twice-cut = refl;
+  none-pending-yet = refl;
   other = refl;
   wrong = refl;
-  due = refl;
   none-dropped = refl;
   one-dropped = refl;
+  false-dropped = refl;
   second-named = refl;
   first-named = refl;
+  third-named = refl;
+  text-there = refl;
+  no-place = refl;
+  no-cache = refl;
+  empty-place = refl;
+  false-place = refl;
 }

@@ -10,8 +10,8 @@ use Rattle.term_spec.proofs.Tests.{both-true}
 use Rattle.packet_spec.specs.Memory.{Cache, text, held}
 use Rattle.packet_spec.specs.Header.{Reference, named, filled}
 use Rattle.packet_spec.specs.Calls.{enter, entered}
-use Rattle.packet_spec.specs.Runs.{filled-by, filled-in-turn}
-use Rattle.packet_spec.proofs.Cache.{Same, same-refl, same-trans, Holding, same-holding, held-same, held-new, Sized, enter-sized, enter-other, enter-new}
+use Rattle.packet_spec.specs.Places.{Same, Held-new, filled-by, filled-in-turn}
+use Rattle.packet_spec.proofs.Cache.{same-refl, same-trans, same-holding, held-same, held-new, Sized, enter-sized, enter-other, enter-new}
 use Rattle.packet_spec.proofs.Judged.{Sound, All-sound}
 
 pub neither : (a b : Bool) → (a || b) ≡ false → (a ≡ false) × (b ≡ false)
@@ -58,10 +58,6 @@ unfolding named
 named-itself r earlier = rw (eq-eqb (r .place) (r .place) refl)
 
 -- each new reference's place holds its text
-abbrev pub Held-new : Cache → List Reference → Type 0
-Held-new c [] = Unit {0}
-Held-new c (r ∷ rs) = (r .new ≡ true → Holding c (r .place) (r .text)) × Held-new c rs
-
 pub entered-new : (rs : List Reference) (earlier : List Reference) (c : Cache) → Sized c → All-sound earlier rs → Held-new (entered c rs) rs
 unfolding entered
 entered-new [] earlier c s a = tt

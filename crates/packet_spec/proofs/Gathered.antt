@@ -1,5 +1,5 @@
 -- Over a run of calls: what the gather buffer begins with, the pending list and the id due are what the accepted packets give, in turn.
-use mathlib.Core.Path.{_≡_, refl, sym, _∙_, ap, subst}
+use mathlib.Core.Path.{_≡_, refl, sym, _∙_, ap, ap₂}
 use mathlib.Core.Bool.{Bool, true, false, cond}
 use mathlib.Core.List.{List, [], _∷_, _++_}
 use Prim.Native.Nat.{ℕ, _+_, _-_, _≤_}
@@ -8,55 +8,19 @@ use native.Mathlib.Omega.{arith}
 use lib.Dec.{eqb}
 use lib.ListN.{length, take, length-append}
 use lib.Seq.{sets}
-use borrow.Author.Tests.{eqb-true}
+use borrow.Author.Tests.{eqb-true, eqb-false, eq-eqb, ne-eqb}
 use Rattle.term_spec.specs.Text.{Coding}
 use Rattle.term_spec.specs.Answer.{Answer, good, refused}
-use Rattle.term_spec.specs.AtomList.{AtomList}
 use Rattle.packet_spec.specs.declared.Pending.{Pending}
 use Rattle.packet_spec.specs.Memory.{Cache, Memory, cache-of-size, record-true, none-pending, empty-cache}
-use Rattle.packet_spec.specs.Header.{Reference}
 use Rattle.packet_spec.specs.Packet.{Packet, plain, start, continuation, judged}
-use Rattle.packet_spec.specs.Calls.{Outcome, complete, pending-still, list-of, record-after, told, told-after, left-by, left-after, taken, take-packet, after-packet, drop-sequence, reset, unless-refused}
-use Rattle.packet_spec.specs.Runs.{Call, taking, dropping, resetting, after-call, after-calls}
+use Rattle.packet_spec.specs.Calls.{Outcome, complete, pending-still, record-after, told, told-after, left-by, left-after, taken, take-packet, after-packet, drop-sequence, reset, unless-refused}
+use Rattle.packet_spec.specs.Runs.{Call, taking, dropping, resetting, Bytes, All-bytes, after-call, after-calls}
+use Rattle.packet_spec.specs.Gathering.{So-far, none-begun, gathered-by, ended-by, gathered-after, gathered-after-all, Has, fragment-told, packet-told}
 use Rattle.packet_spec.proofs.Stores.{sets-joined}
 use Rattle.packet_spec.proofs.Judged.{Accepted, accepted, Sound-packet}
-use Rattle.packet_spec.proofs.SizesKept.{All-sized, all-sized, Bytes}
-use Rattle.packet_spec.proofs.Runs.{All-bytes}
+use Rattle.packet_spec.proofs.SizesKept.{All-sized, all-sized}
 use Rattle.packet_spec.proofs.Sequence.{record-due, record-more}
-
--- The sequence so far: the list that its start fixed, its payloads joined in order, the id due (0: none pending)
-pub record So-far : Type 0 where
-  pub list : AtomList
-  pub bytes : List ℕ
-  pub due : ℕ
-
--- after a packet judged so: a start begins anew, a continuation's payload is joined on, and all else leaves it
-unfoldable pub gathered-by : Answer Packet → So-far → So-far
-gathered-by (good (plain rs at bs)) g = g
-gathered-by (good (start sequence fragment rs bs)) g = record { list = list-of rs; bytes = bs; due = fragment - 1 }
-gathered-by (good (continuation sequence fragment bs)) g = record { list = g .list; bytes = g .bytes ++ bs; due = g .due - 1 }
-gathered-by (refused number place) g = g
-
--- after a drop or a reset, unless it is refused, none is pending
-unfoldable pub ended-by : {A : Type 0} → Answer A → So-far → So-far
-ended-by (good a) g = record { list = g .list; bytes = g .bytes; due = 0 }
-ended-by (refused number place) g = g
-
-unfoldable pub gathered-after : Memory → Call → So-far → So-far
-gathered-after m (taking agreed bs) g = gathered-by (judged agreed m bs) g
-gathered-after m dropping g = ended-by (drop-sequence (m .pending)) g
-gathered-after m resetting g = ended-by (reset (m .cache)) g
-
-unfoldable pub gathered-after-all : Memory → List Call → So-far → So-far
-gathered-after-all m [] g = g
-gathered-after-all m (c ∷ cs) g = gathered-after-all (after-call m c) cs (gathered-after m c g)
-
--- the memory has it
-pub record Has (m : Memory) (g : So-far) : Type 0 where
-  pub first-bytes : take (length (g .bytes)) (m .gather) ≡ g .bytes
-  pub its-list : m .pending-list ≡ g .list
-  pub its-due : m .pending .due ≡ g .due
-  pub counted : (g .due ≡ 0 → ⊥) → m .pending .gathered ≡ length (g .bytes)
 
 has-left : (m : Memory) (p : Packet) (g : So-far) → All-sized m → Sound-packet (m .pending) p → Has m g → Has (left-by m p) (gathered-by (good p) g)
 unfolding left-by gathered-by
@@ -129,25 +93,54 @@ run-gathers [] m g u h = h
 run-gathers (c ∷ cs) m g u h = run-gathers cs (after-call m c) (gathered-after m c g) (u .1) (call-gathers m c g (u .0) h)
 
 -- with no sequence pending at first, whatever the gather buffer and the list are
-pub none-yet : (m : Memory) → m .pending .due ≡ 0 → Has m (record { list = m .pending-list; bytes = []; due = 0 })
+pub none-yet : (m : Memory) → m .pending .due ≡ 0 → Has m (none-begun m)
 none-yet m e = record { first-bytes = refl; its-list = refl; its-due = e; counted = λ n. absurd (n refl) }
 
--- A packet that is answered complete: the bytes gathered are those of the sequence, and none is due then
-pub completes : (agreed : Coding) (m : Memory) (bs : List ℕ) (g : So-far) (k : ℕ) → Bytes (taking agreed bs) → Has m g
-    → take-packet agreed m bs ≡ good (complete k) → (k ≡ length (gathered-by (judged agreed m bs) g .bytes)) × (gathered-by (judged agreed m bs) g .due ≡ 0)
-unfolding take-packet told told-after gathered-by
+-- the last fragment's id is 1, so none is due after it
+last-due : (f : ℕ) → (f ≡ 0 → ⊥) → eqb f 1 ≡ eqb (f - 1) 0
+last-due f n = go (eqb f 1) refl
+  where
+    go : (b : Bool) → eqb f 1 ≡ b → b ≡ eqb (f - 1) 0
+    go true e = let is : f ≡ 1 = eqb-true f 1 e in sym (eq-eqb (f - 1) 0 (omega arith))
+    go false e = let more : f ≡ 1 → ⊥ = eqb-false f 1 e in sym (ne-eqb (f - 1) 0 (λ z. more (omega arith)))
+
+-- What a packet answers, from the sequence with it
+pub told-gathered : (agreed : Coding) (m : Memory) (bs : List ℕ) (g : So-far) → Bytes (taking agreed bs) → Has m g
+    → take-packet agreed m bs ≡ packet-told (judged agreed m bs) (gathered-by (judged agreed m bs) g)
+unfolding take-packet told told-after gathered-by packet-told fragment-told
+told-gathered agreed m bs g u h = go (judged agreed m bs) refl
+  where
+    go : (o : Answer Packet) → judged agreed m bs ≡ o → taken m o ≡ packet-told o (gathered-by o g)
+    go (good (plain rs at p)) e = refl
+    go (good (start q f rs p)) e =
+        let a : Accepted m (start q f rs p) = accepted agreed m bs (start q f rs p) u e in
+        ap (λ (b : Bool). good (cond b (complete (length p)) (pending-still (f - 1) (length p)))) (last-due f (a .sound .3))
+    go (good (continuation q f p)) e =
+        let a : Accepted m (continuation q f p) = accepted agreed m bs (continuation q f p) u e in
+        let is-due : f ≡ g .due = a .sound .2 ∙ h .its-due in
+        let so-far : m .pending .gathered ≡ length (g .bytes) = h .counted (λ z. a .sound .3 (is-due ∙ z)) in
+        let total : m .pending .gathered + length p ≡ length (g .bytes ++ p) = rw (length-append (g .bytes) p) (omega arith) in
+        ap (λ (b : Bool). good (cond b (complete (m .pending .gathered + length p)) (pending-still (f - 1) (m .pending .gathered + length p)))) (last-due f (a .sound .3))
+        ∙ ap₂ (λ (d n : ℕ). good (cond (eqb (d - 1) 0) (complete n) (pending-still (d - 1) n))) is-due total
+    go (refused n q) e = refl
+
+-- A packet that is answered complete: the bytes gathered are those of the sequence, none is due then, and the record is zero
+pub completes : (agreed : Coding) (m : Memory) (bs : List ℕ) (g : So-far) (k : ℕ) → Bytes (taking agreed bs) → Has m g → take-packet agreed m bs ≡ good (complete k)
+    → (k ≡ length (gathered-by (judged agreed m bs) g .bytes)) × (gathered-by (judged agreed m bs) g .due ≡ 0) × (after-packet agreed m bs .pending ≡ none-pending)
+unfolding take-packet after-packet left-by told told-after gathered-by record-after
 completes agreed m bs g k u h t = go (judged agreed m bs) refl t
   where
     one : (f n : ℕ) (x : Bool) → eqb f 1 ≡ x → _≡_ {A = Answer Outcome} (good (cond x (complete n) (pending-still (f - 1) n))) (good (complete k)) → (k ≡ n) × (eqb f 1 ≡ true)
     one f n true e c = (cc, e)
     one f n false e c = let no-way : _≡_ {A = ℕ} 0 1 = cc in absurd (omega arith)
 
-    go : (o : Answer Packet) → judged agreed m bs ≡ o → taken m o ≡ good (complete k) → (k ≡ length (gathered-by o g .bytes)) × (gathered-by o g .due ≡ 0)
+    go : (o : Answer Packet) → judged agreed m bs ≡ o → taken m o ≡ good (complete k)
+        → (k ≡ length (gathered-by o g .bytes)) × (gathered-by o g .due ≡ 0) × (left-after m o .pending ≡ none-pending)
     go (good (plain rs at p)) e c = let no-way : _≡_ {A = ℕ} 0 1 = cc in absurd (omega arith)
     go (good (start q f rs p)) e c =
         let w : (k ≡ length p) × (eqb f 1 ≡ true) = one f (length p) (eqb f 1) refl c in
         let is : f ≡ 1 = eqb-true f 1 (w .1) in
-        (w .0, omega arith)
+        (w .0, omega arith, rw (w .1))
     go (good (continuation q f p)) e c =
         let a : Accepted m (continuation q f p) = accepted agreed m bs (continuation q f p) u e in
         let w : (k ≡ m .pending .gathered + length p) × (eqb f 1 ≡ true) = one f (m .pending .gathered + length p) (eqb f 1) refl c in
@@ -155,5 +148,5 @@ completes agreed m bs g k u h t = go (judged agreed m bs) refl t
         let is-due : f ≡ g .due = a .sound .2 ∙ h .its-due in
         let so-far : m .pending .gathered ≡ length (g .bytes) = h .counted (λ z. a .sound .3 (is-due ∙ z)) in
         let total : length (g .bytes ++ p) ≡ length (g .bytes) + length p = length-append (g .bytes) p in
-        (omega (arith, w .0), omega arith)
+        (omega (arith, w .0), omega arith, rw (w .1))
     go (refused n q) e c = let no-way : _≡_ {A = ℕ} 0 1 = cc in absurd (omega arith)

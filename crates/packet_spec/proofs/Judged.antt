@@ -140,13 +140,13 @@ unfolding version
 version-holds s f {Q} q = go (s .left) (f .bytes-under)
   where
     inner : (b : ℕ) (bs : List ℕ) → Under 256 bs → (is : Bool)
-        → Holds {A = Unit} (elim is [ true ↦ good (tt, record { at = 1; left = bs; rows = s .rows }) | false ↦ refused 1 0 ]) Q
+        → Holds {A = Unit} (elim is [ true ↦ good (tt, record { at = 1; left = bs; rows-taken = s .rows-taken }) | false ↦ refused 1 0 ]) Q
     inner b bs u true = done-holds tt _ (q _ (record { bytes-under = u; rows-are = f .rows-are }))
     inner b bs u false = refused-holds 1 0
 
     go : (left : List ℕ) → Under 256 left → Holds {A = Unit} (elim left [
       | [] ↦ refused 1 0
-      | b ∷ bs ↦ elim (eqb b 131) [ true ↦ good (tt, record { at = 1; left = bs; rows = s .rows }) | false ↦ refused 1 0 ]
+      | b ∷ bs ↦ elim (eqb b 131) [ true ↦ good (tt, record { at = 1; left = bs; rows-taken = s .rows-taken }) | false ↦ refused 1 0 ]
     ]) Q
     go [] u = refused-holds 1 0
     go (b ∷ bs) u = inner b bs (u .1) (eqb b 131)
@@ -223,7 +223,7 @@ unfolding judged
 accepted agreed m bs p u e = go (memory-of-size m) refl e
   where
     begin : Position
-    begin = record { at = 0; left = bs; rows = 0 }
+    begin = record { at = 0; left = bs; rows-taken = 0 }
 
     inner : (o : Answer (Packet × Position)) → packet agreed (held (m .cache)) (m .pending) begin ≡ o → result-of o ≡ good p → Sound-packet (m .pending) p
     inner (good a) o-is f =
@@ -233,7 +233,7 @@ accepted agreed m bs p u e = go (memory-of-size m) refl e
     inner (refused n q) o-is f = let no-way : _≡_ {A = ℕ} 0 1 = cc in absurd (omega arith)
 
     go : (b : Bool) → memory-of-size m ≡ b → _≡_ {A = Answer Packet} (elim b [
-      | true ↦ result-of (packet agreed (held (m .cache)) (m .pending) (record { at = 0; left = bs; rows = 0 }))
+      | true ↦ result-of (packet agreed (held (m .cache)) (m .pending) (record { at = 0; left = bs; rows-taken = 0 }))
       | false ↦ refused 13 0
     ]) (good p) → Accepted m p
     go true s f = record { of-its-size = s; sound = inner _ refl f }

@@ -8,4 +8,5 @@ pub mod Listed
 pub mod Runs
 pub mod Sequence
 pub mod Gathered
+pub mod Demand
 pub mod Cases

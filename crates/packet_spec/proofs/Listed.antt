@@ -6,17 +6,17 @@ use native.Mathlib.Omega.{arith}
 use lib.ListN.{length, getD, take, drop, replicate}
 use lib.Seq.{take-append-seam, drop-append-add}
 use borrow.Author.Tests.{le-leb}
-use Rattle.term_spec.specs.Text.{valid, utf-8, check}
+use Rattle.term_spec.specs.Text.{Coding, utf-8, check}
+use Rattle.term_spec.specs.Numbers.{Under}
+use Rattle.term_spec.specs.Answer.{good}
 use Rattle.term_spec.specs.AtomList.{AtomList, place-length, place-bytes, place-text}
+use Rattle.packet_spec.specs.Memory.{Memory}
 use Rattle.packet_spec.specs.Header.{Reference}
+use Rattle.packet_spec.specs.Packet.{Packet, plain, start, continuation, judged}
 use Rattle.packet_spec.specs.Calls.{zeros-to, texts-in-places, lengths-of, list-of}
+use Rattle.packet_spec.specs.Places.{At, first, later, Listed, brought}
 use Rattle.packet_spec.proofs.Stores.{length-zeros-to}
-use Rattle.packet_spec.proofs.Judged.{Text, All-sound}
-
--- reference i is this one
-pub data At : List Reference → ℕ → Reference → Type 0 where
-  first : {r : Reference} {rs : List Reference} → At (r ∷ rs) 0 r
-  later : {r s : Reference} {rs : List Reference} {i : ℕ} → At rs i r → At (s ∷ rs) (suc i) r
+use Rattle.packet_spec.proofs.Judged.{Text, All-sound, Sound-packet, accepted}
 
 length-at : {rs : List Reference} {i : ℕ} {r : Reference} → At rs i r → (z : List ℕ) → getD (lengths-of rs ++ z) i 0 ≡ length (r .text)
 unfolding lengths-of
@@ -58,11 +58,28 @@ listed-length : {rs : List Reference} {i : ℕ} {r : Reference} → At rs i r �
 unfolding place-length list-of zeros-to
 listed-length a = length-at a _
 
--- and its characters: no 14 where it is asked for
-pub listed-text : {rs : List Reference} {i : ℕ} {r : Reference} (a : At rs i r) (ok : All-sound [] rs)
-    → place-text (list-of rs) i ≡ valid (text-at a [] ok .characters)
-listed-text {rs} {i} {r} a ok =
+sound-listed : {rs : List Reference} {i : ℕ} {r : Reference} → At rs i r → All-sound [] rs → Listed (list-of rs) i (r .text)
+sound-listed {rs} {i} {r} a ok =
     let t : Text (r .text) = text-at a [] ok in
     let n : place-length (list-of rs) i ≡ length (r .text) = listed-length a in
     let l : length (r .text) ≤ 32 = t .short in
-    place-short (list-of rs) i (omega arith) ∙ ap (check utf-8) (listed-bytes a ok) ∙ t .is-utf8
+    record {
+      bytes-are = listed-bytes a ok;
+      characters = t .characters;
+      is-text = place-short (list-of rs) i (omega arith) ∙ ap (check utf-8) (listed-bytes a ok) ∙ t .is-utf8;
+    }
+
+no-reference : {A : Type 0} {rs : List Reference} {i : ℕ} {r : Reference} → At rs i r → rs ≡ [] → A
+no-reference first e = let no-way : _≡_ {A = ℕ} 0 1 = cc in absurd (omega arith)
+no-reference (later a) e = let no-way : _≡_ {A = ℕ} 0 1 = cc in absurd (omega arith)
+
+-- Place i of the list that an accepted packet fixes has reference i's text, and no 14 is given where it is asked for
+pub listed-text : (agreed : Coding) (m : Memory) (bs : List ℕ) (p : Packet) → Under 256 bs → judged agreed m bs ≡ good p
+    → (i : ℕ) (r : Reference) → At (brought p) i r → Listed (list-of (brought p)) i (r .text)
+unfolding brought
+listed-text agreed m bs p u j i r a = go p (accepted agreed m bs p u j .sound) a
+  where
+    go : (p : Packet) → Sound-packet (m .pending) p → At (brought p) i r → Listed (list-of (brought p)) i (r .text)
+    go (plain rs at bs) s a = sound-listed a (s .0)
+    go (start sequence fragment rs bs) s a = sound-listed a (s .0)
+    go (continuation sequence fragment bs) s a = no-reference a refl

@@ -1,4 +1,4 @@
--- Over a run of calls: what the places hold at the end is what the new references of the accepted packets give, in turn.
+-- Over a run of calls: what the places of the cache hold, which of them stay, and the list for plain packets.
 use mathlib.Core.Path.{_≡_, refl, _∙_, ap, subst, fun-ext}
 use Prim.Native.Nat.{ℕ}
 use mathlib.Core.Bool.{Bool, true, false, cond}
@@ -9,13 +9,13 @@ use Rattle.packet_spec.specs.declared.Pending.{Pending}
 use Rattle.packet_spec.specs.Memory.{Cache, Memory, cache-of-size, empty-cache, none-pending, nothing, held-as, held}
 use Rattle.packet_spec.specs.Packet.{Packet, plain, start, continuation, judged}
 use Rattle.packet_spec.specs.Calls.{left-by, left-after, after-packet, reset, unless-refused}
-use Rattle.packet_spec.specs.Runs.{Call, taking, dropping, resetting, after-call, after-calls, brought, filled-in-turn, holding-of, emptied, holding-after, holding-after-all}
+use Rattle.packet_spec.specs.Runs.{Call, taking, dropping, resetting, Bytes, All-bytes, after-call, after-calls}
+use Rattle.packet_spec.specs.Places.{Same, brought, Alone, All-alone, filled-in-turn, holding-of, emptied, holding-after, holding-after-all, plain-list-of, plain-list-after, plain-list-after-all}
 use Rattle.packet_spec.proofs.Judged.{Sound-packet, Accepted, accepted}
 use Rattle.packet_spec.proofs.Frame.{held-entered}
-use Rattle.packet_spec.proofs.SizesKept.{All-sized, all-sized, Bytes}
-use Rattle.packet_spec.proofs.Cache.{Same, same-refl, same-trans}
+use Rattle.packet_spec.proofs.SizesKept.{All-sized, all-sized}
+use Rattle.packet_spec.proofs.Cache.{same-refl, same-trans}
 use Rattle.packet_spec.proofs.Calls.{packet-frame}
-use Rattle.packet_spec.specs.Header.{filled}
 
 -- after a reset every place is empty
 pub held-empty : held empty-cache ≡ (λ p. nothing)
@@ -44,26 +44,13 @@ call-holds m resetting u = go (cache-of-size (m .cache))
     go true = held-empty
     go false = refl
 
-abbrev pub All-bytes : List Call → Type 0
-All-bytes [] = Unit {0}
-All-bytes (c ∷ cs) = Bytes c × All-bytes cs
-
+-- over a run, what the places hold is what the new references of the accepted packets give, in turn
 pub run-holds : (cs : List Call) (m : Memory) → All-bytes cs → held (after-calls m cs .cache) ≡ holding-after-all m cs (held (m .cache))
 unfolding after-calls holding-after-all
 run-holds [] m u = refl
 run-holds (c ∷ cs) m u =
     run-holds cs (after-call m c) (u .1)
     ∙ ap (holding-after-all (after-call m c) cs) (call-holds m c (u .0))
-
--- a call leaves a place alone: a packet that does not fill it new, a drop, a reset that is refused
-abbrev pub Alone : Memory → Call → ℕ → Type 0
-Alone m (taking agreed bs) q = (p : Packet) → judged agreed m bs ≡ good p → filled q (brought p) ≡ false
-Alone m dropping q = Unit {0}
-Alone m resetting q = cache-of-size (m .cache) ≡ false
-
-abbrev pub All-alone : Memory → List Call → ℕ → Type 0
-All-alone m [] q = Unit {0}
-All-alone m (c ∷ cs) q = Alone m c q × All-alone (after-call m c) cs q
 
 pub call-frame : (m : Memory) (c : Call) (q : ℕ) → Bytes c → Alone m c q → Same (m .cache) (after-call m c .cache) q
 unfolding after-call after-packet reset
@@ -80,3 +67,25 @@ pub run-frame : (cs : List Call) (m : Memory) (q : ℕ) → All-bytes cs → All
 unfolding after-calls
 run-frame [] m q u a = same-refl (m .cache) q
 run-frame (c ∷ cs) m q u a = same-trans (call-frame m c q (u .0) (a .0)) (run-frame cs (after-call m c) q (u .1) (a .1))
+
+left-listed : (m : Memory) (p : Packet) → left-by m p .plain-list ≡ plain-list-of (good p) (m .plain-list)
+unfolding left-by plain-list-of
+left-listed m (plain rs at bs) = refl
+left-listed m (start sequence fragment rs bs) = refl
+left-listed m (continuation sequence fragment bs) = refl
+
+call-listed : (m : Memory) (c : Call) → after-call m c .plain-list ≡ plain-list-after m c (m .plain-list)
+unfolding after-call plain-list-after after-packet plain-list-of
+call-listed m (taking agreed bs) = go (judged agreed m bs)
+  where
+    go : (o : Answer Packet) → left-after m o .plain-list ≡ plain-list-of o (m .plain-list)
+    go (good p) = left-listed m p
+    go (refused n q) = refl
+call-listed m dropping = refl
+call-listed m resetting = refl
+
+-- over a run, the list for plain packets is the last accepted plain packet's
+pub run-listed : (cs : List Call) (m : Memory) → after-calls m cs .plain-list ≡ plain-list-after-all m cs (m .plain-list)
+unfolding after-calls plain-list-after-all
+run-listed [] m = refl
+run-listed (c ∷ cs) m = run-listed cs (after-call m c) ∙ ap (plain-list-after-all (after-call m c) cs) (call-listed m c)

@@ -1,7 +1,7 @@
 -- A sequence of fragments: what is gathered is the payloads joined in order, and the list is the one fixed at the start.
 use mathlib.Core.Path.{_≡_, refl, sym, _∙_, ap, ap₂, subst}
 use mathlib.Core.Bool.{Bool, true, false, cond}
-use mathlib.Core.List.{List, [], _∷_, _++_, append-assoc, append-nil}
+use mathlib.Core.List.{List, _++_, append-assoc, append-nil}
 use Prim.Native.Nat.{ℕ, suc, _+_, _-_, _≤_}
 use native.Mathlib.Nat.{zero-add}
 use native.Mathlib.Omega.{arith}
@@ -18,33 +18,10 @@ use Rattle.packet_spec.specs.Memory.{Memory, none-pending}
 use Rattle.packet_spec.specs.Header.{Reference}
 use Rattle.packet_spec.specs.Packet.{Packet, plain, start, continuation, judged}
 use Rattle.packet_spec.specs.Calls.{list-of, record-after, left-by, left-after, after-packet, told, told-after, complete, pending-still, take-packet, taken}
+use Rattle.packet_spec.specs.Gathering.{join, Fragments, none-more, refused-between, plain-between, next-fragment, Gathering}
 use Rattle.packet_spec.proofs.Stores.{sets-joined}
 use Rattle.packet_spec.proofs.Judged.{Accepted, accepted, Sound-packet}
 use Rattle.packet_spec.proofs.SizesKept.{All-sized, all-sized}
-
--- payloads one after the other
-abbrev pub join : List (List ℕ) → List ℕ
-join [] = []
-join (p ∷ ps) = p ++ join ps
-
--- From one memory to another, by packets of which the continuations brought these payloads: plain packets may come between, and
--- refused ones.
-pub data Fragments : Memory → List (List ℕ) → Memory → Type 0 where
-  none-more : {m : Memory} → Fragments m [] m
-  refused-between : {m n : Memory} {ps : List (List ℕ)} (agreed : Coding) (bs : List ℕ) (number place : ℕ)
-      → judged agreed m bs ≡ refused number place → Fragments (after-packet agreed m bs) ps n → Fragments m ps n
-  plain-between : {m n : Memory} {ps : List (List ℕ)} (agreed : Coding) (bs : List ℕ) (rs : List Reference) (at : ℕ) (p : List ℕ)
-      → Under 256 bs → judged agreed m bs ≡ good (plain rs at p) → Fragments (after-packet agreed m bs) ps n → Fragments m ps n
-  fragment : {m n : Memory} {ps : List (List ℕ)} (agreed : Coding) (bs : List ℕ) (sequence id : ℕ) (p : List ℕ)
-      → Under 256 bs → judged agreed m bs ≡ good (continuation sequence id p) → Fragments (after-packet agreed m bs) ps n → Fragments m (p ∷ ps) n
-
--- so far: the bytes gathered, the list, and, while a sequence is pending, its id and how many bytes are gathered
-pub record Gathering (m : Memory) (sequence due : ℕ) (bytes : List ℕ) (list : AtomList) : Type 0 where
-  pub first-bytes : take (length bytes) (m .gather) ≡ bytes
-  pub its-list : m .pending-list ≡ list
-  pub due-is : m .pending .due ≡ due
-  pub while-pending : (due ≡ 0 → ⊥) → (m .pending .gathered ≡ length bytes) × (m .pending .sequence ≡ sequence)
-  pub when-done : due ≡ 0 → m .pending ≡ none-pending
 
 -- the record after a fragment
 pub record-due : (s f g : ℕ) → (f ≡ 0 → ⊥) → record-after s f g .due ≡ f - 1
@@ -132,7 +109,7 @@ gathers {m} (refused-between agreed bs number place j rest) s d left bytes list 
 gathers {m} (plain-between agreed bs rs at p u j rest) s d left bytes list e g =
     gathers rest s d left bytes list e
     (subst (λ (x : Memory). Gathering x s d bytes list) (sym (after-is agreed m bs (good (plain rs at p)) j)) (plain-keeps m rs at p g))
-gathers {m} {n} (fragment {ps = ps} agreed bs s′ id p u j rest) s d left bytes list e g =
+gathers {m} {n} (next-fragment {ps = ps} agreed bs s′ id p u j rest) s d left bytes list e g =
     let a : Accepted m (continuation s′ id p) = accepted agreed m bs (continuation s′ id p) u j in
     subst (λ (b : List ℕ). Gathering n s left b list) (append-assoc bytes p (join ps))
     (gathers rest s (d - 1) left (bytes ++ p) list (omega arith)
@@ -148,7 +125,7 @@ no-more {m} (refused-between agreed bs number place j rest) s d bytes list g =
 no-more {m} (plain-between agreed bs rs at p u j rest) s d bytes list g =
     no-more rest s d bytes list
     (subst (λ (x : Memory). Gathering x s d bytes list) (sym (after-is agreed m bs (good (plain rs at p)) j)) (plain-keeps m rs at p g))
-no-more {m} (fragment {ps = ps} agreed bs s′ id p u j rest) s d bytes list g =
+no-more {m} (next-fragment {ps = ps} agreed bs s′ id p u j rest) s d bytes list g =
     let a : Accepted m (continuation s′ id p) = accepted agreed m bs (continuation s′ id p) u j in
     let is-due : id ≡ d = a .sound .2 ∙ g .due-is in
     let some-due : d ≡ 0 → ⊥ = λ e. a .sound .3 (is-due ∙ e) in

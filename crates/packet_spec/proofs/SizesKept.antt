@@ -1,11 +1,11 @@
 -- The sizes of all lent memory are kept.
 use mathlib.Core.Path.{_≡_, refl, _∙_, ap}
-use mathlib.Core.Bool.{Bool, true, false, _&&_, cond}
+use mathlib.Core.Bool.{true, _&&_}
 use mathlib.Core.List.{List, [], _∷_}
 use Prim.Native.Nat.{ℕ, suc, _*_, _<_}
 use native.Mathlib.Omega.{arith}
 use lib.Dec.{eqb}
-use lib.ListN.{length, length-append, length-replicate}
+use lib.ListN.{length, length-append}
 use lib.Seq.{length-sets}
 use borrow.Author.Tests.{eqb-true, eq-eqb}
 use Rattle.term_spec.specs.Text.{Coding}
@@ -13,17 +13,16 @@ use Rattle.term_spec.specs.Answer.{Answer, good, refused}
 use Rattle.term_spec.specs.AtomList.{of-size}
 use Rattle.term_spec.specs.Numbers.{Under}
 use Rattle.term_spec.proofs.Tests.{both-true}
-use Rattle.packet_spec.specs.declared.Pending.{Pending}
-use Rattle.packet_spec.specs.Memory.{Cache, Memory, cache-of-size, memory-of-size, empty-cache, none-pending}
+use Rattle.packet_spec.specs.Memory.{Memory, cache-of-size, memory-of-size}
 use Rattle.packet_spec.specs.Header.{Reference}
 use Rattle.packet_spec.specs.Packet.{Packet, plain, start, continuation, judged}
-use Rattle.packet_spec.specs.Calls.{zeros-to, texts-in-places, lengths-of, list-of, left-by, left-after, after-packet, reset, unless-refused}
-use Rattle.packet_spec.specs.Runs.{Call, taking, dropping, resetting, after-call}
+use Rattle.packet_spec.specs.Calls.{zeros-to, texts-in-places, lengths-of, list-of, left-by, left-after, after-packet}
 use Rattle.packet_spec.proofs.Stores.{length-zeros-to}
 use Rattle.packet_spec.proofs.Cache.{Sized, sized, sized-back}
 use Rattle.packet_spec.proofs.Judged.{All-sound, Sound-packet, accepted}
 use Rattle.packet_spec.proofs.Frame.{entered-sized}
 
+-- all lent memory is of its stated size
 pub record All-sized (m : Memory) : Type 0 where
   pub cache-sized : Sized (m .cache)
   pub plain-sized : of-size (m .plain-list) ≡ true
@@ -98,25 +97,3 @@ packet-sized agreed m bs u s = go (judged agreed m bs) refl
     go : (o : Answer Packet) → judged agreed m bs ≡ o → All-sized (left-after m o)
     go (good p) e = left-sized m p s (accepted agreed m bs p u e .sound)
     go (refused n q) e = s
-
-pub empty-sized : Sized empty-cache
-unfolding empty-cache
-empty-sized = record { places-are = length-replicate {A = ℕ} 65536 0; lengths-are = length-replicate {A = ℕ} 2048 65535 }
-
--- the bytes of a call are bytes
-abbrev pub Bytes : Call → Type 0
-Bytes (taking agreed bs) = Under 256 bs
-Bytes dropping = Unit {0}
-Bytes resetting = Unit {0}
-
-pub call-sized : (m : Memory) (c : Call) → Bytes c → All-sized m → All-sized (after-call m c)
-unfolding after-call reset
-call-sized m (taking agreed bs) u s = packet-sized agreed m bs u s
-call-sized m dropping u s =
-    record { cache-sized = s .cache-sized; plain-sized = s .plain-sized; pending-sized = s .pending-sized; gather-sized = s .gather-sized }
-call-sized m resetting u s =
-    record { cache-sized = go (cache-of-size (m .cache)); plain-sized = s .plain-sized; pending-sized = s .pending-sized; gather-sized = s .gather-sized }
-  where
-    go : (b : Bool) → Sized (unless-refused {A = Cache × Pending} (m .cache, m .pending) (cond b (good (empty-cache, none-pending)) (refused 13 0)) .0)
-    go true = empty-sized
-    go false = s .cache-sized

@@ -4,5 +4,9 @@ pub mod Packet
 pub mod Calls
 pub mod Look
 pub mod Runs
+pub mod Places
+pub mod Gathering
 pub mod Answers
 pub mod Promises
+pub mod Demands
+pub mod Cases

@@ -36,7 +36,7 @@ place-named agreed i = do
 
 -- The place that reference i of a packet's header names: 1, 2, 20, 24 for zero, 22, 5, 23 in the packet's order, then 6
 unfoldable pub place-of-reference : Coding → List ℕ → ℕ → Answer ℕ
-place-of-reference agreed bs i = at-zero (result-of (place-named agreed i (record { at = 0; left = bs; rows = 0 })))
+place-of-reference agreed bs i = at-zero (result-of (place-named agreed i (record { at = 0; left = bs; rows-taken = 0 })))
 
 -- Refusals 21 and 14, or the text
 unfoldable pub text-held : Held → Answer (List ℕ)

@@ -89,6 +89,6 @@ module _ (agreed : Coding) (holding : ℕ → Held) (r : Pending) where
 unfoldable pub judged : Coding → Memory → List ℕ → Answer Packet
 judged agreed m bs =
     elim (memory-of-size m) [
-      | true ↦ result-of (packet agreed (held (m .cache)) (m .pending) (record { at = 0; left = bs; rows = 0 }))
+      | true ↦ result-of (packet agreed (held (m .cache)) (m .pending) (record { at = 0; left = bs; rows-taken = 0 }))
       | false ↦ refused 13 0
     ]

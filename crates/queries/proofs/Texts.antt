@@ -134,7 +134,7 @@ module _ (atoms : AtomList) (m : List ℕ) (cap : ℕ) where
   atom-tag x p (h, a, b, i, e, agrees) k =
       let A : Atoms = atoms-of atoms in
       let s : Position = a .start in
-      let r : ℕ = s .rows in
+      let r : ℕ = s .rows-taken in
       let inside : p ≤ length m = omega (arith, a .in-step .inside, a .is-at) in
       let here : s ≡ at-offset m p r = position-is m s (a .in-step .bytes-are) ∙ ap (λ (n : ℕ). at-offset m n r) (a .is-at) in
       let told : Holds (term-head A (a .wanted) (at-offset m p r)) (λ h _. (b : Position) (x : Label) → Agrees m cap A p h b x → kind-of x ≡ 3 → (f : Form) × Atom-form (getD m p 0) f)

@@ -63,17 +63,17 @@ one-done m cap T T′ t next end e near f room =
 
 -- ---- a standalone term
 
-version-empty : (s : List ℕ) → length s ≡ 0 → version (record { at = 0; left = s; rows = 0 }) ≡ refused 1 0
+version-empty : (s : List ℕ) → length s ≡ 0 → version (record { at = 0; left = s; rows-taken = 0 }) ≡ refused 1 0
 unfolding version
 version-empty [] h = refl
 version-empty (b ∷ bs) h = absurd (omega arith)
 
-version-other : (s : List ℕ) → (getD s 0 0 ≡ 131 → ⊥) → version (record { at = 0; left = s; rows = 0 }) ≡ refused 1 0
+version-other : (s : List ℕ) → (getD s 0 0 ≡ 131 → ⊥) → version (record { at = 0; left = s; rows-taken = 0 }) ≡ refused 1 0
 unfolding version
 version-other [] h = refl
 version-other (b ∷ bs) h = rw (ne-eqb b 131 h, version)
 
-version-there : (s : List ℕ) → (length s ≡ 0 → ⊥) → getD s 0 0 ≡ 131 → version (record { at = 0; left = s; rows = 0 }) ≡ good (tt, at-offset s 1 0)
+version-there : (s : List ℕ) → (length s ≡ 0 → ⊥) → getD s 0 0 ≡ 131 → version (record { at = 0; left = s; rows-taken = 0 }) ≡ good (tt, at-offset s 1 0)
 unfolding version
 version-there [] h e = absurd (h refl)
 version-there (b ∷ bs) h e = rw (eq-eqb b 131 e, version)
@@ -226,7 +226,7 @@ module _ (list : AtomList) (m : List ℕ) where
   read-refused framing lent k e h = go (of-size list) (leb (length m) 65536) e
     where
       go : (a b : Bool) → k ≡ first-number a b
-          → first-check a 13 (first-check b 12 (result-of (terms-framed (atoms-of list) (min 8192 lent) framing (record { at = 0; left = m; rows = 0 })))) ≡ refused k 0
+          → first-check a 13 (first-check b 12 (result-of (terms-framed (atoms-of list) (min 8192 lent) framing (record { at = 0; left = m; rows-taken = 0 })))) ≡ refused k 0
       go false b e = ap (λ (n : ℕ). refused n 0) (sym e)
       go true false e = ap (λ (n : ℕ). refused n 0) (sym e)
       go true true e = absurd (h e)

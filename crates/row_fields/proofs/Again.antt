@@ -47,7 +47,7 @@ module _ (atoms : AtomList) (m : List ℕ) (l : Lent atoms m) (cap : ℕ) where
   unfolding kind-at offset-of
   content-says x (tag-at p) (h, a, b, i, e, agrees) =
       let s : Position = a .start in
-      let r : ℕ = s .rows in
+      let r : ℕ = s .rows-taken in
       let inside : p ≤ length m = omega (arith, a .in-step .inside, a .is-at) in
       let here : s ≡ at-offset m p r = position-is m s (a .in-step .bytes-are) ∙ ap (λ (n : ℕ). at-offset m n r) (a .is-at) in
       let told : Holds (term-head (atoms-of atoms) (a .wanted) (at-offset m p r))

@@ -292,11 +292,11 @@ module _ (atoms : AtomList) (m : List ℕ) (l : Lent atoms m) (cap p : ℕ) (les
     node-told at k f b i e x a =
         let s : Position = a .0 in
         let n = a .3 refl in
-        let from : b ≡ at-offset m (b .at) (b .rows) = position-is m b (i .bytes-are) in
-        let ends : n .1 .at ≡ atom-end m (b .at) = node-ends atoms m (b .at) (b .rows) (i .inside) .known (n .0) (n .1) (ap (term-head (atoms-of atoms) an-atom) (sym from) ∙ n .2) in
+        let from : b ≡ at-offset m (b .at) (b .rows-taken) = position-is m b (i .bytes-are) in
+        let ends : n .1 .at ≡ atom-end m (b .at) = node-ends atoms m (b .at) (b .rows-taken) (i .inside) .known (n .0) (n .1) (ap (term-head (atoms-of atoms) an-atom) (sym from) ∙ n .2) in
         let is : s .at ≡ atom-end m at = n .3 ∙ ends ∙ ap (atom-end m) e in
-        let here : s ≡ at-offset m (atom-end m at) (s .rows) = position-is m s (a .2 .bytes-are) ∙ ap (λ (z : ℕ). at-offset m z (s .rows)) is in
-        f (s .rows) (omega (arith, a .2 .inside, is)) .known x (a .1) (ap (later p k) (sym here) ∙ a .4)
+        let here : s ≡ at-offset m (atom-end m at) (s .rows-taken) = position-is m s (a .2 .bytes-are) ∙ ap (λ (z : ℕ). at-offset m z (s .rows-taken)) is in
+        f (s .rows-taken) (omega (arith, a .2 .inside, is)) .known x (a .1) (ap (later p k) (sym here) ∙ a .4)
 
     pid-row : (tag w : ℕ) → pid-found m w (atom-end m (p + 1)) ≡ pids-found m p tag → Row tag (pid-ext w)
     unfolding fields kind-of later label-of

@@ -40,8 +40,8 @@ row-of P (x ∷ xs) tag f a e = go (eqb (x .0) tag) refl e (λ k. row-of P xs ta
 
 module _ (m : List ℕ) where
   -- a position of the message is its offset
-  pub position-is : (s : Position) → s .left ≡ drop (s .at) m → s ≡ at-offset m (s .at) (s .rows)
-  position-is s e = ap (λ (l : List ℕ). spot (s .at) l (s .rows)) e
+  pub position-is : (s : Position) → s .left ≡ drop (s .at) m → s ≡ at-offset m (s .at) (s .rows-taken)
+  position-is s e = ap (λ (l : List ℕ). spot (s .at) l (s .rows-taken)) e
 
   module _ (p n at r : ℕ) (inside : at ≤ length m) where
     pub number-here : {Q : ℕ → Position → Type 0} → (at + n ≤ length m → Q (value m n at) (at-offset m (at + n) r)) → Holds (number p n (at-offset m at r)) Q
@@ -84,7 +84,7 @@ module _ (m : List ℕ) (cap : ℕ) (atoms : Atoms) where
   head-inside : (p : ℕ) (h : Head) → Head-at m cap atoms p h → p < length m
   head-inside p h a =
       let s : Position = a .start in
-      let r : ℕ = s .rows in
+      let r : ℕ = s .rows-taken in
       let i : s .at ≤ length m = a .in-step .inside in
       let k : s .at ≡ p = a .is-at in
       let inside : p ≤ length m = omega arith in

@@ -25,18 +25,18 @@ use Rattle.term_head.proofs.Tags.{stands, fails}
 pub record Past (m : List ℕ) (from rows : ℕ) (t : Position) : Type 0 where
   pub in-step : In-step m rows t
   pub later : from ≤ t .at
-  pub rows-are : t .rows ≡ rows
+  pub rows-are : t .rows-taken ≡ rows
 
 module _ (m : List ℕ) (from rows : ℕ) where
-  pub past-byte : (s : Position) (b : ℕ) (bs : List ℕ) → s .left ≡ b ∷ bs → Past m from rows s → Past m from rows (record { at = s .at + 1; left = bs; rows = s .rows })
+  pub past-byte : (s : Position) (b : ℕ) (bs : List ℕ) → s .left ≡ b ∷ bs → Past m from rows s → Past m from rows (record { at = s .at + 1; left = bs; rows-taken = s .rows-taken })
   past-byte s b bs e i = record { in-step = on-byte m rows s b bs e (i .in-step); later = omega (arith, i .later); rows-are = i .rows-are }
 
-  pub past-row : (s : Position) → s .rows < 0 → Past m from rows s → Past m from rows (record { at = s .at; left = s .left; rows = s .rows + 1 })
+  pub past-row : (s : Position) → s .rows-taken < 0 → Past m from rows s → Past m from rows (record { at = s .at; left = s .left; rows-taken = s .rows-taken + 1 })
   past-row s h i = absurd (omega arith)
 
   -- such a position is that of its offset
   pub past-is : (t : Position) → Past m from rows t → t ≡ at-offset m (t .at) rows
-  past-is t i = ap₂ (λ (l : List ℕ) (r : ℕ). record { at = t .at; left = l; rows = r }) (i .in-step .bytes-are) (i .rows-are)
+  past-is t i = ap₂ (λ (l : List ℕ) (r : ℕ). record { at = t .at; left = l; rows-taken = r }) (i .in-step .bytes-are) (i .rows-are)
 
 -- a head ends past its tag, in the message
 pub head-past-tag : (atoms : Atoms) (m : List ℕ) (at rows : ℕ) (w : format.Wanted) → Holds (term-head atoms w (at-offset m at rows)) (λ _ t. Past m (at + 1) rows t)

@@ -226,13 +226,13 @@ module _ (cap : ℕ) where
     row-holds : {r : ℕ} (p : ℕ) (s : Position) → Fine r s → {Q : Unit → Position → Type 0} → ((t : Position) → r < cap → Fine (r + 1) t → Q tt t)
         → Holds (row atoms cap p s) Q
     unfolding row
-    row-holds {r} p s g {Q} q = go (ltb (s .rows) cap) refl
+    row-holds {r} p s g {Q} q = go (ltb (s .rows-taken) cap) refl
       where
-        go : (z : Bool) → ltb (s .rows) cap ≡ z
-            → Holds (elim z as (λ _. Answer (Unit × Position)) [ true ↦ good (tt, record { at = s .at; left = s .left; rows = s .rows + 1 }) | false ↦ refused 9 p ]) Q
+        go : (z : Bool) → ltb (s .rows-taken) cap ≡ z
+            → Holds (elim z as (λ _. Answer (Unit × Position)) [ true ↦ good (tt, record { at = s .at; left = s .left; rows-taken = s .rows-taken + 1 }) | false ↦ refused 9 p ]) Q
         go true e =
-            let less : s .rows < cap = ltb-true (s .rows) cap e in
-            let same : s .rows ≡ r = g .rows-are in
+            let less : s .rows-taken < cap = ltb-true (s .rows-taken) cap e in
+            let same : s .rows-taken ≡ r = g .rows-are in
             done-holds tt _ (q _ (omega arith) (record { bytes-under = g .bytes-under; rows-are = omega arith }))
         go false e = refused-holds 9 p
 

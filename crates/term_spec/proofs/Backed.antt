@@ -287,9 +287,9 @@ module _ (message : List ℕ) (cap : ℕ) (atoms : Atoms) where
 
   row-stays : (p : ℕ) (s : Position) → Holds (row atoms cap p s) (λ _ t. t .at ≡ s .at)
   unfolding row
-  row-stays p s = go (ltb (s .rows) cap)
+  row-stays p s = go (ltb (s .rows-taken) cap)
     where
-      go : (t : Bool) → Holds {A = Unit {0}} (elim t [ true ↦ good (tt, record { at = s .at; left = s .left; rows = s .rows + 1 }) | false ↦ refused 9 p ]) (λ _ t. t .at ≡ s .at)
+      go : (t : Bool) → Holds {A = Unit {0}} (elim t [ true ↦ good (tt, record { at = s .at; left = s .left; rows-taken = s .rows-taken + 1 }) | false ↦ refused 9 p ]) (λ _ t. t .at ≡ s .at)
       go true = done-holds tt _ refl
       go false = refused-holds 9 p
 

@@ -1,11 +1,10 @@
 -- The steps of reading at an offset of a slice: what the tests of the code decide. After these no proof of code sees the bytes left as a list.
-use mathlib.Core.Path.{_≡_, sym, _∙_, ap, ap₂}
-use mathlib.Core.List.{List, [], _∷_, _++_}
-use Prim.Native.Nat.{ℕ, zero, suc, _+_, _*_, _^_, _≤_, _<_}
-use native.Mathlib.Nat.{pow-suc, mul-assoc}
+use mathlib.Core.Path.{_≡_, sym, ap, ap₂}
+use mathlib.Core.List.{List, []}
+use Prim.Native.Nat.{ℕ, zero, suc, _+_, _≤_, _<_}
 use native.Mathlib.Numerals.{add-one}
 use native.Mathlib.Omega.{arith}
-use lib.ListN.{length, getD, take, drop, drop-of-length-le, length-append}
+use lib.ListN.{length, getD, take, drop, drop-of-length-le}
 use lib.Seq.{drop-cons}
 use Rattle.term_spec.specs.Numbers.{big-endian}
 use Rattle.term_spec.specs.Answer.{good, refused, at-offset, byte, bytes, number}
@@ -43,13 +42,3 @@ module _ (s : List ℕ) where
   pub number-end : (p n at r : ℕ) → at ≤ length s → length s < at + n → number p n (at-offset s at r) ≡ refused 2 p
   unfolding number
   number-end p n at r h k = rw (bytes-end p n at r h k)
-
--- a number with one byte more: a loop's turn
-pub big-more : (bs : List ℕ) (b : ℕ) → big-endian (bs ++ (b ∷ [])) ≡ big-endian bs * 256 + b
-unfolding big-endian
-big-more [] b = omega arith
-big-more (c ∷ bs) b =
-    ap₂ (λ (n m : ℕ). c * 256 ^ n + m) (length-append bs (b ∷ [])) (big-more bs b)
-    ∙ ap (λ (m : ℕ). c * m + (big-endian bs * 256 + b)) (ap (λ (n : ℕ). 256 ^ n) (add-one (length bs)) ∙ pow-suc 256 (length bs))
-    ∙ ap (λ (m : ℕ). m + (big-endian bs * 256 + b)) (sym (mul-assoc c (256 ^ length bs) 256))
-    ∙ omega arith

@@ -22,59 +22,59 @@ use Rattle.term_spec.proofs.Invariant.{rule-kept, later-kept, opening-k
 
 -- rows taken: a byte takes none, and where none is lent none is taken
 abbrev Taken : ℕ → Position → Type 0
-Taken r s = s .rows ≡ r
+Taken r s = s .rows-taken ≡ r
 
-byte-takes : (r : ℕ) (s : Position) (b : ℕ) (bs : List ℕ) → s .left ≡ b ∷ bs → Taken r s → Taken r (record { at = s .at + 1; left = bs; rows = s .rows })
+byte-takes : (r : ℕ) (s : Position) (b : ℕ) (bs : List ℕ) → s .left ≡ b ∷ bs → Taken r s → Taken r (record { at = s .at + 1; left = bs; rows-taken = s .rows-taken })
 byte-takes r s b bs e i = i
 
-no-row : (r : ℕ) (s : Position) → s .rows < 0 → Taken r s → Taken r (record { at = s .at; left = s .left; rows = s .rows + 1 })
+no-row : (r : ℕ) (s : Position) → s .rows-taken < 0 → Taken r s → Taken r (record { at = s .at; left = s .left; rows-taken = s .rows-taken + 1 })
 no-row r s h i = absurd (omega arith)
 
 -- Of the answers with a smaller and with a larger number of rows: they are the same, or the smaller number gives refusal 9 and what the larger one
 -- finds takes more rows than that
 pub data Agree {A : Type 0} (small : ℕ) (o o′ : Answer (A × Position)) : Type 0 where
   same : o ≡ o′ → Agree small o o′
-  short : (p : ℕ) → o ≡ refused 9 p → Holds o′ (λ _ t. small < t .rows) → Agree small o o′
+  short : (p : ℕ) → o ≡ refused 9 p → Holds o′ (λ _ t. small < t .rows-taken) → Agree small o o′
 
 module _ (small large : ℕ) (less : small ≤ large) where
   -- They agree; and the rows taken are `before` and as many as `cost` says of what is found, and no fewer than those taken `now`
   pub record Alike {A : Type 0} (cost : A → ℕ) (before now : ℕ) (o o′ : Answer (A × Position)) : Type 0 where
-    pub rows-are : Holds o′ (λ a t. (t .rows ≡ before + cost a) × (now ≤ t .rows))
+    pub rows-are : Holds o′ (λ a t. (t .rows-taken ≡ before + cost a) × (now ≤ t .rows-taken))
     pub agree : Agree small o o′
 
   -- from a position on
   abbrev pub From : {A : Type 0} → (A → ℕ) → Position → Answer (A × Position) → Answer (A × Position) → Type 0
-  From cost s o o′ = Alike cost (s .rows) (s .rows) o o′
+  From cost s o o′ = Alike cost (s .rows-taken) (s .rows-taken) o o′
 
   module _ {A B : Type 0} where
     -- answers that agree, and what is read after them: a row too many stays one too many, since rows taken never fall
     agree-after : {f f′ : A → Reading B} (o o′ : Answer (A × Position)) → Agree small o o′
-        → ((a : A) (t : Position) → o′ ≡ good (a, t) → Agree small (f a t) (f′ a t) × Holds (f′ a t) (λ _ u. t .rows ≤ u .rows))
+        → ((a : A) (t : Position) → o′ ≡ good (a, t) → Agree small (f a t) (f′ a t) × Holds (f′ a t) (λ _ u. t .rows-taken ≤ u .rows-taken))
         → Agree small (after o f) (after o′ f′)
     agree-after {f} {f′} o (good r) (same e) k = rw e (k (r .0) (r .1) refl .0)
     agree-after {f} {f′} o (refused n p) (same e) k = rw e (same refl)
     agree-after {f} {f′} o (good r) (short p e h) k =
         short p (ap (λ (x : Answer (A × Position)). after x f) e)
-        (weaken (λ _ u. r .1 .rows ≤ u .rows) (k (r .0) (r .1) refl .1) λ b u g. omega (arith, h .known (r .0) (r .1) refl))
+        (weaken (λ _ u. r .1 .rows-taken ≤ u .rows-taken) (k (r .0) (r .1) refl .1) λ b u g. omega (arith, h .known (r .0) (r .1) refl))
     agree-after {f} {f′} o (refused n q) (short p e h) k = short p (ap (λ (x : Answer (A × Position)). after x f) e) (refused-holds n q)
 
     -- one step after another
     step : {o o′ : Answer (A × Position)} {f f′ : A → Reading B} {cost : A → ℕ} {whole-cost : B → ℕ} {before now : ℕ}
         → Alike cost now now o o′
-        → ((a : A) (t : Position) → t .rows ≡ now + cost a → Alike whole-cost before (t .rows) (f a t) (f′ a t))
+        → ((a : A) (t : Position) → t .rows-taken ≡ now + cost a → Alike whole-cost before (t .rows-taken) (f a t) (f′ a t))
         → Alike whole-cost before now (after o f) (after o′ f′)
     step {o} {o′} {f} {f′} {cost} {whole-cost} {before} {now} h k =
         record {
           rows-are =
-              next (λ a t. (t .rows ≡ now + cost a) × (now ≤ t .rows)) (h .rows-are) λ a t i.
-              weaken (λ b u. (u .rows ≡ before + whole-cost b) × (t .rows ≤ u .rows)) (k a t (i .0) .rows-are) λ b u j. (j .0, omega (arith, i .1, j .1));
+              next (λ a t. (t .rows-taken ≡ now + cost a) × (now ≤ t .rows-taken)) (h .rows-are) λ a t i.
+              weaken (λ b u. (u .rows-taken ≡ before + whole-cost b) × (t .rows-taken ≤ u .rows-taken)) (k a t (i .0) .rows-are) λ b u j. (j .0, omega (arith, i .1, j .1));
           agree = agree-after o o′ (h .agree) λ a t e.
-              let rest : Alike whole-cost before (t .rows) (f a t) (f′ a t) = k a t (h .rows-are .known a t e .0) in
-              (rest .agree, weaken (λ b u. (u .rows ≡ before + whole-cost b) × (t .rows ≤ u .rows)) (rest .rows-are) λ b u j. j .1);
+              let rest : Alike whole-cost before (t .rows-taken) (f a t) (f′ a t) = k a t (h .rows-are .known a t e .0) in
+              (rest .agree, weaken (λ b u. (u .rows-taken ≡ before + whole-cost b) × (t .rows-taken ≤ u .rows-taken)) (rest .rows-are) λ b u j. j .1);
         }
 
   module _ {A : Type 0} where
-    end : {cost : A → ℕ} {before : ℕ} (a : A) (t : Position) → t .rows ≡ before + cost a → Alike cost before (t .rows) (good (a, t)) (good (a, t))
+    end : {cost : A → ℕ} {before : ℕ} (a : A) (t : Position) → t .rows-taken ≡ before + cost a → Alike cost before (t .rows-taken) (good (a, t)) (good (a, t))
     end a t e = record { rows-are = done-holds a t (e, omega arith); agree = same refl }
 
     no : {cost : A → ℕ} {before now : ℕ} (n p : ℕ) → Alike {A = A} cost before now (refused n p) (refused n p)
@@ -89,10 +89,10 @@ module _ (small large : ℕ) (less : small ≤ large) where
     unseen {now} h = record { rows-are = weaken (λ _ t. Taken now t) h λ a t e. (omega arith, omega arith); agree = same refl }
 
   rule-alike : (b : Bool) (n p : ℕ) (s : Position) → From (λ _. 0) s (rule b n p s) (rule b n p s)
-  rule-alike b n p s = unseen (rule-kept 0 (Taken (s .rows)) (byte-takes (s .rows)) (no-row (s .rows)) b n p s refl)
+  rule-alike b n p s = unseen (rule-kept 0 (Taken (s .rows-taken)) (byte-takes (s .rows-taken)) (no-row (s .rows-taken)) b n p s refl)
 
   later-alike : (p : ℕ) (l : Later) (s : Position) → From (λ _. 0) s (later p l s) (later p l s)
-  later-alike p l s = unseen (later-kept 0 (Taken (s .rows)) (byte-takes (s .rows)) (no-row (s .rows)) p l s refl)
+  later-alike p l s = unseen (later-kept 0 (Taken (s .rows-taken)) (byte-takes (s .rows-taken)) (no-row (s .rows-taken)) p l s refl)
 
   module _ (part part′ : Wanted → Reading Located) (alike : (w : Wanted) (s : Position) → From size s (part w s) (part′ w s)) where
     each-alike : (ws : List Wanted) (s : Position) → From sizes s (each part ws s) (each part′ ws s)
@@ -114,21 +114,21 @@ module _ (small large : ℕ) (less : small ≤ large) where
 
   module _ (atoms : Atoms) where
     opening-alike : (bound : List ℕ) (w : Wanted) (s : Position) → From (λ _. 0) s (opening atoms bound w s) (opening atoms bound w s)
-    opening-alike bound w s = unseen (opening-kept 0 (Taken (s .rows)) (byte-takes (s .rows)) (no-row (s .rows)) atoms bound w s refl)
+    opening-alike bound w s = unseen (opening-kept 0 (Taken (s .rows-taken)) (byte-takes (s .rows-taken)) (no-row (s .rows-taken)) atoms bound w s refl)
 
     -- the step that sees the number of rows
     row-alike : (p : ℕ) (s : Position) → From (λ _. 1) s (row atoms small p s) (row atoms large p s)
     unfolding row
-    row-alike p s = go (ltb (s .rows) small) (ltb (s .rows) large) refl refl
+    row-alike p s = go (ltb (s .rows-taken) small) (ltb (s .rows-taken) large) refl refl
       where
         answer : Bool → Answer (Unit × Position)
-        answer z = elim z [ true ↦ good (tt, record { at = s .at; left = s .left; rows = s .rows + 1 }) | false ↦ refused 9 p ]
+        answer z = elim z [ true ↦ good (tt, record { at = s .at; left = s .left; rows-taken = s .rows-taken + 1 }) | false ↦ refused 9 p ]
 
-        go : (y z : Bool) → ltb (s .rows) small ≡ y → ltb (s .rows) large ≡ z → From (λ _. 1) s (answer y) (answer z)
+        go : (y z : Bool) → ltb (s .rows-taken) small ≡ y → ltb (s .rows-taken) large ≡ z → From (λ _. 1) s (answer y) (answer z)
         go true true e e′ = record { rows-are = done-holds tt _ (refl, omega arith); agree = same refl }
-        go true false e e′ = absurd (omega (arith, ltb-true (s .rows) small e, ltb-false (s .rows) large e′))
+        go true false e e′ = absurd (omega (arith, ltb-true (s .rows-taken) small e, ltb-false (s .rows-taken) large e′))
         go false true e e′ =
-            record { rows-are = done-holds tt _ (refl, omega arith); agree = short p refl (done-holds tt _ (omega (arith, ltb-false (s .rows) small e))) }
+            record { rows-are = done-holds tt _ (refl, omega arith); agree = short p refl (done-holds tt _ (omega (arith, ltb-false (s .rows-taken) small e))) }
         go false false e e′ = no 9 p
 
     string-alike : (d p off : ℕ) (cs : List ℕ) (s : Position) → From sizes s (string atoms small d p off cs s) (string atoms large d p off cs s)
@@ -169,8 +169,8 @@ module _ (small large : ℕ) (less : small ≤ large) where
           go p (pairs n) t ih = step (alike p (pairs n) t) λ u t i. end _ t (omega arith)
 
       -- the whole has taken its own row before
-      whole-alike : (p : ℕ) (h : Head) (before : ℕ) (s : Position) → s .rows ≡ before + 1
-          → Alike size before (s .rows) (contents atoms small d inner p h s) (contents atoms large d inner′ p h s)
+      whole-alike : (p : ℕ) (h : Head) (before : ℕ) (s : Position) → s .rows-taken ≡ before + 1
+          → Alike size before (s .rows-taken) (contents atoms small d inner p h s) (contents atoms large d inner′ p h s)
       unfolding contents
       whole-alike p (parts ws n l) before s e =
           step (each-alike (one-term atoms inner) (one-term atoms inner′) part-alike ws s) λ us t i.
@@ -185,7 +185,7 @@ module _ (small large : ℕ) (less : small ≤ large) where
     body-alike : (d p : ℕ) (h : Head) (s : Position) → From size s (body atoms small d p h s) (body atoms large d p h s)
     unfolding body
     body-alike zero p h s = no 8 p
-    body-alike (suc d) p h s = step (row-alike p s) λ _ t i. whole-alike d (body atoms small d) (body atoms large d) (body-alike d) p h (s .rows) t i
+    body-alike (suc d) p h s = step (row-alike p s) λ _ t i. whole-alike d (body atoms small d) (body atoms large d) (body-alike d) p h (s .rows-taken) t i
 
     pub term-alike : (d : ℕ) (w : Wanted) (s : Position) → From size s (term atoms small d w s) (term atoms large d w s)
     term-alike d w s = part-alike d (body atoms small d) (body atoms large d) (body-alike d) w s
@@ -212,7 +212,7 @@ module _ (small large : ℕ) (less : small ≤ large) where
               | b ∷ bs ↦ λ t. after (term atoms cap 64 any t) (λ v. λ t. after (ending (t .left) t) (λ _. done (u ▹ v ▹ empty)))
             ]
 
-        go : (u : Located) (t : Position) → t .rows ≡ s .rows + size u → (left : List ℕ) → Alike sizes (s .rows) (t .rows) (second small u left t) (second large u left t)
+        go : (u : Located) (t : Position) → t .rows-taken ≡ s .rows-taken + size u → (left : List ℕ) → Alike sizes (s .rows-taken) (t .rows-taken) (second small u left t) (second large u left t)
         go u t i [] = end (u ▹ empty) t (omega arith)
         go u t i (b ∷ bs) = step (term-alike 64 any t) λ v t j. step (ending-alike (t .left) t) λ _ t k. end (u ▹ v ▹ empty) t (omega arith)
 
@@ -227,7 +227,7 @@ module _ {A : Type 0} where
   with-more o o′ (short p e h) x other f = absurd (other p (sym f ∙ ap result-of e))
 
   -- with fewer rows: what takes no more stays
-  with-fewer : {small : ℕ} (cost : A → ℕ) (o o′ : Answer (A × Position)) → Agree small o o′ → Holds o′ (λ a t. t .rows ≤ cost a)
+  with-fewer : {small : ℕ} (cost : A → ℕ) (o o′ : Answer (A × Position)) → Agree small o o′ → Holds o′ (λ a t. t .rows-taken ≤ cost a)
       → (a : A) → cost a ≤ small → result-of o′ ≡ good a → result-of o ≡ good a
   with-fewer cost o o′ (same e) rows a few f = ap result-of e ∙ f
   with-fewer cost o (good r) (short p e h) rows a few f =
@@ -259,7 +259,7 @@ module _ (framing : Framing) (list : AtomList) (message : List ℕ) where
   down : (lent lent′ : ℕ) → capacity-of lent′ < capacity-of lent → (ts : Terms) → sizes ts ≤ lent′ → found-with lent ≡ good ts → found-with lent′ ≡ good ts
   down lent lent′ fewer ts few =
       let both = framed-alike (capacity-of lent′) (capacity-of lent) (omega arith) (atoms-of list) framing (spot 0 message 0) in
-      with-fewer sizes _ _ (both .agree) (weaken (λ us t. (t .rows ≡ 0 + sizes us) × (0 ≤ t .rows)) (both .rows-are) λ us t i. omega (arith, i .0)) ts (omega arith)
+      with-fewer sizes _ _ (both .agree) (weaken (λ us t. (t .rows-taken ≡ 0 + sizes us) × (0 ≤ t .rows-taken)) (both .rows-are) λ us t i. omega (arith, i .0)) ts (omega arith)
 
   -- What is accepted with some number of rows is accepted, as the same terms, with any number that is at least the rows that the terms have
   pub enough : (lent lent′ : ℕ) (ts : Terms) → read framing list lent message ≡ good ts → sizes ts ≤ lent′ → read framing list lent′ message ≡ good ts

@@ -1,8 +1,11 @@
--- The cases P of document 01, as a single statement: `cases`. Proved by computing what the definitions answer.
-use mathlib.Core.Path.{_≡_, refl}
-use mathlib.Core.List.{List, [], _∷_}
-use Prim.Native.Nat.{ℕ, zero, suc}
-use lib.ListN.{replicate}
+-- The cases P of document 01, for any empty atom list, as a single statement: `cases`. Proved by computing what the definitions answer.
+use mathlib.Core.Path.{_≡_, refl, _∙_, ap}
+use mathlib.Core.Bool.{Bool, true, false}
+use mathlib.Core.List.{List, [], _∷_, _++_}
+use Prim.Native.Nat.{ℕ, _≤_, min}
+use native.Mathlib.Omega.{arith}
+use lib.Dec.{leb}
+use lib.ListN.{length, replicate}
 use native.Mathlib.Decide.{ℕ-discrete}
 use Rattle.term_spec.specs.Numbers.{big-endian, in-bytes, little-endian, digits-within, digits, signed32, with-sign}
 use Rattle.term_spec.specs.Text.{holds, lines, first, emit, decode, check, is-character, encode, encodes}
@@ -10,12 +13,16 @@ use Rattle.term_spec.specs.Equal.{list-discrete, integer-discrete, term-
 use Rattle.term_spec.specs.Answer.{Answer, good, refused, bytes, number}
 use Rattle.term_spec.specs.Head.{forms, form-in, form-or, form, text-or, finite, bits-rule, clear-low, bits-meaning, fields, term-head, creation-rule, id-words, words-rule, later}
 use Rattle.term_spec.specs.Reading.{opening, each, run, entries, row, string, list-tail, contents, body, one-term}
-use Rattle.term_spec.specs.AtomList.{AtomList, of-size, place-length, place-bytes, place-text, atoms-of, empty-list}
-use Rattle.term_spec.specs.Message.{standalone, ending, version, standalone-term, payload-terms, read}
+use Rattle.term_spec.specs.AtomList.{AtomList, of-size, place-length, place-bytes, place-text, atoms-of, empty-list, lent-list}
+use Rattle.term_spec.specs.Message.{standalone, payload, Terms, meanings, ending, version, standalone-term, payload-terms, terms-framed, result-of, first-check, read}
 use Rattle.term_spec.specs.Canonical.{big-bytes, integer-bytes, atom-bytes, tuple-bytes, port-bytes, words-bytes, small, all-small, long-list, list-bytes, term-bytes, canonical, canonical-standalone, standalones}
 use Rattle.term_spec.specs.Writing.{Written, written, write}
+use Rattle.term_spec.specs.Tree.{count}
+use Rattle.term_spec.specs.Rows.{rows, tree-rows, kind-of, kind-at, offset-of, whole-code, pack, word, row-words, table-after}
+use Rattle.term_spec.specs.Cases.{nested, Cases, Writes, Refuses, Call-writes, Call-refuses}
+use Rattle.term_spec.proofs.Demand.{written-good, written-by, refused-by}
 
--- what the writer answers for a standalone term, with that list, 8,192 rows and 65,536 bytes of output
+-- what the writer answers for a standalone term, with an empty list of zeros, 8,192 rows and 65,536 bytes of output
 unfoldable pub output : List ℕ → Answer Written
 unfolding ℕ-discrete big-endian in-bytes little-endian digits-within digits signed32 with-sign holds lines first emit decode check is-character encode encodes list-discrete integer-discrete term-discrete same among bytes number forms form-in form-or form text-or finite bits-rule clear-low bits-meaning fields term-head creation-rule id-words words-rule later opening each run entries row string list-tail contents body one-term of-size place-length place-bytes place-text atoms-of big-bytes integer-bytes atom-bytes tuple-bytes port-bytes words-bytes small all-small long-list list-bytes term-bytes canonical canonical-standalone standalones ending version standalone-term payload-terms read written write
 output message = write standalone empty-list 8192 65536 message
@@ -24,42 +31,113 @@ output message = write standalone empty-list 8192 65536 message
 abbrev pub one : List ℕ → Answer Written
 one bs = good (record { terms = 1; bytes = bs })
 
--- n tuples of one element around what follows
-unfoldable pub nested : ℕ → List ℕ → List ℕ
-nested zero bs = bs
-nested (suc n) bs = 104 ∷ 1 ∷ nested n bs
+-- what is computed: the bytes written in 65,536 bytes of output, or the refusal of the reading; each with 8,192 rows
+abbrev Computed : AtomList → List ℕ → List ℕ → Type 0
+Computed list message bs = write standalone list 8192 65536 message ≡ one bs
 
-pub record Cases : Type 0 where
-  pub p1 : output (131 ∷ 98 ∷ 0 ∷ 0 ∷ 0 ∷ 5 ∷ []) ≡ one (131 ∷ 97 ∷ 5 ∷ [])
-  pub p2 : output (131 ∷ 110 ∷ 2 ∷ 0 ∷ 5 ∷ 0 ∷ []) ≡ one (131 ∷ 97 ∷ 5 ∷ [])
-  pub p4 : output (131 ∷ 110 ∷ 4 ∷ 1 ∷ 0 ∷ 0 ∷ 0 ∷ 128 ∷ []) ≡ one (131 ∷ 98 ∷ 128 ∷ 0 ∷ 0 ∷ 0 ∷ [])
-  pub p6 : output (131 ∷ 108 ∷ 0 ∷ 0 ∷ 0 ∷ 2 ∷ 97 ∷ 7 ∷ 97 ∷ 8 ∷ 106 ∷ []) ≡ one (131 ∷ 107 ∷ 0 ∷ 2 ∷ 7 ∷ 8 ∷ [])
-  pub p8 : output (131 ∷ 77 ∷ 0 ∷ 0 ∷ 0 ∷ 1 ∷ 3 ∷ 191 ∷ []) ≡ one (131 ∷ 77 ∷ 0 ∷ 0 ∷ 0 ∷ 1 ∷ 3 ∷ 160 ∷ [])
-  pub p9 : output (131 ∷ 100 ∷ 0 ∷ 1 ∷ 233 ∷ []) ≡ one (131 ∷ 119 ∷ 2 ∷ 195 ∷ 169 ∷ [])
-  pub p10 : output (131 ∷ 82 ∷ 0 ∷ []) ≡ refused 6 1
-  pub p11 : output (131 ∷ []) ≡ refused 2 1
-  pub p13 : output (131 ∷ 116 ∷ 0 ∷ 0 ∷ 0 ∷ 2 ∷ 97 ∷ 1 ∷ 97 ∷ 5 ∷ 98 ∷ 0 ∷ 0 ∷ 0 ∷ 1 ∷ 97 ∷ 6 ∷ []) ≡ refused 7 10
-  -- 64 nested tuples, the inmost empty, pass; 65 is 8
-  pub deep64 : output (131 ∷ nested 63 (104 ∷ 0 ∷ [])) ≡ one (131 ∷ nested 63 (104 ∷ 0 ∷ []))
-  pub deep65 : output (131 ∷ nested 64 (104 ∷ 0 ∷ [])) ≡ refused 8 129
+abbrev Found-wrong : AtomList → List ℕ → ℕ → ℕ → Type 0
+Found-wrong list message number place = read standalone list 8192 message ≡ refused number place
 
-pub cases : Cases
-unfolding output nested
-cases = record {
-  p1 = refl;
-  p2 = refl;
-  p4 = refl;
-  p6 = refl;
-  p8 = refl;
-  p9 = refl;
-  p10 = refl;
-  p11 = refl;
-  p13 = refl;
-  deep64 = refl;
-  deep65 = refl;
+-- With any list that is empty: n = 0, of its stated size, whatever its places and lengths hold
+module _ (places lengths : List ℕ) (sized : of-size (lent-list 0 places lengths) ≡ true) where
+  computed : Cases (Computed (lent-list 0 places lengths)) (Found-wrong (lent-list 0 places lengths))
+  unfolding output nested write read
+  computed = record {
+    p1 = rw sized refl;
+    p2 = rw sized refl;
+    p4 = rw sized refl;
+    p6 = rw sized refl;
+    p8 = rw sized refl;
+    p9 = rw sized refl;
+    p10 = rw sized refl;
+    p11 = rw sized refl;
+    p13 = rw sized refl;
+    deep64 = rw sized refl;
+    deep65 = rw sized refl;
+  }
+
+-- the same cases, said in another way
+pub said-so : {W W₂ : List ℕ → List ℕ → Type 0} {R R₂ : List ℕ → ℕ → ℕ → Type 0}
+    → ((message bs : List ℕ) → W message bs → W₂ message bs) → ((message : List ℕ) (number place : ℕ) → R message number place → R₂ message number place)
+    → Cases W R → Cases W₂ R₂
+said-so w r c = record {
+  p1 = w _ _ (c .p1);
+  p2 = w _ _ (c .p2);
+  p4 = w _ _ (c .p4);
+  p6 = w _ _ (c .p6);
+  p8 = w _ _ (c .p8);
+  p9 = w _ _ (c .p9);
+  p10 = r _ _ _ (c .p10);
+  p11 = r _ _ _ (c .p11);
+  p13 = r _ _ _ (c .p13);
+  deep64 = w _ _ (c .deep64);
+  deep65 = r _ _ _ (c .deep65);
 }
 
--- Further examples, at the ends of the rules of the canonical form
+-- more than 8,192 rows are as good as 8,192
+more-rows : (list : AtomList) (message : List ℕ) (lent : ℕ) → 8192 ≤ lent → read standalone list lent message ≡ read standalone list 8192 message
+unfolding read
+more-rows list message lent h =
+    let same : min 8192 lent ≡ 8192 = omega arith in
+    ap (λ (cap : ℕ). first-check (of-size list) 13 (first-check (leb (length message) 65536) 12
+    (result-of (terms-framed (atoms-of list) cap standalone (record { at = 0; left = message; rows-taken = 0 }))))) same
+
+-- what is written in 65,536 bytes of output is written in any that has room for it
+written-in-room : (o : Answer Terms) (bs : List ℕ) → written 65536 o ≡ one bs → (room : ℕ) → length bs ≤ room → written room o ≡ one bs
+unfolding written
+written-in-room (refused n p) bs e room fits = let no-way : _≡_ {A = ℕ} 0 1 = cc in absurd (omega arith)
+written-in-room (good ts) bs e room fits = go (leb (length (standalones (meanings ts))) 65536) e
+  where
+    go : (b : Bool) → _≡_ {A = Answer Written} (elim b [ true ↦ good (record { terms = count ts; bytes = standalones (meanings ts) }) | false ↦ refused 11 0 ]) (one bs)
+        → written room (good ts) ≡ one bs
+    go true e =
+        let same : _≡_ {A = Written} (record { terms = count ts; bytes = standalones (meanings ts) }) (record { terms = 1; bytes = bs }) = cc in
+        written-good ts bs (ap (λ (w : Written). w .bytes) same) room fits ∙ ap (λ (w : Written). good (record { terms = w .terms; bytes = bs })) same
+    go false e = let no-way : _≡_ {A = ℕ} 0 1 = cc in absurd (omega arith)
+
+writes-so : (list : AtomList) (message bs : List ℕ) → Computed list message bs → Writes list message bs
+unfolding write
+writes-so list message bs e rows room enough fits =
+    ap (written room) (more-rows list message rows enough) ∙ written-in-room (read standalone list 8192 message) bs e room fits
+
+refuses-so : (list : AtomList) (message : List ℕ) (number place : ℕ) → Found-wrong list message number place → Refuses list message number place
+unfolding write written
+refuses-so list message number place e rows room enough = ap (written room) (more-rows list message rows enough ∙ e)
+
+pub cases : (places lengths : List ℕ) → of-size (lent-list 0 places lengths) ≡ true
+    → Cases (Writes (lent-list 0 places lengths)) (Refuses (lent-list 0 places lengths))
+cases places lengths sized =
+    let list : AtomList = lent-list 0 places lengths in
+    said-so {W = Computed list} {W₂ = Writes list} {R = Found-wrong list} {R₂ = Refuses list} (writes-so list) (refuses-so list) (computed places lengths sized)
+
+-- and so for any call of the writer, by its promise
+pub called-cases : (places lengths : List ℕ) → of-size (lent-list 0 places lengths) ≡ true
+    → Cases (Call-writes (lent-list 0 places lengths)) (Call-refuses (lent-list 0 places lengths))
+called-cases places lengths sized =
+    let list : AtomList = lent-list 0 places lengths in
+    said-so {W = Writes list} {W₂ = Call-writes list} {R = Refuses list} {R₂ = Call-refuses list}
+    (λ message bs e scratch output rows fits answer s o w. written-by (record { terms = 1; bytes = bs }) (e (length scratch) (length output) rows fits) w)
+    (λ message number place e scratch output rows answer s o w. refused-by number place (e (length scratch) (length output) rows) w)
+    (cases places lengths sized)
+
+-- what the writer answers for a payload, with an empty list of zeros, so many rows and 100 bytes of output; and the table after reading it
+unfoldable pub output-of : ℕ → List ℕ → Answer Written
+unfolding output
+output-of rows message = write payload empty-list rows 100 message
+
+unfoldable pub table-of : ℕ → List ℕ → List ℕ
+unfolding output table-after rows tree-rows row-words word kind-at kind-of offset-of whole-code pack
+table-of lent message = table-after lent (read payload empty-list lent message)
+
+-- a list of two: a length of 33, a text that is not UTF-8
+abbrev pub false-list : AtomList
+false-list = lent-list 2 (replicate 32 0 ++ (255 ∷ replicate 8127 0)) (33 ∷ 1 ∷ replicate 253 0)
+
+unfoldable pub output-false : List ℕ → Answer Written
+unfolding output
+output-false message = write payload false-list 9 100 message
+
+-- Further examples, at the ends of the rules of the canonical form, and where two refusals compete
 pub record Examples : Type 0 where
   -- high zero digits go; 2^31 has no room in a 98
   pub high-zero : output (131 ∷ 110 ∷ 5 ∷ 0 ∷ 0 ∷ 0 ∷ 0 ∷ 128 ∷ 0 ∷ []) ≡ one (131 ∷ 110 ∷ 4 ∷ 0 ∷ 0 ∷ 0 ∷ 0 ∷ 128 ∷ [])
@@ -80,9 +158,30 @@ pub record Examples : Type 0 where
   -- a character may end at U+D7FF, and none is a surrogate
   pub before-surrogates : output (131 ∷ 119 ∷ 3 ∷ 0xED ∷ 0x9F ∷ 0xBF ∷ []) ≡ one (131 ∷ 119 ∷ 3 ∷ 0xED ∷ 0x9F ∷ 0xBF ∷ [])
   pub surrogate : output (131 ∷ 119 ∷ 3 ∷ 0xED ∷ 0xA0 ∷ 0x80 ∷ []) ≡ refused 5 1
+  -- a 120 with a small ID is a 89
+  pub small-port : output-of 9 (120 ∷ 119 ∷ 0 ∷ 0 ∷ 0 ∷ 0 ∷ 0 ∷ 0 ∷ 0 ∷ 0 ∷ 5 ∷ 0 ∷ 0 ∷ 0 ∷ 9 ∷ []) ≡ one (131 ∷ 89 ∷ 119 ∷ 0 ∷ 0 ∷ 0 ∷ 0 ∷ 5 ∷ 0 ∷ 0 ∷ 0 ∷ 9 ∷ [])
+  -- later fields, 2 before 4: a 103 with an ID over its limit, with no Creation and with one
+  pub cut-later : output-of 9 (103 ∷ 119 ∷ 0 ∷ 255 ∷ 0 ∷ 0 ∷ 0 ∷ 0 ∷ 0 ∷ 0 ∷ 0 ∷ []) ≡ refused 2 0
+  pub bad-later : output-of 9 (103 ∷ 119 ∷ 0 ∷ 255 ∷ 0 ∷ 0 ∷ 0 ∷ 0 ∷ 0 ∷ 0 ∷ 0 ∷ 1 ∷ []) ≡ refused 4 0
+  -- 9 before a part's tag; a character of a joined 107 at that 107's tag
+  pub row-first : output-of 0 (103 ∷ 97 ∷ 0 ∷ []) ≡ refused 9 0
+  pub row-joined : output-of 2 (108 ∷ 0 ∷ 0 ∷ 0 ∷ 1 ∷ 97 ∷ 7 ∷ 107 ∷ 0 ∷ 1 ∷ 8 ∷ []) ≡ refused 9 7
+  -- a 108 of length 0 is no atom; where it is a key that is equal to an earlier one, 7 is at the 108
+  pub no-atom : output-of 9 (103 ∷ 108 ∷ 0 ∷ 0 ∷ 0 ∷ 0 ∷ 119 ∷ 0 ∷ []) ≡ refused 4 1
+  pub equal-key : output-of 9 (116 ∷ 0 ∷ 0 ∷ 0 ∷ 2 ∷ 97 ∷ 1 ∷ 106 ∷ 108 ∷ 0 ∷ 0 ∷ 0 ∷ 0 ∷ 97 ∷ 1 ∷ []) ≡ refused 7 8
+  -- at depth 65 a 97 that is cut is 2; a character at depth 65 is 8 at its 107's tag, but 9 where the 107 has no row
+  pub deep-cut : output-of 99 (nested 64 (97 ∷ [])) ≡ refused 2 128
+  pub deep-character : output-of 64 (nested 63 (107 ∷ 0 ∷ 1 ∷ 9 ∷ [])) ≡ refused 8 126
+  pub deep-no-row : output-of 63 (nested 63 (107 ∷ 0 ∷ 1 ∷ 9 ∷ [])) ≡ refused 9 126
+  -- lent state false: 14 at 0
+  pub long-place : output-false (82 ∷ 0 ∷ []) ≡ refused 14 0
+  pub no-utf8 : output-false (82 ∷ 1 ∷ []) ≡ refused 14 0
+  -- two terms, the row numbers running on; characters; all past the rows zero
+  pub two-terms : table-of 6 (104 ∷ 1 ∷ 106 ∷ 107 ∷ 0 ∷ 2 ∷ 7 ∷ 8 ∷ [])
+      ≡ pack 4 0 0 1 2 ∷ pack 5 2 1 0 1 ∷ pack 5 3 0 2 3 ∷ pack 14 6 3 0 1 ∷ pack 14 7 3 0 1 ∷ 0 ∷ []
 
 pub examples : Examples
-unfolding output
+unfolding output output-of output-false table-of nested
 examples = record {
   high-zero = refl;
   minus-zero = refl;
@@ -94,4 +193,17 @@ examples = record {
   two-bytes = refl;
   before-surrogates = refl;
   surrogate = refl;
+  small-port = refl;
+  cut-later = refl;
+  bad-later = refl;
+  row-first = refl;
+  row-joined = refl;
+  no-atom = refl;
+  equal-key = refl;
+  deep-cut = refl;
+  deep-character = refl;
+  deep-no-row = refl;
+  long-place = refl;
+  no-utf8 = refl;
+  two-terms = refl;
 }

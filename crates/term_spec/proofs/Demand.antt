@@ -1,47 +1,45 @@
--- Demand 3 over the definitions, as one statement: `demand-3`, at the end. Before it: the canonical standalone term of a tree within the limits is read
+-- Demand 3 over the promises of the calls that read and write, as one statement: `demand-3`, at the end. Before it the same over the definitions,
+-- `demand-3-defined`, and what that rests on: the canonical standalone term of a tree within the limits is read
 -- back, and an accepted message is written in canonical form.
 use mathlib.Core.Path.{_≡_, refl, sym, _∙_, ap, subst}
-use mathlib.Core.Logic.{_↔_, _⊎_, inl, inr}
+use mathlib.Core.Logic.{_↔_, inl, inr}
 use mathlib.Core.Bool.{true}
-use mathlib.Core.List.{List, [], _++_, append-nil}
+use mathlib.Core.List.{List, [], _++_, append-nil, append-assoc}
 use Prim.Native.Nat.{ℕ, _+_, _≤_, min}
 use native.Mathlib.Omega.{arith}
 use lib.ListN.{length}
 use borrow.Author.Tests.{le-leb}
 use Rattle.term_spec.specs.Tree.{Forest, empty, _▹_, count, size, sizes}
 use Rattle.term_spec.specs.Term.{Label, Term}
-use Rattle.term_spec.specs.Answer.{Answer, good}
+use Rattle.term_spec.specs.Answer.{Answer, good, refused}
 use Rattle.term_spec.specs.Head.{any}
 use Rattle.term_spec.specs.Reading.{Located, meaning, term}
 use Rattle.term_spec.specs.AtomList.{AtomList, of-size, atoms-of}
 use Rattle.term_spec.specs.Message.{Framing, standalone, Terms, meanings, ending, version, standalone-term, read}
 use Rattle.term_spec.specs.Canonical.{canonical, canonical-standalone, standalones}
-use Rattle.term_spec.specs.Writing.{written, write}
-use Rattle.term_spec.specs.Numbers.{Under}
+use Rattle.term_spec.specs.Writing.{Written, written, write, output-after, scratch-after}
+use Rattle.term_spec.specs.Demands.{One-of, Accepted-term, Own-output, Read-again, Demand-3-defined, Written-out, Refused-out, Means, Demand-3}
+use Rattle.term_spec.specs.Rows.{table-after}
+use Rattle.term_spec.specs.Answers.{read-answer, write-answer}
+use Rattle.term_spec.specs.Promises.{Read-call, Write-call}
+use Rattle.term_spec.specs.declared.ReadAnswer.{ReadAnswer}
+use Rattle.term_spec.specs.declared.ReadAnswer.the-variants as reads
+use Rattle.term_spec.specs.declared.WriteAnswer.{WriteAnswer}
 use Rattle.term_spec.proofs.Steps.{spot}
 use Rattle.term_spec.proofs.Parts.{Reads}
 use Rattle.term_spec.proofs.RoundTrip.{read-tree}
 use Rattle.term_spec.proofs.Injective.{canonical-injective}
+use Rattle.term_spec.proofs.Rows.{size-meaning}
 use Rattle.term_spec.proofs.Capacity.{enough}
 use Rattle.term_spec.proofs.Message.{Allowed, All-allowed, accepted-message}
 
 -- The canonical standalone term of a tree within the limits is read back, with any atom list of its size and any table of as many rows.
-
-pub record Read-again (t : Term) (list : AtomList) (lent : ℕ) : Type 0 where
-  pub tree : Located
-  -- it is accepted
-  pub accepted : read standalone list lent (canonical-standalone t) ≡ good (tree ▹ empty)
-  -- it means the same
-  pub means : meaning tree ≡ t
-  -- written again, it is one term with the same bytes
-  pub again : (room : ℕ) → length (canonical-standalone t) ≤ room → write standalone list lent room (canonical-standalone t) ≡ good (record { terms = 1; bytes = canonical-standalone t })
-
 read-back : (t : Term) → Allowed t → (list : AtomList) → of-size list ≡ true → (lent : ℕ) → size t ≤ lent → length (canonical-standalone t) ≤ 65536
     → (tree : Located) × (read standalone list lent (canonical-standalone t) ≡ good (tree ▹ empty)) × (meaning tree ≡ t)
 unfolding read standalone-term version ending canonical-standalone
 read-back t a list sized lent enough short =
     let cap : ℕ = min 8192 lent in
-    let r : Reads (atoms-of list) cap 64 any (canonical t ++ []) [] 1 0 t = read-tree (atoms-of list) cap t (a .valid-tree) 64 (a .levels) 1 0 [] (omega (arith, a .rows)) in
+    let r : Reads (atoms-of list) cap 64 any (canonical t ++ []) [] 1 0 t = read-tree (atoms-of list) cap t (a .valid-tree) 64 (a .levels) 1 0 [] (omega (arith, a .few-rows)) in
     let e : term (atoms-of list) cap 64 any (spot 1 (canonical t) 0) ≡ good (r .tree, spot (r .end) [] (0 + size t)) = rw (append-nil (canonical t)) at (r .reads) in
     (r .tree, rw (sized, le-leb _ 65536 short, e) refl, r .means)
 
@@ -78,35 +76,6 @@ unfolding canonical-standalone
 same-bytes t u a b =
     (λ e. canonical-injective t u (a .valid-tree) (b .valid-tree) (let rest : canonical t ≡ canonical u = cc in rest), λ e. ap canonical-standalone e)
 
--- Demand 3.
-
-abbrev pub One-of : Term → Forest Label → Type 0
-One-of t empty = ⊥
-One-of t (u ▹ us) = (t ≡ u) ⊎ One-of t us
-
--- An accepted term: a term of a message, standalone or payload, that the rules allow whole, with its own atom list and 8,192 rows. A message is bytes
-pub record Accepted-term (t : Term) : Type 0 where
-  pub framing : Framing
-  pub list : AtomList
-  pub message : List ℕ
-  pub are-bytes : Under 256 message
-  pub terms : Terms
-  pub accepted : read framing list 8192 message ≡ good terms
-  pub one-of-them : One-of t (meanings terms)
-
--- For any two accepted terms, of one message or of two:
-pub record Demand-3 (t u : Term) (a : Accepted-term t) : Type 0 where
-  -- where room and scratch rows are enough, the writer writes the message of the first in canonical form: the canonical standalone terms of its terms,
-  -- one after the other. What scratch and output held before is no input of `write`
-  pub canonical-written : (scratch room : ℕ) → sizes (a .terms) ≤ scratch → length (standalones (meanings (a .terms))) ≤ room
-      → write (a .framing) (a .list) scratch room (a .message) ≡ good (record { terms = count (a .terms); bytes = standalones (meanings (a .terms)) })
-  -- the outputs are the same bytes exactly when the terms mean the same
-  pub same-output : (canonical-standalone t ≡ canonical-standalone u) ↔ (t ≡ u)
-  -- an output of at most 65,536 bytes is itself accepted, with any atom list of the stated size, so with an empty one, and any table of at least as many
-  -- rows as its term has; it means the same term; and written again it gives the same bytes
-  pub read-and-written-again : (list : AtomList) → of-size list ≡ true → (lent : ℕ) → size t ≤ lent → length (canonical-standalone t) ≤ 65536
-      → Read-again t list lent
-
 one-allowed : (t : Term) (ts : Forest Label) → All-allowed ts → One-of t ts → Allowed t
 one-allowed t empty a o = absurd o
 one-allowed t (u ▹ us) a (inl e) = subst Allowed (sym e) (a .0)
@@ -115,11 +84,88 @@ one-allowed t (u ▹ us) a (inr o) = one-allowed t us (a .1) o
 term-allowed : (t : Term) → Accepted-term t → Allowed t
 term-allowed t a = one-allowed t (meanings (a .terms)) (accepted-message (a .framing) (a .list) 8192 (a .message) (a .are-bytes) (a .terms) (a .accepted) .known .all-allowed) (a .one-of-them)
 
-pub demand-3 : (t u : Term) (a : Accepted-term t) → Accepted-term u → Demand-3 t u a
-demand-3 t u a b =
+-- a term's own output stands in what is written for its message
+own-output : (t : Term) (ts : Forest Label) → One-of t ts → Own-output t ts
+unfolding standalones
+own-output t empty o = absurd o
+own-output t (u ▹ us) (inl e) =
+    record {
+      earlier = empty;
+      others = us;
+      terms-are = ap (λ (x : Term). x ▹ us) (sym e);
+      stands = ap (λ (x : Term). canonical-standalone x ++ standalones us) (sym e);
+    }
+own-output t (u ▹ us) (inr o) =
+    let r : Own-output t us = own-output t us o in
+    record {
+      earlier = u ▹ r .earlier;
+      others = r .others;
+      terms-are = ap (λ (x : Forest Label). u ▹ x) (r .terms-are);
+      stands =
+          ap (λ (x : List ℕ). canonical-standalone u ++ x) (r .stands)
+          ∙ sym (append-assoc (canonical-standalone u) (standalones (r .earlier)) (canonical-standalone t ++ standalones (r .others)));
+    }
+
+pub demand-3-defined : (t u : Term) (a : Accepted-term t) → Accepted-term u → Demand-3-defined t u a
+demand-3-defined t u a b =
     let p : Allowed t = term-allowed t a in
     record {
       canonical-written = λ scratch room rows fits. writes (a .framing) (a .list) (a .message) (a .terms) (a .accepted) scratch room rows fits;
+      own-output = own-output t (meanings (a .terms)) (a .one-of-them);
       same-output = same-bytes t u p (term-allowed u b);
       read-and-written-again = λ list sized lent enough short. read-again t p list sized lent enough short;
+    }
+
+-- ---- over the promises of the calls
+
+-- What the calls come to where the definitions' answers are known
+pub written-by : {framing : Framing} {list : AtomList} {message scratch output : List ℕ} {answer : WriteAnswer} {scratch-is output-is : List ℕ} (w : Written)
+    → write framing list (length scratch) (length output) message ≡ good w
+    → Write-call framing list message scratch output answer scratch-is output-is
+    → Written-out (w .terms) (w .bytes) scratch output answer scratch-is output-is
+unfolding write-answer output-after scratch-after
+written-by {output = output} w e c =
+    record {
+      answer-is = c .write-answered ∙ ap write-answer e;
+      output-holds = c .output-left ∙ ap (output-after output) e;
+      scratch-zero = c .scratch-left;
+    }
+
+means-by : (t : Term) (list : AtomList) (table : List ℕ) (answer : ReadAnswer) (left : List ℕ) → Read-again t list (length table)
+    → Read-call standalone list (canonical-standalone t) table answer left → Means t table answer left
+unfolding read-answer
+means-by t list table answer left g w =
+    let k : size (g .tree) + 0 ≡ size t = omega (arith, size-meaning (g .tree), ap size (g .means)) in
+    record {
+      tree = g .tree;
+      meaning-is = g .means;
+      answer-is = w .read-answered ∙ ap read-answer (g .accepted) ∙ ap (λ (n : ℕ). reads.Terms 1 n) k;
+      rows-are = w .table-left ∙ ap (table-after (length table)) (g .accepted);
+    }
+
+pub refused-by : {framing : Framing} {list : AtomList} {message scratch output : List ℕ} {answer : WriteAnswer} {scratch-is output-is : List ℕ} (number place : ℕ)
+    → write framing list (length scratch) (length output) message ≡ refused number place
+    → Write-call framing list message scratch output answer scratch-is output-is
+    → Refused-out number place scratch output answer scratch-is output-is
+unfolding write-answer output-after scratch-after
+refused-by {output = output} number place e c =
+    record {
+      answer-is = c .write-answered ∙ ap write-answer e;
+      output-stays = c .output-left ∙ ap (output-after output) e;
+      scratch-zero = c .scratch-left;
+    }
+
+pub demand-3 : (t u : Term) (a : Accepted-term t) → Accepted-term u → Demand-3 t u a
+demand-3 t u a b =
+    let d = demand-3-defined t u a b in
+    record {
+      canonical-written = λ scratch output rows fits answer s o w.
+          written-by (record { terms = count (a .terms); bytes = standalones (meanings (a .terms)) })
+          (d .canonical-written (length scratch) (length output) rows fits) w;
+      own-output = d .own-output;
+      same-output = d .same-output;
+      read-again = λ list sized short table rows answer left w. means-by t list table answer left (d .read-and-written-again list sized (length table) rows short) w;
+      written-again = λ list sized short scratch output rows fits answer s o w.
+          written-by (record { terms = 1; bytes = canonical-standalone t })
+          (d .read-and-written-again list sized (length scratch) rows short .again (length output) fits) w;
     }

@@ -21,7 +21,7 @@ pub record Holds {A : Type 0} (o : Answer (A × Position)) (Q : A → Position �
 -- bytes are under 256, and the rows taken are r
 pub record Fine (r : ℕ) (s : Position) : Type 0 where
   pub bytes-under : Under 256 (s .left)
-  pub rows-are : s .rows ≡ r
+  pub rows-are : s .rows-taken ≡ r
 
 module _ {A B : Type 0} where
   pub bind : {o : Answer (A × Position)} {f : A → Reading B} {Q : B → Position → Type 0}
@@ -103,19 +103,19 @@ at-rows f e = record { bytes-under = f .bytes-under; rows-are = f .rows-are ∙ 
 
 -- how a standalone term begins, and how a message ends
 pub version-holds : (s : Position) {Q : Unit → Position → Type 0}
-    → ((b : ℕ) (bs : List ℕ) → s .left ≡ b ∷ bs → Q tt (record { at = 1; left = bs; rows = s .rows })) → Holds (version s) Q
+    → ((b : ℕ) (bs : List ℕ) → s .left ≡ b ∷ bs → Q tt (record { at = 1; left = bs; rows-taken = s .rows-taken })) → Holds (version s) Q
 unfolding version
 version-holds s {Q} q = go (s .left) refl
   where
     tested : (b : ℕ) (bs : List ℕ) → s .left ≡ b ∷ bs → (t : Bool)
-        → Holds (elim t as (λ _. Answer (Unit × Position)) [ true ↦ good (tt, record { at = 1; left = bs; rows = s .rows }) | false ↦ refused 1 0 ]) Q
+        → Holds (elim t as (λ _. Answer (Unit × Position)) [ true ↦ good (tt, record { at = 1; left = bs; rows-taken = s .rows-taken }) | false ↦ refused 1 0 ]) Q
     tested b bs e true = done-holds tt _ (q b bs e)
     tested b bs e false = refused-holds 1 0
 
     go : (left : List ℕ) → s .left ≡ left
         → Holds (elim left as (λ _. Answer (Unit × Position)) [
           | [] ↦ refused 1 0
-          | b ∷ bs ↦ elim (eqb b 131) [ true ↦ good (tt, record { at = 1; left = bs; rows = s .rows }) | false ↦ refused 1 0 ]
+          | b ∷ bs ↦ elim (eqb b 131) [ true ↦ good (tt, record { at = 1; left = bs; rows-taken = s .rows-taken }) | false ↦ refused 1 0 ]
         ]) Q
     go [] e = refused-holds 1 0
     go (b ∷ bs) e = tested b bs e (eqb b 131)

@@ -19,8 +19,8 @@ use Rattle.term_spec.specs.Reading.{Place, Located, meaning, empty-108, 
 use Rattle.term_spec.proofs.Holds.{Holds, next, done-holds, refused-holds}
 
 module _ (cap : ℕ) (I : Position → Type 0)
-    (on-byte : (s : Position) (b : ℕ) (bs : List ℕ) → s .left ≡ b ∷ bs → I s → I (record { at = s .at + 1; left = bs; rows = s .rows }))
-    (on-row : (s : Position) → s .rows < cap → I s → I (record { at = s .at; left = s .left; rows = s .rows + 1 })) where
+    (on-byte : (s : Position) (b : ℕ) (bs : List ℕ) → s .left ≡ b ∷ bs → I s → I (record { at = s .at + 1; left = bs; rows-taken = s .rows-taken }))
+    (on-row : (s : Position) → s .rows-taken < cap → I s → I (record { at = s .at; left = s .left; rows-taken = s .rows-taken + 1 })) where
   -- the invariant after a step
   abbrev pub Kept : {A : Type 0} → Answer (A × Position) → Type 0
   Kept {A} o = Holds {A = A} o (λ _ t. I t)
@@ -136,11 +136,11 @@ module _ (cap : ℕ) (I : Position → Type 0)
 
     row-kept : (p : ℕ) (s : Position) → I s → Kept (row atoms cap p s)
     unfolding row
-    row-kept p s i = go (ltb (s .rows) cap) refl
+    row-kept p s i = go (ltb (s .rows-taken) cap) refl
       where
-        go : (z : Bool) → ltb (s .rows) cap ≡ z
-            → Kept {A = Unit} (elim z as (λ _. Answer (Unit × Position)) [ true ↦ good (tt, record { at = s .at; left = s .left; rows = s .rows + 1 }) | false ↦ refused 9 p ])
-        go true e = end tt _ (on-row s (ltb-true (s .rows) cap e) i)
+        go : (z : Bool) → ltb (s .rows-taken) cap ≡ z
+            → Kept {A = Unit} (elim z as (λ _. Answer (Unit × Position)) [ true ↦ good (tt, record { at = s .at; left = s .left; rows-taken = s .rows-taken + 1 }) | false ↦ refused 9 p ])
+        go true e = end tt _ (on-row s (ltb-true (s .rows-taken) cap e) i)
         go false e = no 9 p
 
     string-kept : (d p off : ℕ) (cs : List ℕ) (s : Position) → I s → Kept (string atoms cap d p off cs s)
@@ -212,7 +212,7 @@ module _ (cap : ℕ) (I : Position → Type 0)
 pub record In-step (message : List ℕ) (cap : ℕ) (s : Position) : Type 0 where
   pub bytes-are : s .left ≡ drop (s .at) message
   pub inside : s .at ≤ length message
-  pub room : s .rows ≤ cap
+  pub room : s .rows-taken ≤ cap
 
 module _ (message : List ℕ) (cap : ℕ) where
   drop-next : (m : List ℕ) (n b : ℕ) (bs : List ℕ) → drop n m ≡ b ∷ bs → (bs ≡ drop (suc n) m) × (suc n ≤ length m)
@@ -221,20 +221,17 @@ module _ (message : List ℕ) (cap : ℕ) where
   drop-next (x ∷ m) zero b bs e = (cc, omega arith)
   drop-next (x ∷ m) (suc n) b bs e = let r = drop-next m n b bs e in (r .0, omega (arith, r .1))
 
-  pub on-byte : (s : Position) (b : ℕ) (bs : List ℕ) → s .left ≡ b ∷ bs → In-step message cap s → In-step message cap (record { at = s .at + 1; left = bs; rows = s .rows })
+  pub on-byte : (s : Position) (b : ℕ) (bs : List ℕ) → s .left ≡ b ∷ bs → In-step message cap s → In-step message cap (record { at = s .at + 1; left = bs; rows-taken = s .rows-taken })
   on-byte s b bs e i =
       let r = drop-next message (s .at) b bs (sym (i .bytes-are) ∙ e) in
       record { bytes-are = rw (add-one (s .at)) (r .0); inside = omega (arith, r .1); room = i .room }
 
-  on-row : (s : Position) → s .rows < cap → In-step message cap s → In-step message cap (record { at = s .at; left = s .left; rows = s .rows + 1 })
+  on-row : (s : Position) → s .rows-taken < cap → In-step message cap s → In-step message cap (record { at = s .at; left = s .left; rows-taken = s .rows-taken + 1 })
   on-row s h i = record { bytes-are = i .bytes-are; inside = i .inside; room = omega arith }
 
   -- each step ends at a position of the same message
   abbrev In-step-after : {A : Type 0} → Answer (A × Position) → Type 0
   In-step-after {A} o = Holds {A = A} o (λ _ t. In-step message cap t)
-
-  pub number-in-step : (p n : ℕ) (s : Position) → In-step message cap s → In-step-after (number p n s)
-  number-in-step = number-kept cap (In-step message cap) on-byte on-row
 
   pub later-in-step : (p : ℕ) (l : Later) (s : Position) → In-step message cap s → In-step-after (later p l s)
   later-in-step = later-kept cap (In-step message cap) on-byte on-row
@@ -243,12 +240,6 @@ module _ (message : List ℕ) (cap : ℕ) where
   rule-in-step = rule-kept cap (In-step message cap) on-byte on-row
 
   module _ (atoms : Atoms) where
-    pub fields-in-step : (p : ℕ) (f : Form) (s : Position) → In-step message cap s → In-step-after (fields atoms p f s)
-    fields-in-step = fields-kept cap (In-step message cap) on-byte on-row atoms
-
-    pub form-in-step : (p : ℕ) (w : Wanted) (tag : ℕ) (s : Position) → In-step message cap s → In-step-after (form p w tag s)
-    form-in-step = form-kept cap (In-step message cap) on-byte on-row atoms
-
     pub head-in-step : (w : Wanted) (s : Position) → In-step message cap s → In-step-after (term-head atoms w s)
     head-in-step = head-kept cap (In-step message cap) on-byte on-row atoms
 

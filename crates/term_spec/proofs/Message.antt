@@ -30,7 +30,7 @@ use Rattle.term_spec.proofs.Backed.{Backed, Backeds, term-backed}
 pub record Allowed (t : Term) : Type 0 where
   pub valid-tree : Valid t
   pub levels : depth t ≤ 64
-  pub rows : size t ≤ 8192
+  pub few-rows : size t ≤ 8192
 
 abbrev pub All-allowed : Forest Label → Type 0
 All-allowed empty = Unit {0}
@@ -58,7 +58,7 @@ module _ (atoms : Atoms) (true-atoms : True-atoms atoms) (cap : ℕ) (least : ca
   start = record { bytes-are = refl; inside = omega arith; room = omega arith }
 
   allowed : (r : ℕ) (x : Located) (t : Position) → Outer r x t → Allowed (meaning x)
-  allowed r x t f = record { valid-tree = f .0 .valid; levels = f .0 .deep; rows = omega (arith, f .0 .room) }
+  allowed r x t f = record { valid-tree = f .0 .valid; levels = f .0 .deep; few-rows = omega (arith, f .0 .room) }
 
   one-known : (x : Located) (t : Position) → Outer 0 x t → Known message cap atoms (x ▹ empty)
   one-known x t f = record { all-allowed = (allowed 0 x t f, tt); few = omega (arith, size-meaning x, f .0 .room); all-backed = (f .1 .1, tt) }

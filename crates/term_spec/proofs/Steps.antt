@@ -9,7 +9,7 @@ use Rattle.term_spec.specs.Answer.{Answer, good, Position, bytes, number
 use Rattle.term_spec.proofs.Numbers.{length-in-bytes, big-in-bytes}
 
 abbrev pub spot : ℕ → List ℕ → ℕ → Position
-spot at left rows = record { at = at; left = left; rows = rows }
+spot at left rows = record { at = at; left = left; rows-taken = rows }
 
 -- the same finding, up to the offset where it ends
 pub ends-at : {A : Type 0} (a : A) (rest : List ℕ) (rows m n : ℕ) → m ≡ n → _≡_ {A = Answer (A × Position)} (good (a, spot m rest rows)) (good (a, spot n rest rows))

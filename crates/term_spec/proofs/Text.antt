@@ -465,13 +465,9 @@ latin1-is bs cs e = go (leb (length bs) 255) refl e
     go true p f = (cc, leb-true _ _ p)
     go false p f = let no-way : _≡_ {A = ℕ} 0 1 = cc in absurd (omega arith)
 
--- A text that is valid is characters, 255 at most, and no more than its bytes
+-- A text that is valid is characters, 255 at most
 pub check-characters : (coding : Coding) (bs cs : List ℕ) → Under 256 bs → check coding bs ≡ valid cs → Characters cs × (length cs ≤ 255)
 check-characters latin-1 bs cs u e =
     let is : (bs ≡ cs) × (length bs ≤ 255) = latin1-is bs cs e in
     (rw (is .0) at (latin1-characters bs u), rw (is .0) at (is .1))
 check-characters utf-8 bs cs u e = (utf8-spells bs cs e .characters, utf8-spells bs cs e .few)
-
-pub check-length : (coding : Coding) (bs cs : List ℕ) → check coding bs ≡ valid cs → length cs ≤ length bs
-check-length latin-1 bs cs e = omega (arith, ap length (latin1-is bs cs e .0))
-check-length utf-8 bs cs e = omega (arith, length-encodes cs, ap length (utf8-spelt bs cs e))

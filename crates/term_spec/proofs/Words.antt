@@ -4,22 +4,17 @@ use mathlib.Core.List.{List, [], _∷_, _++_, append-assoc}
 use mathlib.Core.Option.{Option, none, some}
 use Prim.Native.Nat.{ℕ, zero, suc, _+_, _-_, _^_, _≤_, _<_}
 use native.Mathlib.Omega.{arith}
-use lib.ListN.{length, getD, take, drop, replicate, length-append, length-replicate, length-drop}
+use lib.ListN.{length, getD, take, drop, replicate, length-drop}
 use lib.Seq.{sets, sets-eq, getD-drop, drop-drop, drop-append-seam, drop-at, length-take-le, getD-append-add}
 use Rattle.term_spec.specs.Tree.{Forest, node, _▹_, _▹▹_, count, size, sizes, Each-node, Each-nodes}
 use Rattle.term_spec.specs.Term.{Label, integer, float, atom, tuple, list, improper-list, binary, bitstring, map, pid, port, reference, export}
-use Rattle.term_spec.specs.Answer.{good, refused}
+use Rattle.term_spec.specs.Answer.{good}
 use Rattle.term_spec.specs.Reading.{Place, tag-at, character-at, Located}
 use Rattle.term_spec.specs.Message.{Terms}
 use Rattle.term_spec.specs.Rows.{Row, tree-rows, rows, kind-of, kind-at, offset-of, whole-code, pack, Small-fields, kind-in, offset-in, whole-in, parts-in, size-in, word, row-words, table-after, Placed, Here, Tree-here, Rows-here}
 use Rattle.term_spec.proofs.Rows.{count-le-sizes, length-tree-rows, length-rows, rows-join}
 
 -- ---- a word
-
--- 61 of the 64 bits are used
-pub pack-below : (k o w p s : ℕ) → Small-fields k o w p s → pack k o w p s < 2 ^ 61
-unfolding pack
-pack-below k o w p s h = omega arith
 
 -- each field of a word is taken out again
 pub record Packed (word kind offset whole parts size : ℕ) : Type 0 where
@@ -66,36 +61,14 @@ unfolding kind-at
 kind-at-range l (tag-at p) = let h : Between 1 13 (kind-of l) = kind-of-range l in (omega arith, omega arith)
 kind-at-range l (character-at p) = (omega arith, omega arith)
 
--- kind 14 is that of characters alone
-pub kind-of-character : (l : Label) (p : ℕ) → kind-at l (character-at p) ≡ 14
-unfolding kind-at
-kind-of-character l p = refl
-
 pub kind-of-tag : (l : Label) (p : ℕ) → kind-at l (tag-at p) ≡ kind-of l
 unfolding kind-at
 kind-of-tag l p = refl
-
-pub character-of-kind : (l : Label) (p : Place) → kind-at l p ≡ 14 → p ≡ character-at (offset-of p)
-unfolding kind-at offset-of
-character-of-kind l (tag-at p) e = let h : Between 1 13 (kind-of l) = kind-of-range l in absurd (omega arith)
-character-of-kind l (character-at p) e = refl
 
 pub tag-of-kind : (l : Label) (p : Place) → (kind-at l p ≡ 14 → ⊥) → p ≡ tag-at (offset-of p)
 unfolding kind-at offset-of
 tag-of-kind l (tag-at p) other = refl
 tag-of-kind l (character-at p) other = absurd (other refl)
-
--- ---- the code of a whole
-
-pub no-whole : (w : Option ℕ) → whole-code w ≡ 0 → w ≡ none
-unfolding whole-code
-no-whole none e = refl
-no-whole (some n) e = absurd (omega arith)
-
-pub whole-at : (w : Option ℕ) (n : ℕ) → whole-code w ≡ n + 1 → w ≡ some n
-unfolding whole-code
-whole-at none n e = absurd (omega arith)
-whole-at (some m) n e = let same : m ≡ n = omega arith in ap (λ (k : ℕ). some k) same
 
 -- ---- the word of a row
 
@@ -104,10 +77,6 @@ Small-row r = Small-fields (kind-at (r .label) (r .place)) (offset-of (r .place)
 
 abbrev pub Word-of : Row → ℕ → Type 0
 Word-of r w = Packed w (kind-at (r .label) (r .place)) (offset-of (r .place)) (whole-code (r .whole)) (r .parts) (r .size)
-
-pub word-below : (r : Row) → Small-row r → word r < 2 ^ 61
-unfolding word
-word-below r h = pack-below _ _ _ _ _ h
 
 pub word-packed : (r : Row) → Small-row r → Word-of r (word r)
 unfolding word
@@ -264,19 +233,6 @@ module _ {T : List ℕ} {whole : Option ℕ} {n : ℕ} where
   node-below h = here-below (h .tree-words)
 
 -- ---- the table
-
-pub length-table : (lent : ℕ) (ts : Terms) → sizes ts ≤ lent → length (table-after lent (good ts)) ≡ lent
-unfolding table-after
-length-table lent ts h =
-    let ws : List ℕ = row-words (rows none 0 ts) in
-    let k : length ws ≡ sizes ts = length-words-of (rows none 0 ts) ∙ length-rows none 0 ts in
-    length-append ws (replicate (lent - length ws) 0)
-    ∙ ap (λ (m : ℕ). length ws + m) (length-replicate (lent - length ws) 0)
-    ∙ omega arith
-
-pub length-table-refused : (lent number place : ℕ) → length (table-after lent (refused number place)) ≡ lent
-unfolding table-after
-length-table-refused lent number place = length-replicate lent 0
 
 pub table-rows : (lent : ℕ) (ts : Terms) → Rows-here (table-after lent (good ts)) none 0 ts
 unfolding table-after

@@ -14,11 +14,11 @@ pub data Answer (A : Type 0) : Type 0 where
 pub record Position : Type 0 where
   pub at : ℕ
   pub left : List ℕ
-  pub rows : ℕ
+  pub rows-taken : ℕ
 
 -- the position at an offset of a slice
 abbrev pub at-offset : List ℕ → ℕ → ℕ → Position
-at-offset s at rows = record { at = at; left = drop at s; rows = rows }
+at-offset s at rows = record { at = at; left = drop at s; rows-taken = rows }
 
 -- a step of reading: what it finds, and where it ends
 abbrev pub Reading : Type 0 → Type 0
@@ -56,7 +56,7 @@ rule false number place = refuse number place
 
 abbrev pub first-of : List ℕ → Position → ℕ → Answer (ℕ × Position)
 first-of [] s place = refused 2 place
-first-of (b ∷ bs) s place = good (b, record { at = s .at + 1; left = bs; rows = s .rows })
+first-of (b ∷ bs) s place = good (b, record { at = s .at + 1; left = bs; rows-taken = s .rows-taken })
 
 -- the next byte; refusal 2: bytes end inside, or before, what is being read
 abbrev pub byte : ℕ → Reading ℕ

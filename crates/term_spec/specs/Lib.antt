@@ -15,3 +15,5 @@ pub mod Writing
 pub mod Look
 pub mod Answers
 pub mod Promises
+pub mod Demands
+pub mod Cases

@@ -28,7 +28,7 @@ unfoldable pub version : Reading Unit
 version s =
     elim (s .left) [
       | [] ↦ refused 1 0
-      | b ∷ bs ↦ elim (eqb b 131) [ true ↦ good (tt, record { at = 1; left = bs; rows = s .rows }) | false ↦ refused 1 0 ]
+      | b ∷ bs ↦ elim (eqb b 131) [ true ↦ good (tt, record { at = 1; left = bs; rows-taken = s .rows-taken }) | false ↦ refused 1 0 ]
     ]
 
 -- Refusal 10: bytes left over, at the first of them
@@ -89,4 +89,4 @@ unfoldable pub read : Framing → AtomList → ℕ → List ℕ → Answer Terms
 read framing list lent message =
     first-check (of-size list) 13
     (first-check (leb (length message) 65536) 12
-    (result-of (terms-framed (atoms-of list) (capacity-of lent) framing (record { at = 0; left = message; rows = 0 }))))
+    (result-of (terms-framed (atoms-of list) (capacity-of lent) framing (record { at = 0; left = message; rows-taken = 0 }))))

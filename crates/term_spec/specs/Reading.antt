@@ -84,8 +84,8 @@ module _ (atoms : Atoms) (capacity : ℕ) where
   -- a row is taken. Refusal 9: no row left
   unfoldable pub row : ℕ → Reading Unit
   row p s =
-      elim (ltb (s .rows) capacity) [
-        | true ↦ good (tt, record { at = s .at; left = s .left; rows = s .rows + 1 })
+      elim (ltb (s .rows-taken) capacity) [
+        | true ↦ good (tt, record { at = s .at; left = s .left; rows-taken = s .rows-taken + 1 })
         | false ↦ refused 9 p
       ]
 

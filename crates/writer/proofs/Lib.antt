@@ -4,4 +4,5 @@ pub mod Terms
 pub mod Read
 pub mod Messages
 pub mod Demand
+pub mod Cases
 pub mod Scratch

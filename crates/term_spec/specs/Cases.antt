@@ -1,0 +1,52 @@
+-- The cases P of document 01, with the nested tuples: `Cases`, of any way to say what a writer does with a message.
+use mathlib.Core.Path.{_≡_}
+use mathlib.Core.List.{List, [], _∷_}
+use Prim.Native.Nat.{ℕ, zero, suc, _≤_}
+use lib.ListN.{length}
+use Rattle.term_spec.specs.Answer.{good, refused}
+use Rattle.term_spec.specs.AtomList.{AtomList}
+use Rattle.term_spec.specs.Message.{standalone}
+use Rattle.term_spec.specs.Writing.{write}
+use Rattle.term_spec.specs.Promises.{Write-call}
+use Rattle.term_spec.specs.Demands.{Written-out, Refused-out}
+use Rattle.term_spec.specs.declared.WriteAnswer.{WriteAnswer}
+
+-- n tuples of one element around what follows
+unfoldable pub nested : ℕ → List ℕ → List ℕ
+nested zero bs = bs
+nested (suc n) bs = 104 ∷ 1 ∷ nested n bs
+
+-- a message and the bytes that are written for it, or a message and the refusal's number and place
+pub record Cases (Writes : List ℕ → List ℕ → Type 0) (Refuses : List ℕ → ℕ → ℕ → Type 0) : Type 0 where
+  pub p1 : Writes (131 ∷ 98 ∷ 0 ∷ 0 ∷ 0 ∷ 5 ∷ []) (131 ∷ 97 ∷ 5 ∷ [])
+  pub p2 : Writes (131 ∷ 110 ∷ 2 ∷ 0 ∷ 5 ∷ 0 ∷ []) (131 ∷ 97 ∷ 5 ∷ [])
+  pub p4 : Writes (131 ∷ 110 ∷ 4 ∷ 1 ∷ 0 ∷ 0 ∷ 0 ∷ 128 ∷ []) (131 ∷ 98 ∷ 128 ∷ 0 ∷ 0 ∷ 0 ∷ [])
+  pub p6 : Writes (131 ∷ 108 ∷ 0 ∷ 0 ∷ 0 ∷ 2 ∷ 97 ∷ 7 ∷ 97 ∷ 8 ∷ 106 ∷ []) (131 ∷ 107 ∷ 0 ∷ 2 ∷ 7 ∷ 8 ∷ [])
+  pub p8 : Writes (131 ∷ 77 ∷ 0 ∷ 0 ∷ 0 ∷ 1 ∷ 3 ∷ 191 ∷ []) (131 ∷ 77 ∷ 0 ∷ 0 ∷ 0 ∷ 1 ∷ 3 ∷ 160 ∷ [])
+  pub p9 : Writes (131 ∷ 100 ∷ 0 ∷ 1 ∷ 233 ∷ []) (131 ∷ 119 ∷ 2 ∷ 195 ∷ 169 ∷ [])
+  pub p10 : Refuses (131 ∷ 82 ∷ 0 ∷ []) 6 1
+  pub p11 : Refuses (131 ∷ []) 2 1
+  pub p13 : Refuses (131 ∷ 116 ∷ 0 ∷ 0 ∷ 0 ∷ 2 ∷ 97 ∷ 1 ∷ 97 ∷ 5 ∷ 98 ∷ 0 ∷ 0 ∷ 0 ∷ 1 ∷ 97 ∷ 6 ∷ []) 7 10
+  -- 64 nested tuples, the inmost empty, pass; 65 is 8
+  pub deep64 : Writes (131 ∷ nested 63 (104 ∷ 0 ∷ [])) (131 ∷ nested 63 (104 ∷ 0 ∷ []))
+  pub deep65 : Refuses (131 ∷ nested 64 (104 ∷ 0 ∷ [])) 8 129
+
+-- with this list, 8,192 rows or more, and room for these bytes, they are what is written for a standalone term
+abbrev pub Writes : AtomList → List ℕ → List ℕ → Type 0
+Writes list message bs = (rows room : ℕ) → 8192 ≤ rows → length bs ≤ room → write standalone list rows room message ≡ good (record { terms = 1; bytes = bs })
+
+-- with this list and 8,192 rows or more it is refused, whatever the room
+abbrev pub Refuses : AtomList → List ℕ → ℕ → ℕ → Type 0
+Refuses list message number place = (rows room : ℕ) → 8192 ≤ rows → write standalone list rows room message ≡ refused number place
+
+-- any call of the writer on a standalone term, with this list, 8,192 scratch rows or more, and room for these bytes, leaves them
+abbrev pub Call-writes : AtomList → List ℕ → List ℕ → Type 0
+Call-writes list message bs =
+    (scratch output : List ℕ) → 8192 ≤ length scratch → length bs ≤ length output → (answer : WriteAnswer) (scratch-is output-is : List ℕ)
+    → Write-call standalone list message scratch output answer scratch-is output-is → Written-out 1 bs scratch output answer scratch-is output-is
+
+-- any call of the writer on a standalone term, with this list and 8,192 scratch rows or more, refuses
+abbrev pub Call-refuses : AtomList → List ℕ → ℕ → ℕ → Type 0
+Call-refuses list message number place =
+    (scratch output : List ℕ) → 8192 ≤ length scratch → (answer : WriteAnswer) (scratch-is output-is : List ℕ)
+    → Write-call standalone list message scratch output answer scratch-is output-is → Refused-out number place scratch output answer scratch-is output-is
