@@ -12,6 +12,7 @@ use borrow.Author.Tests.{eq-eqb, ne-eqb, le-leb, lt-leb, leb-true}
 use Rattle.term_spec.specs.Tree.{empty, _▹_, count, size, sizes, Each-node}
 use Rattle.term_spec.specs.Answer.{Answer, good, refused, Position, at-offset, Reading, after, done}
 use Rattle.term_spec.specs.Answers.{read-answer}
+use Rattle.term_spec.specs.Promises.{Read-call}
 use Rattle.term_spec.specs.AtomList.{AtomList, of-size, atoms-of}
 use Rattle.term_spec.specs.Head.{Atoms, any}
 use Rattle.term_spec.specs.Message as message
@@ -25,13 +26,14 @@ use Rattle.term_spec.proofs.Rows.{length-rows}
 use Rattle.term_spec.proofs.Words.{length-words-of}
 use Rattle.octets.specs.Cleared.{cleared}
 use Rattle.octets.proofs.Cleared.{cleared-all, cleared-sets}
-use Rattle.reader.specs.declared.Step.{Step}
-use Rattle.reader.specs.declared.Step.the-variants.{Got, Refused}
+use Rattle.term_reader.specs.declared.Step.{Step}
+use Rattle.term_reader.specs.declared.Step.the-variants.{Got, Refused}
 use Rattle.reader.specs.declared.Framing.{Framing}
 use Rattle.reader.specs.declared.Framing.the-variants.{Standalone, Payload}
-use Rattle.reader.specs.Code.{whole-of, framing-of, Room, Done, TermDone, MessageDone, first-number, first-refusal, rows-in}
-use Rattle.reader.proofs.Runs.{after-same}
-use Rattle.reader.proofs.Found.{Found, step-found, step-refused, joined-words}
+use Rattle.term_reader.specs.Code.{whole-of, Room, Done, TermDone}
+use Rattle.reader.specs.Code.{framing-of, MessageDone, first-number, first-refusal, rows-in}
+use Rattle.term_reader.proofs.Runs.{after-same}
+use Rattle.term_reader.proofs.Found.{Found, step-found, step-refused, joined-words}
 
 abbrev pub refusal : ℕ → ℕ → ReadAnswer
 refusal n p = reads.Refused (record { number = n; place = p })
@@ -204,21 +206,17 @@ module _ (atoms : Atoms) (cap : ℕ) (m T : List ℕ) (framing : Framing) (r : R
 -- ---- `first_refusal`
 
 module _ (list : AtomList) (m : List ℕ) where
-  pub first-places : (length (list .places) ≡ 8160 → ⊥) → 13 ≡ first-refusal list m
-  unfolding first-refusal first-number of-size
-  first-places h = rw (ne-eqb (length (list .places)) 8160 h)
+  pub first-size : of-size list ≡ false → 13 ≡ first-refusal list m
+  unfolding first-refusal first-number
+  first-size h = rw h
 
-  pub first-lengths : length (list .places) ≡ 8160 → (length (list .lengths) ≡ 255 → ⊥) → 13 ≡ first-refusal list m
-  unfolding first-refusal first-number of-size
-  first-lengths e h = rw (eq-eqb (length (list .places)) 8160 e, ne-eqb (length (list .lengths)) 255 h)
+  pub first-long : of-size list ≡ true → 65536 < length m → 12 ≡ first-refusal list m
+  unfolding first-refusal first-number
+  first-long e h = rw (e, lt-leb (length m) 65536 h)
 
-  pub first-long : length (list .places) ≡ 8160 → length (list .lengths) ≡ 255 → 65536 < length m → 12 ≡ first-refusal list m
-  unfolding first-refusal first-number of-size
-  first-long e f h = rw (eq-eqb (length (list .places)) 8160 e, eq-eqb (length (list .lengths)) 255 f, lt-leb (length m) 65536 h)
-
-  pub first-none : length (list .places) ≡ 8160 → length (list .lengths) ≡ 255 → length m ≤ 65536 → 0 ≡ first-refusal list m
-  unfolding first-refusal first-number of-size
-  first-none e f h = rw (eq-eqb (length (list .places)) 8160 e, eq-eqb (length (list .lengths)) 255 f, le-leb (length m) 65536 h)
+  pub first-none : of-size list ≡ true → length m ≤ 65536 → 0 ≡ first-refusal list m
+  unfolding first-refusal first-number
+  first-none e h = rw (e, le-leb (length m) 65536 h)
 
   -- what reading answers after it
   pub read-refused : (framing : message.Framing) (lent k : ℕ) → k ≡ first-refusal list m → (k ≡ 0 → ⊥) → read framing list lent m ≡ refused k 0
@@ -275,20 +273,21 @@ settled m cap T (good y) a T′ U wide long d e =
     )
 
 pub refused-first : (framing : message.Framing) (list : AtomList) (m T : List ℕ) (k : ℕ) (a : ReadAnswer) (U : List ℕ) → k ≡ first-refusal list m → (k ≡ 0 → ⊥)
-    → (a ≡ refusal k 0) × (U ≡ cleared (rows-in (refusal k 0)) T) → (a ≡ read-answer (read framing list (length T) m)) × (U ≡ table-after (length T) (read framing list (length T) m))
+    → (a ≡ refusal k 0) × (U ≡ cleared (rows-in (refusal k 0)) T) → Read-call framing list m T a U
 unfolding rows-in read-answer table-after
 refused-first framing list m T k a U e h d =
-    rw (read-refused list m framing (length T) k e h) (d .0, d .1 ∙ cleared-all T)
+    let w : read framing list (length T) m ≡ refused k 0 = read-refused list m framing (length T) k e h in
+    record { read-answered = rw w (d .0); table-left = rw w (d .1 ∙ cleared-all T) }
 
 pub read-whole : (framing : message.Framing) (list : AtomList) (m T : List ℕ) (k cap : ℕ) (r a : ReadAnswer) (T′ U : List ℕ) → k ≡ first-refusal list m → k ≡ 0 → cap ≡ min (length T) 8192 → length T′ ≡ length T
     → MessageDone m cap T (terms-framed (atoms-of list) cap framing (at-offset m 0 0)) r T′ → (a ≡ r) × (U ≡ cleared (rows-in r) T′)
-    → (a ≡ read-answer (read framing list (length T) m)) × (U ≡ table-after (length T) (read framing list (length T) m))
+    → Read-call framing list m T a U
 read-whole framing list m T k cap r a T′ U e z c long d f =
     let g : cap ≡ min 8192 (length T) = omega arith in
     let h = settled m cap T (terms-framed (atoms-of list) cap framing (at-offset m 0 0)) r T′ U (omega arith) long d (f .1) in
     let w : read framing list (length T) m ≡ result-of (terms-framed (atoms-of list) cap framing (at-offset m 0 0))
     = read-goes list m framing (length T) (sym z ∙ e) ∙ ap (λ (n : ℕ). result-of (terms-framed (atoms-of list) n framing (at-offset m 0 0))) (sym g) in
-    rw w (f .0 ∙ h .0, h .1)
+    record { read-answered = rw w (f .0 ∙ h .0); table-left = rw w (h .1) }
 
 pub room-first : (list : AtomList) (m T : List ℕ) (k cap : ℕ) → k ≡ first-refusal list m → k ≡ 0 → cap ≡ min (length T) 8192 → Room m list T cap 0 0 0
 room-first list m T k cap e z c =

@@ -55,10 +55,10 @@ module _ (w : ℕ) (some : w ≡ 0 → ⊥) (next : ℕ) where
       rw b (record { kind = 5; count = 0; common = no-characters; holds = fit-held w 5 next 0 some (a .1) })
   told (elements n) e =
       let a = held (ltb 0 n) w _ some e in
-      record { kind = 14; count = n; common = some-elements n (λ z. let b = ltb-true 0 n (a .0) in omega arith); holds = fit-held w 14 next n some (a .1) }
+      record { kind = 15; count = n; common = some-elements n (λ z. let b = ltb-true 0 n (a .0) in omega arith); holds = fit-held w 15 next n some (a .1) }
   told (pairs n) e =
       let a = held (ltb 0 n) w _ some e in
-      record { kind = 15; count = n; common = some-pairs n (λ z. let b = ltb-true 0 n (a .0) in omega arith); holds = fit-held w 15 next n some (a .1) }
+      record { kind = 0; count = n; common = some-pairs n (λ z. let b = ltb-true 0 n (a .0) in omega arith); holds = fit-held w 0 next n some (a .1) }
 
 -- it is no 108 of length 0
 common-stays : (h : format.Head) (kind count : ℕ) → Common h kind count → empty-108 h ≡ false

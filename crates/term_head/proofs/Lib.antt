@@ -7,3 +7,4 @@ mod Openings
 pub mod OpeningFacts
 mod Words
 pub mod Common
+mod Sizes

@@ -28,20 +28,21 @@ quick-later (Port a b) w = 0
 quick-later (Reference a b) w = 0
 quick-later OldReference w = 0
 
--- Of a head with no wanted parts and no later fields. In the kind's place a list of elements has 14, a map 15; where there are none, and for characters, it is 0
+-- Of a head with no wanted parts and no later fields. In the kind's place some elements have 15, some pairs 0, which are no kinds of a row. Where there are none, and
+-- for characters, the word is 0
 unfoldable pub quick-word : Head → ℕ
 quick-word (Refused n p) = 0
 quick-word (Parts kind wanted count later next) = only-if (eqb wanted 0) (quick-later later (fit kind next count))
 quick-word (Characters count next) = only-if (eqb count 0) (fit 5 next 0)
-quick-word (Elements count next) = only-if (ltb 0 count) (fit 14 next count)
-quick-word (Pairs count next) = only-if (ltb 0 count) (fit 15 next count)
+quick-word (Elements count next) = only-if (ltb 0 count) (fit 15 next count)
+quick-word (Pairs count next) = only-if (ltb 0 count) (fit 0 next count)
 
--- The heads that have a word, each with what stands in it for the kind and with the number of parts
+-- The heads that have a word, each with what stands in the kind's place and with the number of parts
 pub data Common : format.Head → ℕ → ℕ → Type 0 where
   some-parts : (l : Label) (n : ℕ) → Common (parts [] n (known l)) (kind-of l) n
   no-characters : Common (characters []) 5 0
-  some-elements : (n : ℕ) → (n ≡ 0 → ⊥) → Common (elements n) 14 n
-  some-pairs : (n : ℕ) → (n ≡ 0 → ⊥) → Common (pairs n) 15 n
+  some-elements : (n : ℕ) → (n ≡ 0 → ⊥) → Common (elements n) 15 n
+  some-pairs : (n : ℕ) → (n ≡ 0 → ⊥) → Common (pairs n) 0 n
 
 -- what a word holds: kind, offset past the head and number of parts, each within its bits
 pub record Holds-word (w kind next count : ℕ) : Type 0 where

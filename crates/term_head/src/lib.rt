@@ -1,4 +1,8 @@
 // A term's tag and its fields: one small function for each layout, and the one that picks among them.
+use term_spec::kinds;
+use term_spec::refusals;
+use term_spec::sizes;
+use term_spec::tags;
 ghost use mathlib.Core.Path.{_≡_};
 ghost use mathlib.Core.Bool.{true, _||_};
 ghost use mathlib.Core.List.{[], _∷_};
@@ -16,9 +20,43 @@ ghost use Rattle.term_spec.specs.Head.{pid-fields, port-fields, reference-field
 ghost use Rattle.term_spec.specs.Head as format;
 ghost use Rattle.term_spec.specs.Reading.{opening};
 ghost use Rattle.term_spec.specs.AtomList.{of-size, atoms-of, lent-list};
-ghost use Rattle.term_head.specs.Quick.{only-if, fit, quick-later, quick-word};
+ghost use Rattle.term_head.specs.Quick.{fit, quick-later, quick-word};
 ghost use Rattle.octets.specs.Parts.{Width, words-at};
 ghost use Rattle.term_head.specs.Code.{Bits, head-of, fields-of, later-of, step-of, later-fields, tag-fields, allowed, wanted-of, empty-at, Skipped, opened-at, opening-of};
+
+// An exponent of all ones, and what a float's bits are divided by to find its 11 bits of exponent.
+const EXPONENT_ONES: u64 = 2047;
+
+const EXPONENTS: u64 = 2048;
+
+const FRACTIONS: u64 = 4503599627370496;
+// A Creation of one byte, a pid's ID and Serial, a port's ID and the first word of a reference are each below these.
+const CREATIONS: usize = 4;
+
+const PID_IDS: usize = 32768;
+
+const PID_SERIALS: usize = 8192;
+
+const PORT_IDS: usize = 268435456;
+
+const FIRST_WORDS: usize = 262144;
+// The longest text of a place, as its length is kept.
+const LENGTH_MOST: u16 = 32;
+// The most words of a reference.
+const WORDS_MOST: usize = 3;
+
+// The head of a common term in one word: a kind, the offset past the head, the number of parts, each below its bound here.
+pub const WORD_KINDS: usize = 16;
+
+pub const WORD_OFFSETS: usize = 131072;
+
+const WORD_COUNTS: usize = 4294967296;
+// What the number of parts is multiplied by: WORD_KINDS * WORD_OFFSETS.
+pub const WORD_PARTS: usize = 2097152;
+// In the kind's place: some elements of a list, some pairs of a map. No kind of a row is 15 or 0.
+pub const WORD_ELEMENTS: usize = 15;
+
+pub const WORD_PAIRS: usize = 0;
 
 // Which terms may stand at a place.
 pub enum Wanted {
@@ -74,6 +112,16 @@ pub enum Step {
     Refused { number: u8, place: usize },
 }
 
+// Whether an atom list is of its stated size.
+pub fn list_fits(places: &[u8], lengths: &[u16]) -> bool
+    ensures { λ r. ⌜ ((n : ℕ) → r ≡ of-size (lent-list n (now (places .entry)) (now (lengths .entry)))) ⌝ }
+{
+    if places.len() != sizes::LIST_BYTES {
+        return false;
+    }
+    lengths.len() == sizes::LIST_PLACES
+}
+
 // Tags 97 and 98.
 fn integer(msg: &[u8], at: usize, width: usize) -> Head
     requires { ⌜ at < length (now msg) ⌝ }
@@ -81,12 +129,12 @@ fn integer(msg: &[u8], at: usize, width: usize) -> Head
 {
     if msg.len() - at - 1 < width {
         return Head::Refused {
-            number: 2,
+            number: refusals::CUT,
             place: at,
         };
     }
     Head::Parts {
-        kind: 1,
+        kind: kinds::INTEGER,
         wanted: 0,
         count: 0,
         later: Later::Known,
@@ -102,25 +150,25 @@ fn big(msg: &[u8], at: usize, width: usize) -> Head
     let left = msg.len() - at - 1;
     if left <= width {
         return Head::Refused {
-            number: 2,
+            number: refusals::CUT,
             place: at,
         };
     }
     let n = octets::number(msg, at + 1, width) as usize;
     if left - width - 1 < n {
         return Head::Refused {
-            number: 2,
+            number: refusals::CUT,
             place: at,
         };
     }
     if 1 < octets::big1(msg, at + 1 + width) {
         return Head::Refused {
-            number: 4,
+            number: refusals::FIELD,
             place: at,
         };
     }
     Head::Parts {
-        kind: 1,
+        kind: kinds::INTEGER,
         wanted: 0,
         count: 0,
         later: Later::Known,
@@ -135,18 +183,18 @@ fn float(msg: &[u8], at: usize) -> Head
 {
     if msg.len() - at - 1 < 8 {
         return Head::Refused {
-            number: 2,
+            number: refusals::CUT,
             place: at,
         };
     }
-    if octets::big8(msg, at + 1) / 4503599627370496 % 2048 == 2047 {
+    if octets::big8(msg, at + 1) / FRACTIONS % EXPONENTS == EXPONENT_ONES {
         return Head::Refused {
-            number: 4,
+            number: refusals::FIELD,
             place: at,
         };
     }
     Head::Parts {
-        kind: 2,
+        kind: kinds::FLOAT,
         wanted: 0,
         count: 0,
         later: Later::Known,
@@ -161,12 +209,12 @@ fn tuple(msg: &[u8], at: usize, width: usize) -> Head
 {
     if msg.len() - at - 1 < width {
         return Head::Refused {
-            number: 2,
+            number: refusals::CUT,
             place: at,
         };
     }
     Head::Parts {
-        kind: 4,
+        kind: kinds::TUPLE,
         wanted: 0,
         count: octets::number(msg, at + 1, width) as usize,
         later: Later::Known,
@@ -182,14 +230,14 @@ fn string(msg: &[u8], at: usize) -> Head
     let left = msg.len() - at - 1;
     if left < 2 {
         return Head::Refused {
-            number: 2,
+            number: refusals::CUT,
             place: at,
         };
     }
     let n = octets::big2(msg, at + 1);
     if left - 2 < n {
         return Head::Refused {
-            number: 2,
+            number: refusals::CUT,
             place: at,
         };
     }
@@ -206,7 +254,7 @@ fn list(msg: &[u8], at: usize) -> Head
 {
     if msg.len() - at - 1 < 4 {
         return Head::Refused {
-            number: 2,
+            number: refusals::CUT,
             place: at,
         };
     }
@@ -224,19 +272,19 @@ fn binary(msg: &[u8], at: usize) -> Head
     let left = msg.len() - at - 1;
     if left < 4 {
         return Head::Refused {
-            number: 2,
+            number: refusals::CUT,
             place: at,
         };
     }
     let n = octets::big4(msg, at + 1);
     if left - 4 < n {
         return Head::Refused {
-            number: 2,
+            number: refusals::CUT,
             place: at,
         };
     }
     Head::Parts {
-        kind: 7,
+        kind: kinds::BINARY,
         wanted: 0,
         count: 0,
         later: Later::Known,
@@ -250,7 +298,7 @@ fn bits_kind(n: usize, bits: usize) -> usize
 {
     if n == 0 {
         if bits == 0 {
-            return 7;
+            return kinds::BINARY;
         }
         return 0;
     }
@@ -261,9 +309,9 @@ fn bits_kind(n: usize, bits: usize) -> usize
         return 0;
     }
     if bits == 8 {
-        return 7;
+        return kinds::BINARY;
     }
-    8
+    kinds::BITSTRING
 }
 
 // Tag 77: a count of bytes, the bits of the last one, the bytes.
@@ -274,21 +322,21 @@ fn bitstring(msg: &[u8], at: usize) -> Head
     let left = msg.len() - at - 1;
     if left <= 4 {
         return Head::Refused {
-            number: 2,
+            number: refusals::CUT,
             place: at,
         };
     }
     let n = octets::big4(msg, at + 1);
     if left - 4 - 1 < n {
         return Head::Refused {
-            number: 2,
+            number: refusals::CUT,
             place: at,
         };
     }
     let kind = bits_kind(n, octets::big1(msg, at + 1 + 4));
     if kind == 0 {
         return Head::Refused {
-            number: 4,
+            number: refusals::FIELD,
             place: at,
         };
     }
@@ -308,7 +356,7 @@ fn map(msg: &[u8], at: usize) -> Head
 {
     if msg.len() - at - 1 < 4 {
         return Head::Refused {
-            number: 2,
+            number: refusals::CUT,
             place: at,
         };
     }
@@ -325,25 +373,25 @@ fn reference(msg: &[u8], at: usize, width: usize) -> Head
 {
     if msg.len() - at - 1 < 2 {
         return Head::Refused {
-            number: 2,
+            number: refusals::CUT,
             place: at,
         };
     }
     let words = octets::big2(msg, at + 1);
     if words < 1 {
         return Head::Refused {
-            number: 4,
+            number: refusals::FIELD,
             place: at,
         };
     }
-    if 3 < words {
+    if WORDS_MOST < words {
         return Head::Refused {
-            number: 4,
+            number: refusals::FIELD,
             place: at,
         };
     }
     Head::Parts {
-        kind: 12,
+        kind: kinds::REFERENCE,
         wanted: 1,
         count: 0,
         later: Later::Reference { words, width },
@@ -359,14 +407,14 @@ fn atom(msg: &[u8], at: usize, width: usize, utf8: bool) -> Head
     let left = msg.len() - at - 1;
     if left < width {
         return Head::Refused {
-            number: 2,
+            number: refusals::CUT,
             place: at,
         };
     }
     let n = octets::number(msg, at + 1, width) as usize;
     if left - width < n {
         return Head::Refused {
-            number: 2,
+            number: refusals::CUT,
             place: at,
         };
     }
@@ -374,12 +422,12 @@ fn atom(msg: &[u8], at: usize, width: usize, utf8: bool) -> Head
     let end = from + n;
     if !text::is_text(&msg[from..end], utf8) {
         return Head::Refused {
-            number: 5,
+            number: refusals::TEXT,
             place: at,
         };
     }
     Head::Parts {
-        kind: 3,
+        kind: kinds::ATOM,
         wanted: 0,
         count: 0,
         later: Later::Known,
@@ -394,34 +442,34 @@ fn cached_atom(msg: &[u8], n: u8, places: &[u8], lengths: &[u16], at: usize) -> 
 {
     if msg.len() - at - 1 < 1 {
         return Head::Refused {
-            number: 2,
+            number: refusals::CUT,
             place: at,
         };
     }
     let i = octets::big1(msg, at + 1);
     if octets::wide(n) <= i {
         return Head::Refused {
-            number: 6,
+            number: refusals::INDEX,
             place: at,
         };
     }
     let length = lengths[i];
-    if 32 < length {
+    if LENGTH_MOST < length {
         return Head::Refused {
-            number: 14,
+            number: refusals::STATE,
             place: 0,
         };
     }
-    let from = 32 * i;
+    let from = sizes::PLACE_BYTES * i;
     let end = from + length as usize;
     if !text::is_text(&places[from..end], true) {
         return Head::Refused {
-            number: 14,
+            number: refusals::STATE,
             place: 0,
         };
     }
     Head::Parts {
-        kind: 3,
+        kind: kinds::ATOM,
         wanted: 0,
         count: 0,
         later: Later::Known,
@@ -454,7 +502,7 @@ fn creation_fits(msg: &[u8], at: usize, width: usize) -> bool
     if width != 1 {
         return true;
     }
-    below(msg, at, 1, 4)
+    below(msg, at, 1, CREATIONS)
 }
 
 // A port's ID is under 2^28, but not in 8 bytes.
@@ -465,7 +513,7 @@ fn port_id_fits(msg: &[u8], at: usize, width: usize) -> bool
     if width == 8 {
         return true;
     }
-    below(msg, at, width, 268435456)
+    below(msg, at, width, PORT_IDS)
 }
 
 // With a Creation of one byte, the first word is under 2^18.
@@ -479,7 +527,7 @@ fn words_fit(msg: &[u8], at: usize, words: usize, width: usize) -> bool
     if width != 1 {
         return true;
     }
-    below(msg, at, 4, 262144)
+    below(msg, at, 4, FIRST_WORDS)
 }
 
 // ID, Serial, Creation.
@@ -489,19 +537,34 @@ fn pid_fields(msg: &[u8], at: usize, place: usize, width: usize) -> Step
 {
     let left = msg.len() - at;
     if left < 8 {
-        return Step::Refused { number: 2, place };
+        return Step::Refused {
+            number: refusals::CUT,
+            place,
+        };
     }
     if left - 8 < width {
-        return Step::Refused { number: 2, place };
+        return Step::Refused {
+            number: refusals::CUT,
+            place,
+        };
     }
-    if !below(msg, at, 4, 32768) {
-        return Step::Refused { number: 4, place };
+    if !below(msg, at, 4, PID_IDS) {
+        return Step::Refused {
+            number: refusals::FIELD,
+            place,
+        };
     }
-    if !below(msg, at + 4, 4, 8192) {
-        return Step::Refused { number: 4, place };
+    if !below(msg, at + 4, 4, PID_SERIALS) {
+        return Step::Refused {
+            number: refusals::FIELD,
+            place,
+        };
     }
     if !creation_fits(msg, at + 4 + 4, width) {
-        return Step::Refused { number: 4, place };
+        return Step::Refused {
+            number: refusals::FIELD,
+            place,
+        };
     }
     Step::Got {
         next: at + 4 + 4 + width,
@@ -515,16 +578,28 @@ fn port_fields(msg: &[u8], at: usize, place: usize, id: usize, width: usize) -> 
 {
     let left = msg.len() - at;
     if left < id {
-        return Step::Refused { number: 2, place };
+        return Step::Refused {
+            number: refusals::CUT,
+            place,
+        };
     }
     if left - id < width {
-        return Step::Refused { number: 2, place };
+        return Step::Refused {
+            number: refusals::CUT,
+            place,
+        };
     }
     if !port_id_fits(msg, at, id) {
-        return Step::Refused { number: 4, place };
+        return Step::Refused {
+            number: refusals::FIELD,
+            place,
+        };
     }
     if !creation_fits(msg, at + id, width) {
-        return Step::Refused { number: 4, place };
+        return Step::Refused {
+            number: refusals::FIELD,
+            place,
+        };
     }
     Step::Got {
         next: at + id + width,
@@ -538,16 +613,28 @@ fn reference_fields(msg: &[u8], at: usize, place: usize, words: usize, width: us
 {
     let left = msg.len() - at;
     if left < width {
-        return Step::Refused { number: 2, place };
+        return Step::Refused {
+            number: refusals::CUT,
+            place,
+        };
     }
     if (left - width) / 4 < words {
-        return Step::Refused { number: 2, place };
+        return Step::Refused {
+            number: refusals::CUT,
+            place,
+        };
     }
     if !creation_fits(msg, at, width) {
-        return Step::Refused { number: 4, place };
+        return Step::Refused {
+            number: refusals::FIELD,
+            place,
+        };
     }
     if !words_fit(msg, at + width, words, width) {
-        return Step::Refused { number: 4, place };
+        return Step::Refused {
+            number: refusals::FIELD,
+            place,
+        };
     }
     Step::Got {
         next: at + width + words * 4,
@@ -560,13 +647,22 @@ fn old_reference_fields(msg: &[u8], at: usize, place: usize) -> Step
     ensures { λ r. ⌜ ((rows : ℕ) → r ≡ later-fields (now (msg .entry)) at place old-reference-fields rows) ⌝ }
 {
     if msg.len() - at < 5 {
-        return Step::Refused { number: 2, place };
+        return Step::Refused {
+            number: refusals::CUT,
+            place,
+        };
     }
     if !words_fit(msg, at, 1, 1) {
-        return Step::Refused { number: 4, place };
+        return Step::Refused {
+            number: refusals::FIELD,
+            place,
+        };
     }
     if !creation_fits(msg, at + 4, 1) {
-        return Step::Refused { number: 4, place };
+        return Step::Refused {
+            number: refusals::FIELD,
+            place,
+        };
     }
     Step::Got { next: at + 4 + 1 }
 }
@@ -605,38 +701,38 @@ fn by_tag(msg: &[u8], n: u8, places: &[u8], lengths: &[u16], at: usize, tag: u8)
     ensures { λ r. ⌜ ((rows : ℕ) → r ≡ tag-fields (atoms-of (lent-list n (now (places .entry)) (now (lengths .entry)))) (now (msg .entry)) at tag rows) ⌝ }
 {
     match tag {
-        97 => integer(msg, at, 1),
-        98 => integer(msg, at, 4),
-        110 => big(msg, at, 1),
-        111 => big(msg, at, 4),
-        70 => float(msg, at),
-        100 => atom(msg, at, 2, false),
-        115 => atom(msg, at, 1, false),
-        118 => atom(msg, at, 2, true),
-        119 => atom(msg, at, 1, true),
-        82 => cached_atom(msg, n, places, lengths, at),
-        104 => tuple(msg, at, 1),
-        105 => tuple(msg, at, 4),
-        106 => Head::Characters {
+        tags::SMALL_INTEGER_EXT => integer(msg, at, 1),
+        tags::INTEGER_EXT => integer(msg, at, 4),
+        tags::SMALL_BIG_EXT => big(msg, at, 1),
+        tags::LARGE_BIG_EXT => big(msg, at, 4),
+        tags::NEW_FLOAT_EXT => float(msg, at),
+        tags::ATOM_EXT => atom(msg, at, 2, false),
+        tags::SMALL_ATOM_EXT => atom(msg, at, 1, false),
+        tags::ATOM_UTF8_EXT => atom(msg, at, 2, true),
+        tags::SMALL_ATOM_UTF8_EXT => atom(msg, at, 1, true),
+        tags::ATOM_CACHE_REF => cached_atom(msg, n, places, lengths, at),
+        tags::SMALL_TUPLE_EXT => tuple(msg, at, 1),
+        tags::LARGE_TUPLE_EXT => tuple(msg, at, 4),
+        tags::NIL_EXT => Head::Characters {
             count: 0,
             next: at + 1,
         },
-        107 => string(msg, at),
-        108 => list(msg, at),
-        109 => binary(msg, at),
-        77 => bitstring(msg, at),
-        116 => map(msg, at),
-        88 => no_fields(at, 10, 1, Later::Pid { width: 4 }),
-        103 => no_fields(at, 10, 1, Later::Pid { width: 1 }),
-        89 => no_fields(at, 11, 1, Later::Port { id: 4, width: 4 }),
-        102 => no_fields(at, 11, 1, Later::Port { id: 4, width: 1 }),
-        120 => no_fields(at, 11, 1, Later::Port { id: 8, width: 4 }),
-        90 => reference(msg, at, 4),
-        114 => reference(msg, at, 1),
-        101 => no_fields(at, 12, 1, Later::OldReference),
-        113 => no_fields(at, 13, 3, Later::Known),
+        tags::STRING_EXT => string(msg, at),
+        tags::LIST_EXT => list(msg, at),
+        tags::BINARY_EXT => binary(msg, at),
+        tags::BIT_BINARY_EXT => bitstring(msg, at),
+        tags::MAP_EXT => map(msg, at),
+        tags::NEW_PID_EXT => no_fields(at, kinds::PID, 1, Later::Pid { width: 4 }),
+        tags::PID_EXT => no_fields(at, kinds::PID, 1, Later::Pid { width: 1 }),
+        tags::NEW_PORT_EXT => no_fields(at, kinds::PORT, 1, Later::Port { id: 4, width: 4 }),
+        tags::PORT_EXT => no_fields(at, kinds::PORT, 1, Later::Port { id: 4, width: 1 }),
+        tags::V4_PORT_EXT => no_fields(at, kinds::PORT, 1, Later::Port { id: 8, width: 4 }),
+        tags::NEWER_REFERENCE_EXT => reference(msg, at, 4),
+        tags::NEW_REFERENCE_EXT => reference(msg, at, 1),
+        tags::REFERENCE_EXT => no_fields(at, kinds::REFERENCE, 1, Later::OldReference),
+        tags::EXPORT_EXT => no_fields(at, kinds::EXPORT, 3, Later::Known),
         _ => Head::Refused {
-            number: 3,
+            number: refusals::TAG,
             place: at,
         },
     }
@@ -647,11 +743,11 @@ fn is_atom_tag(tag: u8) -> bool
     ensures { λ r. ⌜ r ≡ one-of tag (82 ∷ 100 ∷ 115 ∷ 118 ∷ 119 ∷ []) ⌝ }
 {
     match tag {
-        82 => true,
-        100 => true,
-        115 => true,
-        118 => true,
-        119 => true,
+        tags::ATOM_CACHE_REF => true,
+        tags::ATOM_EXT => true,
+        tags::SMALL_ATOM_EXT => true,
+        tags::ATOM_UTF8_EXT => true,
+        tags::SMALL_ATOM_UTF8_EXT => true,
         _ => false,
     }
 }
@@ -663,7 +759,7 @@ fn may_stand(wanted: Wanted, tag: u8) -> bool
     match wanted {
         Wanted::Any => true,
         Wanted::Atom => is_atom_tag(tag),
-        Wanted::Arity => tag == 97,
+        Wanted::Arity => tag == tags::SMALL_INTEGER_EXT,
     }
 }
 
@@ -674,14 +770,14 @@ fn read_head(msg: &[u8], n: u8, places: &[u8], lengths: &[u16], at: usize, wante
 {
     if msg.len() <= at {
         return Head::Refused {
-            number: 2,
+            number: refusals::CUT,
             place: at,
         };
     }
     let tag = msg[at];
     if !may_stand(wanted, tag) {
         return Head::Refused {
-            number: 4,
+            number: refusals::FIELD,
             place: at,
         };
     }
@@ -696,7 +792,7 @@ fn empty_list_at(msg: &[u8], at: usize) -> bool
     if msg.len() - at < 5 {
         return false;
     }
-    if msg[at] != 108 {
+    if msg[at] != tags::LIST_EXT {
         return false;
     }
     octets::big4(msg, at + 1) == 0
@@ -780,36 +876,33 @@ pub fn read_opening(
 }
 
 // A kind, the offset past a head and a number of parts in one word; 0 where they do not fit.
-fn fit(kind: usize, next: usize, count: usize) -> u64
+fn fit(kind: usize, next: usize, count: usize) -> usize
     ensures { λ r. ⌜ r ≡ fit kind next count ⌝ }
 {
-    if 16 <= kind {
+    if WORD_KINDS <= kind {
         return 0;
     }
-    if 131072 <= next {
+    if WORD_OFFSETS <= next {
         return 0;
     }
-    if 4294967296 <= count {
+    if WORD_COUNTS <= count {
         return 0;
     }
-    (kind + 16 * next + 2097152 * count) as u64
+    kind + WORD_KINDS * next + WORD_PARTS * count
 }
 
 // A head without wanted parts in one word, if it has no later fields either.
-fn word_of_parts(kind: usize, count: usize, later: Later, next: usize) -> u64
+fn word_of_parts(kind: usize, count: usize, later: Later, next: usize) -> usize
     ensures { λ r. ⌜ r ≡ quick-later later (fit kind next count) ⌝ }
 {
     match later {
         Later::Known => fit(kind, next, count),
-        Later::Pid { width } => 0,
-        Later::Port { id, width } => 0,
-        Later::Reference { words, width } => 0,
-        Later::OldReference => 0,
+        _ => 0,
     }
 }
 
 // The head of a common term in one word, or 0.
-fn word_of(head: Head) -> u64
+fn word_of(head: Head) -> usize
     ensures { λ r. ⌜ r ≡ quick-word head ⌝ }
 {
     match head {
@@ -830,64 +923,64 @@ fn word_of(head: Head) -> u64
             if count != 0 {
                 return 0;
             }
-            fit(5, next, 0)
+            fit(kinds::LIST, next, 0)
         }
         Head::Elements { count, next } => {
             if count == 0 {
                 return 0;
             }
-            fit(14, next, count)
+            fit(WORD_ELEMENTS, next, count)
         }
         Head::Pairs { count, next } => {
             if count == 0 {
                 return 0;
             }
-            fit(15, next, count)
+            fit(WORD_PAIRS, next, count)
         }
     }
 }
 
 // The commonest terms without parts.
-fn leaf_word(msg: &[u8], at: usize, tag: u8) -> u64
+fn leaf_word(msg: &[u8], at: usize, tag: u8) -> usize
     requires { ⌜ (at < length (now msg)) × (length (now msg) ≤ 65536) ⌝ }
     ensures { λ r. ⌜ ((r ≡ 0 → ⊥) → (atoms : Atoms) (rows : ℕ) → r ≡ quick-word (tag-fields atoms (now (msg .entry)) at tag rows)) ⌝ }
 {
     match tag {
-        97 => word_of(integer(msg, at, 1)),
-        98 => word_of(integer(msg, at, 4)),
-        70 => word_of(float(msg, at)),
-        119 => word_of(atom(msg, at, 1, true)),
-        109 => word_of(binary(msg, at)),
-        106 => word_of(Head::Characters {
+        tags::SMALL_INTEGER_EXT => word_of(integer(msg, at, 1)),
+        tags::INTEGER_EXT => word_of(integer(msg, at, 4)),
+        tags::NEW_FLOAT_EXT => word_of(float(msg, at)),
+        tags::SMALL_ATOM_UTF8_EXT => word_of(atom(msg, at, 1, true)),
+        tags::BINARY_EXT => word_of(binary(msg, at)),
+        tags::NIL_EXT => word_of(Head::Characters {
             count: 0,
             next: at + 1,
         }),
-        77 => word_of(bitstring(msg, at)),
-        110 => word_of(big(msg, at, 1)),
+        tags::BIT_BINARY_EXT => word_of(bitstring(msg, at)),
+        tags::SMALL_BIG_EXT => word_of(big(msg, at, 1)),
         _ => 0,
     }
 }
 
 // Common terms, with parts and without.
-fn common_word(msg: &[u8], n: u8, places: &[u8], lengths: &[u16], at: usize, tag: u8) -> u64
+fn common_word(msg: &[u8], n: u8, places: &[u8], lengths: &[u16], at: usize, tag: u8) -> usize
     requires { ⌜ (at < length (now msg)) × (length (now msg) ≤ 65536) × (of-size (lent-list n (now places) (now lengths)) ≡ true) ⌝ }
     ensures { λ r. ⌜ ((r ≡ 0 → ⊥) → (rows : ℕ) → r ≡ quick-word (tag-fields (atoms-of (lent-list n (now (places .entry)) (now (lengths .entry)))) (now (msg .entry)) at tag rows)) ⌝ }
 {
     match tag {
-        104 => word_of(tuple(msg, at, 1)),
-        105 => word_of(tuple(msg, at, 4)),
-        108 => word_of(list(msg, at)),
-        116 => word_of(map(msg, at)),
-        82 => word_of(cached_atom(msg, n, places, lengths, at)),
-        100 => word_of(atom(msg, at, 2, false)),
-        115 => word_of(atom(msg, at, 1, false)),
-        118 => word_of(atom(msg, at, 2, true)),
+        tags::SMALL_TUPLE_EXT => word_of(tuple(msg, at, 1)),
+        tags::LARGE_TUPLE_EXT => word_of(tuple(msg, at, 4)),
+        tags::LIST_EXT => word_of(list(msg, at)),
+        tags::MAP_EXT => word_of(map(msg, at)),
+        tags::ATOM_CACHE_REF => word_of(cached_atom(msg, n, places, lengths, at)),
+        tags::ATOM_EXT => word_of(atom(msg, at, 2, false)),
+        tags::SMALL_ATOM_EXT => word_of(atom(msg, at, 1, false)),
+        tags::ATOM_UTF8_EXT => word_of(atom(msg, at, 2, true)),
         _ => 0,
     }
 }
 
 // The head of one of the commonest terms without parts in one word; 0 of any other, and of one that is not wanted.
-pub fn leaf_at(msg: &[u8], at: usize, wanted: Wanted) -> u64
+pub fn leaf_at(msg: &[u8], at: usize, wanted: Wanted) -> usize
     requires { ⌜ (at ≤ length (now msg)) × (length (now msg) ≤ 65536) ⌝ }
     ensures { λ r. ⌜ ((r ≡ 0 → ⊥) → (atoms : Atoms) (rows : ℕ) → r ≡ quick-word (head-of (term-head atoms (wanted-of wanted) (at-offset (now (msg .entry)) at rows)))) ⌝ }
 {
@@ -902,7 +995,14 @@ pub fn leaf_at(msg: &[u8], at: usize, wanted: Wanted) -> u64
 }
 
 // The head of a common term in one word; 0 of any other, and of one that is not wanted.
-pub fn quick_at(msg: &[u8], n: u8, places: &[u8], lengths: &[u16], at: usize, wanted: Wanted) -> u64
+pub fn quick_at(
+    msg: &[u8],
+    n: u8,
+    places: &[u8],
+    lengths: &[u16],
+    at: usize,
+    wanted: Wanted,
+) -> usize
     requires { ⌜ (at ≤ length (now msg)) × (length (now msg) ≤ 65536) × (of-size (lent-list n (now places) (now lengths)) ≡ true) ⌝ }
     ensures { λ r. ⌜ ((r ≡ 0 → ⊥) → (rows : ℕ) → r ≡ quick-word (head-of (term-head (atoms-of (lent-list n (now (places .entry)) (now (lengths .entry)))) (wanted-of wanted) (at-offset (now (msg .entry)) at rows)))) ⌝ }
 {

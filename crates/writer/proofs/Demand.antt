@@ -25,7 +25,7 @@ promised-write-payload κs a r s p = record { write-answered = p .0; scratch-lef
 
 pub promised-read-standalone : (κs : Lfts 4) (a : _) (r : _) (s : _) → read-standalone.Post κs a r s
     → Read-call standalone (lent-list (a .1 .0) (a .1 .1 .0 .now) (a .1 .1 .1 .0 .now)) (a .0 .now) (a .1 .1 .1 .1 .0 .now) r (s .1 .1 .1 .1 .0 .now)
-promised-read-standalone κs a r s p = record { read-answered = p .0; table-left = p .1 }
+promised-read-standalone κs a r s p = p
 
 pub promised-read-payload : (κs : Lfts 4) (a : _) (r : _) (s : _) → read-payload.Post κs a r s
     → Read-call payload (lent-list (a .1 .0) (a .1 .1 .0 .now) (a .1 .1 .1 .0 .now)) (a .0 .now) (a .1 .1 .1 .1 .0 .now) r (s .1 .1 .1 .1 .0 .now)

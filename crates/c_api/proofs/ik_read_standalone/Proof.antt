@@ -15,7 +15,7 @@ same-length : tie.Need-same-length
 same-length c = search needs
 
 returns : tie.Need-returns
-returns c = (c .flat-read .ensures ∙ ap flat-read (c .before .before .before .read-standalone .ensures .0), c .before .before .before .read-standalone .ensures .1)
+returns c = (c .flat-read .ensures ∙ ap flat-read (c .before .before .before .read-standalone .ensures .read-answered), c .before .before .before .read-standalone .ensures .table-left)
 
 pub ik-read-standalone-spec : {M : Type 1} → statement M
 ik-read-standalone-spec =

@@ -24,7 +24,7 @@ number-found-requires c κs = search needs
 returns : tie.Need-returns
 returns c =
     let a = c .before .before .before .before .before .before .before .before .args in
-    number-told standalone (lent-list (a .n) (a .places .now) (a .lengths .now)) (a .msg .now) (omega arith) (under-all (a .msg .now) (λ i _. omega (arith, c .before .before .before .before .before .before .before .shared-slice-known .given i))) _ _ _ refl (c .before .before .before .read-standalone .ensures .0) (c .before .before .before .read-standalone .ensures .1) _ _ (c .number-found .ensures)
+    number-told standalone (lent-list (a .n) (a .places .now) (a .lengths .now)) (a .msg .now) (omega arith) (under-all (a .msg .now) (λ i _. omega (arith, c .before .before .before .before .before .before .before .shared-slice-known .given i))) _ _ _ refl (c .before .before .before .read-standalone .ensures .read-answered) (c .before .before .before .read-standalone .ensures .table-left) _ _ (c .number-found .ensures)
 
 pub number-standalone-spec : {M : Type 1} → statement M
 number-standalone-spec =

@@ -1,4 +1,4 @@
--- `terms::framed_terms` meets its contract. Assumes nothing.
+-- `reader::framed_terms` meets its contract. Assumes nothing.
 use Rattle.reader.proofs.Message.{framed-standalone, framed-payload}
 use borrow.Author.Needs.{needs}
 use Rattle.reader.proofs.framed_terms.Statement.{statement}

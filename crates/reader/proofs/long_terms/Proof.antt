@@ -1,4 +1,4 @@
--- `terms::long_terms` meets its contract. Assumes nothing.
+-- `reader::long_terms` meets its contract. Assumes nothing.
 use native.Mathlib.Omega.{arith}
 use borrow.Author.Needs.{needs}
 use Rattle.reader.proofs.long_terms.Statement.{statement}

@@ -1,6 +1,6 @@
--- `terms::payload_terms` meets its contract. Assumes nothing.
+-- `reader::payload_terms` meets its contract. Assumes nothing.
 use Rattle.reader.proofs.Message.{payload-one, payload-refused, payload-over, payload-second-refused, payload-two}
-use Rattle.reader.proofs.Runs.{room-after}
+use Rattle.term_reader.proofs.Runs.{room-after}
 use native.Mathlib.Omega.{arith}
 use borrow.Author.Needs.{needs}
 use Rattle.reader.proofs.payload_terms.Statement.{statement}

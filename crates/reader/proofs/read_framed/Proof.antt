@@ -1,4 +1,4 @@
--- `terms::read_framed` meets its contract. Assumes nothing.
+-- `reader::read_framed` meets its contract. Assumes nothing.
 use Rattle.reader.proofs.Message.{refused-first, read-whole, room-first}
 use borrow.Author.Needs.{needs}
 use Rattle.reader.proofs.read_framed.Statement.{statement}

@@ -1,6 +1,6 @@
--- `terms::read_outermost` meets its contract. Assumes nothing.
+-- `reader::read_outermost` meets its contract. Assumes nothing.
 use Rattle.term_head.specs.Code.{wanted-of}
-use Rattle.reader.proofs.Runs.{run-one}
+use Rattle.term_reader.proofs.Runs.{run-one}
 use borrow.Author.Needs.{needs}
 use Rattle.reader.proofs.read_outermost.Statement.{statement}
 use Rattle.reader.proofs.read_outermost.Tie as tie
@@ -16,7 +16,7 @@ same-length-2 c = search needs
 
 returns : tie.Need-returns
 unfolding wanted-of
-returns c = run-one _ _ _ _ _ _ _ _ _ _ (c .before .before .before .before .read-run .ensures .0)
+returns c = run-one _ _ _ _ _ _ _ _ _ _ (c .before .before .before .before .read-run .ensures .rows-stored)
 
 pub read-outermost-spec : {M : Type 1} → statement M
 read-outermost-spec =

@@ -1,4 +1,4 @@
--- `terms::read_payload` meets its contract. Assumes nothing.
+-- `reader::read_payload` meets its contract. Assumes nothing.
 use Rattle.reader.specs.Code.{framing-of}
 use borrow.Author.Needs.{needs}
 use Rattle.reader.proofs.read_payload.Statement.{statement}

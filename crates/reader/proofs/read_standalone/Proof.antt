@@ -1,4 +1,4 @@
--- `terms::read_standalone` meets its contract. Assumes nothing.
+-- `reader::read_standalone` meets its contract. Assumes nothing.
 use Rattle.reader.specs.Code.{framing-of}
 use borrow.Author.Needs.{needs}
 use Rattle.reader.proofs.read_standalone.Statement.{statement}

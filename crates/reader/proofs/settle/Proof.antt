@@ -1,4 +1,4 @@
--- `terms::settle` meets its contract. Assumes nothing.
+-- `reader::settle` meets its contract. Assumes nothing.
 use Rattle.reader.proofs.Message.{settled-terms, settled-refused}
 use mathlib.Core.Path.{sym}
 use borrow.Author.Needs.{needs}

@@ -1,4 +1,4 @@
--- `terms::short_terms` meets its contract. Assumes nothing.
+-- `reader::short_terms` meets its contract. Assumes nothing.
 use native.Mathlib.Omega.{arith}
 use borrow.Author.Needs.{needs}
 use Rattle.reader.proofs.short_terms.Statement.{statement}

@@ -1,6 +1,6 @@
--- `terms::standalone_terms` meets its contract. Assumes nothing.
+-- `reader::standalone_terms` meets its contract. Assumes nothing.
 use Rattle.reader.proofs.Message.{standalone-empty, standalone-other, standalone-refused, standalone-over, standalone-one}
-use Rattle.reader.proofs.Bodies.{room-at}
+use Rattle.term_reader.proofs.Bodies.{room-at}
 use native.Mathlib.Omega.{arith}
 use borrow.Author.Needs.{needs}
 use Rattle.reader.proofs.standalone_terms.Statement.{statement}

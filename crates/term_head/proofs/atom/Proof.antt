@@ -1,4 +1,4 @@
--- `heads::atom` meets its contract. Count, bytes, text. Assumes nothing.
+-- `term_head::atom` meets its contract. Count, bytes, text. Assumes nothing.
 use Rattle.term_spec.proofs.Tests.{refuted, confirmed}
 use Rattle.term_head.proofs.Texts.{atom-short, atom-cut, atom-bad, atom-there}
 use native.Mathlib.Omega.{arith}

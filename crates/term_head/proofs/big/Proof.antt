@@ -1,4 +1,4 @@
--- `heads::big` meets its contract. Count, sign and digits, in that order. Assumes nothing.
+-- `term_head::big` meets its contract. Count, sign and digits, in that order. Assumes nothing.
 use Rattle.term_head.proofs.Leaves.{big-short, big-cut, big-sign, big-there}
 use native.Mathlib.Omega.{arith}
 use borrow.Author.Needs.{needs}

@@ -1,4 +1,4 @@
--- `heads::binary` meets its contract. Assumes nothing.
+-- `term_head::binary` meets its contract. Assumes nothing.
 use Rattle.term_head.proofs.Leaves.{binary-short, binary-cut, binary-there}
 use native.Mathlib.Omega.{arith}
 use borrow.Author.Needs.{needs}

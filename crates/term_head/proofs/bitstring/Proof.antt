@@ -1,4 +1,4 @@
--- `heads::bitstring` meets its contract. Assumes nothing.
+-- `term_head::bitstring` meets its contract. Assumes nothing.
 use Rattle.term_head.proofs.Leaves.{bits-short, bits-cut, bits-broken, bits-there}
 use native.Mathlib.Omega.{arith}
 use borrow.Author.Needs.{needs}

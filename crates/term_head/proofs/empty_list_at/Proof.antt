@@ -1,4 +1,4 @@
--- `heads::empty_list_at` meets its contract. Assumes nothing.
+-- `term_head::empty_list_at` meets its contract. Assumes nothing.
 use Rattle.term_head.proofs.Openings.{empty-short, empty-other, empty-count}
 use borrow.Author.Needs.{needs}
 use Rattle.term_head.proofs.empty_list_at.Statement.{statement}

@@ -1,4 +1,4 @@
--- `heads::integer` meets its contract. The number is there, or it ends. Assumes nothing.
+-- `term_head::integer` meets its contract. The number is there, or it ends. Assumes nothing.
 use Rattle.term_head.proofs.Leaves.{integer-short, integer-there}
 use native.Mathlib.Omega.{arith}
 use borrow.Author.Needs.{needs}

@@ -1,4 +1,4 @@
--- `heads::is_atom_tag` meets its contract. Assumes nothing.
+-- `term_head::is_atom_tag` meets its contract. Assumes nothing.
 use mathlib.Core.Path.{refl}
 use Rattle.term_head.proofs.Tags.{atom-tag, no-atom-tag}
 use Rattle.term_head.proofs.is_atom_tag.Statement.{statement}

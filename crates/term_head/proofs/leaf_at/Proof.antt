@@ -1,4 +1,4 @@
--- `heads::leaf_at` meets its contract. Assumes nothing.
+-- `term_head::leaf_at` meets its contract. Assumes nothing.
 use mathlib.Core.Path.{refl, ap, _∙_}
 use native.Mathlib.Omega.{arith}
 use Rattle.term_spec.proofs.Tests.{confirmed}

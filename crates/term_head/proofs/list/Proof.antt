@@ -1,4 +1,4 @@
--- `heads::list` meets its contract. Assumes nothing.
+-- `term_head::list` meets its contract. Assumes nothing.
 use Rattle.term_head.proofs.Leaves.{list-short, list-there}
 use native.Mathlib.Omega.{arith}
 use borrow.Author.Needs.{needs}

@@ -1,4 +1,4 @@
--- `heads::map` meets its contract. Assumes nothing.
+-- `term_head::map` meets its contract. Assumes nothing.
 use Rattle.term_head.proofs.Leaves.{map-short, map-there}
 use native.Mathlib.Omega.{arith}
 use borrow.Author.Needs.{needs}

@@ -1,4 +1,4 @@
--- `heads::opened` meets its contract. Assumes nothing.
+-- `term_head::opened` meets its contract. Assumes nothing.
 use Rattle.term_head.specs.Code.{opened-at}
 use mathlib.Core.Path.{sym, ap}
 use borrow.Author.Needs.{needs}

@@ -1,4 +1,4 @@
--- `heads::port_id_fits` meets its contract. Assumes nothing.
+-- `term_head::port_id_fits` meets its contract. Assumes nothing.
 use borrow.Author.Tests.{eq-eqb, ne-eqb}
 use mathlib.Core.Path.{_∙_}
 use borrow.Author.Needs.{needs}

@@ -1,4 +1,4 @@
--- `heads::string` meets its contract. Assumes nothing.
+-- `term_head::string` meets its contract. Assumes nothing.
 use Rattle.term_head.proofs.Leaves.{string-short, string-cut, string-there}
 use native.Mathlib.Omega.{arith}
 use borrow.Author.Needs.{needs}

@@ -1,4 +1,4 @@
--- `heads::tuple` meets its contract. Assumes nothing.
+-- `term_head::tuple` meets its contract. Assumes nothing.
 use Rattle.term_head.proofs.Leaves.{tuple-short, tuple-there}
 use native.Mathlib.Omega.{arith}
 use borrow.Author.Needs.{needs}

@@ -1,4 +1,4 @@
--- `heads::words_fit` meets its contract. Assumes nothing.
+-- `term_head::words_fit` meets its contract. Assumes nothing.
 use Rattle.term_head.proofs.LaterFields.{words-none, words-any, words-first}
 use native.Mathlib.Omega.{arith}
 use mathlib.Core.Path.{_∙_}

@@ -23,8 +23,8 @@ write-and-clear-requires c κs =
     let args = c .before .before .before .before .before .before .before .before .before .before .before .before .before .before .args in
     let list = lent-list (args .n) (args .places .now) (args .lengths .now) in
     let under = under-all (args .msg .now) (λ i _. omega (arith, c .before .before .before .before .before .before .before .before .before .before .before .before .before .shared-slice-known .given i)) in
-    let zero = rows-zero _ _ (c .before .before .before .before .before .before .before .read-standalone .ensures .0) (c .before .before .before .terms .given .1) (c .before .before .before .before .before .before .before .read-standalone .ensures .1) in
-    (message-run standalone list (length (args .scratch .now)) (args .msg .now) (omega arith) under (c .before .before .before .before .before .before .before .read-standalone .ensures .0) (c .before .before .before .terms .given .1) (c .before .before .before .before .before .before .before .read-standalone .ensures .1), zero .there, zero .past)
+    let zero = rows-zero _ _ (c .before .before .before .before .before .before .before .read-standalone .ensures .read-answered) (c .before .before .before .terms .given .1) (c .before .before .before .before .before .before .before .read-standalone .ensures .table-left) in
+    (message-run standalone list (length (args .scratch .now)) (args .msg .now) (omega arith) under (c .before .before .before .before .before .before .before .read-standalone .ensures .read-answered) (c .before .before .before .terms .given .1) (c .before .before .before .before .before .before .before .read-standalone .ensures .table-left), zero .there, zero .past)
 
 enum-known-refusal : tie.Need-enum-known-refusal
 enum-known-refusal c = search needs
@@ -40,7 +40,7 @@ returns c =
     let args = c .before .before .before .before .before .before .before .before .before .before .before .before .before .before .before .before .before .before .before .args in
     let list = lent-list (args .n) (args .places .now) (args .lengths .now) in
     let under = under-all (args .msg .now) (λ i _. omega (arith, c .before .before .before .before .before .before .before .before .before .before .before .before .before .before .before .before .before .before .shared-slice-known .given i)) in
-    let w = message-written standalone list (length (args .scratch .now)) (args .msg .now) (omega arith) under (c .before .before .before .before .before .before .before .before .before .before .before .before .read-standalone .ensures .0) (c .before .before .before .before .before .before .before .before .terms .given .1) (c .before .before .before .before .before .before .before .before .before .before .before .before .read-standalone .ensures .1) (args .output .now) _ _ (c .before .before .before .before .write-and-clear .ensures .0) in
+    let w = message-written standalone list (length (args .scratch .now)) (args .msg .now) (omega arith) under (c .before .before .before .before .before .before .before .before .before .before .before .before .read-standalone .ensures .read-answered) (c .before .before .before .before .before .before .before .before .terms .given .1) (c .before .before .before .before .before .before .before .before .before .before .before .before .read-standalone .ensures .table-left) (args .output .now) _ _ (c .before .before .before .before .write-and-clear .ensures .0) in
     (w .0, (c .before .before .before .before .write-and-clear .ensures .1 ∙ ap scratch-after (c .before .before .before .before .before .before .before .before .before .before .before .before .read-standalone .kept .1 .1 .1 .1 .0), w .1))
 
 same-length-3 : tie.Need-same-length-3
@@ -51,8 +51,8 @@ returns-2 c =
     let args = c .before .before .before .before .before .before .before .before .before .before .before .before .args in
     let list = lent-list (args .n) (args .places .now) (args .lengths .now) in
     let under = under-all (args .msg .now) (λ i _. omega (arith, c .before .before .before .before .before .before .before .before .before .before .before .shared-slice-known .given i)) in
-    let w = message-refused standalone list (length (args .scratch .now)) (args .msg .now) (omega arith) under (c .before .before .before .before .before .read-standalone .ensures .0) (c .before .refusal .given .1) (c .before .before .before .before .before .read-standalone .ensures .1) (args .output .now) in
-    (w .0, (table-cleared standalone list (length (args .scratch .now)) (args .msg .now) (omega arith) under (c .before .before .before .before .before .read-standalone .ensures .0) (c .before .refusal .given .1) (c .before .before .before .before .before .read-standalone .ensures .1), w .1))
+    let w = message-refused standalone list (length (args .scratch .now)) (args .msg .now) (omega arith) under (c .before .before .before .before .before .read-standalone .ensures .read-answered) (c .before .refusal .given .1) (c .before .before .before .before .before .read-standalone .ensures .table-left) (args .output .now) in
+    (w .0, (table-cleared standalone list (length (args .scratch .now)) (args .msg .now) (omega arith) under (c .before .before .before .before .before .read-standalone .ensures .read-answered) (c .before .refusal .given .1) (c .before .before .before .before .before .read-standalone .ensures .table-left), w .1))
 
 pub write-standalone-spec : {M : Type 1} → statement M
 write-standalone-spec =

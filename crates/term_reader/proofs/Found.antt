@@ -14,11 +14,11 @@ use Rattle.term_spec.specs.Rows.{tree-rows, rows, kind-of, row-words, Placed}
 use Rattle.term_spec.proofs.Rows.{sizes-join, count-join, length-tree-rows, length-rows, rows-join, each-nodes-join}
 use Rattle.term_spec.proofs.Words.{words-of-join, length-words-of}
 use Rattle.octets.proofs.Stores.{sets-at}
-use Rattle.reader.specs.declared.Step.{Step}
-use Rattle.reader.specs.declared.Step.the-variants as step
-use Rattle.reader.specs.declared.Parts.{Parts}
-use Rattle.reader.specs.declared.Parts.the-variants as found
-use Rattle.reader.specs.Code.{whole-of, Stored, Done, RunDone, PartsDone}
+use Rattle.term_reader.specs.declared.Step.{Step}
+use Rattle.term_reader.specs.declared.Step.the-variants as step
+use Rattle.term_reader.specs.declared.Parts.{Parts}
+use Rattle.term_reader.specs.declared.Parts.the-variants as parts-of
+use Rattle.term_reader.specs.Code.{whole-of, Stored, Done, RunDone, PartsDone}
 
 module _ {X : Type 0} (size-of : X → ℕ) (words : X → List ℕ) (From : X → Type 0) (m : List ℕ) (cap row : ℕ) (T : List ℕ) where
   -- x is found, and its rows are stored; reading goes on at `next`, with the row `end`
@@ -71,19 +71,19 @@ module _ (m : List ℕ) (before cap row whole : ℕ) (T : List ℕ) where
     pub many : parts ≡ before + count (are .x .0)
     pub kind-is : kind ≡ kind-of (are .x .1)
 
-  pub parts-found : (o : Answer ((Terms × Label) × Position)) (r : Parts) (T′ : List ℕ) (next end parts kind : ℕ) → r ≡ found.Got next end parts kind
+  pub parts-found : (o : Answer ((Terms × Label) × Position)) (r : Parts) (T′ : List ℕ) (next end parts kind : ℕ) → r ≡ parts-of.Got next end parts kind
       → PartsDone m before cap row whole T o r T′ → Parts-found o next end parts kind T′
   unfolding Done found-at
   parts-found (refused n p) r T′ next end parts kind e d = let z : _≡_ {A = ℕ} 0 1 = cc in absurd (omega arith)
   parts-found (good y) r T′ next end parts kind e d =
-      let f : r ≡ found.Got (y .1 .at) (row + sizes (y .0 .0)) (before + count (y .0 .0)) (kind-of (y .0 .1)) = d .0 in
+      let f : r ≡ parts-of.Got (y .1 .at) (row + sizes (y .0 .0)) (before + count (y .0 .0)) (kind-of (y .0 .1)) = d .0 in
       record { are = found-at _ _ _ m cap row T y T′ next end (cc) (cc) (d .1); many = cc; kind-is = cc }
 
-  pub parts-refused : (o : Answer ((Terms × Label) × Position)) (r : Parts) (T′ : List ℕ) (n p : ℕ) → r ≡ found.Refused n p → PartsDone m before cap row whole T o r T′ → o ≡ refused n p
+  pub parts-refused : (o : Answer ((Terms × Label) × Position)) (r : Parts) (T′ : List ℕ) (n p : ℕ) → r ≡ parts-of.Refused n p → PartsDone m before cap row whole T o r T′ → o ≡ refused n p
   unfolding Done
   parts-refused (refused k q) r T′ n p e d = cc
   parts-refused (good y) r T′ n p e d =
-      let f : r ≡ found.Got (y .1 .at) (row + sizes (y .0 .0)) (before + count (y .0 .0)) (kind-of (y .0 .1)) = d .0 in
+      let f : r ≡ parts-of.Got (y .1 .at) (row + sizes (y .0 .0)) (before + count (y .0 .0)) (kind-of (y .0 .1)) = d .0 in
       let z : _≡_ {A = ℕ} 0 1 = cc in absurd (omega arith)
 
 -- ---- what was found before, and then what follows
@@ -153,7 +153,7 @@ module _ (m : List ℕ) (cap row whole : ℕ) (T T′ : List ℕ) where
         let s = d .1 in
         let z : end + sizes us ≡ row + sizes (ts ▹▹ us) = joined-end us in
         let w : sum + count us ≡ before + count (ts ▹▹ us) = omega (arith, count-join ts us) in (
-          d .0 ∙ ap₂ (λ (k j : ℕ). found.Got (y .1 .at) k j (kind-of (y .0 .1))) z w,
+          d .0 ∙ ap₂ (λ (k j : ℕ). parts-of.Got (y .1 .at) k j (kind-of (y .0 .1))) z w,
           record {
             table-is = s .table-is ∙ joined-words us;
             stands = s .stands ∙ ap (λ (k : ℕ). at-offset m (y .1 .at) k) z;

@@ -17,14 +17,14 @@ use Rattle.term_head.specs.declared.Wanted.the-variants.{Any}
 use Rattle.term_head.specs.Code.{wanted-of, kind-later, head-of, step-of}
 use Rattle.term_head.specs.Quick.{quick-word, Common, some-parts, no-characters, some-elements, some-pairs, Told}
 use Rattle.term_head.proofs.Common.{Quickly, quickly}
-use Rattle.reader.specs.declared.Step.{Step}
-use Rattle.reader.specs.declared.Step.the-variants as step
-use Rattle.reader.specs.declared.Parts.{Parts}
-use Rattle.reader.specs.declared.Parts.the-variants as found
-use Rattle.reader.specs.Code.{asked, Room, inner, Done, TermDone, RunDone, PartsDone}
-use Rattle.reader.proofs.Bodies.{body-got}
-use Rattle.reader.proofs.Inner.{parts-second, parts-got}
-use Rattle.reader.proofs.Runs.{run-none}
+use Rattle.term_reader.specs.declared.Step.{Step}
+use Rattle.term_reader.specs.declared.Step.the-variants as step
+use Rattle.term_reader.specs.declared.Parts.{Parts}
+use Rattle.term_reader.specs.declared.Parts.the-variants as parts-of
+use Rattle.term_reader.specs.Code.{asked, Room, inner, Done, TermDone, RunDone, PartsDone}
+use Rattle.term_reader.proofs.Bodies.{body-got}
+use Rattle.term_reader.proofs.Inner.{parts-second, parts-got}
+use Rattle.term_reader.proofs.Runs.{run-none}
 
 -- ---- what a word says
 
@@ -38,13 +38,13 @@ module _ {w : ℕ} {h : Head} {next : ℕ} (t : Told w h next) where
   pub told-count : w / 2097152 ≡ t .count
   told-count = omega (arith, t .holds .few-kinds, t .holds .near, t .holds .word-is)
 
-is-list : {h : Head} {k c : ℕ} → Common h k c → k ≡ 14 → h ≡ elements c
+is-list : {h : Head} {k c : ℕ} → Common h k c → k ≡ 15 → h ≡ elements c
 is-list (some-parts l n) e = absurd (let r : Between 1 13 (kind-of l) = kind-of-range l in omega arith)
 is-list no-characters e = absurd (omega arith)
 is-list (some-elements n some) e = refl
 is-list (some-pairs n some) e = absurd (omega arith)
 
-is-map : {h : Head} {k c : ℕ} → Common h k c → k ≡ 15 → h ≡ pairs c
+is-map : {h : Head} {k c : ℕ} → Common h k c → k ≡ 0 → h ≡ pairs c
 is-map (some-parts l n) e = absurd (let r : Between 1 13 (kind-of l) = kind-of-range l in omega arith)
 is-map no-characters e = absurd (omega arith)
 is-map (some-elements n some) e = absurd (omega arith)
@@ -55,7 +55,7 @@ record Run-of (h : Head) (k c : ℕ) : Type 0 where
   pub head-is : h ≡ parts [] c (known l)
   pub kind-is : k ≡ kind-of l
 
-is-run : {h : Head} {k c : ℕ} → Common h k c → (k ≡ 14 → ⊥) → (k ≡ 15 → ⊥) → (c ≡ 0 → ⊥) → Run-of h k c
+is-run : {h : Head} {k c : ℕ} → Common h k c → (k ≡ 15 → ⊥) → (k ≡ 0 → ⊥) → (c ≡ 0 → ⊥) → Run-of h k c
 is-run (some-parts l n) a b some = record { l = l; head-is = refl; kind-is = refl }
 is-run no-characters a b some = absurd (some refl)
 is-run (some-elements n x) a b some = absurd (a refl)
@@ -68,26 +68,26 @@ module _ (atoms : Atoms) (cap deep : ℕ) (m : List ℕ) (place row : ℕ) (T : 
   Common-done h next r U = PartsDone m 0 cap row row T (inner atoms cap deep place h (at-offset m next row)) r U
 
   -- a term without parts
-  leaf-done : {h : Head} {k c : ℕ} → Common h k c → c ≡ 0 → (next : ℕ) → next ≤ length m → row ≤ cap → Common-done h next (found.Got next row 0 k) T
+  leaf-done : {h : Head} {k c : ℕ} → Common h k c → c ≡ 0 → (next : ℕ) → next ≤ length m → row ≤ cap → Common-done h next (parts-of.Got next row 0 k) T
   unfolding inner each run string later Done rows row-words Each-node kind-of
   leaf-done (some-parts l n) e next near low =
-      rw e (ap (λ (k : ℕ). found.Got next k 0 (kind-of l)) (omega arith), record { table-is = refl; stands = ap (λ (k : ℕ). at-offset m next k) (omega arith); near = near; room = omega arith; from = tt })
+      rw e (ap (λ (k : ℕ). parts-of.Got next k 0 (kind-of l)) (omega arith), record { table-is = refl; stands = ap (λ (k : ℕ). at-offset m next k) (omega arith); near = near; room = omega arith; from = tt })
   leaf-done no-characters e next near low =
-      (ap (λ (k : ℕ). found.Got next k 0 5) (omega arith), record { table-is = refl; stands = ap (λ (k : ℕ). at-offset m next k) (omega arith); near = near; room = omega arith; from = tt })
+      (ap (λ (k : ℕ). parts-of.Got next k 0 5) (omega arith), record { table-is = refl; stands = ap (λ (k : ℕ). at-offset m next k) (omega arith); near = near; room = omega arith; from = tt })
   leaf-done (some-elements n some) e next near low = absurd (some e)
   leaf-done (some-pairs n some) e next near low = absurd (some e)
 
   module _ (w : ℕ) {h : Head} {next : ℕ} (t : Told w h next) where
-    pub common-leaf : w / 2097152 ≡ 0 → next ≤ length m → row ≤ cap → Common-done h next (found.Got (w / 16 % 131072) row 0 (w % 16)) T
+    pub common-leaf : w / 2097152 ≡ 0 → next ≤ length m → row ≤ cap → Common-done h next (parts-of.Got (w / 16 % 131072) row 0 (w % 16)) T
     common-leaf e near low = rw (told-next t, told-kind t) (leaf-done (t .common) (sym (told-count t) ∙ e) next near low)
 
-    pub common-list : (r : Parts) (U : List ℕ) → w % 16 ≡ 14 → Common-done (elements (w / 2097152)) (w / 16 % 131072) r U → Common-done h next r U
+    pub common-list : (r : Parts) (U : List ℕ) → w % 16 ≡ 15 → Common-done (elements (w / 2097152)) (w / 16 % 131072) r U → Common-done h next r U
     common-list r U e d = rw (is-list (t .common) (sym (told-kind t) ∙ e)) (rw (told-next t, told-count t) at d)
 
-    pub common-pairs : (r : Parts) (U : List ℕ) → w % 16 ≡ 15 → Common-done (pairs (w / 2097152)) (w / 16 % 131072) r U → Common-done h next r U
+    pub common-pairs : (r : Parts) (U : List ℕ) → w % 16 ≡ 0 → Common-done (pairs (w / 2097152)) (w / 16 % 131072) r U → Common-done h next r U
     common-pairs r U e d = rw (is-map (t .common) (sym (told-kind t) ∙ e)) (rw (told-next t, told-count t) at d)
 
-    module _ (some : w / 2097152 ≡ 0 → ⊥) (no-list : w % 16 ≡ 14 → ⊥) (no-map : w % 16 ≡ 15 → ⊥) (near : next ≤ length m) (low : row ≤ cap) (r : Step) (T′ : List ℕ)
+    module _ (some : w / 2097152 ≡ 0 → ⊥) (no-list : w % 16 ≡ 15 → ⊥) (no-map : w % 16 ≡ 0 → ⊥) (near : next ≤ length m) (low : row ≤ cap) (r : Step) (T′ : List ℕ)
         (d : RunDone m (w / 2097152) cap row row T (each (term atoms cap deep) (replicate (w / 2097152) (wanted-of Any)) (at-offset m (w / 16 % 131072) row)) r T′) where
       ran : RunDone m (t .count) cap row row T (each (term atoms cap deep) (replicate (t .count) (wanted-of Any)) (at-offset m next row)) r T′
       ran = rw (told-next t, told-count t) at d
@@ -99,11 +99,11 @@ module _ (atoms : Atoms) (cap deep : ℕ) (m : List ℕ) (place row : ℕ) (T : 
       unfolding asked
       none-wanted = run-none (term atoms cap deep) any m cap row row next T 0 refl low near
 
-      pub common-refused : (k p : ℕ) (U : List ℕ) → r ≡ step.Refused k p → Common-done h next (found.Refused k p) U
+      pub common-refused : (k p : ℕ) (U : List ℕ) → r ≡ step.Refused k p → Common-done h next (parts-of.Refused k p) U
       unfolding asked
       common-refused k p U e = rw (it .head-is) (parts-second atoms cap deep m place next row T 0 (t .count) (known (it .l)) (step.Got next row) T none-wanted next row refl r T′ ran k p U e)
 
-      pub common-got : (next′ end : ℕ) → r ≡ step.Got next′ end → Common-done h next (found.Got next′ end (w / 2097152) (w % 16)) T′
+      pub common-got : (next′ end : ℕ) → r ≡ step.Got next′ end → Common-done h next (parts-of.Got next′ end (w / 2097152) (w % 16)) T′
       unfolding asked step-of later kind-later
       common-got next′ end e =
           let z : 0 + t .count ≡ t .count = omega arith in
@@ -134,7 +134,7 @@ module _ (atoms : Atoms) (w : Wanted) (m : List ℕ) (at row word : ℕ) (some :
         let a : word / 16 ≡ word / 16 % 131072 = omega arith in
         let b : row + 1 - row ≡ 1 = omega arith in
         rw a (quick-term _ _
-        (body-got atoms cap left m at (opened-quickly .h) (opened-quickly .next) row whole T some-left low (found.Got (word / 16 % 131072) (row + 1) 0 (word % 16)) T
+        (body-got atoms cap left m at (opened-quickly .h) (opened-quickly .next) row whole T some-left low (parts-of.Got (word / 16 % 131072) (row + 1) 0 (word % 16)) T
         (common-leaf atoms cap (left - 1) m at (row + 1) T word (opened-quickly .told-by) (omega arith) (opened-quickly .near) (omega arith))
         (word / 16 % 131072) (row + 1) 0 (word % 16) v refl near (f ∙ ap (λ (k : ℕ). pack (word % 16) at whole 0 k) (sym b))))
 

@@ -23,16 +23,16 @@ use Rattle.term_head.specs.declared.Step as later-step
 use Rattle.term_head.specs.declared.Step.the-variants as fields
 use Rattle.term_head.specs.declared.Wanted.the-variants.{Any}
 use Rattle.term_head.specs.Code.{wanted-of, kind-later, later-of, head-at, opening-of, step-of}
-use Rattle.reader.specs.declared.Step.{Step}
-use Rattle.reader.specs.declared.Step.the-variants as step
-use Rattle.reader.specs.declared.Parts.{Parts}
-use Rattle.reader.specs.declared.Parts.the-variants as found
-use Rattle.reader.specs.Code.{whole-of, asked, Fits, Sound, Opens, inner, last, Done, TermDone, RunDone, PartsDone}
-use Rattle.reader.proofs.Found.{Found, step-found, step-refused, join-parts, joined-words}
+use Rattle.term_reader.specs.declared.Step.{Step}
+use Rattle.term_reader.specs.declared.Step.the-variants as step
+use Rattle.term_reader.specs.declared.Parts.{Parts}
+use Rattle.term_reader.specs.declared.Parts.the-variants as parts-of
+use Rattle.term_reader.specs.Code.{whole-of, asked, Fits, Sound, Opens, inner, last, Done, TermDone, RunDone, PartsDone}
+use Rattle.term_reader.proofs.Found.{Found, step-found, step-refused, join-parts, joined-words}
 use Rattle.term_head.proofs.Found.{Past, past-is}
 use Rattle.term_head.proofs.OpeningFacts.{later-kind}
-use Rattle.reader.proofs.Openings.{Opened-at, opened-refused, head-refused, later-past}
-use Rattle.reader.proofs.Runs.{run-each}
+use Rattle.term_reader.proofs.Openings.{Opened-at, opened-refused, head-refused, later-past}
+use Rattle.term_reader.proofs.Runs.{run-each}
 
 -- ---- what a head promises, from the code's head
 
@@ -174,7 +174,7 @@ module _ (atoms : Atoms) (cap deep : ℕ) (m : List ℕ) (place at row : ℕ) (T
   abbrev Parts-done : Parts → List ℕ → Type 0
   Parts-done s U = PartsDone m 0 cap row row T (inner atoms cap deep place (parts (asked wanted) n l) (at-offset m at row)) s U
 
-  pub parts-first : (k p : ℕ) (U : List ℕ) → r ≡ step.Refused k p → Parts-done (found.Refused k p) U
+  pub parts-first : (k p : ℕ) (U : List ℕ) → r ≡ step.Refused k p → Parts-done (parts-of.Refused k p) U
   unfolding inner Done
   parts-first k p U e = rw (step-refused _ _ _ m cap row T (each (term atoms cap deep) (asked wanted) (at-offset m at row)) r T′ k p e d)
 
@@ -184,7 +184,7 @@ module _ (atoms : Atoms) (cap deep : ℕ) (m : List ℕ) (place at row : ℕ) (T
         (each (term atoms cap deep) (asked wanted) (at-offset m at row)) next end T′
     ran = step-found sizes _ _ m cap row T (each (term atoms cap deep) (asked wanted) (at-offset m at row)) r T′ next end e d
 
-    pub parts-second : (k p : ℕ) (U : List ℕ) → r′ ≡ step.Refused k p → Parts-done (found.Refused k p) U
+    pub parts-second : (k p : ℕ) (U : List ℕ) → r′ ≡ step.Refused k p → Parts-done (parts-of.Refused k p) U
     unfolding inner Done
     parts-second k p U f =
         rw (ran .is, any-run (term atoms cap deep) n (at-offset m next end), step-refused _ _ _ m cap end T′ (each (term atoms cap deep) (replicate n (wanted-of Any)) (at-offset m next end)) r′ T″ k p f d′)
@@ -194,17 +194,12 @@ module _ (atoms : Atoms) (cap deep : ℕ) (m : List ℕ) (place at row : ℕ) (T
           (each (term atoms cap deep) (replicate n (wanted-of Any)) (at-offset m next end)) next′ end′ T″
       ran′ = step-found sizes _ _ m cap end T′ (each (term atoms cap deep) (replicate n (wanted-of Any)) (at-offset m next end)) r′ T″ next′ end′ e′ d′
 
-      -- the number of parts is no more than the rows that they took
-      pub parts-many : row + (wanted + n) ≤ end′
-      parts-many =
-          omega (arith, ran .rows-are, ran′ .rows-are, ran .from .0, ran′ .from .0, count-le-sizes (ran .x), count-le-sizes (ran′ .x))
-
-      pub parts-later-refused : (k p : ℕ) (U : List ℕ) → R ≡ fields.Refused k p → Parts-done (found.Refused k p) U
+      pub parts-later-refused : (k p : ℕ) (U : List ℕ) → R ≡ fields.Refused k p → Parts-done (parts-of.Refused k p) U
       unfolding inner Done
       parts-later-refused k p U f =
           rw (ran .is, any-run (term atoms cap deep) n (at-offset m next end), ran′ .is, later-refused m next′ place l end′ R k p g f)
 
-      pub parts-got : (kind after-fields : ℕ) → kind ≡ kind-later l → R ≡ fields.Got after-fields → Parts-done (found.Got after-fields end′ (wanted + n) kind) T″
+      pub parts-got : (kind after-fields : ℕ) → kind ≡ kind-later l → R ≡ fields.Got after-fields → Parts-done (parts-of.Got after-fields end′ (wanted + n) kind) T″
       unfolding inner Done
       parts-got kind after-fields f h =
           let k : Later-read m next′ place l end′ after-fields = later-read m next′ place l end′ R after-fields (ran′ .near) g h in
@@ -235,7 +230,7 @@ run-many m n cap row whole T o r T′ next end d e =
 
 module _ (atoms : Atoms) (cap deep : ℕ) (m : List ℕ) (place at row : ℕ) (T : List ℕ) (n : ℕ) (r : Step) (T′ : List ℕ)
     (d : RunDone m n cap row row T (each (term atoms cap deep) (replicate n (wanted-of Any)) (at-offset m at row)) r T′) where
-  pub list-first : (k p : ℕ) (U : List ℕ) → r ≡ step.Refused k p → PartsDone m 0 cap row row T (inner atoms cap deep place (elements n) (at-offset m at row)) (found.Refused k p) U
+  pub list-first : (k p : ℕ) (U : List ℕ) → r ≡ step.Refused k p → PartsDone m 0 cap row row T (inner atoms cap deep place (elements n) (at-offset m at row)) (parts-of.Refused k p) U
   unfolding inner Done
   list-first k p U e =
       rw (any-run (term atoms cap deep) n (at-offset m at row), step-refused _ _ _ m cap row T (each (term atoms cap deep) (replicate n (wanted-of Any)) (at-offset m at row)) r T′ k p e d)
@@ -339,10 +334,10 @@ pub tailed-none : (atoms : Atoms) (cap deep : ℕ) (m : List ℕ) (at row whole 
 tailed-none atoms cap deep m at row whole T before = record { bound = drop at m; enough = simp length-drop (omega arith); goes = λ s U d. d }
 
 module _ (atoms : Atoms) (cap deep : ℕ) (m : List ℕ) (at row whole : ℕ) (T : List ℕ) (before : ℕ) (All : Parts → List ℕ → Type 0) (i : Tailed atoms cap deep m at row whole T before All) where
-  pub tailed-refused : (R : Opening) (n p : ℕ) (U : List ℕ) → ((rows : ℕ) → R ≡ opening-of (opening atoms (drop at m) (wanted-of Any) (at-offset m at rows))) → R .head ≡ heads.Refused n p → All (found.Refused n p) U
+  pub tailed-refused : (R : Opening) (n p : ℕ) (U : List ℕ) → ((rows : ℕ) → R ≡ opening-of (opening atoms (drop at m) (wanted-of Any) (at-offset m at rows))) → R .head ≡ heads.Refused n p → All (parts-of.Refused n p) U
   unfolding Done
   tailed-refused R n p U e f =
-      i .goes (found.Refused n p) U (rw (tail-refused atoms cap deep m at row (i .bound) n p (i .enough) (opened-refused atoms m at row (wanted-of Any) R n p e f)))
+      i .goes (parts-of.Refused n p) U (rw (tail-refused atoms cap deep m at row (i .bound) n p (i .enough) (opened-refused atoms m at row (wanted-of Any) R n p e f)))
 
   module _ {place : ℕ} {head : code.Head} (o : Opened-at atoms m at row (wanted-of Any) place head) where
     pub tailed-last : (r : Parts) (U : List ℕ) → ((n next : ℕ) → head ≡ heads.Elements n next → ⊥)
@@ -352,11 +347,11 @@ module _ (atoms : Atoms) (cap deep : ℕ) (m : List ℕ) (at row whole : ℕ) (T
 
     module _ (n next : ℕ) (e : head ≡ heads.Elements n next) (r : Step) (T′ : List ℕ)
         (d : RunDone m n cap row whole T (each (term atoms cap deep) (replicate n (wanted-of Any)) (at-offset m next row)) r T′) where
-      pub tailed-run-refused : (k p : ℕ) (U : List ℕ) → r ≡ step.Refused k p → All (found.Refused k p) U
+      pub tailed-run-refused : (k p : ℕ) (U : List ℕ) → r ≡ step.Refused k p → All (parts-of.Refused k p) U
       unfolding Done
       tailed-run-refused k p U f =
           let j = tail-joins atoms cap deep m at row o (i .bound) n next (i .enough) e in
-          i .goes (found.Refused k p) U
+          i .goes (parts-of.Refused k p) U
           (rw (j .4, step-refused _ _ _ m cap row T (each (term atoms cap deep) (replicate n (wanted-of Any)) (at-offset m next row)) r T′ k p f d))
 
       module _ (next′ end : ℕ) (f : r ≡ step.Got next′ end) where
@@ -364,15 +359,12 @@ module _ (atoms : Atoms) (cap deep : ℕ) (m : List ℕ) (at row whole : ℕ) (T
             (each (term atoms cap deep) (replicate n (wanted-of Any)) (at-offset m next row)) next′ end T′
         elements-run = step-found sizes _ _ m cap row T (each (term atoms cap deep) (replicate n (wanted-of Any)) (at-offset m next row)) r T′ next′ end f d
 
-        -- each turn takes bytes, and as many rows as there are elements or more
+        -- each turn takes bytes
         pub tailed-further : at < next′
         tailed-further =
             let j = tail-joins atoms cap deep m at row o (i .bound) n next (i .enough) e in
             let g : run (term atoms cap deep) n (at-offset m next row) ≡ good (elements-run .x, at-offset m next′ end) = any-run (term atoms cap deep) n (at-offset m next row) ∙ elements-run .is in
             omega (arith, j .3, run-moves atoms cap deep n (at-offset m next row) .known (elements-run .x) (at-offset m next′ end) g)
-
-        pub tailed-many : row + n ≤ end
-        tailed-many = omega (arith, elements-run .rows-are, elements-run .from .0, count-le-sizes (elements-run .x))
 
         pub tailed-more : Tailed atoms cap deep m next′ end whole T′ (before + n) All
         tailed-more =
@@ -418,17 +410,17 @@ module _ (atoms : Atoms) (cap deep : ℕ) (m : List ℕ) (place row whole before
         go (elements n) e = refl
         go (pairs n) e = refl
 
-    pub last-refused : (r : Step) (T′ : List ℕ) (k p : ℕ) (U : List ℕ) → r ≡ step.Refused k p → TermDone m cap row whole T (body atoms cap deep place h (at-offset m next row)) r T′ → Last-done h next (found.Refused k p) U
+    pub last-refused : (r : Step) (T′ : List ℕ) (k p : ℕ) (U : List ℕ) → r ≡ step.Refused k p → TermDone m cap row whole T (body atoms cap deep place h (at-offset m next row)) r T′ → Last-done h next (parts-of.Refused k p) U
     unfolding Done
     last-refused r T′ k p U e d = rw (last-is, step-refused _ _ _ m cap row T (body atoms cap deep place h (at-offset m next row)) r T′ k p e d)
 
-    pub last-got : (r : Step) (T′ : List ℕ) (at end : ℕ) → r ≡ step.Got at end → TermDone m cap row whole T (body atoms cap deep place h (at-offset m next row)) r T′ → Last-done h next (found.Got at end (before + 1) 6) T′
+    pub last-got : (r : Step) (T′ : List ℕ) (at end : ℕ) → r ≡ step.Got at end → TermDone m cap row whole T (body atoms cap deep place h (at-offset m next row)) r T′ → Last-done h next (parts-of.Got at end (before + 1) 6) T′
     unfolding Done rows Each-node kind-of
     last-got r T′ at end e d =
         let f = step-found size (λ t. row-words (tree-rows (whole-of whole) row t)) (Each-node (Placed 65536)) m cap row T (body atoms cap deep place h (at-offset m next row)) r T′ at end e d in
         let a : end ≡ row + (size (f .x) + 0) = omega (arith, f .rows-are) in
         rw (last-is, f .is) (
-          ap (λ (k : ℕ). found.Got at k (before + 1) 6) a,
+          ap (λ (k : ℕ). parts-of.Got at k (before + 1) 6) a,
           record {
             table-is = f .table-is ∙ ap (λ (rs : List Row). sets T row (row-words rs)) (sym (append-nil (tree-rows (whole-of whole) row (f .x))));
             stands = ap (λ (k : ℕ). at-offset m at k) a;

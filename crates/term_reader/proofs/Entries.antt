@@ -29,14 +29,14 @@ use Rattle.map_keys.proofs.Compare.{Keys-of, no-keys, one-more-key}
 use Rattle.map_keys.proofs.Held.{Held-rows, last-among}
 use Rattle.map_keys.proofs.Slots.{keeps-trans, known-as, known-kept}
 use Rattle.map_keys.proofs.Seen.{Remembered, no-key, remembered-kept, remembered-more, recalled, hash-held}
-use Rattle.reader.specs.declared.Step.{Step}
-use Rattle.reader.specs.declared.Step.the-variants as step
-use Rattle.reader.specs.declared.Parts.{Parts}
-use Rattle.reader.specs.declared.Parts.the-variants as found
-use Rattle.reader.specs.Code.{whole-of, Room, inner, Done, TermDone, PartsDone}
-use Rattle.reader.proofs.Characters.{code-of-whole}
-use Rattle.reader.proofs.Found.{Found, step-found, step-refused, joined-words}
-use Rattle.reader.proofs.Runs.{after-same, after-after, after-done}
+use Rattle.term_reader.specs.declared.Step.{Step}
+use Rattle.term_reader.specs.declared.Step.the-variants as step
+use Rattle.term_reader.specs.declared.Parts.{Parts}
+use Rattle.term_reader.specs.declared.Parts.the-variants as parts-of
+use Rattle.term_reader.specs.Code.{whole-of, Room, inner, Done, TermDone, PartsDone}
+use Rattle.term_reader.proofs.Characters.{code-of-whole}
+use Rattle.term_reader.proofs.Found.{Found, step-found, step-refused, joined-words}
+use Rattle.term_reader.proofs.Runs.{after-same, after-after, after-done}
 
 -- a key past pairs is compared with each key of theirs
 abbrev pub Told : List ℕ → ℕ → Atoms → List ℕ → List ℕ → ℕ → Type 0
@@ -98,7 +98,7 @@ module _ (atoms : Atoms) (cap deep : ℕ) (m places lengths : List ℕ) (start f
   pub entries-many : row ≤ cap → more ≡ 0 → first + all * 2 ≤ cap
   entries-many low e = omega (arith, i .many, i .rows-are, count-le-sizes (i .ts))
 
-  pub entries-end : (place : ℕ) → more ≡ 0 → row ≤ cap → at ≤ length m → Map-done place (found.Got at row (all * 2) 9) T
+  pub entries-end : (place : ℕ) → more ≡ 0 → row ≤ cap → at ≤ length m → Map-done place (parts-of.Got at row (all * 2) 9) T
   unfolding inner entries Done kind-of
   entries-end place e low near =
       let ts : Terms = i .ts in
@@ -134,7 +134,7 @@ module _ (atoms : Atoms) (cap deep : ℕ) (m places lengths : List ℕ) (start f
         ∙ after-same (entries Part (meaning k ∷ i .earlier) (more - 1) (at-offset m next′ end′)) _ _ (λ us u. ap (λ (x : Terms). good (x, u)) (two-more (i .ts) us k v)))
 
     module _ (r : Step) (T′ : List ℕ) (d : TermDone m cap row first T (Part (wanted-of Any) (at-offset m at row)) r T′) where
-      pub key-refused : (k p place : ℕ) (U : List ℕ) → r ≡ step.Refused k p → Map-done place (found.Refused k p) U
+      pub key-refused : (k p place : ℕ) (U : List ℕ) → r ≡ step.Refused k p → Map-done place (parts-of.Refused k p) U
       unfolding inner Done wanted-of
       key-refused k p place U e =
           rw (i .goes, next-pair, step-refused _ _ _ m cap row T (Part any (at-offset m at row)) r T′ k p e d)
@@ -185,12 +185,12 @@ module _ (atoms : Atoms) (cap deep : ℕ) (m places lengths : List ℕ) (start f
         is-among : b ≡ among (meaning (key .x)) (i .earlier)
         is-among = judged recalls-keys ∙ ap (λ (k : ℕ). among-rows m places lengths T′ first k) (i .rows-are) ∙ tell T′ (i .ts) (key .x) (i .earlier) (i .keys) held
 
-        pub key-twice : (place : ℕ) (U : List ℕ) → b ≡ true → Map-done place (found.Refused 7 at) U
+        pub key-twice : (place : ℕ) (U : List ℕ) → b ≡ true → Map-done place (parts-of.Refused 7 at) U
         unfolding inner Done wanted-of
         key-twice place U f = rw (i .goes, next-pair, key .is, sym is-among ∙ f)
 
         module _ (new : b ≡ false) (r′ : Step) (T″ : List ℕ) (d′ : TermDone m cap end first T′ (Part (wanted-of Any) (at-offset m next end)) r′ T″) where
-          pub value-refused : (k p place : ℕ) (U : List ℕ) → r′ ≡ step.Refused k p → Map-done place (found.Refused k p) U
+          pub value-refused : (k p place : ℕ) (U : List ℕ) → r′ ≡ step.Refused k p → Map-done place (parts-of.Refused k p) U
           unfolding inner Done wanted-of
           value-refused k p place U f =
               rw (i .goes, next-pair, key .is, sym is-among ∙ new, step-refused _ _ _ m cap end T′ (Part any (at-offset m next end)) r′ T″ k p f d′)

@@ -1,9 +1,9 @@
--- `terms::put_characters` meets its contract. The loop has stored the rows of the first i characters. Assumes nothing.
-use Rattle.reader.proofs.Characters.{Put, put-none, put-more, put-all}
+-- `term_reader::put_characters` meets its contract. The loop has stored the rows of the first i characters. Assumes nothing.
+use Rattle.term_reader.proofs.Characters.{Put, put-none, put-more, put-all}
 use native.Mathlib.Omega.{arith}
 use Prim.Native.Nat.{_-_, _≤_}
-use Rattle.reader.proofs.put_characters.Statement.{statement}
-use Rattle.reader.proofs.put_characters.Tie as tie
+use Rattle.term_reader.proofs.put_characters.Statement.{statement}
+use Rattle.term_reader.proofs.put_characters.Tie as tie
 
 abbrev Inv-loop : tie.InvT-loop
 Inv-loop table₀ at count row whole i₀ table i = (i ≤ count) × Put table₀ at row whole table i

@@ -22,15 +22,15 @@ use Rattle.term_head.specs.declared.Head as code
 use Rattle.term_head.specs.declared.Head.the-variants as heads
 use Rattle.term_head.specs.declared.Opening.{Opening}
 use Rattle.term_head.specs.Code.{head-at, opening-of}
-use Rattle.reader.specs.declared.Step.{Step}
-use Rattle.reader.specs.declared.Step.the-variants as step
-use Rattle.reader.specs.declared.Parts.{Parts}
-use Rattle.reader.specs.declared.Parts.the-variants as found
-use Rattle.reader.specs.Code.{whole-of, Room, Sound, inner, Done, TermDone, PartsDone}
-use Rattle.reader.proofs.Characters.{code-of-whole, row-free, row-none}
-use Rattle.reader.proofs.Found.{Parts-found, parts-found, parts-refused}
-use Rattle.reader.proofs.Openings.{Opened-at, opened-refused}
-use Rattle.reader.proofs.Runs.{after-same, after-after}
+use Rattle.term_reader.specs.declared.Step.{Step}
+use Rattle.term_reader.specs.declared.Step.the-variants as step
+use Rattle.term_reader.specs.declared.Parts.{Parts}
+use Rattle.term_reader.specs.declared.Parts.the-variants as parts-of
+use Rattle.term_reader.specs.Code.{whole-of, Room, Sound, inner, Done, TermDone, PartsDone}
+use Rattle.term_reader.proofs.Characters.{code-of-whole, row-free, row-none}
+use Rattle.term_reader.proofs.Found.{Parts-found, parts-found, parts-refused}
+use Rattle.term_reader.proofs.Openings.{Opened-at, opened-refused}
+use Rattle.term_reader.proofs.Runs.{after-same, after-after}
 
 -- ---- `read_term`
 
@@ -84,11 +84,11 @@ module _ (atoms : Atoms) (cap left : ℕ) (m : List ℕ) (place : ℕ) (h : Head
 
     module _ (low : row < cap) (r : Parts) (T′ : List ℕ)
         (d : PartsDone m 0 cap (row + 1) (row + 1) T (inner atoms cap (left - 1) place h (at-offset m next (row + 1))) r T′) where
-      pub body-refused : (k p : ℕ) (U : List ℕ) → r ≡ found.Refused k p → TermDone m cap row whole T (body atoms cap left place h (at-offset m next row)) (step.Refused k p) U
+      pub body-refused : (k p : ℕ) (U : List ℕ) → r ≡ parts-of.Refused k p → TermDone m cap row whole T (body atoms cap left place h (at-offset m next row)) (step.Refused k p) U
       unfolding Done
       body-refused k p U e = rw (body-inner low, parts-refused m 0 cap (row + 1) (row + 1) T (inner atoms cap (left - 1) place h (at-offset m next (row + 1))) r T′ k p e d)
 
-      pub body-got : (end rows′ n kind v : ℕ) → r ≡ found.Got end rows′ n kind → place < 65536 → v ≡ pack kind place whole n (rows′ - row)
+      pub body-got : (end rows′ n kind v : ℕ) → r ≡ parts-of.Got end rows′ n kind → place < 65536 → v ≡ pack kind place whole n (rows′ - row)
           → TermDone m cap row whole T (body atoms cap left place h (at-offset m next row)) (step.Got end rows′) (set T′ row v)
       unfolding Done tree-rows row-words word kind-at offset-of whole-of Each-node
       body-got end rows′ n kind v e near is =
@@ -115,7 +115,7 @@ module _ (atoms : Atoms) (cap left : ℕ) (m : List ℕ) (place : ℕ) (h : Head
           )
 
       -- the row's fields are within their bits
-      pub body-small : (list : AtomList) (at end rows′ n kind : ℕ) → r ≡ found.Got end rows′ n kind → Room m list T cap at row whole → place < 65536
+      pub body-small : (list : AtomList) (at end rows′ n kind : ℕ) → r ≡ parts-of.Got end rows′ n kind → Room m list T cap at row whole → place < 65536
           → Small-fields kind place whole n (rows′ - row)
       body-small list at end rows′ n kind e room near =
           let f : Parts-found m 0 cap (row + 1) (row + 1) T (inner atoms cap (left - 1) place h (at-offset m next (row + 1))) end rows′ n kind T′
@@ -130,7 +130,7 @@ module _ (atoms : Atoms) (cap left : ℕ) (m : List ℕ) (place : ℕ) (h : Head
           record { small-kind = omega arith; small-offset = omega arith; small-whole = omega arith; small-parts = omega arith; small-size = omega arith }
 
 -- the number of rows past the parts
-pub parts-past : (m : List ℕ) (before cap row whole : ℕ) (T : List ℕ) (o : Answer ((Terms × Label) × Position)) (r : Parts) (T′ : List ℕ) (next end n kind : ℕ) → r ≡ found.Got next end n kind
+pub parts-past : (m : List ℕ) (before cap row whole : ℕ) (T : List ℕ) (o : Answer ((Terms × Label) × Position)) (r : Parts) (T′ : List ℕ) (next end n kind : ℕ) → r ≡ parts-of.Got next end n kind
     → PartsDone m before cap row whole T o r T′ → row ≤ end
 parts-past m before cap row whole T o r T′ next end n kind e d =
     let f = parts-found m before cap row whole T o r T′ next end n kind e d in omega (arith, f .are .rows-are)

@@ -1,8 +1,8 @@
--- `terms::is_leaf` meets its contract. Assumes nothing.
+-- `term_reader::is_leaf` meets its contract. Assumes nothing.
 use mathlib.Core.Bool.{false≢true}
 use borrow.Author.Needs.{needs}
-use Rattle.reader.proofs.is_leaf.Statement.{statement}
-use Rattle.reader.proofs.is_leaf.Tie as tie
+use Rattle.term_reader.proofs.is_leaf.Statement.{statement}
+use Rattle.term_reader.proofs.is_leaf.Tie as tie
 
 returns : tie.Need-returns
 returns c = λ e. absurd (false≢true e)

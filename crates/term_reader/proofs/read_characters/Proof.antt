@@ -1,10 +1,10 @@
--- `terms::read_characters` meets its contract. Assumes nothing.
-use Rattle.reader.proofs.Characters.{characters-none, characters-deep, characters-full, characters-got}
+-- `term_reader::read_characters` meets its contract. Assumes nothing.
+use Rattle.term_reader.proofs.Characters.{characters-none, characters-deep, characters-full, characters-got}
 use native.Mathlib.Omega.{arith}
 use mathlib.Core.Path.{refl}
 use borrow.Author.Needs.{needs}
-use Rattle.reader.proofs.read_characters.Statement.{statement}
-use Rattle.reader.proofs.read_characters.Tie as tie
+use Rattle.term_reader.proofs.read_characters.Statement.{statement}
+use Rattle.term_reader.proofs.read_characters.Tie as tie
 
 returns : tie.Need-returns
 returns c = λ atoms m cs same near. characters-none atoms m cs _ _ _ _ _ _ _ _ _ _ same (c .if1 .taken) near (omega arith) refl

@@ -18,7 +18,7 @@ use Rattle.term_head.specs.Code.{head-at, opening-of}
 use Rattle.term_head.proofs.Found.{Past, past-byte, past-row, past-is, Wants, no-part, one-node, a-function, Wanting}
 use Rattle.term_head.proofs.OpeningFacts.{opening-opens, refused-found}
 use Rattle.term_head.proofs.OpeningFacts as facts
-use Rattle.reader.specs.Code.{asked, Fits, Sound, Opens}
+use Rattle.term_reader.specs.Code.{asked, Fits, Sound, Opens}
 
 -- later fields end in the message too, with no row taken
 pub later-past : (m : List ℕ) (r p : ℕ) (l : Later) (from : ℕ) → from ≤ length m → Holds (later p l (at-offset m from r)) (λ x t. Past m from r t)

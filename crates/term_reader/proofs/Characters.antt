@@ -18,9 +18,9 @@ use Rattle.term_spec.specs.Rows.{rows, kind-of, kind-at, offset-of, whole-code,
 use Rattle.term_spec.proofs.Steps.{spot}
 use Rattle.term_spec.proofs.Tests.{by-less}
 use Rattle.octets.proofs.Stores.{sets-at}
-use Rattle.reader.specs.declared.Parts.{Parts}
-use Rattle.reader.specs.declared.Parts.the-variants.{Got, Refused}
-use Rattle.reader.specs.Code.{whole-of, character-words, inner, Done, PartsDone}
+use Rattle.term_reader.specs.declared.Parts.{Parts}
+use Rattle.term_reader.specs.declared.Parts.the-variants.{Got, Refused}
+use Rattle.term_reader.specs.Code.{whole-of, character-words, inner, Done, PartsDone}
 
 pub code-of-whole : (w : ℕ) → whole-code (whole-of w) ≡ w
 unfolding whole-of whole-code

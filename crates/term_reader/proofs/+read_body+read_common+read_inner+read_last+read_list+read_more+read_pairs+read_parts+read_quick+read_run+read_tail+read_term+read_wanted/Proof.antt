@@ -1,12 +1,12 @@
 -- The functions of the reader that call each other meet their contracts: each level of depth counts 8, and a function that calls another at its own level counts more. Assumes nothing.
-use Rattle.reader.proofs.Entries.{Entered, entered-none, entries-many, entries-end, key-refused, key-twice, value-refused, entered-more, keys-told, term-inside}
-use Rattle.reader.proofs.Inner.{opens-near, opens-place, opens-span, inner-refused, inner-parts, inner-characters, inner-elements, inner-pairs, parts-first, parts-second, parts-later-refused, parts-got, run-many, list-first, list-then, Tailed, tailed-none, tailed-refused, tailed-last, tailed-run-refused, tailed-further, tailed-more, last-characters, last-refused, last-got}
-use Rattle.reader.proofs.Bodies.{term-refused, term-opened, body-deep, body-full, body-refused, body-got, body-small, parts-past, room-inside, room-at}
-use Rattle.reader.proofs.Quick.{told-next, common-leaf, common-list, common-pairs, common-refused, common-got, opened-quickly, quick-near, quick-inside, quick-term, quick-leaf, leaf-small}
-use Rattle.reader.proofs.Runs.{room-after, run-none, run-refused, run-more, run-one, wanted-refused, wanted-more}
-use Rattle.reader.proofs.Openings.{opened, opens}
-use Rattle.reader.specs.Code.{Room, RunDone, PartsDone}
-use Rattle.reader.specs.declared.Step.{Step}
+use Rattle.term_reader.proofs.Entries.{Entered, entered-none, entries-many, entries-end, key-refused, key-twice, value-refused, entered-more, keys-told, term-inside}
+use Rattle.term_reader.proofs.Inner.{opens-near, opens-place, opens-span, inner-refused, inner-parts, inner-characters, inner-elements, inner-pairs, parts-first, parts-second, parts-later-refused, parts-got, run-many, list-first, list-then, Tailed, tailed-none, tailed-refused, tailed-last, tailed-run-refused, tailed-further, tailed-more, last-characters, last-refused, last-got}
+use Rattle.term_reader.proofs.Bodies.{term-refused, term-opened, body-deep, body-full, body-refused, body-got, body-small, parts-past, room-inside, room-at}
+use Rattle.term_reader.proofs.Quick.{told-next, common-leaf, common-list, common-pairs, common-refused, common-got, opened-quickly, quick-near, quick-inside, quick-term, quick-leaf, leaf-small}
+use Rattle.term_reader.proofs.Runs.{room-after, run-none, run-refused, run-more, run-one, wanted-refused, wanted-more}
+use Rattle.term_reader.proofs.Openings.{opened, opens}
+use Rattle.term_reader.specs.Code.{Room, RunDone, PartsDone}
+use Rattle.term_reader.specs.declared.Step.{Step}
 use Rattle.map_keys.specs.Seen.{Keeps}
 use Rattle.map_keys.proofs.Slots.{keeps-refl, keeps-trans}
 use Rattle.term_head.specs.Code.{wanted-of}
@@ -22,58 +22,58 @@ use borrow.Author.Needs.{needs}
 use Prim.Native.Nat.{ℕ, _+_, _-_, _*_, _≤_, _<_}
 use borrow.Fn.Kinds.{In}
 use borrow.Fn.PlainCycle.{Measures, is, falls, and}
-use Rattle.reader.proofs.read_body.Reads as read-body
-use Rattle.reader.proofs.read_body.Kinds as read-body-kinds
-use Rattle.reader.proofs.+read_body+read_common+read_inner+read_last+read_list+read_more+read_pairs+read_parts+read_quick+read_run+read_tail+read_term+read_wanted.Lts-read_body as read-body-lts
-use Rattle.reader.proofs.read_common.Reads as read-common
-use Rattle.reader.proofs.read_common.Kinds as read-common-kinds
-use Rattle.reader.proofs.+read_body+read_common+read_inner+read_last+read_list+read_more+read_pairs+read_parts+read_quick+read_run+read_tail+read_term+read_wanted.Lts-read_common as read-common-lts
-use Rattle.reader.proofs.read_inner.Reads as read-inner
-use Rattle.reader.proofs.read_inner.Kinds as read-inner-kinds
-use Rattle.reader.proofs.+read_body+read_common+read_inner+read_last+read_list+read_more+read_pairs+read_parts+read_quick+read_run+read_tail+read_term+read_wanted.Lts-read_inner as read-inner-lts
-use Rattle.reader.proofs.read_last.Reads as read-last
-use Rattle.reader.proofs.read_last.Kinds as read-last-kinds
-use Rattle.reader.proofs.+read_body+read_common+read_inner+read_last+read_list+read_more+read_pairs+read_parts+read_quick+read_run+read_tail+read_term+read_wanted.Lts-read_last as read-last-lts
-use Rattle.reader.proofs.read_list.Reads as read-list
-use Rattle.reader.proofs.read_list.Kinds as read-list-kinds
-use Rattle.reader.proofs.+read_body+read_common+read_inner+read_last+read_list+read_more+read_pairs+read_parts+read_quick+read_run+read_tail+read_term+read_wanted.Lts-read_list as read-list-lts
-use Rattle.reader.proofs.read_more.Reads as read-more
-use Rattle.reader.proofs.read_more.Kinds as read-more-kinds
-use Rattle.reader.proofs.+read_body+read_common+read_inner+read_last+read_list+read_more+read_pairs+read_parts+read_quick+read_run+read_tail+read_term+read_wanted.Lts-read_more as read-more-lts
-use Rattle.reader.proofs.read_pairs.Reads as read-pairs
-use Rattle.reader.proofs.read_pairs.Kinds as read-pairs-kinds
-use Rattle.reader.proofs.+read_body+read_common+read_inner+read_last+read_list+read_more+read_pairs+read_parts+read_quick+read_run+read_tail+read_term+read_wanted.Lts-read_pairs as read-pairs-lts
-use Rattle.reader.proofs.read_parts.Reads as read-parts
-use Rattle.reader.proofs.read_parts.Kinds as read-parts-kinds
-use Rattle.reader.proofs.+read_body+read_common+read_inner+read_last+read_list+read_more+read_pairs+read_parts+read_quick+read_run+read_tail+read_term+read_wanted.Lts-read_parts as read-parts-lts
-use Rattle.reader.proofs.read_quick.Reads as read-quick
-use Rattle.reader.proofs.read_quick.Kinds as read-quick-kinds
-use Rattle.reader.proofs.+read_body+read_common+read_inner+read_last+read_list+read_more+read_pairs+read_parts+read_quick+read_run+read_tail+read_term+read_wanted.Lts-read_quick as read-quick-lts
-use Rattle.reader.proofs.read_run.Reads as read-run
-use Rattle.reader.proofs.read_run.Kinds as read-run-kinds
-use Rattle.reader.proofs.+read_body+read_common+read_inner+read_last+read_list+read_more+read_pairs+read_parts+read_quick+read_run+read_tail+read_term+read_wanted.Lts-read_run as read-run-lts
-use Rattle.reader.proofs.read_tail.Reads as read-tail
-use Rattle.reader.proofs.read_tail.Kinds as read-tail-kinds
-use Rattle.reader.proofs.+read_body+read_common+read_inner+read_last+read_list+read_more+read_pairs+read_parts+read_quick+read_run+read_tail+read_term+read_wanted.Lts-read_tail as read-tail-lts
-use Rattle.reader.proofs.read_term.Reads as read-term
-use Rattle.reader.proofs.read_term.Kinds as read-term-kinds
-use Rattle.reader.proofs.+read_body+read_common+read_inner+read_last+read_list+read_more+read_pairs+read_parts+read_quick+read_run+read_tail+read_term+read_wanted.Lts-read_term as read-term-lts
-use Rattle.reader.proofs.read_wanted.Reads as read-wanted
-use Rattle.reader.proofs.read_wanted.Kinds as read-wanted-kinds
-use Rattle.reader.proofs.+read_body+read_common+read_inner+read_last+read_list+read_more+read_pairs+read_parts+read_quick+read_run+read_tail+read_term+read_wanted.Lts-read_wanted as read-wanted-lts
+use Rattle.term_reader.proofs.read_body.Reads as read-body
+use Rattle.term_reader.proofs.read_body.Kinds as read-body-kinds
+use Rattle.term_reader.proofs.+read_body+read_common+read_inner+read_last+read_list+read_more+read_pairs+read_parts+read_quick+read_run+read_tail+read_term+read_wanted.Lts-read_body as read-body-lts
+use Rattle.term_reader.proofs.read_common.Reads as read-common
+use Rattle.term_reader.proofs.read_common.Kinds as read-common-kinds
+use Rattle.term_reader.proofs.+read_body+read_common+read_inner+read_last+read_list+read_more+read_pairs+read_parts+read_quick+read_run+read_tail+read_term+read_wanted.Lts-read_common as read-common-lts
+use Rattle.term_reader.proofs.read_inner.Reads as read-inner
+use Rattle.term_reader.proofs.read_inner.Kinds as read-inner-kinds
+use Rattle.term_reader.proofs.+read_body+read_common+read_inner+read_last+read_list+read_more+read_pairs+read_parts+read_quick+read_run+read_tail+read_term+read_wanted.Lts-read_inner as read-inner-lts
+use Rattle.term_reader.proofs.read_last.Reads as read-last
+use Rattle.term_reader.proofs.read_last.Kinds as read-last-kinds
+use Rattle.term_reader.proofs.+read_body+read_common+read_inner+read_last+read_list+read_more+read_pairs+read_parts+read_quick+read_run+read_tail+read_term+read_wanted.Lts-read_last as read-last-lts
+use Rattle.term_reader.proofs.read_list.Reads as read-list
+use Rattle.term_reader.proofs.read_list.Kinds as read-list-kinds
+use Rattle.term_reader.proofs.+read_body+read_common+read_inner+read_last+read_list+read_more+read_pairs+read_parts+read_quick+read_run+read_tail+read_term+read_wanted.Lts-read_list as read-list-lts
+use Rattle.term_reader.proofs.read_more.Reads as read-more
+use Rattle.term_reader.proofs.read_more.Kinds as read-more-kinds
+use Rattle.term_reader.proofs.+read_body+read_common+read_inner+read_last+read_list+read_more+read_pairs+read_parts+read_quick+read_run+read_tail+read_term+read_wanted.Lts-read_more as read-more-lts
+use Rattle.term_reader.proofs.read_pairs.Reads as read-pairs
+use Rattle.term_reader.proofs.read_pairs.Kinds as read-pairs-kinds
+use Rattle.term_reader.proofs.+read_body+read_common+read_inner+read_last+read_list+read_more+read_pairs+read_parts+read_quick+read_run+read_tail+read_term+read_wanted.Lts-read_pairs as read-pairs-lts
+use Rattle.term_reader.proofs.read_parts.Reads as read-parts
+use Rattle.term_reader.proofs.read_parts.Kinds as read-parts-kinds
+use Rattle.term_reader.proofs.+read_body+read_common+read_inner+read_last+read_list+read_more+read_pairs+read_parts+read_quick+read_run+read_tail+read_term+read_wanted.Lts-read_parts as read-parts-lts
+use Rattle.term_reader.proofs.read_quick.Reads as read-quick
+use Rattle.term_reader.proofs.read_quick.Kinds as read-quick-kinds
+use Rattle.term_reader.proofs.+read_body+read_common+read_inner+read_last+read_list+read_more+read_pairs+read_parts+read_quick+read_run+read_tail+read_term+read_wanted.Lts-read_quick as read-quick-lts
+use Rattle.term_reader.proofs.read_run.Reads as read-run
+use Rattle.term_reader.proofs.read_run.Kinds as read-run-kinds
+use Rattle.term_reader.proofs.+read_body+read_common+read_inner+read_last+read_list+read_more+read_pairs+read_parts+read_quick+read_run+read_tail+read_term+read_wanted.Lts-read_run as read-run-lts
+use Rattle.term_reader.proofs.read_tail.Reads as read-tail
+use Rattle.term_reader.proofs.read_tail.Kinds as read-tail-kinds
+use Rattle.term_reader.proofs.+read_body+read_common+read_inner+read_last+read_list+read_more+read_pairs+read_parts+read_quick+read_run+read_tail+read_term+read_wanted.Lts-read_tail as read-tail-lts
+use Rattle.term_reader.proofs.read_term.Reads as read-term
+use Rattle.term_reader.proofs.read_term.Kinds as read-term-kinds
+use Rattle.term_reader.proofs.+read_body+read_common+read_inner+read_last+read_list+read_more+read_pairs+read_parts+read_quick+read_run+read_tail+read_term+read_wanted.Lts-read_term as read-term-lts
+use Rattle.term_reader.proofs.read_wanted.Reads as read-wanted
+use Rattle.term_reader.proofs.read_wanted.Kinds as read-wanted-kinds
+use Rattle.term_reader.proofs.+read_body+read_common+read_inner+read_last+read_list+read_more+read_pairs+read_parts+read_quick+read_run+read_tail+read_term+read_wanted.Lts-read_wanted as read-wanted-lts
 use Rattle.term_head.proofs.leaf_at.Reads as leaf-at-reads
 use Rattle.term_head.proofs.quick_at.Reads as quick-at-reads
 use Rattle.term_head.proofs.read_later.Reads as read-later-reads
 use Rattle.term_head.proofs.read_opening.Reads as read-opening-reads
 use Rattle.map_keys.proofs.repeats.Reads as repeats-reads
 use Rattle.row.proofs.pack.Reads as pack-reads
-use Rattle.reader.proofs.at_most.Reads as at-most-reads
-use Rattle.reader.proofs.is_leaf.Reads as is-leaf-reads
-use Rattle.reader.proofs.read_characters.Reads as read-characters-reads
-use Rattle.reader.proofs.+read_body+read_common+read_inner+read_last+read_list+read_more+read_pairs+read_parts+read_quick+read_run+read_tail+read_term+read_wanted.{
+use Rattle.term_reader.proofs.at_most.Reads as at-most-reads
+use Rattle.term_reader.proofs.is_leaf.Reads as is-leaf-reads
+use Rattle.term_reader.proofs.read_characters.Reads as read-characters-reads
+use Rattle.term_reader.proofs.+read_body+read_common+read_inner+read_last+read_list+read_more+read_pairs+read_parts+read_quick+read_run+read_tail+read_term+read_wanted.{
   statement,
 }
-use Rattle.reader.proofs.+read_body+read_common+read_inner+read_last+read_list+read_more+read_pairs+read_parts+read_quick+read_run+read_tail+read_term+read_wanted.Tie.{
+use Rattle.term_reader.proofs.+read_body+read_common+read_inner+read_last+read_list+read_more+read_pairs+read_parts+read_quick+read_run+read_tail+read_term+read_wanted.Tie.{
   close,
 }
 
@@ -251,10 +251,10 @@ abbrev read-wanted-calls : ℕ → read-wanted-lts.Claims
 read-wanted-calls t = (at-most-reads.Asked, at-most-reads.Learnt, read-run-below t, read-run.Post, read-more-below t, read-more.Post)
 
 read-body-returns : (t : ℕ) → read-body-lts.Need-returns (read-body-calls t) (read-body-at t) read-body.Post
-read-body-returns t c = (λ h next e s. body-deep _ _ _ _ _ h next _ _ _ _ (c .if1 .taken), keeps-refl _)
+read-body-returns t c = record { rows-stored = λ h next e s. body-deep _ _ _ _ _ h next _ _ _ _ (c .if1 .taken); keys-kept = keeps-refl _ }
 
 read-body-returns-2 : (t : ℕ) → read-body-lts.Need-returns-2 (read-body-calls t) (read-body-at t) read-body.Post
-read-body-returns-2 t c = (λ h next e s. body-full _ _ _ _ _ h next _ _ _ (c .before .if1 .left) _ (c .if2 .taken), keeps-refl _)
+read-body-returns-2 t c = record { rows-stored = λ h next e s. body-full _ _ _ _ _ h next _ _ _ (c .before .if1 .left) _ (c .if2 .taken); keys-kept = keeps-refl _ }
 
 read-body-add-read-inner : (t : ℕ) → read-body-lts.Need-add-read-inner (read-body-calls t) (read-body-at t) read-body.Post
 read-body-add-read-inner t c = omega arith
@@ -272,10 +272,10 @@ read-body-enum-known-next : (t : ℕ) → read-body-lts.Need-enum-known-next (re
 read-body-enum-known-next t c = search needs
 
 read-body-sub-pack : (t : ℕ) → read-body-lts.Need-sub-pack (read-body-calls t) (read-body-at t) read-body.Post
-read-body-sub-pack t c = let o = c .before .before .before .before .before .before .before .before .before .before .before .before .before .before .before .before .before .pre .1 .0 .1 in let g = parts-past _ _ _ _ _ _ _ _ _ _ _ _ _ (c .before .next .given .1) (c .before .before .before .before .before .before .before .read-inner .ensures .0 (o .h) (o .next) (o .is) (o .sound)) in omega arith
+read-body-sub-pack t c = let o = c .before .before .before .before .before .before .before .before .before .before .before .before .before .before .before .before .before .pre .1 .0 .1 in let g = parts-past _ _ _ _ _ _ _ _ _ _ _ _ _ (c .before .next .given .1) (c .before .before .before .before .before .before .before .read-inner .ensures .rows-stored (o .h) (o .next) (o .is) (o .sound)) in omega arith
 
 read-body-pack-requires : (t : ℕ) → read-body-lts.Need-pack-requires (read-body-calls t) (read-body-at t) read-body.Post
-read-body-pack-requires t c κs = let o = c .before .before .before .before .before .before .before .before .before .before .before .before .before .before .before .before .before .pre .1 .0 .1 in body-small _ _ _ _ _ (o .h) (o .next) _ _ _ (c .before .before .before .before .before .before .before .before .before .before .before .if1 .left) (c .before .before .before .before .before .before .before .before .before .before .if2 .left) _ _ (c .before .before .before .before .before .before .before .read-inner .ensures .0 (o .h) (o .next) (o .is) (o .sound)) _ _ _ _ _ _ (c .before .next .given .1) (c .before .before .before .before .before .before .before .before .before .before .before .before .before .before .before .before .before .pre .1 .0 .0) (omega (arith, opens-place _ _ _ (c .before .before .before .before .before .before .before .before .before .before .before .before .before .before .before .before .before .pre .1 .0 .1), c .before .before .before .before .before .before .before .before .before .before .before .before .before .before .before .before .before .pre .1 .0 .0 .short))
+read-body-pack-requires t c κs = let o = c .before .before .before .before .before .before .before .before .before .before .before .before .before .before .before .before .before .pre .1 .0 .1 in body-small _ _ _ _ _ (o .h) (o .next) _ _ _ (c .before .before .before .before .before .before .before .before .before .before .before .if1 .left) (c .before .before .before .before .before .before .before .before .before .before .if2 .left) _ _ (c .before .before .before .before .before .before .before .read-inner .ensures .rows-stored (o .h) (o .next) (o .is) (o .sound)) _ _ _ _ _ _ (c .before .next .given .1) (c .before .before .before .before .before .before .before .before .before .before .before .before .before .before .before .before .before .pre .1 .0 .0) (omega (arith, opens-place _ _ _ (c .before .before .before .before .before .before .before .before .before .before .before .before .before .before .before .before .before .pre .1 .0 .1), c .before .before .before .before .before .before .before .before .before .before .before .before .before .before .before .before .before .pre .1 .0 .0 .short))
 
 read-body-mul-table : (t : ℕ) → read-body-lts.Need-mul-table (read-body-calls t) (read-body-at t) read-body.Post
 read-body-mul-table t c = omega arith
@@ -290,7 +290,7 @@ read-body-same-length-2 : (t : ℕ) → read-body-lts.Need-same-length-2 (read-b
 read-body-same-length-2 t c = c .before .before .before .before .before .before .before .read-inner .kept .1 .1 .1 .1 .1 .0
 
 read-body-returns-3 : (t : ℕ) → read-body-lts.Need-returns-3 (read-body-calls t) (read-body-at t) read-body.Post
-read-body-returns-3 t c = (λ h next e s. body-refused _ _ _ _ _ h next _ _ _ (c .before .before .before .before .before .before .before .before .before .before .before .if1 .left) (c .before .before .before .before .before .before .before .before .before .before .if2 .left) _ _ (c .before .before .before .before .before .before .before .read-inner .ensures .0 h next e s) _ _ _ (c .before .number .given .1), c .before .before .before .before .before .before .before .read-inner .ensures .1)
+read-body-returns-3 t c = record { rows-stored = λ h next e s. body-refused _ _ _ _ _ h next _ _ _ (c .before .before .before .before .before .before .before .before .before .before .before .if1 .left) (c .before .before .before .before .before .before .before .before .before .before .if2 .left) _ _ (c .before .before .before .before .before .before .before .read-inner .ensures .rows-stored h next e s) _ _ _ (c .before .number .given .1); keys-kept = c .before .before .before .before .before .before .before .read-inner .ensures .keys-kept }
 
 read-body-same-length-3 : (t : ℕ) → read-body-lts.Need-same-length-3 (read-body-calls t) (read-body-at t) read-body.Post
 read-body-same-length-3 t c = simp length-set (c .before .before .before .before .before .before .before .before .read-inner .kept .1 .1 .1 .1 .0)
@@ -299,7 +299,7 @@ read-body-same-length-4 : (t : ℕ) → read-body-lts.Need-same-length-4 (read-b
 read-body-same-length-4 t c = c .before .before .before .before .before .before .before .before .read-inner .kept .1 .1 .1 .1 .1 .0
 
 read-body-returns-4 : (t : ℕ) → read-body-lts.Need-returns-4 (read-body-calls t) (read-body-at t) read-body.Post
-read-body-returns-4 t c = (λ h next e s. body-got _ _ _ _ _ h next _ _ _ (c .before .before .before .before .before .before .before .before .before .before .before .before .if1 .left) (c .before .before .before .before .before .before .before .before .before .before .before .if2 .left) _ _ (c .before .before .before .before .before .before .before .before .read-inner .ensures .0 h next e s) _ _ _ _ _ (c .before .before .next .given .1) (omega (arith, opens-place _ _ _ (c .before .before .before .before .before .before .before .before .before .before .before .before .before .before .before .before .before .before .pre .1 .0 .1), c .before .before .before .before .before .before .before .before .before .before .before .before .before .before .before .before .before .before .pre .1 .0 .0 .short)) (c .pack .ensures), c .before .before .before .before .before .before .before .before .read-inner .ensures .1)
+read-body-returns-4 t c = record { rows-stored = λ h next e s. body-got _ _ _ _ _ h next _ _ _ (c .before .before .before .before .before .before .before .before .before .before .before .before .if1 .left) (c .before .before .before .before .before .before .before .before .before .before .before .if2 .left) _ _ (c .before .before .before .before .before .before .before .before .read-inner .ensures .rows-stored h next e s) _ _ _ _ _ (c .before .before .next .given .1) (omega (arith, opens-place _ _ _ (c .before .before .before .before .before .before .before .before .before .before .before .before .before .before .before .before .before .before .pre .1 .0 .1), c .before .before .before .before .before .before .before .before .before .before .before .before .before .before .before .before .before .before .pre .1 .0 .0 .short)) (c .pack .ensures); keys-kept = c .before .before .before .before .before .before .before .before .read-inner .ensures .keys-kept }
 
 read-inner-enum-known-head : (t : ℕ) → read-inner-lts.Need-enum-known-head (read-inner-calls t) (read-inner-at t) read-inner.Post
 read-inner-enum-known-head t c = search needs
@@ -329,7 +329,7 @@ read-inner-read-pairs-requires : (t : ℕ) → read-inner-lts.Need-read-pairs-re
 read-inner-read-pairs-requires t c κs = (omega (arith, c .before .before .before .before .before .before .before .before .before .before .pre .0), (room-at _ _ _ _ _ _ _ _ (c .before .before .before .before .before .before .before .before .before .before .pre .1 .0 .0) (opens-near _ _ _ _ (c .before .before .before .before .before .before .before .before .before .before .pre .1 .0 .1) (c .before .before .before .head5 .given .1)), c .before .before .before .before .before .before .before .before .before .before .pre .1 .1))
 
 read-inner-returns : (t : ℕ) → read-inner-lts.Need-returns (read-inner-calls t) (read-inner-at t) read-inner.Post
-read-inner-returns t c = (inner-refused _ _ _ _ _ _ _ _ _ _ _ _ (c .before .head .given .1), keeps-refl _)
+read-inner-returns t c = record { rows-stored = inner-refused _ _ _ _ _ _ _ _ _ _ _ _ (c .before .head .given .1); keys-kept = keeps-refl _ }
 
 read-inner-same-length : (t : ℕ) → read-inner-lts.Need-same-length (read-inner-calls t) (read-inner-at t) read-inner.Post
 read-inner-same-length t c = c .before .before .before .before .read-parts .kept .1 .1 .1 .1 .0
@@ -338,13 +338,13 @@ read-inner-same-length-2 : (t : ℕ) → read-inner-lts.Need-same-length-2 (read
 read-inner-same-length-2 t c = c .before .before .before .before .read-parts .kept .1 .1 .1 .1 .1 .0
 
 read-inner-returns-2 : (t : ℕ) → read-inner-lts.Need-returns-2 (read-inner-calls t) (read-inner-at t) read-inner.Post
-read-inner-returns-2 t c = (inner-parts _ _ _ _ _ _ _ _ _ _ _ _ _ _ _ (c .before .before .before .before .before .before .before .before .head2 .given .1) (c .before .before .before .before .read-parts .ensures .0), c .before .before .before .before .read-parts .ensures .1)
+read-inner-returns-2 t c = record { rows-stored = inner-parts _ _ _ _ _ _ _ _ _ _ _ _ _ _ _ (c .before .before .before .before .before .before .before .before .head2 .given .1) (c .before .before .before .before .read-parts .ensures .rows-stored); keys-kept = c .before .before .before .before .read-parts .ensures .keys-kept }
 
 read-inner-same-length-3 : (t : ℕ) → read-inner-lts.Need-same-length-3 (read-inner-calls t) (read-inner-at t) read-inner.Post
 read-inner-same-length-3 t c = c .before .before .read-characters .kept .0
 
 read-inner-returns-3 : (t : ℕ) → read-inner-lts.Need-returns-3 (read-inner-calls t) (read-inner-at t) read-inner.Post
-read-inner-returns-3 t c = (inner-characters _ _ _ _ _ _ _ _ _ _ _ _ (c .before .before .before .before .before .head3 .given .1) (λ cs e near. c .before .before .read-characters .ensures _ _ cs e near), keeps-refl _)
+read-inner-returns-3 t c = record { rows-stored = inner-characters _ _ _ _ _ _ _ _ _ _ _ _ (c .before .before .before .before .before .head3 .given .1) (λ cs e near. c .before .before .read-characters .ensures _ _ cs e near); keys-kept = keeps-refl _ }
 
 read-inner-same-length-4 : (t : ℕ) → read-inner-lts.Need-same-length-4 (read-inner-calls t) (read-inner-at t) read-inner.Post
 read-inner-same-length-4 t c = c .before .before .before .before .read-list .kept .1 .1 .1 .1 .0
@@ -353,7 +353,7 @@ read-inner-same-length-5 : (t : ℕ) → read-inner-lts.Need-same-length-5 (read
 read-inner-same-length-5 t c = c .before .before .before .before .read-list .kept .1 .1 .1 .1 .1 .0
 
 read-inner-returns-4 : (t : ℕ) → read-inner-lts.Need-returns-4 (read-inner-calls t) (read-inner-at t) read-inner.Post
-read-inner-returns-4 t c = (inner-elements _ _ _ _ _ _ _ _ _ _ _ _ (c .before .before .before .before .before .before .before .before .head4 .given .1) (c .before .before .before .before .read-list .ensures .0 _), c .before .before .before .before .read-list .ensures .1)
+read-inner-returns-4 t c = record { rows-stored = inner-elements _ _ _ _ _ _ _ _ _ _ _ _ (c .before .before .before .before .before .before .before .before .head4 .given .1) (c .before .before .before .before .read-list .ensures .rows-stored _); keys-kept = c .before .before .before .before .read-list .ensures .keys-kept }
 
 read-inner-same-length-6 : (t : ℕ) → read-inner-lts.Need-same-length-6 (read-inner-calls t) (read-inner-at t) read-inner.Post
 read-inner-same-length-6 t c = c .before .before .before .before .read-pairs .kept .1 .1 .1 .1 .0
@@ -362,7 +362,7 @@ read-inner-same-length-7 : (t : ℕ) → read-inner-lts.Need-same-length-7 (read
 read-inner-same-length-7 t c = c .before .before .before .before .read-pairs .kept .1 .1 .1 .1 .1 .0
 
 read-inner-returns-5 : (t : ℕ) → read-inner-lts.Need-returns-5 (read-inner-calls t) (read-inner-at t) read-inner.Post
-read-inner-returns-5 t c = (inner-pairs _ _ _ _ _ _ _ _ _ _ _ _ (c .before .before .before .before .before .before .before .before .head5 .given .1) (c .before .before .before .before .read-pairs .ensures .0 _), c .before .before .before .before .read-pairs .ensures .1)
+read-inner-returns-5 t c = record { rows-stored = inner-pairs _ _ _ _ _ _ _ _ _ _ _ _ (c .before .before .before .before .before .before .before .before .head5 .given .1) (c .before .before .before .before .read-pairs .ensures .rows-stored _); keys-kept = c .before .before .before .before .read-pairs .ensures .keys-kept }
 
 read-last-enum-known-head : (t : ℕ) → read-last-lts.Need-enum-known-head (read-last-calls t) (read-last-at t) read-last.Post
 read-last-enum-known-head t c = search needs
@@ -386,7 +386,7 @@ read-last-same-length : (t : ℕ) → read-last-lts.Need-same-length (read-last-
 read-last-same-length t c = c .before .before .read-characters .kept .0
 
 read-last-returns : (t : ℕ) → read-last-lts.Need-returns (read-last-calls t) (read-last-at t) read-last.Post
-read-last-returns t c = (last-characters _ _ _ _ _ _ _ _ _ _ _ _ _ _ (c .before .before .before .before .before .head .given .1) (λ cs e near. c .before .before .read-characters .ensures _ _ cs e near), keeps-refl _)
+read-last-returns t c = record { rows-stored = last-characters _ _ _ _ _ _ _ _ _ _ _ _ _ _ (c .before .before .before .before .before .head .given .1) (λ cs e near. c .before .before .read-characters .ensures _ _ cs e near); keys-kept = keeps-refl _ }
 
 read-last-same-length-2 : (t : ℕ) → read-last-lts.Need-same-length-2 (read-last-calls t) (read-last-at t) read-last.Post
 read-last-same-length-2 t c = c .before .before .before .before .before .before .before .read-body .kept .1 .1 .1 .1 .0
@@ -395,7 +395,7 @@ read-last-same-length-3 : (t : ℕ) → read-last-lts.Need-same-length-3 (read-l
 read-last-same-length-3 t c = c .before .before .before .before .before .before .before .read-body .kept .1 .1 .1 .1 .1 .0
 
 read-last-returns-2 : (t : ℕ) → read-last-lts.Need-returns-2 (read-last-calls t) (read-last-at t) read-last.Post
-read-last-returns-2 t c = (λ h next e s. last-refused _ _ _ _ _ _ _ _ _ _ (λ k p e. miss (0 ∷ 1 ∷ 3 ∷ 4 ∷ []) 2 tt (rw e at (c .before .before .before .before .before .before .before .before .before .before .match .keys2))) h next e _ _ _ _ _ (c .before .number .given .1) (c .before .before .before .before .before .before .before .read-body .ensures .0 h next e s), c .before .before .before .before .before .before .before .read-body .ensures .1)
+read-last-returns-2 t c = record { rows-stored = λ h next e s. last-refused _ _ _ _ _ _ _ _ _ _ (λ k p e. miss (0 ∷ 1 ∷ 3 ∷ 4 ∷ []) 2 tt (rw e at (c .before .before .before .before .before .before .before .before .before .before .match .keys2))) h next e _ _ _ _ _ (c .before .number .given .1) (c .before .before .before .before .before .before .before .read-body .ensures .rows-stored h next e s); keys-kept = c .before .before .before .before .before .before .before .read-body .ensures .keys-kept }
 
 read-last-same-length-4 : (t : ℕ) → read-last-lts.Need-same-length-4 (read-last-calls t) (read-last-at t) read-last.Post
 read-last-same-length-4 t c = c .before .before .before .before .before .before .before .read-body .kept .1 .1 .1 .1 .0
@@ -404,7 +404,7 @@ read-last-same-length-5 : (t : ℕ) → read-last-lts.Need-same-length-5 (read-l
 read-last-same-length-5 t c = c .before .before .before .before .before .before .before .read-body .kept .1 .1 .1 .1 .1 .0
 
 read-last-returns-3 : (t : ℕ) → read-last-lts.Need-returns-3 (read-last-calls t) (read-last-at t) read-last.Post
-read-last-returns-3 t c = (λ h next e s. last-got _ _ _ _ _ _ _ _ _ _ (λ k p e. miss (0 ∷ 1 ∷ 3 ∷ 4 ∷ []) 2 tt (rw e at (c .before .before .before .before .before .before .before .before .before .before .match .keys2))) h next e _ _ _ _ (c .before .next .given .1) (c .before .before .before .before .before .before .before .read-body .ensures .0 h next e s), c .before .before .before .before .before .before .before .read-body .ensures .1)
+read-last-returns-3 t c = record { rows-stored = λ h next e s. last-got _ _ _ _ _ _ _ _ _ _ (λ k p e. miss (0 ∷ 1 ∷ 3 ∷ 4 ∷ []) 2 tt (rw e at (c .before .before .before .before .before .before .before .before .before .before .match .keys2))) h next e _ _ _ _ (c .before .next .given .1) (c .before .before .before .before .before .before .before .read-body .ensures .rows-stored h next e s); keys-kept = c .before .before .before .before .before .before .before .read-body .ensures .keys-kept }
 
 read-list-read-run-requires : (t : ℕ) → read-list-lts.Need-read-run-requires (read-list-calls t) (read-list-at t) read-list.Post
 read-list-read-run-requires t c κs = (omega (arith, c .before .before .before .before .before .before .before .pre .0), (c .before .before .before .before .before .before .before .pre .1 .0, c .before .before .before .before .before .before .before .pre .1 .1))
@@ -416,7 +416,7 @@ read-list-enum-known-next : (t : ℕ) → read-list-lts.Need-enum-known-next (re
 read-list-enum-known-next t c = search needs
 
 read-list-read-tail-requires : (t : ℕ) → read-list-lts.Need-read-tail-requires (read-list-calls t) (read-list-at t) read-list.Post
-read-list-read-tail-requires t c κs = (omega (arith, c .before .before .before .before .before .before .before .before .before .before .before .before .before .before .before .before .before .pre .0), ((room-after _ _ _ _ _ _ _ _ _ _ _ _ _ _ _ (c .before .before .before .before .before .before .before .before .before .before .before .before .before .before .before .before .before .pre .1 .0) (c .before .before .before .before .before .before .before .before .before .read-run .ensures .0) (c .before .before .before .next .given .1) (c .before .before .before .before .before .before .before .before .before .read-run .kept .1 .1 .1 .1 .0), omega (arith, run-many _ _ _ _ _ _ _ _ _ _ _ (c .before .before .before .before .before .before .before .before .before .read-run .ensures .0) (c .before .before .before .next .given .1) .0)), omega (arith, c .before .before .before .before .before .before .before .before .before .before .before .before .before .before .before .before .before .pre .1 .1, c .before .before .before .before .before .before .before .before .before .read-run .ensures .1 .as-many)))
+read-list-read-tail-requires t c κs = (omega (arith, c .before .before .before .before .before .before .before .before .before .before .before .before .before .before .before .before .before .pre .0), ((room-after _ _ _ _ _ _ _ _ _ _ _ _ _ _ _ (c .before .before .before .before .before .before .before .before .before .before .before .before .before .before .before .before .before .pre .1 .0) (c .before .before .before .before .before .before .before .before .before .read-run .ensures .rows-stored) (c .before .before .before .next .given .1) (c .before .before .before .before .before .before .before .before .before .read-run .kept .1 .1 .1 .1 .0), omega (arith, run-many _ _ _ _ _ _ _ _ _ _ _ (c .before .before .before .before .before .before .before .before .before .read-run .ensures .rows-stored) (c .before .before .before .next .given .1) .0)), omega (arith, c .before .before .before .before .before .before .before .before .before .before .before .before .before .before .before .before .before .pre .1 .1, c .before .before .before .before .before .before .before .before .before .read-run .ensures .keys-kept .as-many)))
 
 read-list-same-length : (t : ℕ) → read-list-lts.Need-same-length (read-list-calls t) (read-list-at t) read-list.Post
 read-list-same-length t c = c .before .before .before .before .before .before .before .read-run .kept .1 .1 .1 .1 .0
@@ -425,7 +425,7 @@ read-list-same-length-2 : (t : ℕ) → read-list-lts.Need-same-length-2 (read-l
 read-list-same-length-2 t c = c .before .before .before .before .before .before .before .read-run .kept .1 .1 .1 .1 .1 .0
 
 read-list-returns : (t : ℕ) → read-list-lts.Need-returns (read-list-calls t) (read-list-at t) read-list.Post
-read-list-returns t c = (λ place. list-first _ _ _ _ place _ _ _ _ _ _ (c .before .before .before .before .before .before .before .read-run .ensures .0) _ _ _ (c .before .number .given .1), c .before .before .before .before .before .before .before .read-run .ensures .1)
+read-list-returns t c = record { rows-stored = λ place. list-first _ _ _ _ place _ _ _ _ _ _ (c .before .before .before .before .before .before .before .read-run .ensures .rows-stored) _ _ _ (c .before .number .given .1); keys-kept = c .before .before .before .before .before .before .before .read-run .ensures .keys-kept }
 
 read-list-same-length-3 : (t : ℕ) → read-list-lts.Need-same-length-3 (read-list-calls t) (read-list-at t) read-list.Post
 read-list-same-length-3 t c = c .before .before .before .before .read-tail .kept .1 .1 .1 .1 .0 ∙ c .before .before .before .before .before .before .before .before .before .before .before .before .before .before .read-run .kept .1 .1 .1 .1 .0
@@ -434,10 +434,10 @@ read-list-same-length-4 : (t : ℕ) → read-list-lts.Need-same-length-4 (read-l
 read-list-same-length-4 t c = c .before .before .before .before .read-tail .kept .1 .1 .1 .1 .1 .0 ∙ c .before .before .before .before .before .before .before .before .before .before .before .before .before .before .read-run .kept .1 .1 .1 .1 .1 .0
 
 read-list-returns-2 : (t : ℕ) → read-list-lts.Need-returns-2 (read-list-calls t) (read-list-at t) read-list.Post
-read-list-returns-2 t c = (λ place. list-then _ _ _ _ place _ _ _ _ _ _ (c .before .before .before .before .before .before .before .before .before .before .before .before .before .before .read-run .ensures .0) _ _ _ _ (c .before .before .before .before .before .before .before .before .next .given .1) (c .before .before .before .before .read-tail .ensures .0), keeps-trans (c .before .before .before .before .before .before .before .before .before .before .before .before .before .before .read-run .ensures .1) (c .before .before .before .before .read-tail .ensures .1))
+read-list-returns-2 t c = record { rows-stored = λ place. list-then _ _ _ _ place _ _ _ _ _ _ (c .before .before .before .before .before .before .before .before .before .before .before .before .before .before .read-run .ensures .rows-stored) _ _ _ _ (c .before .before .before .before .before .before .before .before .next .given .1) (c .before .before .before .before .read-tail .ensures .rows-stored); keys-kept = keeps-trans (c .before .before .before .before .before .before .before .before .before .before .before .before .before .before .read-run .ensures .keys-kept) (c .before .before .before .before .read-tail .ensures .keys-kept) }
 
 read-more-returns : (t : ℕ) → read-more-lts.Need-returns (read-more-calls t) (read-more-at t) read-more.Post
-read-more-returns t c = (run-none _ _ _ _ _ _ _ _ _ (c .if1 .taken) (c .before .before .before .before .before .before .pre .1 .0 .low) (c .before .before .before .before .before .before .pre .1 .0 .near), keeps-refl _)
+read-more-returns t c = record { rows-stored = run-none _ _ _ _ _ _ _ _ _ (c .if1 .taken) (c .before .before .before .before .before .before .pre .1 .0 .low) (c .before .before .before .before .before .before .pre .1 .0 .near); keys-kept = keeps-refl _ }
 
 read-more-read-run-requires : (t : ℕ) → read-more-lts.Need-read-run-requires (read-more-calls t) (read-more-at t) read-more.Post
 read-more-read-run-requires t c κs = (omega (arith, c .before .before .before .before .before .before .before .before .pre .0), (c .before .before .before .before .before .before .before .before .pre .1 .0, c .before .before .before .before .before .before .before .before .pre .1 .1))
@@ -481,13 +481,13 @@ read-pairs-returns : (t : ℕ) → read-pairs-lts.Need-returns (read-pairs-calls
 read-pairs-returns t c =
     let i = c .before .before .before .before .before .before .before .before .before .before .before .loop in
     let e : i .more ≡ 0 → ⊥ = omega (arith, c .before .before .before .before .before .before .before .before .before .before .loop-test .taken) in
-    (λ place. key-refused _ _ _ _ _ _ _ _ _ _ _ _ _ _ _ (i .inv .2) e _ _ (run-one _ _ _ _ _ _ _ _ _ _ (c .before .before .before .before .before .before .before .read-run .ensures .0)) _ _ place _ (c .before .number .given .1), keeps-trans (c .before .before .before .before .before .before .before .before .before .before .before .loop .inv .3) (c .before .before .before .before .before .before .before .read-run .ensures .1))
+    record { rows-stored = λ place. key-refused _ _ _ _ _ _ _ _ _ _ _ _ _ _ _ (i .inv .2) e _ _ (run-one _ _ _ _ _ _ _ _ _ _ (c .before .before .before .before .before .before .before .read-run .ensures .rows-stored)) _ _ place _ (c .before .number .given .1); keys-kept = keeps-trans (c .before .before .before .before .before .before .before .before .before .before .before .loop .inv .3) (c .before .before .before .before .before .before .before .read-run .ensures .keys-kept) }
 
 read-pairs-enum-known-next : (t : ℕ) → read-pairs-lts.Need-enum-known-next (read-pairs-calls t) (read-pairs-at t) read-pairs.Post read-pairs-Inv-loop read-pairs-μ-loop
 read-pairs-enum-known-next t c = search needs
 
 read-pairs-repeats-requires : (t : ℕ) → read-pairs-lts.Need-repeats-requires (read-pairs-calls t) (read-pairs-at t) read-pairs.Post read-pairs-Inv-loop read-pairs-μ-loop
-read-pairs-repeats-requires t c κs = (omega (arith, c .before .before .before .before .before .before .before .before .before .before .before .before .before .before .before .before .before .before .before .pre .1 .1, c .before .before .before .before .before .before .before .before .before .before .before .before .before .loop .inv .3 .as-many, c .before .before .before .before .before .before .before .before .before .read-run .ensures .1 .as-many), omega (arith, term-inside _ _ _ _ _ _ _ _ _ _ (c .before .before .before .next .given .1) (run-one _ _ _ _ _ _ _ _ _ _ (c .before .before .before .before .before .before .before .before .before .read-run .ensures .0)), c .before .before .before .before .before .before .before .before .before .before .before .before .before .loop .inv .0 .few))
+read-pairs-repeats-requires t c κs = (omega (arith, c .before .before .before .before .before .before .before .before .before .before .before .before .before .before .before .before .before .before .before .pre .1 .1, c .before .before .before .before .before .before .before .before .before .before .before .before .before .loop .inv .3 .as-many, c .before .before .before .before .before .before .before .before .before .read-run .ensures .keys-kept .as-many), omega (arith, term-inside _ _ _ _ _ _ _ _ _ _ (c .before .before .before .next .given .1) (run-one _ _ _ _ _ _ _ _ _ _ (c .before .before .before .before .before .before .before .before .before .read-run .ensures .rows-stored)), c .before .before .before .before .before .before .before .before .before .before .before .before .before .loop .inv .0 .few))
 
 read-pairs-same-length-3 : (t : ℕ) → read-pairs-lts.Need-same-length-3 (read-pairs-calls t) (read-pairs-at t) read-pairs.Post read-pairs-Inv-loop read-pairs-μ-loop
 read-pairs-same-length-3 t c = c .before .before .before .before .before .before .before .before .before .before .before .before .before .read-run .kept .1 .1 .1 .1 .0 ∙ c .before .before .before .before .before .before .before .before .before .before .before .before .before .before .before .before .before .loop .inv .1
@@ -499,10 +499,10 @@ read-pairs-returns-2 : (t : ℕ) → read-pairs-lts.Need-returns-2 (read-pairs-c
 read-pairs-returns-2 t c =
     let i = c .before .before .before .before .before .before .before .before .before .before .before .before .before .before .before .before .before .loop in
     let e : i .more ≡ 0 → ⊥ = omega (arith, c .before .before .before .before .before .before .before .before .before .before .before .before .before .before .before .before .loop-test .taken) in
-    (λ place. key-twice _ _ _ _ _ _ _ _ _ _ _ _ _ _ _ (i .inv .2) e _ _ (run-one _ _ _ _ _ _ _ _ _ _ (c .before .before .before .before .before .before .before .before .before .before .before .before .before .read-run .ensures .0)) _ (i .inv .0) _ _ (c .before .before .before .before .before .before .before .next .given .1) (keys-told _ _ _ _ _ _ (i .inv .0 .sized) (omega (arith, c .before .before .before .before .before .before .before .before .before .before .before .before .before .before .before .before .before .before .before .before .before .before .before .fits .n)) (λ j. omega (arith, c .before .before .before .before .before .before .before .before .before .before .before .before .before .before .before .before .before .before .before .before .before .before .shared-slice-known .given j))) _ _ (c .before .before .before .before .before .before .before .before .before .before .before .before .before .read-run .ensures .1) (c .before .before .before .repeats .ensures .1 .0) place _ (c .if1 .taken), keeps-trans (keeps-trans (c .before .before .before .before .before .before .before .before .before .before .before .before .before .before .before .before .before .loop .inv .3) (c .before .before .before .before .before .before .before .before .before .before .before .before .before .read-run .ensures .1)) (c .before .before .before .repeats .ensures .0))
+    record { rows-stored = λ place. key-twice _ _ _ _ _ _ _ _ _ _ _ _ _ _ _ (i .inv .2) e _ _ (run-one _ _ _ _ _ _ _ _ _ _ (c .before .before .before .before .before .before .before .before .before .before .before .before .before .read-run .ensures .rows-stored)) _ (i .inv .0) _ _ (c .before .before .before .before .before .before .before .next .given .1) (keys-told _ _ _ _ _ _ (i .inv .0 .sized) (omega (arith, c .before .before .before .before .before .before .before .before .before .before .before .before .before .before .before .before .before .before .before .before .before .before .before .fits .n)) (λ j. omega (arith, c .before .before .before .before .before .before .before .before .before .before .before .before .before .before .before .before .before .before .before .before .before .before .shared-slice-known .given j))) _ _ (c .before .before .before .before .before .before .before .before .before .before .before .before .before .read-run .ensures .keys-kept) (c .before .before .before .repeats .ensures .1 .0) place _ (c .if1 .taken); keys-kept = keeps-trans (keeps-trans (c .before .before .before .before .before .before .before .before .before .before .before .before .before .before .before .before .before .loop .inv .3) (c .before .before .before .before .before .before .before .before .before .before .before .before .before .read-run .ensures .keys-kept)) (c .before .before .before .repeats .ensures .0) }
 
 read-pairs-read-run-requires-2 : (t : ℕ) → read-pairs-lts.Need-read-run-requires-2 (read-pairs-calls t) (read-pairs-at t) read-pairs.Post read-pairs-Inv-loop read-pairs-μ-loop
-read-pairs-read-run-requires-2 t c κs = (omega (arith, c .before .before .before .before .before .before .before .before .before .before .before .before .before .before .before .before .before .before .before .before .before .before .before .before .before .pre .0), (room-after _ _ _ _ _ _ _ _ _ _ _ _ _ _ _ (c .before .before .before .before .before .before .before .before .before .before .before .before .before .before .before .before .before .before .before .loop .inv .0) (run-one _ _ _ _ _ _ _ _ _ _ (c .before .before .before .before .before .before .before .before .before .before .before .before .before .before .before .read-run .ensures .0)) (c .before .before .before .before .before .before .before .before .before .next .given .1) (c .before .before .before .before .before .before .before .before .before .before .before .before .before .before .before .read-run .kept .1 .1 .1 .1 .0), omega (arith, c .before .before .before .before .before .before .before .before .before .before .before .before .before .before .before .before .before .before .before .before .before .before .before .before .before .pre .1 .1, c .before .before .before .before .before .before .before .before .before .before .before .before .before .before .before .before .before .before .before .loop .inv .3 .as-many, c .before .before .before .before .before .before .before .before .before .before .before .before .before .before .before .read-run .ensures .1 .as-many, c .before .before .before .before .before .repeats .ensures .0 .as-many)))
+read-pairs-read-run-requires-2 t c κs = (omega (arith, c .before .before .before .before .before .before .before .before .before .before .before .before .before .before .before .before .before .before .before .before .before .before .before .before .before .pre .0), (room-after _ _ _ _ _ _ _ _ _ _ _ _ _ _ _ (c .before .before .before .before .before .before .before .before .before .before .before .before .before .before .before .before .before .before .before .loop .inv .0) (run-one _ _ _ _ _ _ _ _ _ _ (c .before .before .before .before .before .before .before .before .before .before .before .before .before .before .before .read-run .ensures .rows-stored)) (c .before .before .before .before .before .before .before .before .before .next .given .1) (c .before .before .before .before .before .before .before .before .before .before .before .before .before .before .before .read-run .kept .1 .1 .1 .1 .0), omega (arith, c .before .before .before .before .before .before .before .before .before .before .before .before .before .before .before .before .before .before .before .before .before .before .before .before .before .pre .1 .1, c .before .before .before .before .before .before .before .before .before .before .before .before .before .before .before .before .before .before .before .loop .inv .3 .as-many, c .before .before .before .before .before .before .before .before .before .before .before .before .before .before .before .read-run .ensures .keys-kept .as-many, c .before .before .before .before .before .repeats .ensures .0 .as-many)))
 
 read-pairs-enum-known-number-2 : (t : ℕ) → read-pairs-lts.Need-enum-known-number-2 (read-pairs-calls t) (read-pairs-at t) read-pairs.Post read-pairs-Inv-loop read-pairs-μ-loop
 read-pairs-enum-known-number-2 t c = search needs
@@ -517,7 +517,7 @@ read-pairs-returns-3 : (t : ℕ) → read-pairs-lts.Need-returns-3 (read-pairs-c
 read-pairs-returns-3 t c =
     let i = c .before .before .before .before .before .before .before .before .before .before .before .before .before .before .before .before .before .before .before .before .before .before .before .before .before .before .before .loop in
     let e : i .more ≡ 0 → ⊥ = omega (arith, c .before .before .before .before .before .before .before .before .before .before .before .before .before .before .before .before .before .before .before .before .before .before .before .before .before .before .loop-test .taken) in
-    (λ place. value-refused _ _ _ _ _ _ _ _ _ _ _ _ _ _ _ (i .inv .2) e _ _ (run-one _ _ _ _ _ _ _ _ _ _ (c .before .before .before .before .before .before .before .before .before .before .before .before .before .before .before .before .before .before .before .before .before .before .before .read-run .ensures .0)) _ (i .inv .0) _ _ (c .before .before .before .before .before .before .before .before .before .before .before .before .before .before .before .before .before .next .given .1) (keys-told _ _ _ _ _ _ (i .inv .0 .sized) (omega (arith, c .before .before .before .before .before .before .before .before .before .before .before .before .before .before .before .before .before .before .before .before .before .before .before .before .before .before .before .before .before .before .before .before .before .fits .n)) (λ j. omega (arith, c .before .before .before .before .before .before .before .before .before .before .before .before .before .before .before .before .before .before .before .before .before .before .before .before .before .before .before .before .before .before .before .before .shared-slice-known .given j))) _ _ (c .before .before .before .before .before .before .before .before .before .before .before .before .before .before .before .before .before .before .before .before .before .before .before .read-run .ensures .1) (c .before .before .before .before .before .before .before .before .before .before .before .before .before .repeats .ensures .1 .0) (c .before .before .before .before .before .before .before .before .before .before .if1 .left) _ _ (run-one _ _ _ _ _ _ _ _ _ _ (c .before .before .before .before .before .before .before .read-run2 .ensures .0)) _ _ place _ (c .before .number2 .given .1), keeps-trans (keeps-trans (keeps-trans (c .before .before .before .before .before .before .before .before .before .before .before .before .before .before .before .before .before .before .before .before .before .before .before .before .before .before .before .loop .inv .3) (c .before .before .before .before .before .before .before .before .before .before .before .before .before .before .before .before .before .before .before .before .before .before .before .read-run .ensures .1)) (c .before .before .before .before .before .before .before .before .before .before .before .before .before .repeats .ensures .0)) (c .before .before .before .before .before .before .before .read-run2 .ensures .1))
+    record { rows-stored = λ place. value-refused _ _ _ _ _ _ _ _ _ _ _ _ _ _ _ (i .inv .2) e _ _ (run-one _ _ _ _ _ _ _ _ _ _ (c .before .before .before .before .before .before .before .before .before .before .before .before .before .before .before .before .before .before .before .before .before .before .before .read-run .ensures .rows-stored)) _ (i .inv .0) _ _ (c .before .before .before .before .before .before .before .before .before .before .before .before .before .before .before .before .before .next .given .1) (keys-told _ _ _ _ _ _ (i .inv .0 .sized) (omega (arith, c .before .before .before .before .before .before .before .before .before .before .before .before .before .before .before .before .before .before .before .before .before .before .before .before .before .before .before .before .before .before .before .before .before .fits .n)) (λ j. omega (arith, c .before .before .before .before .before .before .before .before .before .before .before .before .before .before .before .before .before .before .before .before .before .before .before .before .before .before .before .before .before .before .before .before .shared-slice-known .given j))) _ _ (c .before .before .before .before .before .before .before .before .before .before .before .before .before .before .before .before .before .before .before .before .before .before .before .read-run .ensures .keys-kept) (c .before .before .before .before .before .before .before .before .before .before .before .before .before .repeats .ensures .1 .0) (c .before .before .before .before .before .before .before .before .before .before .if1 .left) _ _ (run-one _ _ _ _ _ _ _ _ _ _ (c .before .before .before .before .before .before .before .read-run2 .ensures .rows-stored)) _ _ place _ (c .before .number2 .given .1); keys-kept = keeps-trans (keeps-trans (keeps-trans (c .before .before .before .before .before .before .before .before .before .before .before .before .before .before .before .before .before .before .before .before .before .before .before .before .before .before .before .loop .inv .3) (c .before .before .before .before .before .before .before .before .before .before .before .before .before .before .before .before .before .before .before .before .before .before .before .read-run .ensures .keys-kept)) (c .before .before .before .before .before .before .before .before .before .before .before .before .before .repeats .ensures .0)) (c .before .before .before .before .before .before .before .read-run2 .ensures .keys-kept) }
 
 read-pairs-enum-known-next-2 : (t : ℕ) → read-pairs-lts.Need-enum-known-next-2 (read-pairs-calls t) (read-pairs-at t) read-pairs.Post read-pairs-Inv-loop read-pairs-μ-loop
 read-pairs-enum-known-next-2 t c = search needs
@@ -532,7 +532,7 @@ read-pairs-loop-again : (t : ℕ) → read-pairs-lts.Need-loop-again (read-pairs
 read-pairs-loop-again t c =
     let i = c .before .before .before .before .before .before .before .before .before .before .before .before .before .before .before .before .before .before .before .before .before .before .before .before .before .before .before .loop in
     let e : i .more ≡ 0 → ⊥ = omega (arith, c .before .before .before .before .before .before .before .before .before .before .before .before .before .before .before .before .before .before .before .before .before .before .before .before .before .before .loop-test .taken) in
-    (room-after _ _ _ _ _ _ _ _ _ _ _ _ _ _ _ (room-after _ _ _ _ _ _ _ _ _ _ _ _ _ _ _ (i .inv .0) (run-one _ _ _ _ _ _ _ _ _ _ (c .before .before .before .before .before .before .before .before .before .before .before .before .before .before .before .before .before .before .before .before .before .before .before .read-run .ensures .0)) (c .before .before .before .before .before .before .before .before .before .before .before .before .before .before .before .before .before .next .given .1) (c .before .before .before .before .before .before .before .before .before .before .before .before .before .before .before .before .before .before .before .before .before .before .before .read-run .kept .1 .1 .1 .1 .0)) (run-one _ _ _ _ _ _ _ _ _ _ (c .before .before .before .before .before .before .before .read-run2 .ensures .0)) (c .before .next2 .given .1) (c .before .before .before .before .before .before .before .read-run2 .kept .1 .1 .1 .1 .0), c .before .before .before .before .before .before .before .read-run2 .kept .1 .1 .1 .1 .0 ∙ c .before .before .before .before .before .before .before .before .before .before .before .before .before .before .before .before .before .before .before .before .before .before .before .read-run .kept .1 .1 .1 .1 .0 ∙ i .inv .1, entered-more _ _ _ _ _ _ _ _ _ _ _ _ _ _ _ (i .inv .2) e _ _ (run-one _ _ _ _ _ _ _ _ _ _ (c .before .before .before .before .before .before .before .before .before .before .before .before .before .before .before .before .before .before .before .before .before .before .before .read-run .ensures .0)) _ (i .inv .0) _ _ (c .before .before .before .before .before .before .before .before .before .before .before .before .before .before .before .before .before .next .given .1) (keys-told _ _ _ _ _ _ (i .inv .0 .sized) (omega (arith, c .before .before .before .before .before .before .before .before .before .before .before .before .before .before .before .before .before .before .before .before .before .before .before .before .before .before .before .before .before .before .before .before .before .fits .n)) (λ j. omega (arith, c .before .before .before .before .before .before .before .before .before .before .before .before .before .before .before .before .before .before .before .before .before .before .before .before .before .before .before .before .before .before .before .before .shared-slice-known .given j))) _ _ (c .before .before .before .before .before .before .before .before .before .before .before .before .before .before .before .before .before .before .before .before .before .before .before .read-run .ensures .1) (c .before .before .before .before .before .before .before .before .before .before .before .before .before .repeats .ensures .1 .0) (c .before .before .before .before .before .before .before .before .before .before .if1 .left) _ _ (run-one _ _ _ _ _ _ _ _ _ _ (c .before .before .before .before .before .before .before .read-run2 .ensures .0)) _ _ (c .before .next2 .given .1) _ _ (c .before .before .before .before .before .before .before .before .before .before .before .before .before .repeats .ensures .0) (c .before .before .before .before .before .before .before .read-run2 .ensures .1) (c .before .before .before .before .before .before .before .before .before .before .before .before .before .repeats .ensures .1 .1), keeps-trans (keeps-trans (keeps-trans (c .before .before .before .before .before .before .before .before .before .before .before .before .before .before .before .before .before .before .before .before .before .before .before .before .before .before .before .loop .inv .3) (c .before .before .before .before .before .before .before .before .before .before .before .before .before .before .before .before .before .before .before .before .before .before .before .read-run .ensures .1)) (c .before .before .before .before .before .before .before .before .before .before .before .before .before .repeats .ensures .0)) (c .before .before .before .before .before .before .before .read-run2 .ensures .1))
+    (room-after _ _ _ _ _ _ _ _ _ _ _ _ _ _ _ (room-after _ _ _ _ _ _ _ _ _ _ _ _ _ _ _ (i .inv .0) (run-one _ _ _ _ _ _ _ _ _ _ (c .before .before .before .before .before .before .before .before .before .before .before .before .before .before .before .before .before .before .before .before .before .before .before .read-run .ensures .rows-stored)) (c .before .before .before .before .before .before .before .before .before .before .before .before .before .before .before .before .before .next .given .1) (c .before .before .before .before .before .before .before .before .before .before .before .before .before .before .before .before .before .before .before .before .before .before .before .read-run .kept .1 .1 .1 .1 .0)) (run-one _ _ _ _ _ _ _ _ _ _ (c .before .before .before .before .before .before .before .read-run2 .ensures .rows-stored)) (c .before .next2 .given .1) (c .before .before .before .before .before .before .before .read-run2 .kept .1 .1 .1 .1 .0), c .before .before .before .before .before .before .before .read-run2 .kept .1 .1 .1 .1 .0 ∙ c .before .before .before .before .before .before .before .before .before .before .before .before .before .before .before .before .before .before .before .before .before .before .before .read-run .kept .1 .1 .1 .1 .0 ∙ i .inv .1, entered-more _ _ _ _ _ _ _ _ _ _ _ _ _ _ _ (i .inv .2) e _ _ (run-one _ _ _ _ _ _ _ _ _ _ (c .before .before .before .before .before .before .before .before .before .before .before .before .before .before .before .before .before .before .before .before .before .before .before .read-run .ensures .rows-stored)) _ (i .inv .0) _ _ (c .before .before .before .before .before .before .before .before .before .before .before .before .before .before .before .before .before .next .given .1) (keys-told _ _ _ _ _ _ (i .inv .0 .sized) (omega (arith, c .before .before .before .before .before .before .before .before .before .before .before .before .before .before .before .before .before .before .before .before .before .before .before .before .before .before .before .before .before .before .before .before .before .fits .n)) (λ j. omega (arith, c .before .before .before .before .before .before .before .before .before .before .before .before .before .before .before .before .before .before .before .before .before .before .before .before .before .before .before .before .before .before .before .before .shared-slice-known .given j))) _ _ (c .before .before .before .before .before .before .before .before .before .before .before .before .before .before .before .before .before .before .before .before .before .before .before .read-run .ensures .keys-kept) (c .before .before .before .before .before .before .before .before .before .before .before .before .before .repeats .ensures .1 .0) (c .before .before .before .before .before .before .before .before .before .before .if1 .left) _ _ (run-one _ _ _ _ _ _ _ _ _ _ (c .before .before .before .before .before .before .before .read-run2 .ensures .rows-stored)) _ _ (c .before .next2 .given .1) _ _ (c .before .before .before .before .before .before .before .before .before .before .before .before .before .repeats .ensures .0) (c .before .before .before .before .before .before .before .read-run2 .ensures .keys-kept) (c .before .before .before .before .before .before .before .before .before .before .before .before .before .repeats .ensures .1 .1), keeps-trans (keeps-trans (keeps-trans (c .before .before .before .before .before .before .before .before .before .before .before .before .before .before .before .before .before .before .before .before .before .before .before .before .before .before .before .loop .inv .3) (c .before .before .before .before .before .before .before .before .before .before .before .before .before .before .before .before .before .before .before .before .before .before .before .read-run .ensures .keys-kept)) (c .before .before .before .before .before .before .before .before .before .before .before .before .before .repeats .ensures .0)) (c .before .before .before .before .before .before .before .read-run2 .ensures .keys-kept))
 
 read-pairs-mul-t41 : (t : ℕ) → read-pairs-lts.Need-mul-t41 (read-pairs-calls t) (read-pairs-at t) read-pairs.Post read-pairs-Inv-loop read-pairs-μ-loop
 read-pairs-mul-t41 t c =
@@ -550,7 +550,7 @@ read-pairs-returns-4 : (t : ℕ) → read-pairs-lts.Need-returns-4 (read-pairs-c
 read-pairs-returns-4 t c =
     let i = c .before .loop in
     let e : i .more ≡ 0 = omega arith in
-    (λ place. entries-end _ _ _ _ _ _ _ _ _ _ _ _ _ _ _ (i .inv .2) place e (i .inv .0 .low) (i .inv .0 .near), c .before .loop .inv .3)
+    record { rows-stored = λ place. entries-end _ _ _ _ _ _ _ _ _ _ _ _ _ _ _ (i .inv .2) place e (i .inv .0 .low) (i .inv .0 .near); keys-kept = c .before .loop .inv .3 }
 
 read-parts-read-wanted-requires : (t : ℕ) → read-parts-lts.Need-read-wanted-requires (read-parts-calls t) (read-parts-at t) read-parts.Post
 read-parts-read-wanted-requires t c κs = (omega (arith, c .before .before .before .before .before .before .before .pre .0), (c .before .before .before .before .before .before .before .pre .1 .0, c .before .before .before .before .before .before .before .pre .1 .1))
@@ -562,7 +562,7 @@ read-parts-enum-known-next : (t : ℕ) → read-parts-lts.Need-enum-known-next (
 read-parts-enum-known-next t c = search needs
 
 read-parts-read-more-requires : (t : ℕ) → read-parts-lts.Need-read-more-requires (read-parts-calls t) (read-parts-at t) read-parts.Post
-read-parts-read-more-requires t c κs = (omega (arith, c .before .before .before .before .before .before .before .before .before .before .before .before .before .before .before .before .before .pre .0), (room-after _ _ _ _ _ _ _ _ _ _ _ _ _ _ _ (c .before .before .before .before .before .before .before .before .before .before .before .before .before .before .before .before .before .pre .1 .0) (c .before .before .before .before .before .before .before .before .before .read-wanted .ensures .0) (c .before .before .before .next .given .1) (c .before .before .before .before .before .before .before .before .before .read-wanted .kept .1 .1 .1 .1 .0), omega (arith, c .before .before .before .before .before .before .before .before .before .before .before .before .before .before .before .before .before .pre .1 .1, c .before .before .before .before .before .before .before .before .before .read-wanted .ensures .1 .as-many)))
+read-parts-read-more-requires t c κs = (omega (arith, c .before .before .before .before .before .before .before .before .before .before .before .before .before .before .before .before .before .pre .0), (room-after _ _ _ _ _ _ _ _ _ _ _ _ _ _ _ (c .before .before .before .before .before .before .before .before .before .before .before .before .before .before .before .before .before .pre .1 .0) (c .before .before .before .before .before .before .before .before .before .read-wanted .ensures .rows-stored) (c .before .before .before .next .given .1) (c .before .before .before .before .before .before .before .before .before .read-wanted .kept .1 .1 .1 .1 .0), omega (arith, c .before .before .before .before .before .before .before .before .before .before .before .before .before .before .before .before .before .pre .1 .1, c .before .before .before .before .before .before .before .before .before .read-wanted .ensures .keys-kept .as-many)))
 
 read-parts-enum-known-number-2 : (t : ℕ) → read-parts-lts.Need-enum-known-number-2 (read-parts-calls t) (read-parts-at t) read-parts.Post
 read-parts-enum-known-number-2 t c = search needs
@@ -571,7 +571,7 @@ read-parts-enum-known-next-2 : (t : ℕ) → read-parts-lts.Need-enum-known-next
 read-parts-enum-known-next-2 t c = search needs
 
 read-parts-read-later-requires : (t : ℕ) → read-parts-lts.Need-read-later-requires (read-parts-calls t) (read-parts-at t) read-parts.Post
-read-parts-read-later-requires t c κs = run-many _ _ _ _ _ _ _ _ _ _ _ (c .before .before .before .before .before .before .before .read-more .ensures .0) (c .before .next2 .given .1) .1
+read-parts-read-later-requires t c κs = run-many _ _ _ _ _ _ _ _ _ _ _ (c .before .before .before .before .before .before .before .read-more .ensures .rows-stored) (c .before .next2 .given .1) .1
 
 read-parts-enum-known-number-3 : (t : ℕ) → read-parts-lts.Need-enum-known-number-3 (read-parts-calls t) (read-parts-at t) read-parts.Post
 read-parts-enum-known-number-3 t c = search needs
@@ -580,7 +580,7 @@ read-parts-enum-known-next-3 : (t : ℕ) → read-parts-lts.Need-enum-known-next
 read-parts-enum-known-next-3 t c = search needs
 
 read-parts-add-t42 : (t : ℕ) → read-parts-lts.Need-add-t42 (read-parts-calls t) (read-parts-at t) read-parts.Post
-read-parts-add-t42 t c = let a = run-many _ _ _ _ _ _ _ _ _ _ _ (c .before .before .before .before .before .before .before .before .before .before .before .before .before .before .before .before .before .before .before .before .before .read-wanted .ensures .0) (c .before .before .before .before .before .before .before .before .before .before .before .before .before .before .before .next .given .1) in let b = run-many _ _ _ _ _ _ _ _ _ _ _ (c .before .before .before .before .before .before .before .before .before .before .before .read-more .ensures .0) (c .before .before .before .before .before .next2 .given .1) in omega arith
+read-parts-add-t42 t c = let a = run-many _ _ _ _ _ _ _ _ _ _ _ (c .before .before .before .before .before .before .before .before .before .before .before .before .before .before .before .before .before .before .before .before .before .read-wanted .ensures .rows-stored) (c .before .before .before .before .before .before .before .before .before .before .before .before .before .before .before .next .given .1) in let b = run-many _ _ _ _ _ _ _ _ _ _ _ (c .before .before .before .before .before .before .before .before .before .before .before .read-more .ensures .rows-stored) (c .before .before .before .before .before .next2 .given .1) in omega arith
 
 read-parts-same-length : (t : ℕ) → read-parts-lts.Need-same-length (read-parts-calls t) (read-parts-at t) read-parts.Post
 read-parts-same-length t c = c .before .before .before .before .before .before .before .read-wanted .kept .1 .1 .1 .1 .0
@@ -589,7 +589,7 @@ read-parts-same-length-2 : (t : ℕ) → read-parts-lts.Need-same-length-2 (read
 read-parts-same-length-2 t c = c .before .before .before .before .before .before .before .read-wanted .kept .1 .1 .1 .1 .1 .0
 
 read-parts-returns : (t : ℕ) → read-parts-lts.Need-returns (read-parts-calls t) (read-parts-at t) read-parts.Post
-read-parts-returns t c = (λ l kind later. parts-first _ _ _ _ _ _ _ _ _ _ l _ _ (c .before .before .before .before .before .before .before .read-wanted .ensures .0) _ _ _ (c .before .number .given .1), c .before .before .before .before .before .before .before .read-wanted .ensures .1)
+read-parts-returns t c = record { rows-stored = λ l kind later. parts-first _ _ _ _ _ _ _ _ _ _ l _ _ (c .before .before .before .before .before .before .before .read-wanted .ensures .rows-stored) _ _ _ (c .before .number .given .1); keys-kept = c .before .before .before .before .before .before .before .read-wanted .ensures .keys-kept }
 
 read-parts-same-length-3 : (t : ℕ) → read-parts-lts.Need-same-length-3 (read-parts-calls t) (read-parts-at t) read-parts.Post
 read-parts-same-length-3 t c = c .before .before .before .before .before .before .before .read-more .kept .1 .1 .1 .1 .0 ∙ c .before .before .before .before .before .before .before .before .before .before .before .before .before .before .before .before .before .read-wanted .kept .1 .1 .1 .1 .0
@@ -598,7 +598,7 @@ read-parts-same-length-4 : (t : ℕ) → read-parts-lts.Need-same-length-4 (read
 read-parts-same-length-4 t c = c .before .before .before .before .before .before .before .read-more .kept .1 .1 .1 .1 .1 .0 ∙ c .before .before .before .before .before .before .before .before .before .before .before .before .before .before .before .before .before .read-wanted .kept .1 .1 .1 .1 .1 .0
 
 read-parts-returns-2 : (t : ℕ) → read-parts-lts.Need-returns-2 (read-parts-calls t) (read-parts-at t) read-parts.Post
-read-parts-returns-2 t c = (λ l kind later. parts-second _ _ _ _ _ _ _ _ _ _ l _ _ (c .before .before .before .before .before .before .before .before .before .before .before .before .before .before .before .before .before .read-wanted .ensures .0) _ _ (c .before .before .before .before .before .before .before .before .before .before .before .next .given .1) _ _ (c .before .before .before .before .before .before .before .read-more .ensures .0) _ _ _ (c .before .number2 .given .1), keeps-trans (c .before .before .before .before .before .before .before .before .before .before .before .before .before .before .before .before .before .read-wanted .ensures .1) (c .before .before .before .before .before .before .before .read-more .ensures .1))
+read-parts-returns-2 t c = record { rows-stored = λ l kind later. parts-second _ _ _ _ _ _ _ _ _ _ l _ _ (c .before .before .before .before .before .before .before .before .before .before .before .before .before .before .before .before .before .read-wanted .ensures .rows-stored) _ _ (c .before .before .before .before .before .before .before .before .before .before .before .next .given .1) _ _ (c .before .before .before .before .before .before .before .read-more .ensures .rows-stored) _ _ _ (c .before .number2 .given .1); keys-kept = keeps-trans (c .before .before .before .before .before .before .before .before .before .before .before .before .before .before .before .before .before .read-wanted .ensures .keys-kept) (c .before .before .before .before .before .before .before .read-more .ensures .keys-kept) }
 
 read-parts-same-length-5 : (t : ℕ) → read-parts-lts.Need-same-length-5 (read-parts-calls t) (read-parts-at t) read-parts.Post
 read-parts-same-length-5 t c = c .before .before .before .before .before .before .before .before .before .before .before .read-more .kept .1 .1 .1 .1 .0 ∙ c .before .before .before .before .before .before .before .before .before .before .before .before .before .before .before .before .before .before .before .before .before .read-wanted .kept .1 .1 .1 .1 .0
@@ -607,7 +607,7 @@ read-parts-same-length-6 : (t : ℕ) → read-parts-lts.Need-same-length-6 (read
 read-parts-same-length-6 t c = c .before .before .before .before .before .before .before .before .before .before .before .read-more .kept .1 .1 .1 .1 .1 .0 ∙ c .before .before .before .before .before .before .before .before .before .before .before .before .before .before .before .before .before .before .before .before .before .read-wanted .kept .1 .1 .1 .1 .1 .0
 
 read-parts-returns-3 : (t : ℕ) → read-parts-lts.Need-returns-3 (read-parts-calls t) (read-parts-at t) read-parts.Post
-read-parts-returns-3 t c = (λ l kind later. parts-later-refused _ _ _ _ _ _ _ _ _ _ l _ _ (c .before .before .before .before .before .before .before .before .before .before .before .before .before .before .before .before .before .before .before .before .before .read-wanted .ensures .0) _ _ (c .before .before .before .before .before .before .before .before .before .before .before .before .before .before .before .next .given .1) _ _ (c .before .before .before .before .before .before .before .before .before .before .before .read-more .ensures .0) _ _ (c .before .before .before .before .before .next2 .given .1) _ (c .before .before .before .read-later .ensures l later _) _ _ _ (c .before .number3 .given .1), keeps-trans (c .before .before .before .before .before .before .before .before .before .before .before .before .before .before .before .before .before .before .before .before .before .read-wanted .ensures .1) (c .before .before .before .before .before .before .before .before .before .before .before .read-more .ensures .1))
+read-parts-returns-3 t c = record { rows-stored = λ l kind later. parts-later-refused _ _ _ _ _ _ _ _ _ _ l _ _ (c .before .before .before .before .before .before .before .before .before .before .before .before .before .before .before .before .before .before .before .before .before .read-wanted .ensures .rows-stored) _ _ (c .before .before .before .before .before .before .before .before .before .before .before .before .before .before .before .next .given .1) _ _ (c .before .before .before .before .before .before .before .before .before .before .before .read-more .ensures .rows-stored) _ _ (c .before .before .before .before .before .next2 .given .1) _ (c .before .before .before .read-later .ensures l later _) _ _ _ (c .before .number3 .given .1); keys-kept = keeps-trans (c .before .before .before .before .before .before .before .before .before .before .before .before .before .before .before .before .before .before .before .before .before .read-wanted .ensures .keys-kept) (c .before .before .before .before .before .before .before .before .before .before .before .read-more .ensures .keys-kept) }
 
 read-parts-same-length-7 : (t : ℕ) → read-parts-lts.Need-same-length-7 (read-parts-calls t) (read-parts-at t) read-parts.Post
 read-parts-same-length-7 t c = c .before .before .before .before .before .before .before .before .before .before .before .read-more .kept .1 .1 .1 .1 .0 ∙ c .before .before .before .before .before .before .before .before .before .before .before .before .before .before .before .before .before .before .before .before .before .read-wanted .kept .1 .1 .1 .1 .0
@@ -616,7 +616,7 @@ read-parts-same-length-8 : (t : ℕ) → read-parts-lts.Need-same-length-8 (read
 read-parts-same-length-8 t c = c .before .before .before .before .before .before .before .before .before .before .before .read-more .kept .1 .1 .1 .1 .1 .0 ∙ c .before .before .before .before .before .before .before .before .before .before .before .before .before .before .before .before .before .before .before .before .before .read-wanted .kept .1 .1 .1 .1 .1 .0
 
 read-parts-returns-4 : (t : ℕ) → read-parts-lts.Need-returns-4 (read-parts-calls t) (read-parts-at t) read-parts.Post
-read-parts-returns-4 t c = (λ l kind later. parts-got _ _ _ _ _ _ _ _ _ _ l _ _ (c .before .before .before .before .before .before .before .before .before .before .before .before .before .before .before .before .before .before .before .before .before .read-wanted .ensures .0) _ _ (c .before .before .before .before .before .before .before .before .before .before .before .before .before .before .before .next .given .1) _ _ (c .before .before .before .before .before .before .before .before .before .before .before .read-more .ensures .0) _ _ (c .before .before .before .before .before .next2 .given .1) _ (c .before .before .before .read-later .ensures l later _) _ _ kind (c .before .next3 .given .1), keeps-trans (c .before .before .before .before .before .before .before .before .before .before .before .before .before .before .before .before .before .before .before .before .before .read-wanted .ensures .1) (c .before .before .before .before .before .before .before .before .before .before .before .read-more .ensures .1))
+read-parts-returns-4 t c = record { rows-stored = λ l kind later. parts-got _ _ _ _ _ _ _ _ _ _ l _ _ (c .before .before .before .before .before .before .before .before .before .before .before .before .before .before .before .before .before .before .before .before .before .read-wanted .ensures .rows-stored) _ _ (c .before .before .before .before .before .before .before .before .before .before .before .before .before .before .before .next .given .1) _ _ (c .before .before .before .before .before .before .before .before .before .before .before .read-more .ensures .rows-stored) _ _ (c .before .before .before .before .before .next2 .given .1) _ (c .before .before .before .read-later .ensures l later _) _ _ kind (c .before .next3 .given .1); keys-kept = keeps-trans (c .before .before .before .before .before .before .before .before .before .before .before .before .before .before .before .before .before .before .before .before .before .read-wanted .ensures .keys-kept) (c .before .before .before .before .before .before .before .before .before .before .before .read-more .ensures .keys-kept) }
 
 abbrev read-run-Inv-loop : read-run-lts.InvT-loop
 read-run-Inv-loop msg n places lengths table₀ seen₀ at row whole deep cap wanted count at-now₀ row-now₀ more₀ table seen at-now row-now more =
@@ -682,7 +682,7 @@ read-run-returns : (t : ℕ) → read-run-lts.Need-returns (read-run-calls t) (r
 read-run-returns t c =
     let i = c .before .before .before .before .before .before .before .before .before .before .before .before .before .before .loop in
     let e : i .more ≡ 0 → ⊥ = omega arith in
-    (i .inv .2 _ _ (run-refused _ _ _ _ _ _ _ _ _ e _ _ _ _ _ (c .before .number .given .1) (c .before .before .before .before .before .before .before .read-term .ensures .0)), keeps-trans (i .inv .3) (c .before .before .before .before .before .before .before .read-term .ensures .1))
+    record { rows-stored = i .inv .2 _ _ (run-refused _ _ _ _ _ _ _ _ _ e _ _ _ _ _ (c .before .number .given .1) (c .before .before .before .before .before .before .before .read-term .ensures .rows-stored)); keys-kept = keeps-trans (i .inv .3) (c .before .before .before .before .before .before .before .read-term .ensures .keys-kept) }
 
 read-run-enum-known-next : (t : ℕ) → read-run-lts.Need-enum-known-next (read-run-calls t) (read-run-at t) read-run.Post read-run-Inv-loop read-run-μ-loop
 read-run-enum-known-next t c = search needs
@@ -697,7 +697,7 @@ read-run-loop-again-2 : (t : ℕ) → read-run-lts.Need-loop-again-2 (read-run-c
 read-run-loop-again-2 t c =
     let i = c .before .before .before .before .before .before .before .before .before .before .before .before .before .before .loop in
     let e : i .more ≡ 0 → ⊥ = omega arith in
-    (room-after _ _ _ _ _ _ _ _ _ _ _ _ _ _ _ (i .inv .0) (c .before .before .before .before .before .before .before .read-term .ensures .0) (c .before .next .given .1) (c .before .before .before .before .before .before .before .read-term .kept .1 .1 .1 .1 .0), c .before .before .before .before .before .before .before .read-term .kept .1 .1 .1 .1 .0 ∙ i .inv .1, (λ s U d. i .inv .2 s U (run-more _ _ _ _ _ _ _ _ _ e _ _ _ _ s U (c .before .next .given .1) (c .before .before .before .before .before .before .before .read-term .ensures .0) d)), keeps-trans (i .inv .3) (c .before .before .before .before .before .before .before .read-term .ensures .1))
+    (room-after _ _ _ _ _ _ _ _ _ _ _ _ _ _ _ (i .inv .0) (c .before .before .before .before .before .before .before .read-term .ensures .rows-stored) (c .before .next .given .1) (c .before .before .before .before .before .before .before .read-term .kept .1 .1 .1 .1 .0), c .before .before .before .before .before .before .before .read-term .kept .1 .1 .1 .1 .0 ∙ i .inv .1, (λ s U d. i .inv .2 s U (run-more _ _ _ _ _ _ _ _ _ e _ _ _ _ s U (c .before .next .given .1) (c .before .before .before .before .before .before .before .read-term .ensures .rows-stored) d)), keeps-trans (i .inv .3) (c .before .before .before .before .before .before .before .read-term .ensures .keys-kept))
 
 read-run-same-length-3 : (t : ℕ) → read-run-lts.Need-same-length-3 (read-run-calls t) (read-run-at t) read-run.Post read-run-Inv-loop read-run-μ-loop
 read-run-same-length-3 t c = c .before .loop .inv .1
@@ -709,7 +709,7 @@ read-run-returns-2 : (t : ℕ) → read-run-lts.Need-returns-2 (read-run-calls t
 read-run-returns-2 t c =
     let i = c .before .loop in
     let e : i .more ≡ 0 = omega arith in
-    (i .inv .2 _ _ (run-none _ _ _ _ _ _ _ _ _ e (i .inv .0 .low) (i .inv .0 .near)), i .inv .3)
+    record { rows-stored = i .inv .2 _ _ (run-none _ _ _ _ _ _ _ _ _ e (i .inv .0 .low) (i .inv .0 .near)); keys-kept = i .inv .3 }
 
 abbrev read-tail-Inv-loop : read-tail-lts.InvT-loop
 read-tail-Inv-loop msg n places lengths table₀ seen₀ at row whole deep cap before at-now₀ row-now₀ sum₀ table seen at-now row-now sum =
@@ -746,19 +746,19 @@ read-tail-same-length-2 : (t : ℕ) → read-tail-lts.Need-same-length-2 (read-t
 read-tail-same-length-2 t c = c .before .before .before .before .before .before .before .read-run .kept .1 .1 .1 .1 .1 .0 ∙ c .before .before .before .before .before .before .before .before .before .before .before .before .before .before .loop .inv .4 .as-many
 
 read-tail-returns : (t : ℕ) → read-tail-lts.Need-returns (read-tail-calls t) (read-tail-at t) read-tail.Post read-tail-Inv-loop read-tail-μ-loop
-read-tail-returns t c = (tailed-run-refused _ _ _ _ _ _ _ _ _ _ (c .before .before .before .before .before .before .before .before .before .before .before .before .before .before .loop .inv .3) (opened _ _ _ (c .before .before .before .before .before .before .before .before .before .before .before .before .before .before .loop .row-now) _ _ (c .before .before .before .before .before .before .before .before .before .before .before .before .before .read-opening .ensures) (λ k p e. miss (3 ∷ []) 0 tt (rw e at (c .before .before .before .before .before .before .before .before .before .before .before .before .match .keys1))) (c .before .before .before .before .before .before .before .before .before .before .before .before .before .before .loop .inv .0 .near)) _ _ (c .before .before .before .before .before .before .before .before .before .before .before .head .given .1) _ _ (c .before .before .before .before .before .before .before .read-run .ensures .0) _ _ _ (c .before .number .given .1), keeps-trans (c .before .before .before .before .before .before .before .before .before .before .before .before .before .before .loop .inv .4) (c .before .before .before .before .before .before .before .read-run .ensures .1))
+read-tail-returns t c = record { rows-stored = tailed-run-refused _ _ _ _ _ _ _ _ _ _ (c .before .before .before .before .before .before .before .before .before .before .before .before .before .before .loop .inv .3) (opened _ _ _ (c .before .before .before .before .before .before .before .before .before .before .before .before .before .before .loop .row-now) _ _ (c .before .before .before .before .before .before .before .before .before .before .before .before .before .read-opening .ensures) (λ k p e. miss (3 ∷ []) 0 tt (rw e at (c .before .before .before .before .before .before .before .before .before .before .before .before .match .keys1))) (c .before .before .before .before .before .before .before .before .before .before .before .before .before .before .loop .inv .0 .near)) _ _ (c .before .before .before .before .before .before .before .before .before .before .before .head .given .1) _ _ (c .before .before .before .before .before .before .before .read-run .ensures .rows-stored) _ _ _ (c .before .number .given .1); keys-kept = keeps-trans (c .before .before .before .before .before .before .before .before .before .before .before .before .before .before .loop .inv .4) (c .before .before .before .before .before .before .before .read-run .ensures .keys-kept) }
 
 read-tail-enum-known-next : (t : ℕ) → read-tail-lts.Need-enum-known-next (read-tail-calls t) (read-tail-at t) read-tail.Post read-tail-Inv-loop read-tail-μ-loop
 read-tail-enum-known-next t c = search needs
 
 read-tail-add-sum : (t : ℕ) → read-tail-lts.Need-add-sum (read-tail-calls t) (read-tail-at t) read-tail.Post read-tail-Inv-loop read-tail-μ-loop
-read-tail-add-sum t c = let a = run-many _ _ _ _ _ _ _ _ _ _ _ (c .before .before .before .before .before .before .before .read-run .ensures .0) (c .before .next .given .1) in let b = room-after _ _ _ _ _ _ _ _ _ _ _ _ _ _ _ (room-at _ _ _ _ _ _ _ _ (c .before .before .before .before .before .before .before .before .before .before .before .before .before .before .loop .inv .0) (opens-near _ _ _ _ (opens _ _ _ _ _ (opened _ _ _ (c .before .before .before .before .before .before .before .before .before .before .before .before .before .before .loop .row-now) _ _ (c .before .before .before .before .before .before .before .before .before .before .before .before .before .read-opening .ensures) (λ k p e. miss (3 ∷ []) 0 tt (rw e at (c .before .before .before .before .before .before .before .before .before .before .before .before .match .keys1))) (c .before .before .before .before .before .before .before .before .before .before .before .before .before .before .loop .inv .0 .near))) (c .before .before .before .before .before .before .before .before .before .before .before .head .given .1))) (c .before .before .before .before .before .before .before .read-run .ensures .0) (c .before .next .given .1) (c .before .before .before .before .before .before .before .read-run .kept .1 .1 .1 .1 .0) in omega arith
+read-tail-add-sum t c = let a = run-many _ _ _ _ _ _ _ _ _ _ _ (c .before .before .before .before .before .before .before .read-run .ensures .rows-stored) (c .before .next .given .1) in let b = room-after _ _ _ _ _ _ _ _ _ _ _ _ _ _ _ (room-at _ _ _ _ _ _ _ _ (c .before .before .before .before .before .before .before .before .before .before .before .before .before .before .loop .inv .0) (opens-near _ _ _ _ (opens _ _ _ _ _ (opened _ _ _ (c .before .before .before .before .before .before .before .before .before .before .before .before .before .before .loop .row-now) _ _ (c .before .before .before .before .before .before .before .before .before .before .before .before .before .read-opening .ensures) (λ k p e. miss (3 ∷ []) 0 tt (rw e at (c .before .before .before .before .before .before .before .before .before .before .before .before .match .keys1))) (c .before .before .before .before .before .before .before .before .before .before .before .before .before .before .loop .inv .0 .near))) (c .before .before .before .before .before .before .before .before .before .before .before .head .given .1))) (c .before .before .before .before .before .before .before .read-run .ensures .rows-stored) (c .before .next .given .1) (c .before .before .before .before .before .before .before .read-run .kept .1 .1 .1 .1 .0) in omega arith
 
 read-tail-loop-less : (t : ℕ) → read-tail-lts.Need-loop-less (read-tail-calls t) (read-tail-at t) read-tail.Post read-tail-Inv-loop read-tail-μ-loop
-read-tail-loop-less t c = let a = tailed-further _ _ _ _ _ _ _ _ _ _ (c .before .before .before .before .before .before .before .before .before .before .before .before .before .before .loop .inv .3) (opened _ _ _ (c .before .before .before .before .before .before .before .before .before .before .before .before .before .before .loop .row-now) _ _ (c .before .before .before .before .before .before .before .before .before .before .before .before .before .read-opening .ensures) (λ k p e. miss (3 ∷ []) 0 tt (rw e at (c .before .before .before .before .before .before .before .before .before .before .before .before .match .keys1))) (c .before .before .before .before .before .before .before .before .before .before .before .before .before .before .loop .inv .0 .near)) _ _ (c .before .before .before .before .before .before .before .before .before .before .before .head .given .1) _ _ (c .before .before .before .before .before .before .before .read-run .ensures .0) _ _ (c .before .next .given .1) in omega (arith, run-many _ _ _ _ _ _ _ _ _ _ _ (c .before .before .before .before .before .before .before .read-run .ensures .0) (c .before .next .given .1) .1)
+read-tail-loop-less t c = let a = tailed-further _ _ _ _ _ _ _ _ _ _ (c .before .before .before .before .before .before .before .before .before .before .before .before .before .before .loop .inv .3) (opened _ _ _ (c .before .before .before .before .before .before .before .before .before .before .before .before .before .before .loop .row-now) _ _ (c .before .before .before .before .before .before .before .before .before .before .before .before .before .read-opening .ensures) (λ k p e. miss (3 ∷ []) 0 tt (rw e at (c .before .before .before .before .before .before .before .before .before .before .before .before .match .keys1))) (c .before .before .before .before .before .before .before .before .before .before .before .before .before .before .loop .inv .0 .near)) _ _ (c .before .before .before .before .before .before .before .before .before .before .before .head .given .1) _ _ (c .before .before .before .before .before .before .before .read-run .ensures .rows-stored) _ _ (c .before .next .given .1) in omega (arith, run-many _ _ _ _ _ _ _ _ _ _ _ (c .before .before .before .before .before .before .before .read-run .ensures .rows-stored) (c .before .next .given .1) .1)
 
 read-tail-loop-again : (t : ℕ) → read-tail-lts.Need-loop-again (read-tail-calls t) (read-tail-at t) read-tail.Post read-tail-Inv-loop read-tail-μ-loop
-read-tail-loop-again t c = (room-after _ _ _ _ _ _ _ _ _ _ _ _ _ _ _ (room-at _ _ _ _ _ _ _ _ (c .before .before .before .before .before .before .before .before .before .before .before .before .before .before .loop .inv .0) (opens-near _ _ _ _ (opens _ _ _ _ _ (opened _ _ _ (c .before .before .before .before .before .before .before .before .before .before .before .before .before .before .loop .row-now) _ _ (c .before .before .before .before .before .before .before .before .before .before .before .before .before .read-opening .ensures) (λ k p e. miss (3 ∷ []) 0 tt (rw e at (c .before .before .before .before .before .before .before .before .before .before .before .before .match .keys1))) (c .before .before .before .before .before .before .before .before .before .before .before .before .before .before .loop .inv .0 .near))) (c .before .before .before .before .before .before .before .before .before .before .before .head .given .1))) (c .before .before .before .before .before .before .before .read-run .ensures .0) (c .before .next .given .1) (c .before .before .before .before .before .before .before .read-run .kept .1 .1 .1 .1 .0), c .before .before .before .before .before .before .before .read-run .kept .1 .1 .1 .1 .0 ∙ c .before .before .before .before .before .before .before .before .before .before .before .before .before .before .loop .inv .1, omega (arith, run-many _ _ _ _ _ _ _ _ _ _ _ (c .before .before .before .before .before .before .before .read-run .ensures .0) (c .before .next .given .1) .0), tailed-more _ _ _ _ _ _ _ _ _ _ (c .before .before .before .before .before .before .before .before .before .before .before .before .before .before .loop .inv .3) (opened _ _ _ (c .before .before .before .before .before .before .before .before .before .before .before .before .before .before .loop .row-now) _ _ (c .before .before .before .before .before .before .before .before .before .before .before .before .before .read-opening .ensures) (λ k p e. miss (3 ∷ []) 0 tt (rw e at (c .before .before .before .before .before .before .before .before .before .before .before .before .match .keys1))) (c .before .before .before .before .before .before .before .before .before .before .before .before .before .before .loop .inv .0 .near)) _ _ (c .before .before .before .before .before .before .before .before .before .before .before .head .given .1) _ _ (c .before .before .before .before .before .before .before .read-run .ensures .0) _ _ (c .before .next .given .1), keeps-trans (c .before .before .before .before .before .before .before .before .before .before .before .before .before .before .loop .inv .4) (c .before .before .before .before .before .before .before .read-run .ensures .1))
+read-tail-loop-again t c = (room-after _ _ _ _ _ _ _ _ _ _ _ _ _ _ _ (room-at _ _ _ _ _ _ _ _ (c .before .before .before .before .before .before .before .before .before .before .before .before .before .before .loop .inv .0) (opens-near _ _ _ _ (opens _ _ _ _ _ (opened _ _ _ (c .before .before .before .before .before .before .before .before .before .before .before .before .before .before .loop .row-now) _ _ (c .before .before .before .before .before .before .before .before .before .before .before .before .before .read-opening .ensures) (λ k p e. miss (3 ∷ []) 0 tt (rw e at (c .before .before .before .before .before .before .before .before .before .before .before .before .match .keys1))) (c .before .before .before .before .before .before .before .before .before .before .before .before .before .before .loop .inv .0 .near))) (c .before .before .before .before .before .before .before .before .before .before .before .head .given .1))) (c .before .before .before .before .before .before .before .read-run .ensures .rows-stored) (c .before .next .given .1) (c .before .before .before .before .before .before .before .read-run .kept .1 .1 .1 .1 .0), c .before .before .before .before .before .before .before .read-run .kept .1 .1 .1 .1 .0 ∙ c .before .before .before .before .before .before .before .before .before .before .before .before .before .before .loop .inv .1, omega (arith, run-many _ _ _ _ _ _ _ _ _ _ _ (c .before .before .before .before .before .before .before .read-run .ensures .rows-stored) (c .before .next .given .1) .0), tailed-more _ _ _ _ _ _ _ _ _ _ (c .before .before .before .before .before .before .before .before .before .before .before .before .before .before .loop .inv .3) (opened _ _ _ (c .before .before .before .before .before .before .before .before .before .before .before .before .before .before .loop .row-now) _ _ (c .before .before .before .before .before .before .before .before .before .before .before .before .before .read-opening .ensures) (λ k p e. miss (3 ∷ []) 0 tt (rw e at (c .before .before .before .before .before .before .before .before .before .before .before .before .match .keys1))) (c .before .before .before .before .before .before .before .before .before .before .before .before .before .before .loop .inv .0 .near)) _ _ (c .before .before .before .before .before .before .before .before .before .before .before .head .given .1) _ _ (c .before .before .before .before .before .before .before .read-run .ensures .rows-stored) _ _ (c .before .next .given .1), keeps-trans (c .before .before .before .before .before .before .before .before .before .before .before .before .before .before .loop .inv .4) (c .before .before .before .before .before .before .before .read-run .ensures .keys-kept))
 
 read-tail-enum-known-head-2 : (t : ℕ) → read-tail-lts.Need-enum-known-head-2 (read-tail-calls t) (read-tail-at t) read-tail.Post read-tail-Inv-loop read-tail-μ-loop
 read-tail-enum-known-head-2 t c = search needs
@@ -770,7 +770,7 @@ read-tail-same-length-4 : (t : ℕ) → read-tail-lts.Need-same-length-4 (read-t
 read-tail-same-length-4 t c = c .before .before .before .before .loop .inv .4 .as-many
 
 read-tail-returns-2 : (t : ℕ) → read-tail-lts.Need-returns-2 (read-tail-calls t) (read-tail-at t) read-tail.Post read-tail-Inv-loop read-tail-μ-loop
-read-tail-returns-2 t c = (tailed-refused _ _ _ _ _ _ _ _ _ _ (c .before .before .before .before .loop .inv .3) _ _ _ _ (c .before .before .before .read-opening .ensures) (c .before .head2 .given .1), c .before .before .before .before .loop .inv .4)
+read-tail-returns-2 t c = record { rows-stored = tailed-refused _ _ _ _ _ _ _ _ _ _ (c .before .before .before .before .loop .inv .3) _ _ _ _ (c .before .before .before .read-opening .ensures) (c .before .head2 .given .1); keys-kept = c .before .before .before .before .loop .inv .4 }
 
 read-tail-read-last-requires : (t : ℕ) → read-tail-lts.Need-read-last-requires (read-tail-calls t) (read-tail-at t) read-tail.Post read-tail-Inv-loop read-tail-μ-loop
 read-tail-read-last-requires t c κs =
@@ -784,7 +784,7 @@ read-tail-same-length-6 : (t : ℕ) → read-tail-lts.Need-same-length-6 (read-t
 read-tail-same-length-6 t c = c .before .before .before .before .read-last .kept .1 .1 .1 .1 .1 .0 ∙ c .before .before .before .before .before .before .before .before .before .loop .inv .4 .as-many
 
 read-tail-returns-3 : (t : ℕ) → read-tail-lts.Need-returns-3 (read-tail-calls t) (read-tail-at t) read-tail.Post read-tail-Inv-loop read-tail-μ-loop
-read-tail-returns-3 t c = (tailed-last _ _ _ _ _ _ _ _ _ _ (c .before .before .before .before .before .before .before .before .before .loop .inv .3) (opened _ _ _ (c .before .before .before .before .before .before .before .before .before .loop .row-now) _ _ (c .before .before .before .before .before .before .before .before .read-opening .ensures) (λ k p e. miss (1 ∷ 2 ∷ 4 ∷ []) 0 tt (rw e at (c .before .before .before .before .before .before .before .match .keys3))) (c .before .before .before .before .before .before .before .before .before .loop .inv .0 .near)) _ _ (λ k p e. miss (1 ∷ 2 ∷ 4 ∷ []) 3 tt (rw e at (c .before .before .before .before .before .before .before .match .keys3))) (c .before .before .before .before .read-last .ensures .0), keeps-trans (c .before .before .before .before .before .before .before .before .before .loop .inv .4) (c .before .before .before .before .read-last .ensures .1))
+read-tail-returns-3 t c = record { rows-stored = tailed-last _ _ _ _ _ _ _ _ _ _ (c .before .before .before .before .before .before .before .before .before .loop .inv .3) (opened _ _ _ (c .before .before .before .before .before .before .before .before .before .loop .row-now) _ _ (c .before .before .before .before .before .before .before .before .read-opening .ensures) (λ k p e. miss (1 ∷ 2 ∷ 4 ∷ []) 0 tt (rw e at (c .before .before .before .before .before .before .before .match .keys3))) (c .before .before .before .before .before .before .before .before .before .loop .inv .0 .near)) _ _ (λ k p e. miss (1 ∷ 2 ∷ 4 ∷ []) 3 tt (rw e at (c .before .before .before .before .before .before .before .match .keys3))) (c .before .before .before .before .read-last .ensures .rows-stored); keys-kept = keeps-trans (c .before .before .before .before .before .before .before .before .before .loop .inv .4) (c .before .before .before .before .read-last .ensures .keys-kept) }
 
 read-wanted-at-most-requires : (t : ℕ) → read-wanted-lts.Need-at-most-requires (read-wanted-calls t) (read-wanted-at t) read-wanted.Post
 read-wanted-at-most-requires t c κs = search needs
@@ -802,7 +802,7 @@ read-wanted-sub-read-more : (t : ℕ) → read-wanted-lts.Need-sub-read-more (re
 read-wanted-sub-read-more t c = omega (arith, c .before .before .before .before .before .before .before .before .before .before .before .before .at-most .ensures)
 
 read-wanted-read-more-requires : (t : ℕ) → read-wanted-lts.Need-read-more-requires (read-wanted-calls t) (read-wanted-at t) read-wanted.Post
-read-wanted-read-more-requires t c κs = (omega (arith, c .before .before .before .before .before .before .before .before .before .before .before .before .before .before .before .before .before .before .pre .0), (room-after _ _ _ _ _ _ _ _ _ _ _ _ _ _ _ (c .before .before .before .before .before .before .before .before .before .before .before .before .before .before .before .before .before .before .pre .1 .0) (c .before .before .before .before .before .before .before .before .before .read-run .ensures .0) (c .before .before .before .next .given .1) (c .before .before .before .before .before .before .before .before .before .read-run .kept .1 .1 .1 .1 .0), omega (arith, c .before .before .before .before .before .before .before .before .before .before .before .before .before .before .before .before .before .before .pre .1 .1, c .before .before .before .before .before .before .before .before .before .read-run .ensures .1 .as-many)))
+read-wanted-read-more-requires t c κs = (omega (arith, c .before .before .before .before .before .before .before .before .before .before .before .before .before .before .before .before .before .before .pre .0), (room-after _ _ _ _ _ _ _ _ _ _ _ _ _ _ _ (c .before .before .before .before .before .before .before .before .before .before .before .before .before .before .before .before .before .before .pre .1 .0) (c .before .before .before .before .before .before .before .before .before .read-run .ensures .rows-stored) (c .before .before .before .next .given .1) (c .before .before .before .before .before .before .before .before .before .read-run .kept .1 .1 .1 .1 .0), omega (arith, c .before .before .before .before .before .before .before .before .before .before .before .before .before .before .before .before .before .before .pre .1 .1, c .before .before .before .before .before .before .before .before .before .read-run .ensures .keys-kept .as-many)))
 
 read-wanted-same-length : (t : ℕ) → read-wanted-lts.Need-same-length (read-wanted-calls t) (read-wanted-at t) read-wanted.Post
 read-wanted-same-length t c = c .before .before .before .before .before .before .before .read-run .kept .1 .1 .1 .1 .0
@@ -811,7 +811,7 @@ read-wanted-same-length-2 : (t : ℕ) → read-wanted-lts.Need-same-length-2 (re
 read-wanted-same-length-2 t c = c .before .before .before .before .before .before .before .read-run .kept .1 .1 .1 .1 .1 .0
 
 read-wanted-returns : (t : ℕ) → read-wanted-lts.Need-returns (read-wanted-calls t) (read-wanted-at t) read-wanted.Post
-read-wanted-returns t c = (wanted-refused _ _ _ _ _ _ _ _ _ (c .before .before .before .before .before .before .before .before .before .before .at-most .ensures) _ _ (c .before .before .before .before .before .before .before .read-run .ensures .0) _ _ _ (c .before .number .given .1), c .before .before .before .before .before .before .before .read-run .ensures .1)
+read-wanted-returns t c = record { rows-stored = wanted-refused _ _ _ _ _ _ _ _ _ (c .before .before .before .before .before .before .before .before .before .before .at-most .ensures) _ _ (c .before .before .before .before .before .before .before .read-run .ensures .rows-stored) _ _ _ (c .before .number .given .1); keys-kept = c .before .before .before .before .before .before .before .read-run .ensures .keys-kept }
 
 read-wanted-same-length-3 : (t : ℕ) → read-wanted-lts.Need-same-length-3 (read-wanted-calls t) (read-wanted-at t) read-wanted.Post
 read-wanted-same-length-3 t c = c .before .before .before .before .read-more .kept .1 .1 .1 .1 .0 ∙ c .before .before .before .before .before .before .before .before .before .before .before .before .before .before .read-run .kept .1 .1 .1 .1 .0
@@ -820,10 +820,10 @@ read-wanted-same-length-4 : (t : ℕ) → read-wanted-lts.Need-same-length-4 (re
 read-wanted-same-length-4 t c = c .before .before .before .before .read-more .kept .1 .1 .1 .1 .1 .0 ∙ c .before .before .before .before .before .before .before .before .before .before .before .before .before .before .read-run .kept .1 .1 .1 .1 .1 .0
 
 read-wanted-returns-2 : (t : ℕ) → read-wanted-lts.Need-returns-2 (read-wanted-calls t) (read-wanted-at t) read-wanted.Post
-read-wanted-returns-2 t c = (wanted-more _ _ _ _ _ _ _ _ _ (c .before .before .before .before .before .before .before .before .before .before .before .before .before .before .before .before .before .at-most .ensures) _ _ (c .before .before .before .before .before .before .before .before .before .before .before .before .before .before .read-run .ensures .0) _ _ _ _ (c .before .before .before .before .before .before .before .before .next .given .1) (c .before .before .before .before .read-more .ensures .0), keeps-trans (c .before .before .before .before .before .before .before .before .before .before .before .before .before .before .read-run .ensures .1) (c .before .before .before .before .read-more .ensures .1))
+read-wanted-returns-2 t c = record { rows-stored = wanted-more _ _ _ _ _ _ _ _ _ (c .before .before .before .before .before .before .before .before .before .before .before .before .before .before .before .before .before .at-most .ensures) _ _ (c .before .before .before .before .before .before .before .before .before .before .before .before .before .before .read-run .ensures .rows-stored) _ _ _ _ (c .before .before .before .before .before .before .before .before .next .given .1) (c .before .before .before .before .read-more .ensures .rows-stored); keys-kept = keeps-trans (c .before .before .before .before .before .before .before .before .before .before .before .before .before .before .read-run .ensures .keys-kept) (c .before .before .before .before .read-more .ensures .keys-kept) }
 
 read-common-returns : (t : ℕ) → read-common-lts.Need-returns (read-common-calls t) (read-common-at t) read-common.Post
-read-common-returns t c = (λ place h next told. common-leaf _ _ _ _ place _ _ _ told (c .if1 .taken) (omega (arith, told-next told, c .before .before .before .before .before .before .pre .1 .0 .near)) (c .before .before .before .before .before .before .pre .1 .0 .low), keeps-refl _)
+read-common-returns t c = record { rows-stored = λ place h next told. common-leaf _ _ _ _ place _ _ _ told (c .if1 .taken) (omega (arith, told-next told, c .before .before .before .before .before .before .pre .1 .0 .near)) (c .before .before .before .before .before .before .pre .1 .0 .low); keys-kept = keeps-refl _ }
 
 read-common-read-list-requires : (t : ℕ) → read-common-lts.Need-read-list-requires (read-common-calls t) (read-common-at t) read-common.Post
 read-common-read-list-requires t c κs = (omega (arith, c .before .before .before .before .before .before .before .before .before .pre .0), (c .before .before .before .before .before .before .before .before .before .pre .1 .0, c .before .before .before .before .before .before .before .before .before .pre .1 .1))
@@ -835,7 +835,7 @@ read-common-same-length-2 : (t : ℕ) → read-common-lts.Need-same-length-2 (re
 read-common-same-length-2 t c = c .before .before .before .before .read-list .kept .1 .1 .1 .1 .1 .0
 
 read-common-returns-2 : (t : ℕ) → read-common-lts.Need-returns-2 (read-common-calls t) (read-common-at t) read-common.Post
-read-common-returns-2 t c = (λ place h next told. common-list _ _ _ _ place _ _ _ told _ _ (c .before .before .before .before .before .before .before .if2 .taken) (c .before .before .before .before .read-list .ensures .0 place), c .before .before .before .before .read-list .ensures .1)
+read-common-returns-2 t c = record { rows-stored = λ place h next told. common-list _ _ _ _ place _ _ _ told _ _ (c .before .before .before .before .before .before .before .if2 .taken) (c .before .before .before .before .read-list .ensures .rows-stored place); keys-kept = c .before .before .before .before .read-list .ensures .keys-kept }
 
 read-common-read-pairs-requires : (t : ℕ) → read-common-lts.Need-read-pairs-requires (read-common-calls t) (read-common-at t) read-common.Post
 read-common-read-pairs-requires t c κs = (omega (arith, c .before .before .before .before .before .before .before .before .before .before .pre .0), (c .before .before .before .before .before .before .before .before .before .before .pre .1 .0, c .before .before .before .before .before .before .before .before .before .before .pre .1 .1))
@@ -847,7 +847,7 @@ read-common-same-length-4 : (t : ℕ) → read-common-lts.Need-same-length-4 (re
 read-common-same-length-4 t c = c .before .before .before .before .read-pairs .kept .1 .1 .1 .1 .1 .0
 
 read-common-returns-3 : (t : ℕ) → read-common-lts.Need-returns-3 (read-common-calls t) (read-common-at t) read-common.Post
-read-common-returns-3 t c = (λ place h next told. common-pairs _ _ _ _ place _ _ _ told _ _ (c .before .before .before .before .before .before .before .if3 .taken) (c .before .before .before .before .read-pairs .ensures .0 place), c .before .before .before .before .read-pairs .ensures .1)
+read-common-returns-3 t c = record { rows-stored = λ place h next told. common-pairs _ _ _ _ place _ _ _ told _ _ (c .before .before .before .before .before .before .before .if3 .taken) (c .before .before .before .before .read-pairs .ensures .rows-stored place); keys-kept = c .before .before .before .before .read-pairs .ensures .keys-kept }
 
 read-common-read-run-requires : (t : ℕ) → read-common-lts.Need-read-run-requires (read-common-calls t) (read-common-at t) read-common.Post
 read-common-read-run-requires t c κs = (omega (arith, c .before .before .before .before .before .before .before .before .before .before .pre .0), (c .before .before .before .before .before .before .before .before .before .before .pre .1 .0, c .before .before .before .before .before .before .before .before .before .before .pre .1 .1))
@@ -865,7 +865,7 @@ read-common-same-length-6 : (t : ℕ) → read-common-lts.Need-same-length-6 (re
 read-common-same-length-6 t c = c .before .before .before .before .before .before .before .read-run .kept .1 .1 .1 .1 .1 .0
 
 read-common-returns-4 : (t : ℕ) → read-common-lts.Need-returns-4 (read-common-calls t) (read-common-at t) read-common.Post
-read-common-returns-4 t c = (λ place h next told. common-refused _ _ _ _ place _ _ _ told (c .before .before .before .before .before .before .before .before .before .before .before .before .if1 .left) (c .before .before .before .before .before .before .before .before .before .before .before .if2 .left) (c .before .before .before .before .before .before .before .before .before .before .if3 .left) (omega (arith, told-next told, c .before .before .before .before .before .before .before .before .before .before .before .before .before .before .before .before .before .before .pre .1 .0 .near)) (c .before .before .before .before .before .before .before .before .before .before .before .before .before .before .before .before .before .before .pre .1 .0 .low) _ _ (c .before .before .before .before .before .before .before .read-run .ensures .0) _ _ _ (c .before .number .given .1), c .before .before .before .before .before .before .before .read-run .ensures .1)
+read-common-returns-4 t c = record { rows-stored = λ place h next told. common-refused _ _ _ _ place _ _ _ told (c .before .before .before .before .before .before .before .before .before .before .before .before .if1 .left) (c .before .before .before .before .before .before .before .before .before .before .before .if2 .left) (c .before .before .before .before .before .before .before .before .before .before .if3 .left) (omega (arith, told-next told, c .before .before .before .before .before .before .before .before .before .before .before .before .before .before .before .before .before .before .pre .1 .0 .near)) (c .before .before .before .before .before .before .before .before .before .before .before .before .before .before .before .before .before .before .pre .1 .0 .low) _ _ (c .before .before .before .before .before .before .before .read-run .ensures .rows-stored) _ _ _ (c .before .number .given .1); keys-kept = c .before .before .before .before .before .before .before .read-run .ensures .keys-kept }
 
 read-common-same-length-7 : (t : ℕ) → read-common-lts.Need-same-length-7 (read-common-calls t) (read-common-at t) read-common.Post
 read-common-same-length-7 t c = c .before .before .before .before .before .before .before .read-run .kept .1 .1 .1 .1 .0
@@ -874,13 +874,13 @@ read-common-same-length-8 : (t : ℕ) → read-common-lts.Need-same-length-8 (re
 read-common-same-length-8 t c = c .before .before .before .before .before .before .before .read-run .kept .1 .1 .1 .1 .1 .0
 
 read-common-returns-5 : (t : ℕ) → read-common-lts.Need-returns-5 (read-common-calls t) (read-common-at t) read-common.Post
-read-common-returns-5 t c = (λ place h next told. common-got _ _ _ _ place _ _ _ told (c .before .before .before .before .before .before .before .before .before .before .before .before .if1 .left) (c .before .before .before .before .before .before .before .before .before .before .before .if2 .left) (c .before .before .before .before .before .before .before .before .before .before .if3 .left) (omega (arith, told-next told, c .before .before .before .before .before .before .before .before .before .before .before .before .before .before .before .before .before .before .pre .1 .0 .near)) (c .before .before .before .before .before .before .before .before .before .before .before .before .before .before .before .before .before .before .pre .1 .0 .low) _ _ (c .before .before .before .before .before .before .before .read-run .ensures .0) _ _ (c .before .next .given .1), c .before .before .before .before .before .before .before .read-run .ensures .1)
+read-common-returns-5 t c = record { rows-stored = λ place h next told. common-got _ _ _ _ place _ _ _ told (c .before .before .before .before .before .before .before .before .before .before .before .before .if1 .left) (c .before .before .before .before .before .before .before .before .before .before .before .if2 .left) (c .before .before .before .before .before .before .before .before .before .before .if3 .left) (omega (arith, told-next told, c .before .before .before .before .before .before .before .before .before .before .before .before .before .before .before .before .before .before .pre .1 .0 .near)) (c .before .before .before .before .before .before .before .before .before .before .before .before .before .before .before .before .before .before .pre .1 .0 .low) _ _ (c .before .before .before .before .before .before .before .read-run .ensures .rows-stored) _ _ (c .before .next .given .1); keys-kept = c .before .before .before .before .before .before .before .read-run .ensures .keys-kept }
 
 read-quick-returns : (t : ℕ) → read-quick-lts.Need-returns (read-quick-calls t) (read-quick-at t) read-quick.Post
-read-quick-returns t c = (quick-term _ _ _ _ (c .before .before .before .before .before .before .args .row) _ (c .before .before .before .before .before .before .pre .1 .0 .1) (c .before .before .before .before .before .before .pre .1 .0 .2 (c .before .before .before .before .before .before .args .row)) _ _ _ _ _ _ (body-deep _ _ _ _ _ _ _ _ _ _ _ (c .if1 .taken)), keeps-refl _)
+read-quick-returns t c = record { rows-stored = quick-term _ _ _ _ (c .before .before .before .before .before .before .args .row) _ (c .before .before .before .before .before .before .pre .1 .0 .1) (c .before .before .before .before .before .before .pre .1 .0 .2 (c .before .before .before .before .before .before .args .row)) _ _ _ _ _ _ (body-deep _ _ _ _ _ _ _ _ _ _ _ (c .if1 .taken)); keys-kept = keeps-refl _ }
 
 read-quick-returns-2 : (t : ℕ) → read-quick-lts.Need-returns-2 (read-quick-calls t) (read-quick-at t) read-quick.Post
-read-quick-returns-2 t c = (quick-term _ _ _ _ (c .before .before .before .before .before .before .before .args .row) _ (c .before .before .before .before .before .before .before .pre .1 .0 .1) (c .before .before .before .before .before .before .before .pre .1 .0 .2 (c .before .before .before .before .before .before .before .args .row)) _ _ _ _ _ _ (body-full _ _ _ _ _ _ _ _ _ _ (c .before .if1 .left) _ (c .if2 .taken)), keeps-refl _)
+read-quick-returns-2 t c = record { rows-stored = quick-term _ _ _ _ (c .before .before .before .before .before .before .before .args .row) _ (c .before .before .before .before .before .before .before .pre .1 .0 .1) (c .before .before .before .before .before .before .before .pre .1 .0 .2 (c .before .before .before .before .before .before .before .args .row)) _ _ _ _ _ _ (body-full _ _ _ _ _ _ _ _ _ _ (c .before .if1 .left) _ (c .if2 .taken)); keys-kept = keeps-refl _ }
 
 read-quick-add-read-common : (t : ℕ) → read-quick-lts.Need-add-read-common (read-quick-calls t) (read-quick-at t) read-quick.Post
 read-quick-add-read-common t c = omega arith
@@ -898,10 +898,10 @@ read-quick-enum-known-next : (t : ℕ) → read-quick-lts.Need-enum-known-next (
 read-quick-enum-known-next t c = search needs
 
 read-quick-sub-pack : (t : ℕ) → read-quick-lts.Need-sub-pack (read-quick-calls t) (read-quick-at t) read-quick.Post
-read-quick-sub-pack t c = let q = opened-quickly _ _ _ _ (c .before .before .before .before .before .before .before .before .before .before .before .before .before .before .before .before .before .args .row) _ (c .before .before .before .before .before .before .before .before .before .before .before .before .before .before .before .before .before .pre .1 .0 .1) (c .before .before .before .before .before .before .before .before .before .before .before .before .before .before .before .before .before .pre .1 .0 .2 (c .before .before .before .before .before .before .before .before .before .before .before .before .before .before .before .before .before .args .row)) in let g = parts-past _ _ _ _ _ _ _ _ _ _ _ _ _ (c .before .next .given .1) (c .before .before .before .before .before .before .before .read-common .ensures .0 (c .before .before .before .before .before .before .before .before .before .before .before .before .before .before .before .before .before .args .at) (q .h) (q .next) (q .told-by)) in omega arith
+read-quick-sub-pack t c = let q = opened-quickly _ _ _ _ (c .before .before .before .before .before .before .before .before .before .before .before .before .before .before .before .before .before .args .row) _ (c .before .before .before .before .before .before .before .before .before .before .before .before .before .before .before .before .before .pre .1 .0 .1) (c .before .before .before .before .before .before .before .before .before .before .before .before .before .before .before .before .before .pre .1 .0 .2 (c .before .before .before .before .before .before .before .before .before .before .before .before .before .before .before .before .before .args .row)) in let g = parts-past _ _ _ _ _ _ _ _ _ _ _ _ _ (c .before .next .given .1) (c .before .before .before .before .before .before .before .read-common .ensures .rows-stored (c .before .before .before .before .before .before .before .before .before .before .before .before .before .before .before .before .before .args .at) (q .h) (q .next) (q .told-by)) in omega arith
 
 read-quick-pack-requires : (t : ℕ) → read-quick-lts.Need-pack-requires (read-quick-calls t) (read-quick-at t) read-quick.Post
-read-quick-pack-requires t c κs = let q = opened-quickly _ _ _ _ (c .before .before .before .before .before .before .before .before .before .before .before .before .before .before .before .before .before .args .row) _ (c .before .before .before .before .before .before .before .before .before .before .before .before .before .before .before .before .before .pre .1 .0 .1) (c .before .before .before .before .before .before .before .before .before .before .before .before .before .before .before .before .before .pre .1 .0 .2 (c .before .before .before .before .before .before .before .before .before .before .before .before .before .before .before .before .before .args .row)) in body-small _ _ _ _ _ (q .h) (q .next) _ _ _ (c .before .before .before .before .before .before .before .before .before .before .before .if1 .left) (c .before .before .before .before .before .before .before .before .before .before .if2 .left) _ _ (c .before .before .before .before .before .before .before .read-common .ensures .0 (c .before .before .before .before .before .before .before .before .before .before .before .before .before .before .before .before .before .args .at) (q .h) (q .next) (q .told-by)) _ _ _ _ _ _ (c .before .next .given .1) (c .before .before .before .before .before .before .before .before .before .before .before .before .before .before .before .before .before .pre .1 .0 .0) (omega (arith, quick-inside _ _ _ _ (c .before .before .before .before .before .before .before .before .before .before .before .before .before .before .before .before .before .args .row) _ (c .before .before .before .before .before .before .before .before .before .before .before .before .before .before .before .before .before .pre .1 .0 .1) (c .before .before .before .before .before .before .before .before .before .before .before .before .before .before .before .before .before .pre .1 .0 .2 (c .before .before .before .before .before .before .before .before .before .before .before .before .before .before .before .before .before .args .row)), c .before .before .before .before .before .before .before .before .before .before .before .before .before .before .before .before .before .pre .1 .0 .0 .short))
+read-quick-pack-requires t c κs = let q = opened-quickly _ _ _ _ (c .before .before .before .before .before .before .before .before .before .before .before .before .before .before .before .before .before .args .row) _ (c .before .before .before .before .before .before .before .before .before .before .before .before .before .before .before .before .before .pre .1 .0 .1) (c .before .before .before .before .before .before .before .before .before .before .before .before .before .before .before .before .before .pre .1 .0 .2 (c .before .before .before .before .before .before .before .before .before .before .before .before .before .before .before .before .before .args .row)) in body-small _ _ _ _ _ (q .h) (q .next) _ _ _ (c .before .before .before .before .before .before .before .before .before .before .before .if1 .left) (c .before .before .before .before .before .before .before .before .before .before .if2 .left) _ _ (c .before .before .before .before .before .before .before .read-common .ensures .rows-stored (c .before .before .before .before .before .before .before .before .before .before .before .before .before .before .before .before .before .args .at) (q .h) (q .next) (q .told-by)) _ _ _ _ _ _ (c .before .next .given .1) (c .before .before .before .before .before .before .before .before .before .before .before .before .before .before .before .before .before .pre .1 .0 .0) (omega (arith, quick-inside _ _ _ _ (c .before .before .before .before .before .before .before .before .before .before .before .before .before .before .before .before .before .args .row) _ (c .before .before .before .before .before .before .before .before .before .before .before .before .before .before .before .before .before .pre .1 .0 .1) (c .before .before .before .before .before .before .before .before .before .before .before .before .before .before .before .before .before .pre .1 .0 .2 (c .before .before .before .before .before .before .before .before .before .before .before .before .before .before .before .before .before .args .row)), c .before .before .before .before .before .before .before .before .before .before .before .before .before .before .before .before .before .pre .1 .0 .0 .short))
 
 read-quick-mul-table : (t : ℕ) → read-quick-lts.Need-mul-table (read-quick-calls t) (read-quick-at t) read-quick.Post
 read-quick-mul-table t c = omega arith
@@ -916,7 +916,7 @@ read-quick-same-length-2 : (t : ℕ) → read-quick-lts.Need-same-length-2 (read
 read-quick-same-length-2 t c = c .before .before .before .before .before .before .before .read-common .kept .1 .1 .1 .1 .1 .0
 
 read-quick-returns-3 : (t : ℕ) → read-quick-lts.Need-returns-3 (read-quick-calls t) (read-quick-at t) read-quick.Post
-read-quick-returns-3 t c = let q = opened-quickly _ _ _ _ (c .before .before .before .before .before .before .before .before .before .before .before .before .before .before .before .before .before .args .row) _ (c .before .before .before .before .before .before .before .before .before .before .before .before .before .before .before .before .before .pre .1 .0 .1) (c .before .before .before .before .before .before .before .before .before .before .before .before .before .before .before .before .before .pre .1 .0 .2 (c .before .before .before .before .before .before .before .before .before .before .before .before .before .before .before .before .before .args .row)) in (quick-term _ _ _ _ (c .before .before .before .before .before .before .before .before .before .before .before .before .before .before .before .before .before .args .row) _ (c .before .before .before .before .before .before .before .before .before .before .before .before .before .before .before .before .before .pre .1 .0 .1) (c .before .before .before .before .before .before .before .before .before .before .before .before .before .before .before .before .before .pre .1 .0 .2 (c .before .before .before .before .before .before .before .before .before .before .before .before .before .before .before .before .before .args .row)) _ _ _ _ _ _ (body-refused _ _ _ _ _ (q .h) (q .next) _ _ _ (c .before .before .before .before .before .before .before .before .before .before .before .if1 .left) (c .before .before .before .before .before .before .before .before .before .before .if2 .left) _ _ (c .before .before .before .before .before .before .before .read-common .ensures .0 (c .before .before .before .before .before .before .before .before .before .before .before .before .before .before .before .before .before .args .at) (q .h) (q .next) (q .told-by)) _ _ _ (c .before .number .given .1)), c .before .before .before .before .before .before .before .read-common .ensures .1)
+read-quick-returns-3 t c = let q = opened-quickly _ _ _ _ (c .before .before .before .before .before .before .before .before .before .before .before .before .before .before .before .before .before .args .row) _ (c .before .before .before .before .before .before .before .before .before .before .before .before .before .before .before .before .before .pre .1 .0 .1) (c .before .before .before .before .before .before .before .before .before .before .before .before .before .before .before .before .before .pre .1 .0 .2 (c .before .before .before .before .before .before .before .before .before .before .before .before .before .before .before .before .before .args .row)) in record { rows-stored = quick-term _ _ _ _ (c .before .before .before .before .before .before .before .before .before .before .before .before .before .before .before .before .before .args .row) _ (c .before .before .before .before .before .before .before .before .before .before .before .before .before .before .before .before .before .pre .1 .0 .1) (c .before .before .before .before .before .before .before .before .before .before .before .before .before .before .before .before .before .pre .1 .0 .2 (c .before .before .before .before .before .before .before .before .before .before .before .before .before .before .before .before .before .args .row)) _ _ _ _ _ _ (body-refused _ _ _ _ _ (q .h) (q .next) _ _ _ (c .before .before .before .before .before .before .before .before .before .before .before .if1 .left) (c .before .before .before .before .before .before .before .before .before .before .if2 .left) _ _ (c .before .before .before .before .before .before .before .read-common .ensures .rows-stored (c .before .before .before .before .before .before .before .before .before .before .before .before .before .before .before .before .before .args .at) (q .h) (q .next) (q .told-by)) _ _ _ (c .before .number .given .1)); keys-kept = c .before .before .before .before .before .before .before .read-common .ensures .keys-kept }
 
 read-quick-same-length-3 : (t : ℕ) → read-quick-lts.Need-same-length-3 (read-quick-calls t) (read-quick-at t) read-quick.Post
 read-quick-same-length-3 t c = simp length-set (c .before .before .before .before .before .before .before .before .read-common .kept .1 .1 .1 .1 .0)
@@ -925,7 +925,7 @@ read-quick-same-length-4 : (t : ℕ) → read-quick-lts.Need-same-length-4 (read
 read-quick-same-length-4 t c = c .before .before .before .before .before .before .before .before .read-common .kept .1 .1 .1 .1 .1 .0
 
 read-quick-returns-4 : (t : ℕ) → read-quick-lts.Need-returns-4 (read-quick-calls t) (read-quick-at t) read-quick.Post
-read-quick-returns-4 t c = let q = opened-quickly _ _ _ _ (c .before .before .before .before .before .before .before .before .before .before .before .before .before .before .before .before .before .before .args .row) _ (c .before .before .before .before .before .before .before .before .before .before .before .before .before .before .before .before .before .before .pre .1 .0 .1) (c .before .before .before .before .before .before .before .before .before .before .before .before .before .before .before .before .before .before .pre .1 .0 .2 (c .before .before .before .before .before .before .before .before .before .before .before .before .before .before .before .before .before .before .args .row)) in (quick-term _ _ _ _ (c .before .before .before .before .before .before .before .before .before .before .before .before .before .before .before .before .before .before .args .row) _ (c .before .before .before .before .before .before .before .before .before .before .before .before .before .before .before .before .before .before .pre .1 .0 .1) (c .before .before .before .before .before .before .before .before .before .before .before .before .before .before .before .before .before .before .pre .1 .0 .2 (c .before .before .before .before .before .before .before .before .before .before .before .before .before .before .before .before .before .before .args .row)) _ _ _ _ _ _ (body-got _ _ _ _ _ (q .h) (q .next) _ _ _ (c .before .before .before .before .before .before .before .before .before .before .before .before .if1 .left) (c .before .before .before .before .before .before .before .before .before .before .before .if2 .left) _ _ (c .before .before .before .before .before .before .before .before .read-common .ensures .0 (c .before .before .before .before .before .before .before .before .before .before .before .before .before .before .before .before .before .before .args .at) (q .h) (q .next) (q .told-by)) _ _ _ _ _ (c .before .before .next .given .1) (omega (arith, quick-inside _ _ _ _ (c .before .before .before .before .before .before .before .before .before .before .before .before .before .before .before .before .before .before .args .row) _ (c .before .before .before .before .before .before .before .before .before .before .before .before .before .before .before .before .before .before .pre .1 .0 .1) (c .before .before .before .before .before .before .before .before .before .before .before .before .before .before .before .before .before .before .pre .1 .0 .2 (c .before .before .before .before .before .before .before .before .before .before .before .before .before .before .before .before .before .before .args .row)), c .before .before .before .before .before .before .before .before .before .before .before .before .before .before .before .before .before .before .pre .1 .0 .0 .short)) (c .pack .ensures)), c .before .before .before .before .before .before .before .before .read-common .ensures .1)
+read-quick-returns-4 t c = let q = opened-quickly _ _ _ _ (c .before .before .before .before .before .before .before .before .before .before .before .before .before .before .before .before .before .before .args .row) _ (c .before .before .before .before .before .before .before .before .before .before .before .before .before .before .before .before .before .before .pre .1 .0 .1) (c .before .before .before .before .before .before .before .before .before .before .before .before .before .before .before .before .before .before .pre .1 .0 .2 (c .before .before .before .before .before .before .before .before .before .before .before .before .before .before .before .before .before .before .args .row)) in record { rows-stored = quick-term _ _ _ _ (c .before .before .before .before .before .before .before .before .before .before .before .before .before .before .before .before .before .before .args .row) _ (c .before .before .before .before .before .before .before .before .before .before .before .before .before .before .before .before .before .before .pre .1 .0 .1) (c .before .before .before .before .before .before .before .before .before .before .before .before .before .before .before .before .before .before .pre .1 .0 .2 (c .before .before .before .before .before .before .before .before .before .before .before .before .before .before .before .before .before .before .args .row)) _ _ _ _ _ _ (body-got _ _ _ _ _ (q .h) (q .next) _ _ _ (c .before .before .before .before .before .before .before .before .before .before .before .before .if1 .left) (c .before .before .before .before .before .before .before .before .before .before .before .if2 .left) _ _ (c .before .before .before .before .before .before .before .before .read-common .ensures .rows-stored (c .before .before .before .before .before .before .before .before .before .before .before .before .before .before .before .before .before .before .args .at) (q .h) (q .next) (q .told-by)) _ _ _ _ _ (c .before .before .next .given .1) (omega (arith, quick-inside _ _ _ _ (c .before .before .before .before .before .before .before .before .before .before .before .before .before .before .before .before .before .before .args .row) _ (c .before .before .before .before .before .before .before .before .before .before .before .before .before .before .before .before .before .before .pre .1 .0 .1) (c .before .before .before .before .before .before .before .before .before .before .before .before .before .before .before .before .before .before .pre .1 .0 .2 (c .before .before .before .before .before .before .before .before .before .before .before .before .before .before .before .before .before .before .args .row)), c .before .before .before .before .before .before .before .before .before .before .before .before .before .before .before .before .before .before .pre .1 .0 .0 .short)) (c .pack .ensures)); keys-kept = c .before .before .before .before .before .before .before .before .read-common .ensures .keys-kept }
 
 read-term-quick-at-requires : (t : ℕ) → read-term-lts.Need-quick-at-requires (read-term-calls t) (read-term-at t) read-term.Post
 read-term-quick-at-requires t c κs = (c .before .before .before .before .before .pre .1 .0 .near, c .before .before .before .before .before .pre .1 .0 .short, c .before .before .before .before .before .pre .1 .0 .sized)
@@ -940,7 +940,7 @@ read-term-same-length-2 : (t : ℕ) → read-term-lts.Need-same-length-2 (read-t
 read-term-same-length-2 t c = c .before .before .before .before .read-quick .kept .1 .1 .1 .1 .1 .0
 
 read-term-returns : (t : ℕ) → read-term-lts.Need-returns (read-term-calls t) (read-term-at t) read-term.Post
-read-term-returns t c = (c .before .before .before .before .read-quick .ensures .0, c .before .before .before .before .read-quick .ensures .1)
+read-term-returns t c = record { rows-stored = c .before .before .before .before .read-quick .ensures .rows-stored; keys-kept = c .before .before .before .before .read-quick .ensures .keys-kept }
 
 read-term-read-opening-requires : (t : ℕ) → read-term-lts.Need-read-opening-requires (read-term-calls t) (read-term-at t) read-term.Post
 read-term-read-opening-requires t c κs = (c .before .before .before .before .before .before .before .pre .1 .0 .near, c .before .before .before .before .before .before .before .pre .1 .0 .short, c .before .before .before .before .before .before .before .pre .1 .0 .sized)
@@ -954,7 +954,7 @@ read-term-read-body-requires t c κs =
     (omega (arith, c .before .before .before .before .before .before .before .before .before .before .before .pre .0), ((room-at _ _ _ _ _ _ _ _ (c .before .before .before .before .before .before .before .before .before .before .before .pre .1 .0) (omega (arith, o .sound .before, o .sound .end)), opens _ _ _ _ _ o), c .before .before .before .before .before .before .before .before .before .before .before .pre .1 .1))
 
 read-term-returns-2 : (t : ℕ) → read-term-lts.Need-returns-2 (read-term-calls t) (read-term-at t) read-term.Post
-read-term-returns-2 t c = (term-refused _ _ _ _ _ _ _ _ _ _ _ _ _ (c .before .before .before .read-opening .ensures) (c .before .head .given .1), keeps-refl _)
+read-term-returns-2 t c = record { rows-stored = term-refused _ _ _ _ _ _ _ _ _ _ _ _ _ (c .before .before .before .read-opening .ensures) (c .before .head .given .1); keys-kept = keeps-refl _ }
 
 read-term-same-length-3 : (t : ℕ) → read-term-lts.Need-same-length-3 (read-term-calls t) (read-term-at t) read-term.Post
 read-term-same-length-3 t c = c .before .before .before .before .read-body .kept .1 .1 .1 .1 .0
@@ -963,7 +963,7 @@ read-term-same-length-4 : (t : ℕ) → read-term-lts.Need-same-length-4 (read-t
 read-term-same-length-4 t c = c .before .before .before .before .read-body .kept .1 .1 .1 .1 .1 .0
 
 read-term-returns-3 : (t : ℕ) → read-term-lts.Need-returns-3 (read-term-calls t) (read-term-at t) read-term.Post
-read-term-returns-3 t c = (term-opened _ _ _ _ _ _ _ _ _ _ (opened _ _ _ (c .before .before .before .before .before .before .before .before .before .before .before .before .before .before .before .before .args .row) _ _ (c .before .before .before .before .before .before .before .before .read-opening .ensures) (λ k p e. miss (1 ∷ 2 ∷ 3 ∷ 4 ∷ []) 0 tt (rw e at (c .before .before .before .before .before .before .before .match .keys2))) (c .before .before .before .before .before .before .before .before .before .before .before .before .before .before .before .before .pre .1 .0 .near)) _ (c .before .before .before .before .read-body .ensures .0), c .before .before .before .before .read-body .ensures .1)
+read-term-returns-3 t c = record { rows-stored = term-opened _ _ _ _ _ _ _ _ _ _ (opened _ _ _ (c .before .before .before .before .before .before .before .before .before .before .before .before .before .before .before .before .args .row) _ _ (c .before .before .before .before .before .before .before .before .read-opening .ensures) (λ k p e. miss (1 ∷ 2 ∷ 3 ∷ 4 ∷ []) 0 tt (rw e at (c .before .before .before .before .before .before .before .match .keys2))) (c .before .before .before .before .before .before .before .before .before .before .before .before .before .before .before .before .pre .1 .0 .near)) _ (c .before .before .before .before .read-body .ensures .rows-stored); keys-kept = c .before .before .before .before .read-body .ensures .keys-kept }
 
 pub +read-body+read-common+read-inner+read-last+read-list+read-more+read-pairs+read-parts+read-quick+read-run+read-tail+read-term+read-wanted-spec :
     {M : Type 1} → statement M

@@ -14,10 +14,10 @@ use Rattle.term_spec.specs.Message.{Terms}
 use Rattle.term_spec.specs.Rows.{tree-rows, rows, row-words, Placed}
 use Rattle.term_head.specs.declared.Wanted.the-variants.{Atom, Arity}
 use Rattle.term_head.specs.Code.{wanted-of}
-use Rattle.reader.specs.declared.Step.{Step}
-use Rattle.reader.specs.declared.Step.the-variants.{Got, Refused}
-use Rattle.reader.specs.Code.{whole-of, asked, Room, Done, TermDone, RunDone}
-use Rattle.reader.proofs.Found.{Found, StepDone, step-found, step-refused, also, join}
+use Rattle.term_reader.specs.declared.Step.{Step}
+use Rattle.term_reader.specs.declared.Step.the-variants.{Got, Refused}
+use Rattle.term_reader.specs.Code.{whole-of, asked, Room, Done, TermDone, RunDone}
+use Rattle.term_reader.proofs.Found.{Found, StepDone, step-found, step-refused, also, join}
 
 -- the room that is left after what was found
 pub room-after : {X : Type 0} (size-of : X → ℕ) (words : X → List ℕ) (From : X → Type 0) (m : List ℕ) (list : AtomList) (T T′ : List ℕ) (cap at row whole next end : ℕ)

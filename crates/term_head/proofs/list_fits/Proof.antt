@@ -1,0 +1,13 @@
+-- `term_head::list_fits` meets its contract. Assumes nothing.
+use Rattle.term_head.proofs.Sizes.{fits-not, fits-if}
+use Rattle.term_head.proofs.list_fits.Statement.{statement}
+use Rattle.term_head.proofs.list_fits.Tie as tie
+
+returns : tie.Need-returns
+returns c = let a = c .before .args in fits-not (a .places .now) (a .lengths .now) (c .if1 .taken)
+
+returns-2 : tie.Need-returns-2
+returns-2 c = let a = c .before .args in fits-if (a .places .now) (a .lengths .now) (c .if1 .left)
+
+pub list-fits-spec : {M : Type 1} → statement M
+list-fits-spec = tie.close (tie.spec returns returns-2)
