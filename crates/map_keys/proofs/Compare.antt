@@ -20,7 +20,7 @@ use Rattle.term_spec.proofs.Words.{here-word, here-rest, Each-row, Small-row, n
 use Rattle.term_spec.proofs.Tests.{never}
 use Rattle.row_fields.specs.Found.{choose}
 use Rattle.map_keys.specs.Compare.{same-rows, same-from, pair-size, among-steps, among-from}
-use Rattle.row_fields.proofs.Alike.{Agree, through}
+use Rattle.row_compare.proofs.Alike.{Agree, through}
 
 -- ---- tests and the equalities that they stand for
 

@@ -12,9 +12,9 @@ use Rattle.term_spec.proofs.Words.{here-word, here-rest}
 use Rattle.row_fields.specs.declared.Content.{Content}
 use Rattle.row_fields.specs.Found.{choose, content-of}
 use Rattle.row_fields.specs.Meaning.{term-kind}
-use Rattle.row_fields.specs.Hash.{mix, hash-contents}
+use Rattle.row_compare.specs.Hash.{mix, hash-contents}
 use Rattle.term_spec.proofs.Tests.{never}
-use Rattle.row_fields.proofs.Hashes.{both-true, unless-true, hash-alike}
+use Rattle.row_compare.proofs.Hashes.{both-true, unless-true, hash-alike}
 use Rattle.map_keys.specs.Compare.{same-fields, same-row, same-rows, same-from, pair-size, among-steps, among-from, same-terms-raw, among-rows}
 use Rattle.map_keys.specs.Seen.{slot, Known, hash-row, hash-all, hash-rows, term-hash, Unmet, Recalls-from, Recalls}
 

@@ -22,8 +22,8 @@ use Rattle.row_fields.specs.Found.{choose}
 use Rattle.row_fields.specs.Meaning.{term-kind}
 use Rattle.map_keys.specs.Compare.{same-fields, same-row, same-terms-raw, among-rows}
 use Rattle.row_fields.proofs.Says.{Lent}
-use Rattle.row_fields.proofs.Alike.{Agree, through, numbers-agree}
-use Rattle.row_fields.proofs.Again.{contents-agree}
+use Rattle.row_compare.proofs.Alike.{Agree, through, numbers-agree}
+use Rattle.row_compare.proofs.Nodes.{contents-agree}
 use Rattle.map_keys.proofs.Compare.{and-then, own, each-row-split, Known-tree, Known-rows, same-from-same, among-from-among, Keys-of}
 
 each-row-both : (P Q : Row → Type 0) (rs : List Row) → Each-row P rs → Each-row Q rs → Each-row (λ r. P r × Q r) rs

@@ -12,7 +12,7 @@ use Rattle.term_spec.specs.Message.{Terms}
 use Rattle.term_spec.specs.Rows.{tree-rows, row-words, size-in}
 use Rattle.term_spec.proofs.Rows.{length-tree-rows}
 use Rattle.term_spec.proofs.Words.{Small-row, length-words-of}
-use Rattle.row_fields.specs.Hash.{mix}
+use Rattle.row_compare.specs.Hash.{mix}
 use Rattle.map_keys.specs.Compare.{pair-size}
 use Rattle.map_keys.specs.Seen.{Known, Keeps, hash-words, term-hash, Recalls-from, Recalls}
 use Rattle.map_keys.proofs.Compare.{Known-tree, Known-rows, first-known, others-known, tree-size, pair-sizes}

@@ -10,7 +10,7 @@ use Rattle.term_spec.specs.Rows.{kind-in, offset-in, parts-in, size-in}
 use Rattle.row_fields.specs.declared.Content.{Content}
 use Rattle.row_fields.specs.Found.{choose, content-of}
 use Rattle.row_fields.specs.Meaning.{term-kind}
-use Rattle.row_fields.specs.Same.{same-contents}
+use Rattle.row_compare.specs.Same.{same-contents}
 use Rattle.map_keys.specs.Compare.{same-fields, same-row, same-rows, same-from, pair-size, among-steps, among-from}
 use Rattle.map_keys.proofs.Compare.{among-ended}
 

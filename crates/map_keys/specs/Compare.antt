@@ -7,7 +7,7 @@ use lib.ListN.{length, getD}
 use Rattle.term_spec.specs.Rows.{kind-in, offset-in, parts-in, size-in}
 use Rattle.row_fields.specs.Found.{choose, content-of}
 use Rattle.row_fields.specs.Meaning.{term-kind}
-use Rattle.row_fields.specs.Same.{same-contents}
+use Rattle.row_compare.specs.Same.{same-contents}
 
 -- are the own fields of the terms of these kinds at these offsets equal?
 unfoldable pub same-fields : List ℕ → List ℕ → List ℕ → ℕ → ℕ → ℕ → ℕ → Bool

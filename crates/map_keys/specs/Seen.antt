@@ -7,7 +7,7 @@ use lib.ListN.{length, getD}
 use Rattle.term_spec.specs.Rows.{kind-in, offset-in, parts-in, size-in}
 use Rattle.row_fields.specs.Found.{content-of}
 use Rattle.row_fields.specs.Meaning.{term-kind}
-use Rattle.row_fields.specs.Hash.{mix, hash-contents}
+use Rattle.row_compare.specs.Hash.{mix, hash-contents}
 use Rattle.map_keys.specs.Compare.{same-terms-raw, pair-size}
 
 -- the d-th slot from the hash h on

@@ -10,10 +10,10 @@ use row::kind_in;
 use row::offset_in;
 use row::parts_in;
 use row::size_in;
+use row_compare::hash_content;
+use row_compare::mix;
+use row_compare::same_content;
 use row_fields::content_at;
-use row_fields::hash_content;
-use row_fields::mix;
-use row_fields::same_content;
 use row_fields::wide16;
 
 // The word at an index of the table, 0 past its end.

@@ -1,8 +1,6 @@
 -- A row's own fields, found again in the message, are those that were read there. Assumes nothing.
 use mathlib.Core.Path.{_≡_, refl, sym, _∙_, ap}
-use mathlib.Core.Bool.{Bool, true, false}
-use lib.Dec.{eqb}
-use borrow.Author.Tests.{eqb-true}
+use mathlib.Core.Bool.{false}
 use mathlib.Core.List.{List}
 use Prim.Native.Nat.{ℕ, _^_, _≤_, _<_}
 use native.Mathlib.Omega.{arith}
@@ -21,8 +19,7 @@ use Rattle.term_spec.proofs.Backed.{Agrees, Label-at}
 use Rattle.octets.proofs.Numbers.{big-one}
 use Rattle.row_fields.specs.declared.Content.the-variants.{Whole}
 use Rattle.row_fields.specs.Found.{choose, value, content-of}
-use Rattle.row_fields.specs.Meaning.{bare, label-of, term-kind}
-use Rattle.row_fields.specs.Same.{same-contents}
+use Rattle.row_fields.specs.Meaning.{label-of}
 use Rattle.row_fields.proofs.Tests.{above}
 use Rattle.row_fields.proofs.ByKind.{kind-14}
 use Rattle.row_fields.proofs.Values.{value-small}
@@ -30,7 +27,6 @@ use Rattle.row_fields.proofs.Read.{position-is, head-here}
 use Rattle.row_fields.proofs.There.{byte-there}
 use Rattle.row_fields.proofs.Says.{Lent, Says, says-by}
 use Rattle.row_fields.proofs.Layouts.{form-told}
-use Rattle.row_fields.proofs.Alike.{Agree, through, alike-contents}
 
 module _ (atoms : AtomList) (m : List ℕ) (l : Lent atoms m) (cap : ℕ) where
   character-says : (p : ℕ) → p < length m → Says atoms m 14 p (integer (pos (getD m p 0)))
@@ -55,27 +51,3 @@ module _ (atoms : AtomList) (m : List ℕ) (l : Lent atoms m) (cap : ℕ) where
       = head-here m (atoms-of atoms) (a .wanted) p r inside (λ less f k _. form-told atoms m l cap p less r f k) in
       told .known h (a .stop) (ap (term-head (atoms-of atoms) (a .wanted)) (sym here) ∙ a .reads) b i e x agrees
   content-says x (character-at p) (h, e) = rw e (character-says p h)
-
-fourteen : bare 14 ≡ bare 1
-unfolding bare choose
-fourteen = refl
-
--- characters have no bare label of their own
-term-bare : (kind : ℕ) → bare kind ≡ bare (term-kind kind)
-unfolding term-kind choose
-term-bare kind = go (eqb kind 14) refl
-  where
-    go : (t : Bool) → eqb kind 14 ≡ t → bare kind ≡ bare (choose t 1 kind)
-    go true e = ap bare (eqb-true kind 14 e) ∙ fourteen
-    go false e = refl
-
-module _ (atoms : AtomList) (m : List ℕ) (l : Lent atoms m) (cap : ℕ) where
-  -- what is found again of two nodes of one kind is the same exactly where their labels are equal
-  pub contents-agree : (x y : Label) (p q : Place) → Label-at m cap (atoms-of atoms) p x → Label-at m cap (atoms-of atoms) q y → term-kind (kind-at x p) ≡ term-kind (kind-at y q)
-      → Agree (same-contents m (atoms .places) (content-of m (atoms .places) (atoms .lengths) (kind-at x p) (offset-of p)) (content-of m (atoms .places) (atoms .lengths) (kind-at y q) (offset-of q))) (x ≡ y)
-  contents-agree x y p q a b e =
-      let s = content-says atoms m l cap x p a in
-      let t = content-says atoms m l cap y q b in
-      let k : bare (kind-at x p) ≡ bare (kind-at y q) = term-bare (kind-at x p) ∙ ap bare e ∙ sym (term-bare (kind-at y q)) in
-      through (λ f. sym (s .means) ∙ f ∙ t .means) (λ f. s .means ∙ f ∙ sym (t .means))
-      (alike-contents atoms m (l .under) (kind-at x p) (kind-at y q) k _ _ (s .sound) (t .sound))

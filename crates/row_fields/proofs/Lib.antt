@@ -1,12 +1,9 @@
 pub mod Tests
 pub mod Digits
-pub mod Lists
 pub mod ByKind
 pub mod Values
 pub mod Read
 pub mod There
 pub mod Says
 pub mod Layouts
-pub mod Alike
 pub mod Again
-pub mod Hashes

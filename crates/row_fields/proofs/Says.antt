@@ -20,7 +20,7 @@ use Rattle.row_fields.specs.declared.Content.{Content}
 use Rattle.row_fields.specs.declared.Content.the-variants.{Nothing, Whole, Big, Float, Text, Bytes, Bits, Pid, Port, Reference}
 use Rattle.row_fields.specs.Found.{choose, stripped, signed-whole, whole-of, stripped-found, content-of}
 use Rattle.row_fields.specs.Meaning.{stretch, sign, characters-of, coded, label-of}
-use Rattle.row_fields.specs.Same.{source}
+use Rattle.octets.specs.Parts.{source}
 use Rattle.row_fields.proofs.Values.{under-part, stripped-value, stripped-few, stripped-top}
 
 -- A text that was read: Latin-1 of at most 255 bytes, or valid UTF-8

@@ -1,4 +1,2 @@
 pub mod Found
 pub mod Meaning
-pub mod Same
-pub mod Hash

@@ -5,7 +5,7 @@ use native.Mathlib.Omega.{arith}
 use borrow.Author.Needs.{needs}
 use lib.ListN.{getD}
 use Rattle.term_spec.specs.Rows.{size-in}
-use Rattle.row_fields.specs.Hash.{mix}
+use Rattle.row_compare.specs.Hash.{mix}
 use Rattle.map_keys.specs.Seen.{hash-rows}
 use Rattle.map_keys.proofs.Hashes.{hash-start, hash-next, hash-end}
 use Rattle.map_keys.proofs.term_hash.Statement.{statement}

@@ -1,4 +1,4 @@
--- `contents::atom` meets its contract. Assumes nothing.
+-- `row_fields::atom` meets its contract. Assumes nothing.
 use mathlib.Core.Path.{refl, _∙_, ap}
 use Prim.Native.Nat.{ℕ}
 use lib.Dec.{ltb}

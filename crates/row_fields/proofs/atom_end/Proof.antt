@@ -1,4 +1,4 @@
--- `contents::atom_end` meets its contract. Assumes nothing.
+-- `row_fields::atom_end` meets its contract. Assumes nothing.
 use mathlib.Core.Path.{refl, _∙_, ap}
 use Prim.Native.Nat.{ℕ}
 use native.Mathlib.Omega.{arith}

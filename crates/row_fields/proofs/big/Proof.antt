@@ -1,4 +1,4 @@
--- `contents::big` meets its contract. Assumes nothing.
+-- `row_fields::big` meets its contract. Assumes nothing.
 use mathlib.Core.Path.{refl, _∙_, ap, ap₂}
 use Prim.Native.Nat.{ℕ, _+_}
 use lib.Dec.{ltb}

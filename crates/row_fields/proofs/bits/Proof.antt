@@ -1,4 +1,4 @@
--- `contents::bits` meets its contract. Assumes nothing.
+-- `row_fields::bits` meets its contract. Assumes nothing.
 use mathlib.Core.Path.{refl, _∙_, ap₂}
 use Prim.Native.Nat.{ℕ, _+_}
 use borrow.Author.Needs.{needs}

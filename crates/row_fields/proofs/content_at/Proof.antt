@@ -1,4 +1,4 @@
--- `contents::content_at` meets its contract. Assumes nothing.
+-- `row_fields::content_at` meets its contract. Assumes nothing.
 use mathlib.Core.Path.{refl, _∙_, ap}
 use borrow.Author.Needs.{needs}
 use Rattle.row_fields.specs.Found.{integer-found, atom-found, binary-found, pids-found, ports-found, references-found, content-of}

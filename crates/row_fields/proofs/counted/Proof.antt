@@ -1,4 +1,4 @@
--- `contents::counted` meets its contract. Assumes nothing.
+-- `row_fields::counted` meets its contract. Assumes nothing.
 use mathlib.Core.Path.{refl, _∙_, ap₂}
 use Prim.Native.Nat.{ℕ}
 use borrow.Author.Needs.{needs}

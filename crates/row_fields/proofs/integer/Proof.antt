@@ -1,4 +1,4 @@
--- `contents::integer` meets its contract. Assumes nothing.
+-- `row_fields::integer` meets its contract. Assumes nothing.
 use mathlib.Core.Path.{sym, _∙_, ap}
 use borrow.Author.Tests.{ne-eqb}
 use borrow.Author.Needs.{needs}

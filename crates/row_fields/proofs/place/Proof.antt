@@ -1,4 +1,4 @@
--- `contents::place` meets its contract. Assumes nothing.
+-- `row_fields::place` meets its contract. Assumes nothing.
 use mathlib.Core.Path.{refl}
 use borrow.Author.Needs.{needs}
 use Rattle.row_fields.specs.Found.{place-found}

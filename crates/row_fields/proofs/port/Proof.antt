@@ -1,4 +1,4 @@
--- `contents::port` meets its contract. Assumes nothing.
+-- `row_fields::port` meets its contract. Assumes nothing.
 use mathlib.Core.Path.{refl, _∙_, ap}
 use borrow.Author.Needs.{needs}
 use Rattle.row_fields.specs.Found.{port-found, ports-found}

@@ -1,4 +1,4 @@
--- `contents::signed` meets its contract. Assumes nothing.
+-- `row_fields::signed` meets its contract. Assumes nothing.
 use mathlib.Core.Path.{refl, _∙_, ap}
 use borrow.Author.Needs.{needs}
 use Rattle.row_fields.specs.Found.{signed-whole, signed-found}

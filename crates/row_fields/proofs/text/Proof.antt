@@ -1,4 +1,4 @@
--- `contents::text` meets its contract. Assumes nothing.
+-- `row_fields::text` meets its contract. Assumes nothing.
 use mathlib.Core.Path.{refl}
 use borrow.Author.Needs.{needs}
 use Rattle.row_fields.specs.Found.{text-found}

@@ -1,4 +1,4 @@
--- `contents::text_end` meets its contract. Assumes nothing.
+-- `row_fields::text_end` meets its contract. Assumes nothing.
 use mathlib.Core.Path.{refl}
 use native.Mathlib.Omega.{arith}
 use borrow.Author.Needs.{needs}

@@ -1,4 +1,4 @@
--- `contents::width_of` meets its contract. Assumes nothing.
+-- `row_fields::width_of` meets its contract. Assumes nothing.
 use mathlib.Core.Path.{refl, sym, ap}
 use native.Mathlib.Omega.{arith}
 use borrow.Author.Tests.{ne-eqb}

@@ -1,4 +1,4 @@
--- `contents::words_from` meets its contract. Assumes nothing.
+-- `row_fields::words_from` meets its contract. Assumes nothing.
 use mathlib.Core.Path.{refl}
 use borrow.Author.Needs.{needs}
 use Rattle.row_fields.specs.Found.{words-found}

@@ -1,0 +1,4 @@
+pub mod Lists
+pub mod Alike
+pub mod Nodes
+pub mod Hashes

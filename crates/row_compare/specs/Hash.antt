@@ -1,0 +1,46 @@
+-- A number of 32 bits for a content, over what it says, not over how it is encoded: contents that say the same have the same.
+use mathlib.Core.Bool.{Bool, false}
+use mathlib.Core.List.{List, [], _∷_}
+use Prim.Native.Nat.{ℕ, _+_, _*_, _-_, _/_, _%_}
+use lib.Dec.{eqb, leb, ltb}
+use lib.ListN.{length}
+use Rattle.term_spec.specs.Text.{encodes}
+use Rattle.row_fields.specs.Found.{choose}
+use Rattle.row_fields.specs.Meaning.{stretch}
+use Rattle.row_compare.specs.Same.{flat-of, source}
+use Rattle.row_compare.specs.declared.Flat.{Flat}
+use Rattle.row_fields.specs.declared.Content.{Content}
+
+-- a hash after one number more (the factor is that of a common random number generator), and after all of a list
+unfoldable pub mix : ℕ → ℕ → ℕ
+mix h x = (h * 22695477 + x % 4294967296 + x / 4294967296) % 4294967296
+
+unfoldable pub mix-all : ℕ → List ℕ → ℕ
+mix-all h [] = h
+mix-all h (x ∷ xs) = mix-all (mix h x) xs
+
+-- a text's bytes in UTF-8
+unfoldable pub as-utf8 : Bool → List ℕ → List ℕ
+as-utf8 latin1 bs = choose latin1 (encodes bs) bs
+
+unfoldable pub hash-part : List ℕ → ℕ → ℕ → Bool → ℕ → ℕ
+hash-part s at n latin1 h = choose (leb (at + n) (length s)) (mix-all h (as-utf8 latin1 (stretch s at n))) h
+
+-- how many bytes of a stretch that is no text count: of bits (6) all but the last, of n words (9) four times as many
+unfoldable pub hashed : List ℕ → ℕ → ℕ → ℕ
+hashed m code n =
+    choose (eqb code 2) n
+    (choose (eqb code 5) n
+    (choose (eqb code 6) (n - 1)
+    (choose (eqb code 9) (choose (ltb (length m / 4) n) 0 (4 * n)) 0)))
+
+unfoldable pub hash-stretch : List ℕ → List ℕ → ℕ → ℕ → Flat → ℕ
+hash-stretch m places h code f =
+    choose (eqb code 4) (hash-part (source m places (f .listed)) (f .start) (f .length) (f .latin1) h)
+    (hash-part m (f .start) (hashed m code (f .length)) false h)
+
+unfoldable pub hash-flat : List ℕ → List ℕ → ℕ → Flat → ℕ
+hash-flat m places h f = hash-stretch m places (mix (mix h (f .first)) (f .second)) (f .code) f
+
+unfoldable pub hash-contents : List ℕ → List ℕ → ℕ → Content → ℕ
+hash-contents m places h c = hash-flat m places h (flat-of c)
