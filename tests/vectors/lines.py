@@ -1,4 +1,4 @@
-"""Cases as lines: a verb and hex words; the form of a line: src/lib.rt of crate casebook."""
+"""Cases as lines: a verb and hex words; the form of a line: src/lib.rt of crate vector_lines."""
 
 
 def big(width, number):

@@ -14,7 +14,7 @@ Where the answers come from (never from the code of this repository):
   document 01. A refusal is stated with its number and its place. Of an accepted case the rows are those of `rows_of`, and the number of
   rows is stated where it is the point.
 
-A line of stdin: src/lib.rt of crate casebook. Asking lends no rows and no output: these two fields say how many rows and how many offsets are
+A line of stdin: src/lib.rt of crate vector_lines. Asking lends no rows and no output: these two fields say how many rows and how many offsets are
 asked for. A line of stdout, by the verb:
 - read: `refused N P`, or `ok TERMS ROWS` and, up to 100 rows, ` KIND,OFFSET,WHOLE` for each; ` dirty` never.
 - write: `refused N P` or `ok HEX`. Of boundaries.py only the refused cases: the writer refuses what the reader refuses; the ends of the
