@@ -15,7 +15,7 @@ use Rattle.term_spec.proofs.Rows.{count-le-sizes, count-relabels}
 use Rattle.term_spec.proofs.Words.{Between, kind-at-range, Small-row, Word-of, row-of, first-here, others-here, parts-here, node-packed, node-below}
 use Rattle.row_fields.specs.Found.{content-of}
 use Rattle.canonical_fields.specs.Sound.{content-in, label-in, Sound-word}
-use Rattle.writer.specs.Held.{Writable, Held, Held-run}
+use Rattle.term_writer.specs.Held.{Writable, Held, Held-run}
 
 -- ---- kinds and labels
 

@@ -1,8 +1,8 @@
--- `canon::put_string` meets its contract. The head, then the characters. Assumes nothing.
-use Rattle.writer.proofs.Terms.{string-put}
+-- `term_writer::put_string` meets its contract. The head, then the characters. Assumes nothing.
+use Rattle.term_writer.proofs.Terms.{string-put}
 use borrow.Author.Needs.{needs}
-use Rattle.writer.proofs.put_string.Statement.{statement}
-use Rattle.writer.proofs.put_string.Tie as tie
+use Rattle.term_writer.proofs.put_string.Statement.{statement}
+use Rattle.term_writer.proofs.put_string.Tie as tie
 
 put1-requires : tie.Need-put1-requires
 put1-requires c κs = search needs

@@ -1,7 +1,7 @@
--- `canon::write_run` and `canon::write_term` meet their contracts. The measure is the rows from a term on, to the table's end. In the loop, what is left to store comes to the whole. Assumes nothing.
-use Rattle.writer.proofs.Terms.{Put-left, put-start, put-step, put-end, put-fits, put-rest, canonicals-none, canonicals-more, left-size, string-needs, string-written, parts-put, leaf-room, leaf-put, before-room, run-room, after-room, fits-some}
-use Rattle.writer.proofs.Strings.{run-below, term-below, term-sound}
-use Rattle.writer.specs.Held.{Held-run}
+-- `term_writer::write_run` and `term_writer::write_term` meet their contracts. The measure is the rows from a term on, to the table's end. In the loop, what is left to store comes to the whole. Assumes nothing.
+use Rattle.term_writer.proofs.Terms.{Put-left, put-start, put-step, put-end, put-fits, put-rest, canonicals-none, canonicals-more, left-size, string-needs, string-written, parts-put, leaf-room, leaf-put, before-room, run-room, after-room, fits-some}
+use Rattle.term_writer.proofs.Strings.{run-below, term-below, term-sound}
+use Rattle.term_writer.specs.Held.{Held-run}
 use Rattle.term_spec.specs.Canonical.{canonical, canonicals}
 use Rattle.term_spec.specs.Message.{Terms}
 use Rattle.term_spec.specs.Tree.{count}
@@ -12,21 +12,21 @@ use mathlib.Core.Path.{_≡_, refl, sym, _∙_}
 use Prim.Native.Nat.{ℕ, _+_, _*_, _-_, _≤_, _<_}
 use borrow.Fn.Kinds.{In}
 use borrow.Fn.PlainCycle.{Measures, is, falls, and}
-use Rattle.writer.proofs.write_run.Reads as write-run
-use Rattle.writer.proofs.write_run.Kinds as write-run-kinds
-use Rattle.writer.proofs.+write_run+write_term.Lts-write_run as write-run-lts
-use Rattle.writer.proofs.write_term.Reads as write-term
-use Rattle.writer.proofs.write_term.Kinds as write-term-kinds
-use Rattle.writer.proofs.+write_run+write_term.Lts-write_term as write-term-lts
-use Rattle.writer.proofs.is_string.Reads as is-string-reads
-use Rattle.writer.proofs.put_string.Reads as put-string-reads
+use Rattle.term_writer.proofs.write_run.Reads as write-run
+use Rattle.term_writer.proofs.write_run.Kinds as write-run-kinds
+use Rattle.term_writer.proofs.+write_run+write_term.Lts-write_run as write-run-lts
+use Rattle.term_writer.proofs.write_term.Reads as write-term
+use Rattle.term_writer.proofs.write_term.Kinds as write-term-kinds
+use Rattle.term_writer.proofs.+write_run+write_term.Lts-write_term as write-term-lts
+use Rattle.term_writer.proofs.is_string.Reads as is-string-reads
+use Rattle.term_writer.proofs.put_string.Reads as put-string-reads
 use Rattle.canonical_fields.proofs.put_after.Reads as put-after-reads
 use Rattle.canonical_fields.proofs.put_before.Reads as put-before-reads
 use Rattle.canonical_fields.proofs.put_leaf.Reads as put-leaf-reads
 use Rattle.row.proofs.parts_in.Reads as parts-in-reads
 use Rattle.row.proofs.size_in.Reads as size-in-reads
-use Rattle.writer.proofs.+write_run+write_term.{statement}
-use Rattle.writer.proofs.+write_run+write_term.Tie.{close}
+use Rattle.term_writer.proofs.+write_run+write_term.{statement}
+use Rattle.term_writer.proofs.+write_run+write_term.Tie.{close}
 
 abbrev μ-write-run : Measures 5 write-run-kinds.ps ℕ
 μ-write-run κs a = 2 * (length (a .1 .1 .1 .0 .now) - a .1 .1 .1 .1 .0) + 1

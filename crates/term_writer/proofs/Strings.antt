@@ -24,9 +24,9 @@ use Rattle.octets.proofs.Numbers.{bytes-one}
 use Rattle.layout.specs.Layout.{Put}
 use Rattle.canonical_fields.specs.Shape.{some-small}
 use Rattle.canonical_fields.specs.Sound.{label-in, Sound-word, character-code}
-use Rattle.writer.specs.Held.{Held, Held-run, as-string, is-some}
-use Rattle.writer.specs.Code.{string-term, Some-term, Some-run, Some-small, Small-told}
-use Rattle.writer.proofs.Held.{run-first, run-others, held-parts, held-writable, held-below, held-kind, held-count, held-label, held-sound, kind-list, tag-kind}
+use Rattle.term_writer.specs.Held.{Held, Held-run, as-string, is-some}
+use Rattle.term_writer.specs.Code.{string-term, Some-term, Some-run, Some-small, Small-told}
+use Rattle.term_writer.proofs.Held.{run-first, run-others, held-parts, held-writable, held-below, held-kind, held-count, held-label, held-sound, kind-list, tag-kind}
 
 -- ---- small labels
 

@@ -1,7 +1,7 @@
--- `canon::length_run` and `canon::length_term` meet their contracts. The measure is the rows from a term on, to the table's end. In the loop, the sum and what the terms left have come to the whole. Assumes nothing.
-use Rattle.writer.proofs.Terms.{Length-left, length-start, length-step, length-end, length-rest, length-room, left-term, left-size, few-rows, string-length, parts-length, leaf-length}
-use Rattle.writer.proofs.Strings.{run-below, term-below, term-sound, parts-run}
-use Rattle.writer.specs.Held.{Held-run}
+-- `term_writer::length_run` and `term_writer::length_term` meet their contracts. The measure is the rows from a term on, to the table's end. In the loop, the sum and what the terms left have come to the whole. Assumes nothing.
+use Rattle.term_writer.proofs.Terms.{Length-left, length-start, length-step, length-end, length-rest, length-room, left-term, left-size, few-rows, string-length, parts-length, leaf-length}
+use Rattle.term_writer.proofs.Strings.{run-below, term-below, term-sound, parts-run}
+use Rattle.term_writer.specs.Held.{Held-run}
 use Rattle.term_spec.specs.Message.{Terms}
 use Rattle.term_spec.specs.Tree.{count}
 use lib.ListN.{length}
@@ -11,18 +11,18 @@ use mathlib.Core.Path.{_≡_, refl, sym, _∙_}
 use Prim.Native.Nat.{ℕ, _+_, _*_, _-_, _≤_, _<_}
 use borrow.Fn.Kinds.{In}
 use borrow.Fn.PlainCycle.{Measures, is, falls, and}
-use Rattle.writer.proofs.length_run.Reads as length-run
-use Rattle.writer.proofs.length_run.Kinds as length-run-kinds
-use Rattle.writer.proofs.+length_run+length_term.Lts-length_run as length-run-lts
-use Rattle.writer.proofs.length_term.Reads as length-term
-use Rattle.writer.proofs.length_term.Kinds as length-term-kinds
-use Rattle.writer.proofs.+length_run+length_term.Lts-length_term as length-term-lts
-use Rattle.writer.proofs.is_string.Reads as is-string-reads
+use Rattle.term_writer.proofs.length_run.Reads as length-run
+use Rattle.term_writer.proofs.length_run.Kinds as length-run-kinds
+use Rattle.term_writer.proofs.+length_run+length_term.Lts-length_run as length-run-lts
+use Rattle.term_writer.proofs.length_term.Reads as length-term
+use Rattle.term_writer.proofs.length_term.Kinds as length-term-kinds
+use Rattle.term_writer.proofs.+length_run+length_term.Lts-length_term as length-term-lts
+use Rattle.term_writer.proofs.is_string.Reads as is-string-reads
 use Rattle.canonical_fields.proofs.own_length.Reads as own-length-reads
 use Rattle.row.proofs.parts_in.Reads as parts-in-reads
 use Rattle.row.proofs.size_in.Reads as size-in-reads
-use Rattle.writer.proofs.+length_run+length_term.{statement}
-use Rattle.writer.proofs.+length_run+length_term.Tie.{close}
+use Rattle.term_writer.proofs.+length_run+length_term.{statement}
+use Rattle.term_writer.proofs.+length_run+length_term.Tie.{close}
 
 abbrev μ-length-run : Measures 4 length-run-kinds.ps ℕ
 μ-length-run κs a = 2 * (length (a .1 .1 .1 .0 .now) - a .1 .1 .1 .1 .0) + 1

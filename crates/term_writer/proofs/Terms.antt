@@ -24,10 +24,10 @@ use Rattle.layout.proofs.Puts.{put-then, put-same, put-length}
 use Rattle.canonical_fields.specs.Shape.{before, after}
 use Rattle.canonical_fields.specs.Sound.{label-in, before-in, after-in}
 use Rattle.canonical_fields.proofs.Shape.{canonical-parts, canonical-string}
-use Rattle.writer.specs.Held.{Held, Held-run, as-string}
-use Rattle.writer.specs.Code.{string-term, Some-term, Some-run, Some-small, String-told, String-put, Run-length, Run-put, Term-length, Term-put, Run-fits, Term-fits}
-use Rattle.writer.proofs.Held.{held-parts, held-writable, held-count, held-size, held-label}
-use Rattle.writer.proofs.Strings.{front, run-front, as-list, as-inverse, small-is, some-told, none-told, count-meanings, no-elements}
+use Rattle.term_writer.specs.Held.{Held, Held-run, as-string}
+use Rattle.term_writer.specs.Code.{string-term, Some-term, Some-run, Some-small, String-told, String-put, Run-length, Run-put, Term-length, Term-put, Run-fits, Term-fits}
+use Rattle.term_writer.proofs.Held.{held-parts, held-writable, held-count, held-size, held-label}
+use Rattle.term_writer.proofs.Strings.{front, run-front, as-list, as-inverse, small-is, some-told, none-told, count-meanings, no-elements}
 
 -- ---- a string
 

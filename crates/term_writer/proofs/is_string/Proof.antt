@@ -1,8 +1,8 @@
--- `canon::is_string` meets its contract. A list with elements that are all small. Assumes nothing.
-use Rattle.writer.proofs.Strings.{other-kind, no-elements, elements-told, term-below, parts-run}
+-- `term_writer::is_string` meets its contract. A list with elements that are all small. Assumes nothing.
+use Rattle.term_writer.proofs.Strings.{other-kind, no-elements, elements-told, term-below, parts-run}
 use borrow.Author.Needs.{needs}
-use Rattle.writer.proofs.is_string.Statement.{statement}
-use Rattle.writer.proofs.is_string.Tie as tie
+use Rattle.term_writer.proofs.is_string.Statement.{statement}
+use Rattle.term_writer.proofs.is_string.Tie as tie
 
 mul-word : tie.Need-mul-word
 mul-word c = search needs
