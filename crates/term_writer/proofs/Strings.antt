@@ -23,7 +23,8 @@ use Rattle.term_spec.proofs.RoundTrip.{small-count}
 use Rattle.octets.proofs.Numbers.{bytes-one}
 use Rattle.layout.specs.Layout.{Put}
 use Rattle.canonical_fields.specs.Shape.{some-small}
-use Rattle.canonical_fields.specs.Sound.{label-in, Sound-word, character-code}
+use Rattle.canonical_fields.specs.Sound.{label-in, Sound-word}
+use Rattle.characters.specs.Code.{character-code}
 use Rattle.term_writer.specs.Held.{Held, Held-run, as-string, is-some}
 use Rattle.term_writer.specs.Code.{string-term, Some-term, Some-run, Some-small, Small-told}
 use Rattle.term_writer.proofs.Held.{run-first, run-others, held-parts, held-writable, held-below, held-kind, held-count, held-label, held-sound, kind-list, tag-kind}

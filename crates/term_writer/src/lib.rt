@@ -1,7 +1,6 @@
 // One term in canonical form, and terms one after the other: measured and written from the rows that reading made of them.
 use term_spec::kinds;
 use term_spec::tags;
-ghost use mathlib.Core.Path.{_≡_};
 ghost use Prim.Native.Nat.{_+_, _≤_, _<_};
 ghost use lib.ListN.{length};
 ghost use Rattle.term_spec.specs.Canonical.{canonical, canonicals};
@@ -23,7 +22,7 @@ fn all_small(
 {
     let mut i = 0;
     while i < n {
-        let c = canonical_fields::character_at(msg, places, lengths, table[row + i]);
+        let c = characters::character_at(msg, places, lengths, table[row + i]);
         if c == 256 {
             return false;
         }
@@ -64,7 +63,7 @@ fn put_characters(
 {
     let mut i = 0;
     while i < n {
-        let c = canonical_fields::character_at(msg, places, lengths, table[row + i]);
+        let c = characters::character_at(msg, places, lengths, table[row + i]);
         octets::put1(out, at + i, c);
         i += 1;
     }
@@ -98,12 +97,12 @@ fn length_term(msg: &[u8], places: &[u8], lengths: &[u16], table: &[u64], row: u
     let word = table[row];
     let n = row::parts_in(word);
     if n == 0 {
-        return canonical_fields::own_length(msg, places, lengths, word);
+        return field_writer::own_length(msg, places, lengths, word);
     }
     if is_string(msg, places, lengths, table, row) {
         return n + 3;
     }
-    let own = canonical_fields::own_length(msg, places, lengths, word);
+    let own = field_writer::own_length(msg, places, lengths, word);
     let inner = length_run(msg, places, lengths, table, row + 1, n);
     own + inner
 }
@@ -147,14 +146,14 @@ pub fn write_term(
     let word = table[row];
     let n = row::parts_in(word);
     if n == 0 {
-        return canonical_fields::put_leaf(msg, places, lengths, word, out, at);
+        return field_writer::put_leaf(msg, places, lengths, word, out, at);
     }
     if is_string(msg, places, lengths, table, row) {
         return put_string(msg, places, lengths, table, row + 1, n, out, at);
     }
-    let first = canonical_fields::put_before(msg, places, lengths, word, out, at);
+    let first = field_writer::put_before(msg, places, lengths, word, out, at);
     let end = write_run(msg, places, lengths, table, row + 1, n, out, first);
-    canonical_fields::put_after(msg, places, lengths, word, out, end)
+    field_writer::put_after(msg, places, lengths, word, out, end)
 }
 
 // Writes those of the n terms whose rows begin at `row`, one after the other; the offset past them.

@@ -12,7 +12,7 @@ use Rattle.term_spec.specs.Term.{Term}
 use Rattle.term_spec.specs.Answer.{good}
 use Rattle.term_spec.specs.AtomList.{AtomList, of-size, lent-list}
 use Rattle.term_spec.specs.Reading.{Located, meaning}
-use Rattle.term_spec.specs.Message.{Framing, standalone, payload, meanings, read}
+use Rattle.term_spec.specs.Message.{Framing, standalone, payload, meanings}
 use Rattle.term_spec.specs.Rows.{table-after}
 use Rattle.term_spec.specs.Canonical.{canonical-standalone, standalones}
 use Rattle.term_spec.specs.Writing.{Written, write, output-after, scratch-after}

@@ -18,7 +18,7 @@ use Rattle.term_writer.proofs.length_term.Reads as length-term
 use Rattle.term_writer.proofs.length_term.Kinds as length-term-kinds
 use Rattle.term_writer.proofs.+length_run+length_term.Lts-length_term as length-term-lts
 use Rattle.term_writer.proofs.is_string.Reads as is-string-reads
-use Rattle.canonical_fields.proofs.own_length.Reads as own-length-reads
+use Rattle.field_writer.proofs.own_length.Reads as own-length-reads
 use Rattle.row.proofs.parts_in.Reads as parts-in-reads
 use Rattle.row.proofs.size_in.Reads as size-in-reads
 use Rattle.term_writer.proofs.+length_run+length_term.{statement}

@@ -20,9 +20,9 @@ use Rattle.term_writer.proofs.write_term.Kinds as write-term-kinds
 use Rattle.term_writer.proofs.+write_run+write_term.Lts-write_term as write-term-lts
 use Rattle.term_writer.proofs.is_string.Reads as is-string-reads
 use Rattle.term_writer.proofs.put_string.Reads as put-string-reads
-use Rattle.canonical_fields.proofs.put_after.Reads as put-after-reads
-use Rattle.canonical_fields.proofs.put_before.Reads as put-before-reads
-use Rattle.canonical_fields.proofs.put_leaf.Reads as put-leaf-reads
+use Rattle.field_writer.proofs.put_after.Reads as put-after-reads
+use Rattle.field_writer.proofs.put_before.Reads as put-before-reads
+use Rattle.field_writer.proofs.put_leaf.Reads as put-leaf-reads
 use Rattle.row.proofs.parts_in.Reads as parts-in-reads
 use Rattle.row.proofs.size_in.Reads as size-in-reads
 use Rattle.term_writer.proofs.+write_run+write_term.{statement}
