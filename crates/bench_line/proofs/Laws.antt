@@ -20,7 +20,6 @@ use Rattle.term_spec.specs.Answers.{write-answer}
 use Rattle.term_spec.specs.declared.Refusal.{Refusal}
 use Rattle.term_spec.specs.declared.WriteAnswer.{WriteAnswer}
 use Rattle.term_spec.specs.declared.WriteAnswer.the-variants as writes
-use Rattle.octets.proofs.Stores.{take-sets}
 use Rattle.layout.specs.Layout.{Put}
 use Rattle.layout.proofs.Puts.{put-then, put-same}
 use Rattle.bench_line.specs.Line.{hex, Decimal, Ok-line, Refused-line, Line, Stored, ok-tab, refused-tab, bench-answer}
@@ -164,7 +163,7 @@ answer-refused (refused m p) {D} {E} {x} {k} {r} n e s =
 
 -- the line at the start of the buffer, with the bench's list, rows and output
 pub bench-line : (m : List ℕ) {places lengths D E : List ℕ} {rows room r : ℕ} → places ≡ replicate 8160 0 → lengths ≡ replicate 255 0 → rows ≡ 8192 → room ≡ 65536
-    → Stored (Line (write standalone (lent-list 0 places lengths) rows room m)) D 0 r E → Line (bench-answer m) (take r E) × Counts r E
+    → Stored (Line (write standalone (lent-list 0 places lengths) rows room m)) D 0 r E → Stored (Line (bench-answer m)) D 0 r E × Counts r E
 unfolding bench-answer
 bench-line m {places} {lengths} {D} {E} {rows} {room} {r} p l n o s =
     let w : write standalone (lent-list 0 places lengths) rows room m ≡ bench-answer m =
@@ -172,9 +171,6 @@ bench-line m {places} {lengths} {D} {E} {rows} {room} {r} p l n o s =
     ∙ ap (λ (x : List ℕ). write standalone (lent-list 0 (replicate 8160 0) x) rows room m) l
     ∙ ap (λ (k : ℕ). write standalone empty-list k room m) n
     ∙ ap (λ (k : ℕ). write standalone empty-list 8192 k m) o in
-    let past : r ≡ 0 + length (s .text) = s .put .past in
-    let long : length (s .text) ≡ r = omega arith in
     let fits : r ≤ length D = s .inside in
-    let g : take r E ≡ s .text = ap (λ (x : List ℕ). take r x) (s .put .stored) ∙ take-sets D (s .text) r long fits in
     let size : length E ≡ length D = ap length (s .put .stored) ∙ length-sets D 0 (s .text) in
-    (subst (λ (x : List ℕ). Line (bench-answer m) x) (sym g) (subst (λ (a : Answer Written). Line a (s .text)) w (s .is)), counts r E (omega arith))
+    (subst (λ (a : Answer Written). Stored (Line a) D 0 r E) w s, counts r E (omega arith))

@@ -3,7 +3,7 @@ use term_spec::Refusal;
 use term_spec::WriteAnswer;
 ghost use mathlib.Core.Path.{_≡_};
 ghost use Prim.Native.Nat.{_+_, _*_, _≤_, _<_};
-ghost use lib.ListN.{length, take};
+ghost use lib.ListN.{length};
 ghost use lib.Seq.{sets};
 ghost use Rattle.io.specs.Counts.{Counts};
 ghost use Rattle.io.specs.Digits.{glyph};
@@ -97,10 +97,12 @@ fn put_answer(
     }
 }
 
-// The bench's line for an input, at the start of dst; how long it is.
-pub fn line(input: &[u8], dst: &mut [u8]) -> usize
-    requires { ⌜ 131122 ≤ length (now dst) ⌝ }
-    ensures { λ r. ⌜ Line (bench-answer (now (input .entry))) (take r (now (dst .exit))) ⌝ }
+// The longest line: two digits for each byte of the output, and room for a refusal.
+pub const LINE_MOST: usize = 131122;
+
+// Stores the bench's line for an input at the start of dst, and nothing else; how long it is.
+pub fn line(input: &[u8], dst: &mut [u8; LINE_MOST]) -> usize
+    ensures { λ r. ⌜ Stored (Line (bench-answer (now (input .entry)))) (now (dst .entry)) 0 r (now (dst .exit)) ⌝ }
     ensures { λ r. ⌜ Counts r (now (dst .exit)) ⌝ }
 {
     let places = [0u8; 8160];

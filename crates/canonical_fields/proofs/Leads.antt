@@ -12,12 +12,11 @@ use borrow.Author.Tests.{lt-ltb, le-ltb, le-leb, lt-leb, ltb-true, ltb-false, ne
 use Rattle.term_spec.specs.Numbers.{big-endian, in-bytes, little-endian, digits, with-sign, Under}
 use Rattle.term_spec.specs.Text.{encodes}
 use Rattle.term_spec.specs.Head.{clear-low}
-use Rattle.term_spec.specs.Term.{integer, tuple, list, improper-list, binary, bitstring, map, port, reference, export}
-use Rattle.term_spec.specs.Canonical.{big-bytes, integer-bytes, atom-bytes, tuple-bytes, words-bytes, small}
+use Rattle.term_spec.specs.Term.{tuple, list, improper-list, binary, bitstring, map, port, reference, export}
+use Rattle.term_spec.specs.Canonical.{big-bytes, integer-bytes, atom-bytes, tuple-bytes, words-bytes}
 use Rattle.term_spec.proofs.Numbers.{length-digits}
 use Rattle.term_spec.proofs.Holds.{big-under}
 use Rattle.term_spec.proofs.Text.{under-all}
-use Rattle.term_spec.specs.Rows.{kind-in, parts-in}
 use Rattle.octets.specs.Parts.{choose, stretch, source}
 use Rattle.octets.proofs.Numbers.{bytes-one, bytes-mod}
 use Rattle.octets.proofs.Parts.{length-part, part-last, part-add}
@@ -29,12 +28,11 @@ use Rattle.row_fields.proofs.Values.{under-part}
 use Rattle.layout.specs.declared.Body.{Body}
 use Rattle.layout.specs.declared.Body.the-variants.{Empty, Part, Latin1, Digits, Bits}
 use Rattle.layout.specs.declared.Layout.{Layout}
-use Rattle.layout.specs.Layout.{body-bytes, layout-bytes, Inside, Body-inside, Lays, Put, laid-of}
+use Rattle.layout.specs.Layout.{body-bytes, Inside, Body-inside, Lays, laid-of}
 use Rattle.layout.proofs.Digits.{digits-of}
-use Rattle.layout.proofs.Puts.{put-same}
 use Rattle.layout.proofs.Bodies.{lays, length-stretch, length-bits}
 use Rattle.canonical_fields.specs.Shape.{tagged-bytes, list-start, list-end, before, after}
-use Rattle.canonical_fields.specs.Sound.{High, Bytes-only, Spelt, Sound-text, Sound, listed-in, content-in, before-in, after-in, Sound-word, character-code}
+use Rattle.canonical_fields.specs.Sound.{High, Bytes-only, Spelt, Sound-text, Sound, listed-in}
 
 -- other bytes that are the same
 pub says : {m places bs cs : List ℕ} {l : Layout} → bs ≡ cs → Lays m places bs l → Lays m places cs l
@@ -116,7 +114,7 @@ module _ (m : List ℕ) (start n : ℕ) (h : High m start n) (b : Bytes-only m) 
       = ap (λ (k : ℕ). stretch m start k) (sym e) ∙ part-last 0 m start (n - 1) (omega arith) in
       rw f (digits-of (stretch m start (n - 1)) (getD m (start + (n - 1)) 0) (part-under m start (n - 1) b) (b (start + (n - 1))) high)
 
-  big-large : 4294967296 ≤ little-endian (stretch m start n)
+  pub big-large : 4294967296 ≤ little-endian (stretch m start n)
   big-large =
       let v : ℕ = little-endian (stretch m start n) in
       let many : 8 < n = h .many in
@@ -353,68 +351,3 @@ module _ (m places : List ℕ) (content : Content) where
 
     pub trail-by : (c : Content) {l : Layout} → content ≡ c → Lays m places (after-of c) l → Lays m places (after-of content) l
     trail-by c e h = says (sym (ap after-of e)) h
-
--- ---- characters
-
-pub not-small : (negative : Bool) (n : ℕ) → negative ≡ true → 0 < n → 256 ≡ character-code (small (integer (with-sign (sign negative) n)))
-unfolding small character-code
-not-small negative n e h = rw (← signed-below negative n e h)
-
-pub large : (negative : Bool) (n : ℕ) → negative ≡ false → 255 < n → 256 ≡ character-code (small (integer (with-sign (sign negative) n)))
-unfolding small character-code
-large negative n e h = rw (← signed-above negative n e) (simp (le-ltb n 256 h))
-
-pub is-small : (negative : Bool) (n : ℕ) → negative ≡ false → n ≤ 255 → n ≡ character-code (small (integer (with-sign (sign negative) n)))
-unfolding small character-code
-is-small negative n e h = let g : n < 256 = omega arith in rw (← signed-above negative n e) (simp (lt-ltb n 256 g))
-
-pub bare-none : (kind : ℕ) → 256 ≡ character-code (small (bare kind))
-unfolding bare choose small character-code
-bare-none kind = go (eqb kind 4) (eqb kind 5) (eqb kind 6) (eqb kind 9)
-  where
-    go : (x y z w : Bool) → 256 ≡ character-code (small (choose x tuple (choose y list (choose z improper-list (choose w map export)))))
-    go true y z w = refl
-    go false true z w = refl
-    go false false true w = refl
-    go false false false true = refl
-    go false false false false = refl
-
-big-none : (s : Bool) (v : ℕ) → 4294967296 ≤ v → 256 ≡ character-code (small (integer (with-sign (sign s) v)))
-big-none true v l = not-small true v refl (omega arith)
-big-none false v l = large false v refl (omega arith)
-
-module _ (m places : List ℕ) (kind : ℕ) (content : Content) where
-  pub code-by : (c : Content) {r : ℕ} → content ≡ c → r ≡ character-code (small (label-of m (listed-in places) kind c)) → r ≡ character-code (small (label-of m (listed-in places) kind content))
-  code-by c e h = h ∙ ap (λ (d : Content). character-code (small (label-of m (listed-in places) kind d))) (sym e)
-
-  pub code-big : (negative : Bool) (start n : ℕ) → content ≡ Big negative start n → Sound m places content → Bytes-only m
-      → 256 ≡ character-code (small (label-of m (listed-in places) kind content))
-  unfolding label-of
-  code-big negative start n e s b =
-      let h : High m start n = sound-big m places content negative start n e s in
-      code-by (Big negative start n) e (big-none negative (little-endian (stretch m start n)) (big-large m start n h b))
-
--- ---- a row's word
-
-module _ (m places lengths : List ℕ) (w : ℕ) (own : Content) (kind n : ℕ) (e : own ≡ content-in m places lengths w) (f : kind ≡ kind-in w) (g : n ≡ parts-in w) where
-  pub word-sound : Sound-word m places lengths w → Sound m places own
-  word-sound s = rw e (s .sound)
-
-  pub word-parts : Sound-word m places lengths w → kind ≡ 6 → 0 < n
-  word-parts s k = rw g (s .some-parts (sym f ∙ k))
-
-  pub lead-is : {r : Layout} → Lays m places (before (label-of m (listed-in places) kind own) n) r → Lays m places (before-in m places lengths w) r
-  lead-is h = says (cc) h
-
-  pub trail-is : {r : Layout} → Lays m places (after (label-of m (listed-in places) kind own) n) r → Lays m places (after-in m places lengths w) r
-  trail-is h = says (cc) h
-
--- a layout's length and room, and its writing, by its bytes
-pub lay-length : {m places bs : List ℕ} {l : Layout} {k : ℕ} → Lays m places bs l → k ≡ length (layout-bytes m places l) → k ≡ length bs
-lay-length h e = e ∙ ap length (h .says)
-
-pub lay-room : {m places bs : List ℕ} {l : Layout} (at k : ℕ) → Lays m places bs l → at + length bs ≤ k → at + length (layout-bytes m places l) ≤ k
-lay-room at k h r = rw (h .says) r
-
-pub lay-put : {m places bs O P : List ℕ} {l : Layout} {at next : ℕ} → Lays m places bs l → Put O at (layout-bytes m places l) next P → Put O at bs next P
-lay-put h p = put-same (h .says) p

@@ -1,5 +1,4 @@
 pub mod Shape
 pub mod Leads
 pub mod Each
-pub mod Stands
-pub mod Nodes
+pub mod There

@@ -2,9 +2,8 @@
 use mathlib.Core.Path.{_≡_}
 use mathlib.Core.Bool.{Bool, true, false}
 use mathlib.Core.List.{List, []}
-use mathlib.Core.Option.{Option, none, some}
 use Prim.Native.Nat.{ℕ, _+_, _*_, _-_, _≤_, _<_}
-use lib.ListN.{length, getD}
+use lib.ListN.{getD}
 use Rattle.term_spec.specs.Text.{utf-8, check, encodes}
 use Rattle.term_spec.specs.Term.{Label}
 use Rattle.term_spec.specs.AtomList.{AtomList}
@@ -67,23 +66,3 @@ after-in m places lengths w = after (label-in m places lengths w) (parts-in w)
 pub record Sound-word (m places lengths : List ℕ) (w : ℕ) : Type 0 where
   pub sound : Sound m places (content-in m places lengths w)
   pub some-parts : kind-in w ≡ 6 → 0 < parts-in w
-
--- an integer 0 .. 255 as it is, 256 for any other term
-unfoldable pub character-code : Option ℕ → ℕ
-character-code none = 256
-character-code (some n) = n
-
--- a term's own bytes in canonical form are the n of the message from its tag on, and none after its parts
-pub record Stands (m places lengths : List ℕ) (kind at parts n : ℕ) : Type 0 where
-  pub there : at + n ≤ length m
-  pub few : n ≤ 262192
-  pub whole : before (label-of m (listed-in places) kind (content-of m places lengths kind at)) parts ≡ stretch m at n
-  pub no-end : after (label-of m (listed-in places) kind (content-of m places lengths kind at)) parts ≡ []
-
--- a term's own bytes in canonical form are, before its parts, the h of the message from its tag on and, after them, the k from `end` on
-pub record Around (m places lengths : List ℕ) (kind at parts h end k : ℕ) : Type 0 where
-  pub first-there : at + h ≤ length m
-  pub last-there : end + k ≤ length m
-  pub few : h + k ≤ 262192
-  pub first : before (label-of m (listed-in places) kind (content-of m places lengths kind at)) parts ≡ stretch m at h
-  pub last : after (label-of m (listed-in places) kind (content-of m places lengths kind at)) parts ≡ stretch m end k

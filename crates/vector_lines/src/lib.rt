@@ -2,9 +2,11 @@
 // or COUNT*HEX for a repetition, all parted by single spaces. The bytes that the words stand for: form (1 byte), rows lent (2), output room (3), n of the atom list (1), number of places given (1), for each of them its length (2), a
 // count (1) and that many bytes of text, then the message. Forms: 's' standalone, 'p' payload; 'S', 'P' the same with the places lent a
 // byte short, 't', 'q' with a length too many. No function has a `requires`: what is missing counts as 0, what has no room is left out.
+ghost use mathlib.Core.Path.{_≡_};
 ghost use Prim.Native.Nat.{_≤_, _<_, min};
-ghost use lib.ListN.{length};
+ghost use lib.ListN.{length, getD};
 ghost use Rattle.io.specs.Counts.{Counts};
+ghost use Rattle.vector_lines.specs.Fields.{verb, payload-form};
 use term_spec::ReadAnswer;
 use term_spec::Refusal;
 
@@ -347,7 +349,9 @@ fn decode_word(dst: &mut [u8], at: usize, word: &[u8]) -> usize
 }
 
 // What a line asks.
-pub fn verb_of(line: &[u8]) -> Verb {
+pub fn verb_of(line: &[u8]) -> Verb
+    ensures { λ r. ⌜ r ≡ verb (now (line .entry)) ⌝ }
+{
     if line.len() == 0 {
         return Verb::Unknown;
     }
@@ -373,9 +377,9 @@ pub fn decode_line(dst: &mut [u8], line: &[u8]) -> usize
     next
 }
 
-// The byte of a case at `at`.
+// The byte of a case at `at`; 0 where it has none.
 fn number1(case: &[u8], at: usize) -> usize
-    ensures { λ r. ⌜ r < 256 ⌝ }
+    ensures { λ r. ⌜ (r ≡ getD (now (case .entry)) at 0) × (r < 256) ⌝ }
 {
     if case.len() <= at {
         return 0;
@@ -401,9 +405,16 @@ pub fn number3(case: &[u8], at: usize) -> usize
     number1(case, at) * 65536 + number2(case, at + 1)
 }
 
-pub fn is_payload(case: &[u8]) -> bool {
-    let form = number1(case, 0);
-    form == 112 || form == 80 || form == 113
+// Whether the message is a payload, by the case's form.
+pub fn is_payload(case: &[u8]) -> bool
+    ensures { λ r. ⌜ r ≡ payload-form (getD (now (case .entry)) 0 0) ⌝ }
+{
+    match number1(case, 0) {
+        112 => true,
+        80 => true,
+        113 => true,
+        _ => false,
+    }
 }
 
 // n, but at most all the bytes.
@@ -435,7 +446,9 @@ pub fn room_lent(case: &[u8], out: &[u8]) -> usize
 }
 
 // n of the atom list.
-pub fn list_count(case: &[u8]) -> u8 {
+pub fn list_count(case: &[u8]) -> u8
+    ensures { λ r. ⌜ r ≡ getD (now (case .entry)) 6 0 ⌝ }
+{
     if case.len() <= 6 {
         return 0;
     }

@@ -1,6 +1,6 @@
 // A case that is asked about: its rows lent say how many rows, its output room how many offsets are asked for. First each row's number
 // (`whole,N`, `float,BITS`, `neither`), then each offset's text (`message,START,LENGTH`, `list,START,LENGTH`, `empty`, with ` differs` if the
-// text itself has another length), then each offset's mark (`latin1`, `utf8`); `refused,N,P` where a question is refused.
+// text itself has other bytes), then each offset's mark (`latin1`, `utf8`); `refused,N,P` where a question is refused.
 ghost use Rattle.io.specs.Counts.{Counts};
 use queries::TextAt;
 use term_spec::MarkAnswer;
@@ -24,23 +24,6 @@ fn locate(case: &[u8], msg: &[u8], places: &[u8], lengths: &[u16], offset: usize
         return queries::locate_payload(msg, n, places, lengths, offset);
     }
     queries::locate_standalone(msg, n, places, lengths, offset)
-}
-
-// The length of the text lent.
-fn text_length<'a>(
-    case: &[u8],
-    msg: &'a [u8],
-    places: &'a [u8],
-    lengths: &[u16],
-    offset: usize,
-) -> usize {
-    let n = vector_lines::list_count(case);
-    if vector_lines::is_payload(case) {
-        let text = queries::text_payload(msg, n, places, lengths, offset);
-        return text.len();
-    }
-    let text = queries::text_standalone(msg, n, places, lengths, offset);
-    text.len()
 }
 
 fn mark(case: &[u8], msg: &[u8], places: &[u8], lengths: &[u16], offset: usize) -> MarkAnswer {
@@ -111,17 +94,39 @@ fn put_number(dst: &mut [u8], at: usize, answer: NumberAnswer) -> usize
     }
 }
 
-// ` differs` if the two lengths of a text are not the same.
-fn put_differs(dst: &mut [u8], at: usize, located: usize, lent: usize) -> usize
+// Whether the text is the n bytes of src from `start` on.
+fn stands(src: &[u8], start: usize, n: usize, text: &[u8]) -> bool {
+    if text.len() != n {
+        return false;
+    }
+    if src.len() < start {
+        return false;
+    }
+    if src.len() - start < n {
+        return false;
+    }
+    octets::same(src, start, text, 0, n)
+}
+
+// ` differs` if the text is not that stretch of src.
+fn put_differs(dst: &mut [u8], at: usize, src: &[u8], start: usize, n: usize, text: &[u8]) -> usize
     ensures { λ r. ⌜ Counts r (now (dst .exit)) ⌝ }
 {
-    if located == lent {
+    if stands(src, start, n, text) {
         return put_word(dst, at, b"");
     }
     put_word(dst, at, b" differs")
 }
 
-fn put_text(dst: &mut [u8], at: usize, answer: TextAt, lent: usize) -> usize
+// Where a text is said to stand, and whether the text lent is what stands there.
+fn put_text(
+    dst: &mut [u8],
+    at: usize,
+    msg: &[u8],
+    places: &[u8],
+    answer: TextAt,
+    text: &[u8],
+) -> usize
     ensures { λ r. ⌜ Counts r (now (dst .exit)) ⌝ }
 {
     match answer {
@@ -131,17 +136,39 @@ fn put_text(dst: &mut [u8], at: usize, answer: TextAt, lent: usize) -> usize
             latin1,
         } => {
             let a = put_pair(dst, at, b"message", start, length);
-            put_differs(dst, a, length, lent)
+            put_differs(dst, a, msg, start, length, text)
         }
         TextAt::List { start, length } => {
             let a = put_pair(dst, at, b"list", start, length);
-            put_differs(dst, a, length, lent)
+            put_differs(dst, a, places, start, length, text)
         }
         TextAt::Refused(r) => {
             let a = put_word(dst, at, b"empty");
-            put_differs(dst, a, 0, lent)
+            put_differs(dst, a, msg, 0, 0, text)
         }
     }
+}
+
+// The text of the atom at this offset.
+fn put_text_at<'a>(
+    dst: &mut [u8],
+    at: usize,
+    case: &[u8],
+    msg: &'a [u8],
+    places: &'a [u8],
+    lengths: &[u16],
+    offset: usize,
+) -> usize
+    ensures { λ r. ⌜ Counts r (now (dst .exit)) ⌝ }
+{
+    let n = vector_lines::list_count(case);
+    let answer = locate(case, msg, places, lengths, offset);
+    if vector_lines::is_payload(case) {
+        let text = queries::text_payload(msg, n, places, lengths, offset);
+        return put_text(dst, at, msg, places, answer, text);
+    }
+    let text = queries::text_standalone(msg, n, places, lengths, offset);
+    put_text(dst, at, msg, places, answer, text)
 }
 
 fn put_mark(dst: &mut [u8], at: usize, answer: MarkAnswer) -> usize
@@ -182,8 +209,7 @@ fn put_answer<'a>(
         return put_number(dst, a, number(case, msg, places, lengths, i));
     }
     if question == 1 {
-        let lent = text_length(case, msg, places, lengths, i);
-        return put_text(dst, a, locate(case, msg, places, lengths, i), lent);
+        return put_text_at(dst, a, case, msg, places, lengths, i);
     }
     put_mark(dst, a, mark(case, msg, places, lengths, i))
 }

@@ -1,4 +1,4 @@
-// Answers each case of standard input (crate casebook) by a line: `read`, `write` and `ask` as the module of each says, `unknown` for another verb.
+// Answers each case of standard input (crate vector_lines) by a line: `read`, `write` and `ask` as the module of each says, `unknown` for another verb.
 mod ask;
 mod read;
 mod write;

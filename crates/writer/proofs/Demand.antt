@@ -16,12 +16,12 @@ use Rattle.writer.proofs.write_payload.Reads as write-payload
 pub promised-write-standalone : (κs : Lfts 5) (a : _) (r : _) (s : _) → write-standalone.Post κs a r s
     → Write-call standalone (lent-list (a .1 .0) (a .1 .1 .0 .now) (a .1 .1 .1 .0 .now)) (a .0 .now) (a .1 .1 .1 .1 .0 .now) (a .1 .1 .1 .1 .1 .0 .now) r
     (s .1 .1 .1 .1 .0 .now) (s .1 .1 .1 .1 .1 .0 .now)
-promised-write-standalone κs a r s p = record { write-answered = p .0; scratch-left = p .1 .0; output-left = p .1 .1 }
+promised-write-standalone κs a r s p = p
 
 pub promised-write-payload : (κs : Lfts 5) (a : _) (r : _) (s : _) → write-payload.Post κs a r s
     → Write-call payload (lent-list (a .1 .0) (a .1 .1 .0 .now) (a .1 .1 .1 .0 .now)) (a .0 .now) (a .1 .1 .1 .1 .0 .now) (a .1 .1 .1 .1 .1 .0 .now) r
     (s .1 .1 .1 .1 .0 .now) (s .1 .1 .1 .1 .1 .0 .now)
-promised-write-payload κs a r s p = record { write-answered = p .0; scratch-left = p .1 .0; output-left = p .1 .1 }
+promised-write-payload κs a r s p = p
 
 pub promised-read-standalone : (κs : Lfts 4) (a : _) (r : _) (s : _) → read-standalone.Post κs a r s
     → Read-call standalone (lent-list (a .1 .0) (a .1 .1 .0 .now) (a .1 .1 .1 .0 .now)) (a .0 .now) (a .1 .1 .1 .1 .0 .now) r (s .1 .1 .1 .1 .0 .now)

@@ -1,6 +1,3 @@
-pub mod Held
-pub mod Strings
-pub mod Terms
 pub mod Read
 pub mod Messages
 pub mod Demand

@@ -18,6 +18,7 @@ use Rattle.term_spec.specs.Rows.{table-after}
 use Rattle.term_spec.specs.Canonical.{canonical, canonicals, canonical-standalone, standalones}
 use Rattle.term_spec.specs.Writing.{Written, written, write, output-after, scratch-after}
 use Rattle.term_spec.specs.Answers.{read-answer, write-answer}
+use Rattle.term_spec.specs.Promises.{Write-call}
 use Rattle.term_spec.specs.declared.Refusal.{Refusal}
 use Rattle.term_spec.specs.declared.ReadAnswer.{ReadAnswer}
 use Rattle.term_spec.specs.declared.ReadAnswer.the-variants as reads
@@ -28,9 +29,10 @@ use Rattle.term_spec.proofs.Demand.{written-good}
 use Rattle.octets.proofs.Numbers.{bytes-one}
 use Rattle.layout.specs.Layout.{Put}
 use Rattle.layout.proofs.Puts.{put-then}
-use Rattle.writer.specs.Held.{Held-run}
-use Rattle.writer.specs.Code.{Term-put, Term-fits, Run-put, Run-fits, Run-length, Some-run, Rows-written}
-use Rattle.writer.proofs.Strings.{count-meanings}
+use Rattle.term_writer.specs.Held.{Held-run}
+use Rattle.term_writer.specs.Code.{Term-put, Term-fits, Run-put, Run-fits, Run-length, Some-run}
+use Rattle.writer.specs.Code.{Rows-written}
+use Rattle.term_writer.proofs.Strings.{count-meanings}
 use Rattle.writer.proofs.Read.{read-held}
 
 pub standalones-none : standalones Forest.empty ≡ []
@@ -136,40 +138,42 @@ refusal-read (refused n p) r q e f =
     let s : q ≡ record { number = n; place = p } = cc in
     sym (ap₂ (λ (a b : ℕ). refused a b) (ap (λ (x : Refusal). x .number) s) (ap (λ (x : Refusal). x .place) s))
 
-module _ (framing : Framing) (atoms : AtomList) (lent : ℕ) (m : List ℕ) (few : atoms .n ≤ 255) (u : Under 256 m) where
+module _ (framing : Framing) (atoms : AtomList) (S m : List ℕ) (few : atoms .n ≤ 255) (u : Under 256 m) where
   abbrev answer : Answer Terms
-  answer = read framing atoms lent m
+  answer = read framing atoms (length S) m
 
-  module _ {r : ReadAnswer} {k rows : ℕ} {T : List ℕ} (e : r ≡ read-answer answer) (f : r ≡ reads.Terms k rows) (t : T ≡ table-after lent answer) where
+  module _ {r : ReadAnswer} {k rows : ℕ} {T : List ℕ} (e : r ≡ read-answer answer) (f : r ≡ reads.Terms k rows) (t : T ≡ table-after (length S) answer) where
     terms-are : (ts : Terms) × (answer ≡ good ts) × (count ts ≡ k)
     terms-are = terms-read answer r k rows e f
 
     terms-held : Held-run m (atoms .places) (atoms .lengths) T 0 (terms-are .0)
     terms-held =
-        let x : T ≡ table-after lent (good (terms-are .0)) = t ∙ ap (λ (o : Answer Terms). table-after lent o) (terms-are .1) in
-        subst (λ (X : List ℕ). Held-run m (atoms .places) (atoms .lengths) X 0 (terms-are .0)) (sym x) (read-held framing atoms lent m few u (terms-are .0) (terms-are .1))
+        let x : T ≡ table-after (length S) (good (terms-are .0)) = t ∙ ap (λ (o : Answer Terms). table-after (length S) o) (terms-are .1) in
+        subst (λ (X : List ℕ). Held-run m (atoms .places) (atoms .lengths) X 0 (terms-are .0)) (sym x)
+        (read-held framing atoms (length S) m few u (terms-are .0) (terms-are .1))
 
     pub message-run : Some-run m (atoms .places) (atoms .lengths) T 0 k
     message-run = record { terms = terms-are .0; held = terms-held; counted = terms-are .2 }
 
-    pub message-written : (O P : List ℕ) (w : WriteAnswer) → Rows-written m (atoms .places) (atoms .lengths) T k O w P
-        → (w ≡ write-answer (write framing atoms lent (length O) m)) × (P ≡ output-after O (write framing atoms lent (length O) m))
+    pub message-written : {O P Z : List ℕ} {w : WriteAnswer} → Rows-written m (atoms .places) (atoms .lengths) T k O w P → Z ≡ scratch-after (length T) → length T ≡ length S
+        → Write-call framing atoms m S O w Z P
     unfolding write
-    message-written O P w g =
+    message-written {O} g z l =
         let i = g (terms-are .0) terms-held (terms-are .2) in
         let x : good (terms-are .0) ≡ answer = sym (terms-are .1) in
-        (i .0 ∙ ap (λ (o : Answer Terms). write-answer (written (length O) o)) x, i .1 ∙ ap (λ (o : Answer Terms). output-after O (written (length O) o)) x)
+        record {
+          write-answered = i .0 ∙ ap (λ (o : Answer Terms). write-answer (written (length O) o)) x;
+          scratch-left = z ∙ ap scratch-after l;
+          output-left = i .1 ∙ ap (λ (o : Answer Terms). output-after O (written (length O) o)) x;
+        }
 
-  module _ {r : ReadAnswer} {q : Refusal} {T : List ℕ} (e : r ≡ read-answer answer) (f : r ≡ reads.Refused q) (t : T ≡ table-after lent answer) where
-    is-refused : answer ≡ refused (q .number) (q .place)
-    is-refused = refusal-read answer r q e f
-
-    pub message-refused : (O : List ℕ) → (writes.Refused q ≡ write-answer (write framing atoms lent (length O) m)) × (O ≡ output-after O (write framing atoms lent (length O) m))
-    unfolding write written write-answer output-after
+  module _ {r : ReadAnswer} {q : Refusal} {T : List ℕ} (e : r ≡ read-answer answer) (f : r ≡ reads.Refused q) (t : T ≡ table-after (length S) answer) where
+    pub message-refused : (O : List ℕ) → Write-call framing atoms m S O (writes.Refused q) T O
+    unfolding write written write-answer output-after scratch-after table-after
     message-refused O =
-        let x : refused (q .number) (q .place) ≡ answer = sym is-refused in
-        (ap (λ (o : Answer Terms). write-answer (written (length O) o)) x, ap (λ (o : Answer Terms). output-after O (written (length O) o)) x)
-
-    pub table-cleared : T ≡ scratch-after lent
-    unfolding scratch-after table-after
-    table-cleared = t ∙ ap (λ (o : Answer Terms). table-after lent o) is-refused
+        let is : answer ≡ refused (q .number) (q .place) = refusal-read answer r q e f in
+        record {
+          write-answered = ap (λ (o : Answer Terms). write-answer (written (length O) o)) (sym is);
+          scratch-left = t ∙ ap (λ (o : Answer Terms). table-after (length S) o) is;
+          output-left = ap (λ (o : Answer Terms). output-after O (written (length O) o)) (sym is);
+        }

@@ -35,7 +35,7 @@ use Rattle.octets.specs.Parts.{stretch}
 use Rattle.layout.specs.Layout.{Inside}
 use Rattle.layout.proofs.Bodies.{length-bits}
 use Rattle.canonical_fields.specs.Sound.{Spelt, Sound, listed-in}
-use Rattle.writer.specs.Held.{Writable, Held-run}
+use Rattle.term_writer.specs.Held.{Writable, Held-run}
 
 -- ---- every node is found again
 

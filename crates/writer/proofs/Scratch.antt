@@ -3,7 +3,7 @@ use mathlib.Core.Path.{_≡_, sym, _∙_, ap, ap₂, subst}
 use mathlib.Core.List.{List, _++_}
 use Prim.Native.Nat.{ℕ, _+_, _-_, _≤_}
 use native.Mathlib.Omega.{arith}
-use lib.ListN.{length, getD, drop, replicate, length-append, length-drop, length-replicate, take-append-drop, replicate-append-replicate}
+use lib.ListN.{length, drop, replicate, length-append, length-drop, length-replicate, take-append-drop, replicate-append-replicate}
 use lib.Seq.{sets, ext-getD, getD-drop}
 use mathlib.Core.Option.{none}
 use Rattle.term_spec.specs.Tree.{sizes}
@@ -18,11 +18,7 @@ use Rattle.term_spec.proofs.Rows.{length-rows}
 use Rattle.term_spec.proofs.Words.{length-words-of, table-past, getD-all}
 use Rattle.octets.proofs.Cleared.{ClearedTo}
 use Rattle.octets.proofs.Stores.{take-sets, drop-after}
-
--- a table whose words from index n on are 0
-pub record Zero-past (T : List ℕ) (n : ℕ) : Type 0 where
-  pub there : n ≤ length T
-  pub past : (i : ℕ) → n ≤ i → getD T i 0 ≡ 0
+use Rattle.writer.specs.Code.{Zero-past}
 
 table-zero : (lent : ℕ) (ts : Terms) → Zero-past (table-after lent (good ts)) (sizes ts)
 unfolding table-after
@@ -39,15 +35,16 @@ rows-zero (good ts) lent {n = n} e f t =
     subst (λ (X : List ℕ). Zero-past X n) (sym t) (subst (Zero-past (table-after lent (good ts))) c (table-zero lent ts))
 rows-zero (refused n p) lent e f t = let no-way : _≡_ {A = ℕ} 0 1 = cc in absurd (omega arith)
 
-pub all-zero : (l d : List ℕ) (n i : ℕ) → ClearedTo l 0 d i → n ≤ i → i ≤ n → n ≤ length l → ((k : ℕ) → n ≤ k → getD l k 0 ≡ 0) → d ≡ scratch-after (length l)
+pub all-zero : (l d : List ℕ) (n i : ℕ) → ClearedTo l 0 d i → n ≤ i → i ≤ n → Zero-past l n → d ≡ scratch-after (length l)
 unfolding scratch-after
-all-zero l d n i c f g h p =
+all-zero l d n i c f g z =
+    let h : n ≤ length l = z .there in
     let a : List ℕ = replicate n 0 in
     let e : i - 0 ≡ n = omega arith in
     let la : length a ≡ n = length-replicate n 0 in
     let k : ℕ = length l - n in
     let rest : drop n l ≡ replicate k 0
-    = ext-getD 0 (drop n l) (replicate k 0) (length-drop n l ∙ sym (length-replicate k 0)) (λ j _. getD-drop n l j 0 ∙ p (n + j) (omega arith) ∙ sym (getD-all k j 0)) in
+    = ext-getD 0 (drop n l) (replicate k 0) (length-drop n l ∙ sym (length-replicate k 0)) (λ j _. getD-drop n l j 0 ∙ z .past (n + j) (omega arith) ∙ sym (getD-all k j 0)) in
     let s : n + k ≡ length l = omega arith in
     c .stores
     ∙ ap (λ (j : ℕ). sets l 0 (replicate j 0)) e

@@ -1,84 +1,20 @@
--- What the functions of the writer ask and promise of a table: some terms stand there, and whichever do, this is found or written.
+-- What the functions of the writer ask and promise of the table that reading left.
 use mathlib.Core.Path.{_≡_}
-use mathlib.Core.Bool.{Bool}
-use mathlib.Core.List.{List, _∷_, _++_}
-use mathlib.Core.Option.{some}
-use Prim.Native.Nat.{ℕ, _+_, _*_, _≤_}
-use lib.ListN.{length}
-use Rattle.term_spec.specs.Tree.{Forest, node, count, size, sizes}
-use Rattle.term_spec.specs.Numbers.{in-bytes}
-use Rattle.term_spec.specs.Term.{Label, Term}
-use Rattle.term_spec.specs.Reading.{Located, meaning}
-use Rattle.term_spec.specs.Message.{Terms, meanings}
-use Rattle.term_spec.specs.Canonical.{all-small}
+use mathlib.Core.List.{List}
+use Prim.Native.Nat.{ℕ, _≤_}
+use lib.ListN.{length, getD}
+use Rattle.term_spec.specs.Tree.{count}
 use Rattle.term_spec.specs.Answer.{good}
+use Rattle.term_spec.specs.Message.{Terms}
 use Rattle.term_spec.specs.Writing.{written, output-after}
 use Rattle.term_spec.specs.Answers.{write-answer}
 use Rattle.term_spec.specs.declared.WriteAnswer.{WriteAnswer}
-use Rattle.layout.specs.Layout.{Put}
-use Rattle.writer.specs.Held.{Held, Held-run, as-string, is-some}
+use Rattle.term_writer.specs.Held.{Held-run}
 
--- is a located term written as a 107?
-unfoldable pub string-term : Located → Bool
-string-term (node l ts) = is-some (as-string (l .0) (meanings ts))
-
-module _ (m places lengths T : List ℕ) (row : ℕ) where
-  pub record Some-term : Type 0 where
-    pub term : Located
-    pub held : Held m places lengths T row term
-
-  pub record Some-run (n : ℕ) : Type 0 where
-    pub terms : Terms
-    pub held : Held-run m places lengths T row terms
-    pub counted : count terms ≡ n
-
-  -- all are integers 0 .. 255
-  pub record Some-small (n : ℕ) : Type 0 where
-    pub small-terms : Terms
-    pub small-held : Held-run m places lengths T row small-terms
-    pub small-counted : count small-terms ≡ n
-    pub characters : List ℕ
-    pub are-small : all-small (meanings small-terms) ≡ some characters
-
-  abbrev pub String-told : Bool → Type 0
-  String-told r = (t : Located) → Held m places lengths T row t → r ≡ string-term t
-
-  abbrev pub Small-told : ℕ → Bool → Type 0
-  Small-told n r = (ts : Terms) → Held-run m places lengths T row ts → count ts ≡ n → r ≡ is-some (all-small (meanings ts))
-
-  abbrev pub Characters-put : ℕ → List ℕ → ℕ → ℕ → List ℕ → Type 0
-  Characters-put n O at r P =
-      (ts : Terms) (cs : List ℕ) → Held-run m places lengths T row ts → count ts ≡ n → all-small (meanings ts) ≡ some cs → Put O at cs r P
-
-  abbrev pub String-put : ℕ → List ℕ → ℕ → ℕ → List ℕ → Type 0
-  String-put n O at r P =
-      (ts : Terms) (cs : List ℕ) → Held-run m places lengths T row ts → count ts ≡ n → all-small (meanings ts) ≡ some cs → Put O at (107 ∷ (in-bytes 2 n ++ cs)) r P
-
-  -- the bytes of terms, each by `one`, all by `all`
-  module _ (one : Term → List ℕ) where
-    abbrev pub Term-length : ℕ → Type 0
-    Term-length r = (t : Located) → Held m places lengths T row t → (r ≡ length (one (meaning t))) × (r ≤ 524288 * size t)
-
-    abbrev pub Term-put : List ℕ → ℕ → ℕ → List ℕ → Type 0
-    Term-put O at r P = (t : Located) → Held m places lengths T row t → Put O at (one (meaning t)) r P
-
-    pub record Term-fits (room at : ℕ) : Type 0 where
-      pub fit-term : Located
-      pub fit-held : Held m places lengths T row fit-term
-      pub fit-room : at + length (one (meaning fit-term)) ≤ room
-
-  module _ (all : Forest Label → List ℕ) where
-    abbrev pub Run-length : ℕ → ℕ → Type 0
-    Run-length n r = (ts : Terms) → Held-run m places lengths T row ts → count ts ≡ n → (r ≡ length (all (meanings ts))) × (r ≤ 524288 * sizes ts)
-
-    abbrev pub Run-put : ℕ → List ℕ → ℕ → ℕ → List ℕ → Type 0
-    Run-put n O at r P = (ts : Terms) → Held-run m places lengths T row ts → count ts ≡ n → Put O at (all (meanings ts)) r P
-
-    pub record Run-fits (n room at : ℕ) : Type 0 where
-      pub fit-terms : Terms
-      pub fit-run : Held-run m places lengths T row fit-terms
-      pub fit-count : count fit-terms ≡ n
-      pub fit-space : at + length (all (meanings fit-terms)) ≤ room
+-- a table whose words from index n on are 0
+pub record Zero-past (T : List ℕ) (n : ℕ) : Type 0 where
+  pub there : n ≤ length T
+  pub past : (i : ℕ) → n ≤ i → getD T i 0 ≡ 0
 
 -- the terms of a table, written in an output: what writing them answers, and the output after it
 module _ (m places lengths T : List ℕ) where

@@ -1,4 +1,4 @@
--- `benchline::digit` meets its contract. Assumes nothing.
+-- `bench_line::digit` meets its contract. Assumes nothing.
 use mathlib.Core.Bool.{true, false}
 use mathlib.Core.Path.{_≡_}
 use lib.Dec.{ltb}

@@ -1,4 +1,4 @@
--- `benchline::line` meets its contract. Assumes nothing.
+-- `bench_line::line` meets its contract. Assumes nothing.
 use mathlib.Core.Path.{refl}
 use Prim.Native.Nat.{ℕ}
 use lib.ListN.{length-replicate}
@@ -22,11 +22,8 @@ slice-aggregate-put-answer-4 c = search needs
 put-answer-requires : tie.Need-put-answer-requires
 put-answer-requires c κs = search needs
 
-same-length : tie.Need-same-length
-same-length c = search needs
-
 returns : tie.Need-returns
-returns c = bench-line (c .before .before .before .before .before .before .before .before .before .before .before .before .args .input .now) refl refl (length-replicate {A = ℕ} 8192 0) (length-replicate {A = ℕ} 65536 0) (c .before .before .before .before .put-answer .ensures)
+returns c = bench-line (c .before .before .before .before .before .before .before .before .before .args .input .now) refl refl (length-replicate {A = ℕ} 8192 0) (length-replicate {A = ℕ} 65536 0) (c .before .before .put-answer .ensures)
 
 pub line-spec : {M : Type 1} → statement M
 line-spec =
@@ -37,5 +34,4 @@ line-spec =
     slice-aggregate-put-answer-3
     slice-aggregate-put-answer-4
     put-answer-requires
-    same-length
     returns)

@@ -1,4 +1,4 @@
--- `benchline::put_answer` meets its contract. The bytes that the answer counts are those in the output. Assumes nothing.
+-- `bench_line::put_answer` meets its contract. The bytes that the answer counts are those in the output. Assumes nothing.
 use mathlib.Core.Path.{_≡_, sym, _∙_}
 use Prim.Native.Nat.{_+_, _*_, _≤_}
 use native.Mathlib.Omega.{arith}
@@ -25,8 +25,8 @@ slice-reshare-prefix-put-ok c =
     let a = c .before .before .before .before .before .before .before .before .before .before .before .before .before .before .before .before .before .args in
     let list = lent-list 0 (a .places .now) (a .lengths .now) in
     let wrote = write standalone list (length (a .scratch .now)) (length (a .output .now)) (a .msg .now) in
-    let is = sym (x .1) ∙ w .ensures .0 in
-    let fits = answer-fits wrote (a .output .now) _ is (w .ensures .1 .1) in
+    let is = sym (x .1) ∙ w .ensures .write-answered in
+    let fits = answer-fits wrote (a .output .now) _ is (w .ensures .output-left) in
     fits
 
 slice-aggregate-put-ok : tie.Need-slice-aggregate-put-ok
@@ -36,8 +36,8 @@ slice-aggregate-put-ok c =
     let a = c .before .before .before .before .before .before .before .before .before .before .before .before .before .before .before .before .before .before .args in
     let list = lent-list 0 (a .places .now) (a .lengths .now) in
     let wrote = write standalone list (length (a .scratch .now)) (length (a .output .now)) (a .msg .now) in
-    let is = sym (x .1) ∙ w .ensures .0 in
-    let fits = answer-fits wrote (a .output .now) _ is (w .ensures .1 .1) in
+    let is = sym (x .1) ∙ w .ensures .write-answered in
+    let fits = answer-fits wrote (a .output .now) _ is (w .ensures .output-left) in
     front _ _ fits
 
 put-ok-requires : tie.Need-put-ok-requires
@@ -47,8 +47,8 @@ put-ok-requires c κs =
     let a = c .before .before .before .before .before .before .before .before .before .before .before .before .before .before .before .before .before .before .args in
     let list = lent-list 0 (a .places .now) (a .lengths .now) in
     let wrote = write standalone list (length (a .scratch .now)) (length (a .output .now)) (a .msg .now) in
-    let is = sym (x .1) ∙ w .ensures .0 in
-    let fits = answer-fits wrote (a .output .now) _ is (w .ensures .1 .1) in
+    let is = sym (x .1) ∙ w .ensures .write-answered in
+    let fits = answer-fits wrote (a .output .now) _ is (w .ensures .output-left) in
     let after = w .last .1 .1 .1 .1 .1 .0 in
     let n = x .0 .1 .0 in
     let there : n ≡ length (take n after) = front n after fits in
@@ -83,8 +83,8 @@ returns c =
     let a = c .before .before .before .before .before .before .before .before .before .before .before .before .before .before .before .before .before .before .before .before .before .args in
     let list = lent-list 0 (a .places .now) (a .lengths .now) in
     let wrote = write standalone list (length (a .scratch .now)) (length (a .output .now)) (a .msg .now) in
-    let is = sym (x .1) ∙ w .ensures .0 in
-    answer-good wrote (a .output .now) _ is (w .ensures .1 .1) (c .before .before .put-ok .ensures)
+    let is = sym (x .1) ∙ w .ensures .write-answered in
+    answer-good wrote (a .output .now) _ is (w .ensures .output-left) (c .before .before .put-ok .ensures)
 
 same-length-4 : tie.Need-same-length-4
 same-length-4 c = search needs
@@ -101,7 +101,7 @@ returns-2 c =
     let x = c .before .before .before .before .before .before .r .given in
     let a = c .before .before .before .before .before .before .before .before .before .before .before .before .before .before .before .before .before .before .before .before .before .args in
     let list = lent-list 0 (a .places .now) (a .lengths .now) in
-    answer-refused (write standalone list (length (a .scratch .now)) (length (a .output .now)) (a .msg .now)) (c .before .before .before .wide .ensures .0) (sym (x .1) ∙ w .ensures .0) (c .before .before .put-refused .ensures)
+    answer-refused (write standalone list (length (a .scratch .now)) (length (a .output .now)) (a .msg .now)) (c .before .before .before .wide .ensures .0) (sym (x .1) ∙ w .ensures .write-answered) (c .before .before .put-refused .ensures)
 
 pub put-answer-spec : {M : Type 1} → statement M
 put-answer-spec =

@@ -1,4 +1,4 @@
--- `benchline::put_ok` meets its contract. Assumes nothing.
+-- `bench_line::put_ok` meets its contract. Assumes nothing.
 use native.Mathlib.Omega.{arith}
 use Rattle.bench_line.proofs.Laws.{ok-put}
 use borrow.Author.Needs.{needs}

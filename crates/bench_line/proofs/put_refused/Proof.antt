@@ -1,4 +1,4 @@
--- `benchline::put_refused` meets its contract. Assumes nothing.
+-- `bench_line::put_refused` meets its contract. Assumes nothing.
 use native.Mathlib.Omega.{arith}
 use Rattle.bench_line.proofs.Laws.{refused-put}
 use borrow.Author.Needs.{needs}

@@ -1,4 +1,4 @@
--- `benchline::put_text` meets its contract. Assumes nothing.
+-- `bench_line::put_text` meets its contract. Assumes nothing.
 use Rattle.bench_line.proofs.Laws.{text-put}
 use borrow.Author.Needs.{needs}
 use Rattle.bench_line.proofs.put_text.Statement.{statement}

@@ -20,7 +20,7 @@ same-length-2 c = search needs
 returns : tie.Need-returns
 returns c =
     let e = c .before .before .before .before .before .write-standalone .ensures in
-    (c .flat-written .ensures ∙ ap flat-written (e .0), e .1)
+    (c .flat-written .ensures ∙ ap flat-written (e .write-answered), (e .scratch-left, e .output-left))
 
 pub ik-write-standalone-spec : {M : Type 1} → statement M
 ik-write-standalone-spec =

@@ -1,4 +1,4 @@
--- `fields::bare_lead` meets its contract. By the kind. Assumes nothing.
+-- `canonical_fields::bare_lead` meets its contract. By the kind. Assumes nothing.
 use Rattle.canonical_fields.specs.Shape.{before}
 use Rattle.row_fields.specs.Meaning.{bare}
 use Rattle.row_fields.specs.Found.{choose}

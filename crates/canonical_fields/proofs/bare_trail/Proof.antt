@@ -1,4 +1,4 @@
--- `fields::bare_trail` meets its contract. Only lists have an end. Assumes nothing.
+-- `canonical_fields::bare_trail` meets its contract. Only lists have an end. Assumes nothing.
 use Rattle.canonical_fields.specs.Shape.{after}
 use Rattle.row_fields.specs.Meaning.{bare}
 use Rattle.row_fields.specs.Found.{choose}

@@ -1,4 +1,4 @@
--- `fields::bits_lead` meets its contract. By `bits-lay`. Assumes nothing.
+-- `canonical_fields::bits_lead` meets its contract. By `bits-lay`. Assumes nothing.
 use Rattle.canonical_fields.proofs.Leads.{bits-lay}
 use borrow.Author.Needs.{needs}
 use Rattle.canonical_fields.proofs.bits_lead.Statement.{statement}

@@ -1,4 +1,4 @@
--- `fields::bytes_lead` meets its contract. By `bytes-lay`. Assumes nothing.
+-- `canonical_fields::bytes_lead` meets its contract. By `bytes-lay`. Assumes nothing.
 use Rattle.canonical_fields.proofs.Leads.{bytes-lay}
 use borrow.Author.Needs.{needs}
 use Rattle.canonical_fields.proofs.bytes_lead.Statement.{statement}

@@ -1,4 +1,4 @@
--- `fields::content` meets its contract. Kind and offset are those of the word. Assumes nothing.
+-- `canonical_fields::content` meets its contract. Kind and offset are those of the word. Assumes nothing.
 use Rattle.row_fields.specs.Found.{content-of}
 use Prim.Native.Nat.{ℕ}
 use mathlib.Core.Path.{ap₂, _∙_}

@@ -1,4 +1,4 @@
--- `fields::digits_lead` meets its contract. By `digits-lays`: at most 8 digits are a 110. Assumes nothing.
+-- `canonical_fields::digits_lead` meets its contract. By `digits-lays`: at most 8 digits are a 110. Assumes nothing.
 use Rattle.canonical_fields.proofs.Leads.{digits-lays}
 use borrow.Author.Needs.{needs}
 use Rattle.canonical_fields.proofs.digits_lead.Statement.{statement}

@@ -1,4 +1,4 @@
--- `fields::lead` meets its contract. By the content: each case says the label that the content says. Assumes nothing.
+-- `canonical_fields::lead` meets its contract. By the content: each case says the label that the content says. Assumes nothing.
 use Rattle.canonical_fields.specs.Shape.{before}
 use Rattle.row_fields.specs.Meaning.{label-of}
 use Rattle.term_spec.specs.Canonical.{integer-bytes}

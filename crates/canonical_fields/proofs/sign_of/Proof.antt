@@ -1,4 +1,4 @@
--- `fields::sign_of` meets its contract. By the two cases. Assumes nothing.
+-- `canonical_fields::sign_of` meets its contract. By the two cases. Assumes nothing.
 use Rattle.canonical_fields.proofs.Leads.{sign-true, sign-false}
 use mathlib.Core.Path.{sym}
 use Rattle.canonical_fields.proofs.sign_of.Statement.{statement}

@@ -1,4 +1,4 @@
--- `fields::tagged` meets its contract. By `tagged-lays`. Assumes nothing.
+-- `canonical_fields::tagged` meets its contract. By `tagged-lays`. Assumes nothing.
 use Rattle.canonical_fields.proofs.Leads.{tagged-lays}
 use borrow.Author.Needs.{needs}
 use Rattle.canonical_fields.proofs.tagged.Statement.{statement}

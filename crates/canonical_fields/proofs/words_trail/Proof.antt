@@ -1,4 +1,4 @@
--- `fields::words_trail` meets its contract. Words stand as they are in the message: `words-lay`. Assumes nothing.
+-- `canonical_fields::words_trail` meets its contract. Words stand as they are in the message: `words-lay`. Assumes nothing.
 use Rattle.canonical_fields.proofs.Leads.{words-lay}
 use borrow.Author.Needs.{needs}
 use Rattle.canonical_fields.proofs.words_trail.Statement.{statement}

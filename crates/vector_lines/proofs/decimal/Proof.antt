@@ -1,4 +1,4 @@
--- `casebook::decimal` meets its contract. The number stays under 2,000,000. Assumes nothing.
+-- `vector_lines::decimal` meets its contract. The number stays under 2,000,000. Assumes nothing.
 use Prim.Native.Nat.{_-_, _<_, _≤_}
 use borrow.Author.Needs.{needs}
 use lib.ListN.{length}

@@ -1,4 +1,4 @@
--- `casebook::fill_list` meets its contract. Each place takes at most 258 bytes of the case. Assumes nothing.
+-- `vector_lines::fill_list` meets its contract. Each place takes at most 258 bytes of the case. Assumes nothing.
 use Prim.Native.Nat.{_+_, _-_, _*_, _≤_}
 use mathlib.Core.Path.{_≡_}
 use borrow.Author.Needs.{needs}

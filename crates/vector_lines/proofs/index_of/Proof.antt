@@ -1,4 +1,4 @@
--- `casebook::index_of` meets its contract. The index lies between `from` and the length. Assumes nothing.
+-- `vector_lines::index_of` meets its contract. The index lies between `from` and the length. Assumes nothing.
 use Prim.Native.Nat.{_-_, _≤_}
 use native.Mathlib.Omega.{arith}
 use borrow.Author.Needs.{needs}

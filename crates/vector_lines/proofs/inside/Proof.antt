@@ -1,4 +1,4 @@
--- `casebook::inside` meets its contract. The answer is no more than there is. Assumes nothing.
+-- `vector_lines::inside` meets its contract. The answer is no more than there is. Assumes nothing.
 use native.Mathlib.Omega.{arith}
 use Rattle.io.proofs.Counting.{counts}
 use Rattle.vector_lines.proofs.inside.Statement.{statement}

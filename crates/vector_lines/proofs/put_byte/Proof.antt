@@ -1,4 +1,4 @@
--- `casebook::put_byte` meets its contract. The byte put lies inside dst. Assumes nothing.
+-- `vector_lines::put_byte` meets its contract. The byte put lies inside dst. Assumes nothing.
 use native.Mathlib.Omega.{arith}
 use borrow.Author.Needs.{needs}
 use lib.ListN.{length-set}

@@ -1,4 +1,4 @@
--- `canon::clear_rows` meets its contract. The loop has cleared the words up to i. Assumes nothing.
+-- `writer::clear_rows` meets its contract. The loop has cleared the words up to i. Assumes nothing.
 use Prim.Native.Nat.{_-_, _≤_}
 use native.Mathlib.Omega.{arith}
 use Rattle.octets.proofs.Cleared.{ClearedTo, cleared-none, cleared-more}
@@ -16,10 +16,10 @@ loop-holds : tie.Need-loop-holds Inv-loop μ-loop
 loop-holds c = (cleared-none _ _, omega arith)
 
 mul-table : tie.Need-mul-table Inv-loop μ-loop
-mul-table c = omega (arith, c .before .loop .inv .0 .long)
+mul-table c = omega (arith, c .before .loop .inv .0 .long, c .before .before .pre .there)
 
 slice-write-table : tie.Need-slice-write-table Inv-loop μ-loop
-slice-write-table c = omega (arith, c .before .loop .inv .0 .long)
+slice-write-table c = omega (arith, c .before .loop .inv .0 .long, c .before .before .pre .there)
 
 add-i : tie.Need-add-i Inv-loop μ-loop
 add-i c = omega arith
@@ -34,9 +34,7 @@ same-length : tie.Need-same-length Inv-loop μ-loop
 same-length c = c .before .loop .inv .0 .long
 
 returns : tie.Need-returns Inv-loop μ-loop
-returns c =
-    let asked = c .before .before .pre in
-    all-zero _ _ _ _ (c .before .loop .inv .0) (c .loop-test .left) (c .before .loop .inv .1) (asked .0) (asked .1)
+returns c = all-zero _ _ _ _ (c .before .loop .inv .0) (c .loop-test .left) (c .before .loop .inv .1) (c .before .before .pre)
 
 pub clear-rows-spec : {M : Type 1} → statement M
 clear-rows-spec =

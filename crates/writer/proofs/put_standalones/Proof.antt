@@ -1,8 +1,8 @@
--- `canon::put_standalones` meets its contract. What is left to store comes to the whole, as in a run of parts. Assumes nothing.
+-- `writer::put_standalones` meets its contract. What is left to store comes to the whole, as in a run of parts. Assumes nothing.
 use Rattle.writer.proofs.Messages.{standalones-none, standalones-more}
-use Rattle.writer.proofs.Terms.{Put-left, put-start, put-step, put-end, put-fits, put-rest, left-size}
-use Rattle.writer.proofs.Strings.{run-below}
-use Rattle.writer.specs.Held.{Held-run}
+use Rattle.term_writer.proofs.Terms.{Put-left, put-start, put-step, put-end, put-fits, put-rest, left-size}
+use Rattle.term_writer.proofs.Strings.{run-below}
+use Rattle.term_writer.specs.Held.{Held-run}
 use Rattle.term_spec.specs.Canonical.{canonical-standalone, standalones}
 use Rattle.term_spec.specs.Message.{Terms}
 use Rattle.term_spec.specs.Tree.{count}

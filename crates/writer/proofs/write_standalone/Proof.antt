@@ -1,12 +1,9 @@
--- `canon::write_standalone` meets its contract. The table after reading holds the terms that were read, by `message-run`; the rest is what writing them answers. Assumes nothing.
-use Rattle.writer.proofs.Messages.{message-run, message-written, message-refused, table-cleared}
+-- `writer::write_standalone` meets its contract. The table after reading holds the terms that were read, by `message-run`; the rest is what writing them answers. Assumes nothing.
+use Rattle.writer.proofs.Messages.{message-run, message-written, message-refused}
 use Rattle.writer.proofs.Scratch.{rows-zero}
 use Rattle.term_spec.proofs.Text.{under-all}
-use Rattle.term_spec.specs.Writing.{scratch-after}
 use Rattle.term_spec.specs.Message.{standalone}
-use lib.ListN.{length}
 use native.Mathlib.Omega.{arith}
-use mathlib.Core.Path.{ap, _∙_}
 use borrow.Author.Needs.{needs}
 use Rattle.writer.proofs.write_standalone.Statement.{statement}
 use Rattle.term_spec.specs.AtomList.{lent-list}
@@ -21,10 +18,11 @@ enum-known-terms c = search needs
 write-and-clear-requires : tie.Need-write-and-clear-requires
 write-and-clear-requires c κs =
     let args = c .before .before .before .before .before .before .before .before .before .before .before .before .before .before .args in
+    let read = c .before .before .before .before .before .before .before .read-standalone .ensures in
+    let is = c .before .before .before .terms .given .1 in
     let list = lent-list (args .n) (args .places .now) (args .lengths .now) in
     let under = under-all (args .msg .now) (λ i _. omega (arith, c .before .before .before .before .before .before .before .before .before .before .before .before .before .shared-slice-known .given i)) in
-    let zero = rows-zero _ _ (c .before .before .before .before .before .before .before .read-standalone .ensures .read-answered) (c .before .before .before .terms .given .1) (c .before .before .before .before .before .before .before .read-standalone .ensures .table-left) in
-    (message-run standalone list (length (args .scratch .now)) (args .msg .now) (omega arith) under (c .before .before .before .before .before .before .before .read-standalone .ensures .read-answered) (c .before .before .before .terms .given .1) (c .before .before .before .before .before .before .before .read-standalone .ensures .table-left), zero .there, zero .past)
+    (message-run standalone list (args .scratch .now) (args .msg .now) (omega arith) under (read .read-answered) is (read .table-left), rows-zero _ _ (read .read-answered) is (read .table-left))
 
 enum-known-refusal : tie.Need-enum-known-refusal
 enum-known-refusal c = search needs
@@ -38,10 +36,11 @@ same-length-2 c = search needs
 returns : tie.Need-returns
 returns c =
     let args = c .before .before .before .before .before .before .before .before .before .before .before .before .before .before .before .before .before .before .before .args in
+    let read = c .before .before .before .before .before .before .before .before .before .before .before .before .read-standalone .ensures in
+    let wrote = c .before .before .before .before .write-and-clear .ensures in
     let list = lent-list (args .n) (args .places .now) (args .lengths .now) in
     let under = under-all (args .msg .now) (λ i _. omega (arith, c .before .before .before .before .before .before .before .before .before .before .before .before .before .before .before .before .before .before .shared-slice-known .given i)) in
-    let w = message-written standalone list (length (args .scratch .now)) (args .msg .now) (omega arith) under (c .before .before .before .before .before .before .before .before .before .before .before .before .read-standalone .ensures .read-answered) (c .before .before .before .before .before .before .before .before .terms .given .1) (c .before .before .before .before .before .before .before .before .before .before .before .before .read-standalone .ensures .table-left) (args .output .now) _ _ (c .before .before .before .before .write-and-clear .ensures .0) in
-    (w .0, (c .before .before .before .before .write-and-clear .ensures .1 ∙ ap scratch-after (c .before .before .before .before .before .before .before .before .before .before .before .before .read-standalone .kept .1 .1 .1 .1 .0), w .1))
+    message-written standalone list (args .scratch .now) (args .msg .now) (omega arith) under (read .read-answered) (c .before .before .before .before .before .before .before .before .terms .given .1) (read .table-left) (wrote .0) (wrote .1) (c .before .before .before .before .before .before .before .before .before .before .before .before .read-standalone .kept .1 .1 .1 .1 .0)
 
 same-length-3 : tie.Need-same-length-3
 same-length-3 c = search needs
@@ -49,10 +48,10 @@ same-length-3 c = search needs
 returns-2 : tie.Need-returns-2
 returns-2 c =
     let args = c .before .before .before .before .before .before .before .before .before .before .before .before .args in
+    let read = c .before .before .before .before .before .read-standalone .ensures in
     let list = lent-list (args .n) (args .places .now) (args .lengths .now) in
     let under = under-all (args .msg .now) (λ i _. omega (arith, c .before .before .before .before .before .before .before .before .before .before .before .shared-slice-known .given i)) in
-    let w = message-refused standalone list (length (args .scratch .now)) (args .msg .now) (omega arith) under (c .before .before .before .before .before .read-standalone .ensures .read-answered) (c .before .refusal .given .1) (c .before .before .before .before .before .read-standalone .ensures .table-left) (args .output .now) in
-    (w .0, (table-cleared standalone list (length (args .scratch .now)) (args .msg .now) (omega arith) under (c .before .before .before .before .before .read-standalone .ensures .read-answered) (c .before .refusal .given .1) (c .before .before .before .before .before .read-standalone .ensures .table-left), w .1))
+    message-refused standalone list (args .scratch .now) (args .msg .now) (omega arith) under (read .read-answered) (c .before .refusal .given .1) (read .table-left) (args .output .now)
 
 pub write-standalone-spec : {M : Type 1} → statement M
 write-standalone-spec =

@@ -1,4 +1,4 @@
--- `cases::ask::bits_of` meets its contract. What equals itself is not `nan`. Assumes nothing.
+-- `vectors::ask::bits_of` meets its contract. What equals itself is not `nan`. Assumes nothing.
 use mathlib.Core.Path.{_≡_}
 use mathlib.Core.Bool.{true, not, false≢true}
 use borrow.Author.Needs.{needs}

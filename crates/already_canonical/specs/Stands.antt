@@ -1,0 +1,25 @@
+-- What it is that the bytes of a message are a term's own in canonical form.
+use mathlib.Core.Path.{_≡_}
+use mathlib.Core.List.{List, []}
+use Prim.Native.Nat.{ℕ, _+_, _-_, _≤_}
+use lib.ListN.{length}
+use Rattle.octets.specs.Parts.{stretch}
+use Rattle.row_fields.specs.Found.{content-of}
+use Rattle.row_fields.specs.Meaning.{label-of}
+use Rattle.canonical_fields.specs.Shape.{before, after}
+use Rattle.canonical_fields.specs.Sound.{listed-in}
+
+-- a term's own bytes in canonical form are the n of the message from its tag on, and none after its parts
+pub record Stands (m places lengths : List ℕ) (kind at parts n : ℕ) : Type 0 where
+  pub there : at + n ≤ length m
+  pub few : n ≤ 262192
+  pub whole : before (label-of m (listed-in places) kind (content-of m places lengths kind at)) parts ≡ stretch m at n
+  pub no-end : after (label-of m (listed-in places) kind (content-of m places lengths kind at)) parts ≡ []
+
+-- a term's own bytes in canonical form are, before its parts, the h of the message from its tag on and, after them, the k from `end` on
+pub record Around (m places lengths : List ℕ) (kind at parts h end k : ℕ) : Type 0 where
+  pub first-there : at + h ≤ length m
+  pub last-there : end + k ≤ length m
+  pub few : h + k ≤ 262192
+  pub first : before (label-of m (listed-in places) kind (content-of m places lengths kind at)) parts ≡ stretch m at h
+  pub last : after (label-of m (listed-in places) kind (content-of m places lengths kind at)) parts ≡ stretch m end k

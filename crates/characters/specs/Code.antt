@@ -1,0 +1,8 @@
+-- A character as a number.
+use mathlib.Core.Option.{Option, none, some}
+use Prim.Native.Nat.{ℕ, _-_}
+
+-- an integer 0 .. 255 as it is, 256 for any other term
+unfoldable pub character-code : Option ℕ → ℕ
+character-code none = 256
+character-code (some n) = n

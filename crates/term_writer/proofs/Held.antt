@@ -1,0 +1,131 @@
+-- What a table says of the terms whose rows stand in it.
+use mathlib.Core.Path.{_≡_, refl, sym, _∙_, ap₂}
+use mathlib.Core.List.{List}
+use mathlib.Core.Option.{some}
+use Prim.Native.Nat.{ℕ, suc, _+_, _≤_, _<_}
+use native.Mathlib.Omega.{arith}
+use lib.ListN.{length, getD}
+use Rattle.term_spec.specs.Tree.{Forest, node, _▹_, count, size, sizes, Each-node}
+use Rattle.term_spec.specs.Term.{Label, integer, float, atom, tuple, list, improper-list, binary, bitstring, map, pid, port, reference, export}
+use Rattle.term_spec.specs.Reading.{Place, tag-at, character-at, Located}
+use Rattle.term_spec.specs.Message.{Terms, meanings}
+use Rattle.term_spec.specs.Rows.{kind-of, kind-at, offset-of, whole-code, kind-in, parts-in, size-in}
+use Rattle.term_spec.specs.Valid.{Fits, Improper}
+use Rattle.term_spec.proofs.Rows.{count-le-sizes, count-relabels}
+use Rattle.term_spec.proofs.Words.{Between, kind-at-range, Small-row, Word-of, row-of, first-here, others-here, parts-here, node-packed, node-below}
+use Rattle.row_fields.specs.Found.{content-of}
+use Rattle.canonical_fields.specs.Sound.{content-in, label-in, Sound-word}
+use Rattle.term_writer.specs.Held.{Writable, Held, Held-run}
+
+-- ---- kinds and labels
+
+pub kind-list : (l : Label) → kind-of l ≡ 5 → l ≡ list
+unfolding kind-of
+kind-list (integer z) e = absurd (omega arith)
+kind-list (float b) e = absurd (omega arith)
+kind-list (atom cs) e = absurd (omega arith)
+kind-list tuple e = absurd (omega arith)
+kind-list list e = refl
+kind-list improper-list e = absurd (omega arith)
+kind-list (binary bs) e = absurd (omega arith)
+kind-list (bitstring n bs) e = absurd (omega arith)
+kind-list map e = absurd (omega arith)
+kind-list (pid i s c) e = absurd (omega arith)
+kind-list (port i c) e = absurd (omega arith)
+kind-list (reference c ws) e = absurd (omega arith)
+kind-list export e = absurd (omega arith)
+
+pub kind-improper : (l : Label) → kind-of l ≡ 6 → l ≡ improper-list
+unfolding kind-of
+kind-improper (integer z) e = absurd (omega arith)
+kind-improper (float b) e = absurd (omega arith)
+kind-improper (atom cs) e = absurd (omega arith)
+kind-improper tuple e = absurd (omega arith)
+kind-improper list e = absurd (omega arith)
+kind-improper improper-list e = refl
+kind-improper (binary bs) e = absurd (omega arith)
+kind-improper (bitstring n bs) e = absurd (omega arith)
+kind-improper map e = absurd (omega arith)
+kind-improper (pid i s c) e = absurd (omega arith)
+kind-improper (port i c) e = absurd (omega arith)
+kind-improper (reference c ws) e = absurd (omega arith)
+kind-improper export e = absurd (omega arith)
+
+pub tag-kind : (l : Label) (p : Place) (k : ℕ) → k < 14 → kind-at l p ≡ k → kind-of l ≡ k
+unfolding kind-at
+tag-kind l (tag-at p) k h e = e
+tag-kind l (character-at p) k h e = absurd (omega arith)
+
+improper-parts : (l : Label) (ts : Forest Label) → l ≡ improper-list → Fits l ts → 0 < count ts
+improper-parts l ts e f = go ts ((rw e at f) .1)
+  where
+    go : (ts : Forest Label) → Improper ts → 0 < count ts
+    go Forest.empty h = absurd h
+    go (t ▹ ts) h = omega arith
+
+module _ {m places lengths T : List ℕ} where
+  -- a run's first term, the others; a term's parts
+  pub run-first : {row : ℕ} {t : Located} {ts : Terms} → Held-run m places lengths T row (t ▹ ts) → Held m places lengths T row t
+  unfolding Each-node
+  run-first {row} {t} {ts} h =
+      let f : row + (size t + sizes ts) ≤ 8192 = h .run-few in
+      record { whole = h .run-whole; above = h .run-above; stands = first-here (h .run-stands); few = omega arith; nodes = h .run-nodes .0 }
+
+  pub run-others : {row : ℕ} {t : Located} {ts : Terms} → Held-run m places lengths T row (t ▹ ts) → Held-run m places lengths T (row + size t) ts
+  unfolding Each-node
+  run-others {row} {t} {ts} h =
+      let f : row + (size t + sizes ts) ≤ 8192 = h .run-few in
+      let a : whole-code (h .run-whole) ≤ row = h .run-above in
+      record { run-whole = h .run-whole; run-above = omega arith; run-stands = others-here (h .run-stands); run-few = omega arith; run-nodes = h .run-nodes .1 }
+
+  module _ {row : ℕ} {l : Label × Place} {ts : Terms} (h : Held m places lengths T row (node l ts)) where
+    pub held-parts : Held-run m places lengths T (row + 1) ts
+    unfolding Each-node whole-code
+    held-parts =
+        let f : row + suc (sizes ts) ≤ 8192 = h .few in
+        record { run-whole = some row; run-above = omega arith; run-stands = parts-here (h .stands); run-few = omega arith; run-nodes = h .nodes .1 }
+
+    pub held-writable : Writable m places lengths l ts
+    unfolding Each-node
+    held-writable = h .nodes .0
+
+    pub held-below : row < length T
+    held-below = node-below (h .stands)
+
+    held-small : Small-row (row-of (h .whole) l ts)
+    held-small =
+        let c : count ts ≤ sizes ts = count-le-sizes ts in
+        let k : Between 1 14 (kind-at (l .0) (l .1)) = kind-at-range (l .0) (l .1) in
+        let o : offset-of (l .1) < 65536 = held-writable .near in
+        let f : row + suc (sizes ts) ≤ 8192 = h .few in
+        let a : whole-code (h .whole) ≤ row = h .above in
+        record { small-kind = omega arith; small-offset = omega arith; small-whole = omega arith; small-parts = omega arith; small-size = omega arith }
+
+    held-packed : Word-of (row-of (h .whole) l ts) (getD T row 0)
+    held-packed = node-packed (h .stands) held-small
+
+    pub held-kind : kind-in (getD T row 0) ≡ kind-at (l .0) (l .1)
+    held-kind = held-packed .kind-is
+
+    pub held-count : parts-in (getD T row 0) ≡ count ts
+    held-count = held-packed .parts-is
+
+    pub held-size : size-in (getD T row 0) ≡ suc (sizes ts)
+    held-size = held-packed .size-is
+
+    held-content : content-in m places lengths (getD T row 0) ≡ content-of m places lengths (kind-at (l .0) (l .1)) (offset-of (l .1))
+    held-content = ap₂ (λ (k o : ℕ). content-of m places lengths k o) held-kind (held-packed .offset-is)
+
+    pub held-label : label-in m places lengths (getD T row 0) ≡ l .0
+    held-label = rw (held-content, held-kind) (held-writable .says)
+
+    pub held-sound : Sound-word m places lengths (getD T row 0)
+    held-sound = record { sound = rw held-content (held-writable .sound); some-parts = λ e. some-of (sym held-kind ∙ e) }
+      where
+        some-of : kind-at (l .0) (l .1) ≡ 6 → 0 < parts-in (getD T row 0)
+        some-of e =
+            let i : l .0 ≡ improper-list = kind-improper (l .0) (tag-kind (l .0) (l .1) 6 (omega arith) e) in
+            let n : 0 < count (meanings ts) = improper-parts (l .0) (meanings ts) i (held-writable .fits) in
+            let c = count-relabels (λ (x : Label × Place). x .0) ts in
+            let d = held-count in
+            omega arith
