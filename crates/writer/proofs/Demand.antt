@@ -29,7 +29,7 @@ promised-read-standalone κs a r s p = p
 
 pub promised-read-payload : (κs : Lfts 4) (a : _) (r : _) (s : _) → read-payload.Post κs a r s
     → Read-call payload (lent-list (a .1 .0) (a .1 .1 .0 .now) (a .1 .1 .1 .0 .now)) (a .0 .now) (a .1 .1 .1 .1 .0 .now) r (s .1 .1 .1 .1 .0 .now)
-promised-read-payload κs a r s p = record { read-answered = p .0; table-left = p .1 }
+promised-read-payload κs a r s p = p
 
 -- For any two accepted terms, of one message or of two
 pub demand-3 : (t u : Term) (a : Accepted-term t) → Accepted-term u → Demand-3 t u a
