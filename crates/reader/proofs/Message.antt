@@ -279,10 +279,10 @@ refused-first framing list m T k a U e h d =
     let w : read framing list (length T) m ≡ refused k 0 = read-refused list m framing (length T) k e h in
     record { read-answered = rw w (d .0); table-left = rw w (d .1 ∙ cleared-all T) }
 
-pub read-whole : (framing : message.Framing) (list : AtomList) (m T : List ℕ) (k cap : ℕ) (r a : ReadAnswer) (T′ U : List ℕ) → k ≡ first-refusal list m → k ≡ 0 → cap ≡ min (length T) 8192 → length T′ ≡ length T
+pub read-settled : (framing : message.Framing) (list : AtomList) (m T : List ℕ) (k cap : ℕ) (r a : ReadAnswer) (T′ U : List ℕ) → k ≡ first-refusal list m → k ≡ 0 → cap ≡ min (length T) 8192 → length T′ ≡ length T
     → MessageDone m cap T (terms-framed (atoms-of list) cap framing (at-offset m 0 0)) r T′ → (a ≡ r) × (U ≡ cleared (rows-in r) T′)
     → Read-call framing list m T a U
-read-whole framing list m T k cap r a T′ U e z c long d f =
+read-settled framing list m T k cap r a T′ U e z c long d f =
     let g : cap ≡ min 8192 (length T) = omega arith in
     let h = settled m cap T (terms-framed (atoms-of list) cap framing (at-offset m 0 0)) r T′ U (omega arith) long d (f .1) in
     let w : read framing list (length T) m ≡ result-of (terms-framed (atoms-of list) cap framing (at-offset m 0 0))

@@ -15,7 +15,7 @@ use Rattle.term_spec.specs.Reading.{empty-108, opening}
 use Rattle.term_spec.specs.Rows.{kind-of}
 use Rattle.term_head.specs.Code.{kind-later, later-of, head-at, head-of}
 use Rattle.term_head.specs.Quick.{only-if, fit, quick-later, quick-word, Common, some-parts, no-characters, some-elements, some-pairs, Holds-word, Told}
-use Rattle.term_head.proofs.Found.{Past, past-is, head-past-tag}
+use Rattle.term_head.proofs.HeadFacts.{Past, past-is, head-past-tag}
 
 held : (b : Bool) (w v : ℕ) → (w ≡ 0 → ⊥) → w ≡ only-if b v → (b ≡ true) × (w ≡ v)
 unfolding only-if

@@ -51,7 +51,7 @@ module _ (m : List ℕ) (at width limit : ℕ) (inside : at + width ≤ length m
   pub below-all : i ≤ width → width ≤ i → n < limit → true ≡ ltb (big-endian (take width (drop at m))) limit
   below-all h g k =
       let same : i ≡ width = omega arith in
-      let whole : n ≡ big-endian (take width (drop at m)) = rw same at e in
+      let all-there : n ≡ big-endian (take width (drop at m)) = rw same at e in
       sym (lt-ltb (big-endian (take width (drop at m))) limit (omega arith))
 
 pub creation-any : (w c : ℕ) → (w ≡ 1 → ⊥) → true ≡ creation-rule w c
@@ -114,7 +114,7 @@ module _ (m : List ℕ) (at place rows : ℕ) (inside : at ≤ length m) where
         number-end m place w (at + 4 + 4) rows (omega arith) (omega arith),
       )
 
-  module _ (w : ℕ) (some : 8 ≤ length m - at) (whole : w ≤ length m - at - 8) where
+  module _ (w : ℕ) (some : 8 ≤ length m - at) (all-there : w ≤ length m - at - 8) where
     abbrev pid-rule : Bool
     pid-rule =
         ltb (big-endian (take 4 (drop at m))) 32768
@@ -166,7 +166,7 @@ module _ (m : List ℕ) (at place rows : ℕ) (inside : at ≤ length m) where
     unfolding later-fields later step-of
     port-cut h = rw (number-at m place v at rows (omega arith), number-end m place w (at + v) rows (omega arith) (omega arith))
 
-    module _ (whole : w ≤ length m - at - v) where
+    module _ (all-there : w ≤ length m - at - v) where
       pub port-id : (eqb v 8 || ltb (big-endian (take v (drop at m))) 268435456) ≡ false → Refused 4 place ≡ later-fields m at place (port-fields v w) rows
       unfolding later-fields later step-of
       port-id f = rw (number-at m place v at rows (omega arith), number-at m place w (at + v) rows (omega arith), f)
@@ -191,7 +191,7 @@ module _ (m : List ℕ) (at place rows : ℕ) (inside : at ≤ length m) where
     unfolding later-fields later step-of
     reference-cut h = rw (number-at m place w at rows (omega arith), words-end m place k (at + w) rows (omega arith) (omega arith))
 
-    module _ (whole : k ≤ (length m - at - w) / 4) where
+    module _ (all-there : k ≤ (length m - at - w) / 4) where
       pub reference-creation : creation-rule w (big-endian (take w (drop at m))) ≡ false → Refused 4 place ≡ later-fields m at place (reference-fields k w) rows
       unfolding later-fields later step-of
       reference-creation f = rw (number-at m place w at rows (omega arith), words-there m place k (at + w) rows (omega arith), f)
@@ -213,7 +213,7 @@ module _ (m : List ℕ) (at place rows : ℕ) (inside : at ≤ length m) where
       by-less (length m - at) 4 (λ less. rw (words-end m place 1 at rows inside (omega arith)))
       (λ over. rw (words-there m place 1 at rows (omega arith), number-end m place 1 (at + 4) rows (omega arith) (omega arith)))
 
-  module _ (whole : 5 ≤ length m - at) where
+  module _ (all-there : 5 ≤ length m - at) where
     pub old-words : words-rule 1 (words-at m at 1) ≡ false → Refused 4 place ≡ later-fields m at place old-reference-fields rows
     unfolding later-fields later step-of
     old-words f = rw (words-there m place 1 at rows (omega arith), number-at m place 1 (at + 4) rows (omega arith), f)

@@ -8,17 +8,18 @@ use lib.Dec.{eqb, leb}
 use lib.IntN.{ℤ}
 use lib.ListN.{length, take, drop}
 use borrow.Author.Tests.{le-leb, lt-leb, eq-eqb, ne-eqb}
-use Rattle.term_spec.specs.Numbers.{big-endian}
+use Rattle.term_spec.specs.Numbers.{big-endian, little-endian, with-sign}
 use Rattle.term_spec.specs.Term.{Label, integer, binary, bitstring}
-use Rattle.term_spec.specs.Answer.{after, done, number, at-offset}
-use Rattle.term_spec.specs.Head.{Atoms, fields, leaf, tuple-ext, list-ext, map-ext, string-ext, binary-ext, bit-binary-ext, big-ext, new-float-ext, new-reference-ext, finite, bits-rule, bits-meaning, clear-low}
+use Rattle.term_spec.specs.Answer.{_>>_, Reading, after, done, rule, number, at-offset}
+use Rattle.term_spec.specs.Head.{Atoms, Head, fields, characters, leaf, tuple-ext, list-ext, map-ext, string-ext, binary-ext, bit-binary-ext, big-ext, new-float-ext, new-reference-ext, finite, bits-rule, bits-meaning, clear-low}
 use Rattle.term_spec.specs.Rows.{kind-of}
-use Rattle.term_spec.proofs.Bridge.{number-at, number-end, bytes-at, bytes-end}
-use Rattle.term_spec.proofs.Tests.{by-less}
+use Rattle.term_spec.proofs.Bridge.{number-at, number-end}
 use Rattle.octets.proofs.Parts.{length-part}
 use Rattle.term_head.specs.declared.Later.the-variants.{Known, Reference}
 use Rattle.term_head.specs.declared.Head.the-variants.{Refused, Parts, Characters, Elements, Pairs}
-use Rattle.term_head.specs.Code.{Bits, head-of, head-at, fields-of, kind-later, later-of}
+use Rattle.octets.specs.Parts.{value}
+use Rattle.term_head.proofs.Counted.{counted-near, plain-cut, plain-there, marked-cut, marked-there}
+use Rattle.term_head.specs.Code.{Bits, Counted, head-of, head-at, fields-of, kind-later, later-of}
 
 module _ (m : List ℕ) (at w : ℕ) (value : ℕ → ℤ) (rows : ℕ) (inside : at < length m) where
   pub integer-short : length m - at - 1 < w → Refused 2 at ≡ head-of (after (number at w (at-offset m (at + 1) rows)) (λ n. done (leaf (integer (value n)))))
@@ -55,120 +56,62 @@ module _ (atoms : Atoms) (m : List ℕ) (at rows : ℕ) (inside : at < length m)
   unfolding fields-of fields head-of head-at
   map-there n h e = rw (number-at m at 4 (at + 1) rows (omega arith), ← e)
 
-  pub string-short : length m - at - 1 < 2 → Refused 2 at ≡ fields-of atoms m at string-ext rows
+  pub string-cut : (end : ℕ) → Counted m at 2 0 end → end ≡ 0 → Refused 2 at ≡ fields-of atoms m at string-ext rows
   unfolding fields-of fields head-of
-  string-short h = rw (number-end m at 2 (at + 1) rows (omega arith) (omega arith))
+  string-cut end c z = sym (ap head-of (plain-cut m at 2 rows inside (λ n bs. done (characters bs)) c z))
 
-  pub string-cut : (n : ℕ) → 2 ≤ length m - at - 1 → n ≡ big-endian (take 2 (drop (at + 1) m)) → length m - at - 1 - 2 < n
-      → Refused 2 at ≡ fields-of atoms m at string-ext rows
-  unfolding fields-of fields head-of
-  string-cut n h e k = rw (number-at m at 2 (at + 1) rows (omega arith), ← e, bytes-end m at n (at + 1 + 2) rows (omega arith) (omega arith))
-
-  pub string-there : (n : ℕ) → 2 ≤ length m - at - 1 → n ≡ big-endian (take 2 (drop (at + 1) m)) → n ≤ length m - at - 1 - 2
-      → Characters n (at + 1 + 2 + n) ≡ fields-of atoms m at string-ext rows
+  pub string-there : (end : ℕ) → Counted m at 2 0 end → (end ≡ 0 → ⊥) → Characters (end - at - 3) end ≡ fields-of atoms m at string-ext rows
   unfolding fields-of fields head-of head-at
-  string-there n h e k =
-      rw (number-at m at 2 (at + 1) rows (omega arith), ← e, bytes-at m at n (at + 1 + 2) rows (omega arith))
-      (ap (λ (k : ℕ). Characters k (at + 1 + 2 + n)) (sym (length-part m (at + 1 + 2) n (omega arith))))
+  string-there end c some =
+      let near = counted-near m at 2 0 c some in
+      let n : end - at - 3 ≡ length (take (end - (at + 1 + 2)) (drop (at + 1 + 2) m)) = sym (length-part m (at + 1 + 2) (end - (at + 1 + 2)) (omega (arith, near .0, near .1)) ∙ omega arith) in
+      ap (λ (k : ℕ). Characters k end) n ∙ sym (ap head-of (plain-there m at 2 rows inside (λ n bs. done (characters bs)) c some))
 
-  pub binary-short : length m - at - 1 < 4 → Refused 2 at ≡ fields-of atoms m at binary-ext rows
+  pub binary-cut : (end : ℕ) → Counted m at 4 0 end → end ≡ 0 → Refused 2 at ≡ fields-of atoms m at binary-ext rows
   unfolding fields-of fields head-of
-  binary-short h = rw (number-end m at 4 (at + 1) rows (omega arith) (omega arith))
+  binary-cut end c z = sym (ap head-of (plain-cut m at 4 rows inside (λ n bs. done (leaf (binary bs))) c z))
 
-  pub binary-cut : (n : ℕ) → 4 ≤ length m - at - 1 → n ≡ big-endian (take 4 (drop (at + 1) m)) → length m - at - 1 - 4 < n
-      → Refused 2 at ≡ fields-of atoms m at binary-ext rows
-  unfolding fields-of fields head-of
-  binary-cut n h e k = rw (number-at m at 4 (at + 1) rows (omega arith), ← e, bytes-end m at n (at + 1 + 4) rows (omega arith) (omega arith))
-
-  pub binary-there : (n : ℕ) → 4 ≤ length m - at - 1 → n ≡ big-endian (take 4 (drop (at + 1) m)) → n ≤ length m - at - 1 - 4
-      → Parts 7 0 0 Known (at + 1 + 4 + n) ≡ fields-of atoms m at binary-ext rows
+  pub binary-there : (end : ℕ) → Counted m at 4 0 end → (end ≡ 0 → ⊥) → Parts 7 0 0 Known end ≡ fields-of atoms m at binary-ext rows
   unfolding fields-of fields head-of head-at kind-later kind-of later-of
-  binary-there n h e k = rw (number-at m at 4 (at + 1) rows (omega arith), ← e, bytes-at m at n (at + 1 + 4) rows (omega arith))
+  binary-there end c some = sym (ap head-of (plain-there m at 4 rows inside (λ n bs. done (leaf (binary bs))) c some))
 
-  pub big-short : (w : ℕ) → length m - at - 1 ≤ w → Refused 2 at ≡ fields-of atoms m at (big-ext w) rows
-  unfolding fields-of fields head-of
-  big-short w h =
-      by-less (length m - at - 1) w (λ less. rw (number-end m at w (at + 1) rows (omega arith) (omega arith)))
-      (λ over. rw (number-at m at w (at + 1) rows (omega arith), number-end m at 1 (at + 1 + w) rows (omega arith) (omega arith)))
+  module _ (w end : ℕ) (c : Counted m at w 1 end) where
+    abbrev big-head : ℕ → ℕ → List ℕ → Reading Head
+    big-head n sign ds = do
+      rule (leb sign 1) 4 at
+      done (leaf (integer (with-sign sign (little-endian ds))))
 
-  module _ (w n : ℕ) (there : w < length m - at - 1) (e : n ≡ big-endian (take w (drop (at + 1) m))) where
-    pub big-cut : length m - at - 1 - w - 1 < n → Refused 2 at ≡ fields-of atoms m at (big-ext w) rows
+    pub big-cut : end ≡ 0 → Refused 2 at ≡ fields-of atoms m at (big-ext w) rows
     unfolding fields-of fields head-of
-    big-cut k =
-        rw (
-          number-at m at w (at + 1) rows (omega arith),
-          number-at m at 1 (at + 1 + w) rows (omega arith),
-          ← e,
-          bytes-end m at n (at + 1 + w + 1) rows (omega arith) (omega arith),
-        )
+    big-cut z = sym (ap head-of (marked-cut m at w rows inside big-head c z))
 
-    module _ (sign : ℕ) (f : sign ≡ big-endian (take 1 (drop (at + 1 + w) m))) (whole : n ≤ length m - at - 1 - w - 1) where
+    module _ (some : end ≡ 0 → ⊥) (sign : ℕ) (f : sign ≡ value m 1 (at + 1 + w)) where
       pub big-sign : 1 < sign → Refused 4 at ≡ fields-of atoms m at (big-ext w) rows
       unfolding fields-of fields head-of
-      big-sign k =
-          rw (
-            number-at m at w (at + 1) rows (omega arith),
-            number-at m at 1 (at + 1 + w) rows (omega arith),
-            ← e,
-            bytes-at m at n (at + 1 + w + 1) rows (omega arith),
-            ← f,
-            lt-leb sign 1 k,
-          )
+      big-sign h = rw (marked-there m at w rows inside big-head c some, ← f, lt-leb sign 1 h)
 
-      pub big-there : sign ≤ 1 → Parts 1 0 0 Known (at + 1 + w + 1 + n) ≡ fields-of atoms m at (big-ext w) rows
+      pub big-there : sign ≤ 1 → Parts 1 0 0 Known end ≡ fields-of atoms m at (big-ext w) rows
       unfolding fields-of fields head-of head-at kind-later kind-of later-of
-      big-there k =
-          rw (
-            number-at m at w (at + 1) rows (omega arith),
-            number-at m at 1 (at + 1 + w) rows (omega arith),
-            ← e,
-            bytes-at m at n (at + 1 + w + 1) rows (omega arith),
-            ← f,
-            le-leb sign 1 k,
-          )
+      big-there h = rw (marked-there m at w rows inside big-head c some, ← f, le-leb sign 1 h)
 
-  pub bits-short : length m - at - 1 ≤ 4 → Refused 2 at ≡ fields-of atoms m at bit-binary-ext rows
-  unfolding fields-of fields head-of
-  bits-short h =
-      by-less (length m - at - 1) 4 (λ less. rw (number-end m at 4 (at + 1) rows (omega arith) (omega arith)))
-      (λ over. rw (number-at m at 4 (at + 1) rows (omega arith), number-end m at 1 (at + 1 + 4) rows (omega arith) (omega arith)))
+  module _ (end : ℕ) (c : Counted m at 4 1 end) where
+    abbrev bits-head : ℕ → ℕ → List ℕ → Reading Head
+    bits-head n bits bs = do
+      rule (bits-rule n bits) 4 at
+      done (leaf (bits-meaning bits bs))
 
-  module _ (n : ℕ) (there : 4 < length m - at - 1) (e : n ≡ big-endian (take 4 (drop (at + 1) m))) where
-    pub bits-cut : length m - at - 1 - 4 - 1 < n → Refused 2 at ≡ fields-of atoms m at bit-binary-ext rows
+    pub bits-cut : end ≡ 0 → Refused 2 at ≡ fields-of atoms m at bit-binary-ext rows
     unfolding fields-of fields head-of
-    bits-cut k =
-        rw (
-          number-at m at 4 (at + 1) rows (omega arith),
-          number-at m at 1 (at + 1 + 4) rows (omega arith),
-          ← e,
-          bytes-end m at n (at + 1 + 4 + 1) rows (omega arith) (omega arith),
-        )
+    bits-cut z = sym (ap head-of (marked-cut m at 4 rows inside bits-head c z))
 
-    module _ (bits kind : ℕ) (f : bits ≡ big-endian (take 1 (drop (at + 1 + 4) m))) (whole : n ≤ length m - at - 1 - 4 - 1) (found : Bits n bits kind) where
+    module _ (some : end ≡ 0 → ⊥) (n bits kind : ℕ) (e : n ≡ end - (at + 1 + 4 + 1)) (f : bits ≡ value m 1 (at + 1 + 4)) (told : Bits n bits kind) where
       pub bits-broken : kind ≡ 0 → Refused 4 at ≡ fields-of atoms m at bit-binary-ext rows
       unfolding fields-of fields head-of
-      bits-broken k =
-          rw (
-            number-at m at 4 (at + 1) rows (omega arith),
-            number-at m at 1 (at + 1 + 4) rows (omega arith),
-            ← e,
-            bytes-at m at n (at + 1 + 4 + 1) rows (omega arith),
-            ← f,
-            found .broken k,
-          )
+      bits-broken k = rw (marked-there m at 4 rows inside bits-head c some, ← f, ← e, told .broken k)
 
-      pub bits-there : (kind ≡ 0 → ⊥) → Parts kind 0 0 Known (at + 1 + 4 + 1 + n) ≡ fields-of atoms m at bit-binary-ext rows
+      pub bits-there : (kind ≡ 0 → ⊥) → Parts kind 0 0 Known end ≡ fields-of atoms m at bit-binary-ext rows
       unfolding fields-of fields head-of head-at kind-later later-of
-      bits-there k =
-          rw (
-            number-at m at 4 (at + 1) rows (omega arith),
-            number-at m at 1 (at + 1 + 4) rows (omega arith),
-            ← e,
-            bytes-at m at n (at + 1 + 4 + 1) rows (omega arith),
-            ← f,
-            found .kept k,
-            found .kind k,
-          )
+      bits-there k = rw (marked-there m at 4 rows inside bits-head c some, ← f, ← e, told .kept k, told .kind k)
 
   pub float-short : length m - at - 1 < 8 → Refused 2 at ≡ fields-of atoms m at new-float-ext rows
   unfolding fields-of fields head-of

@@ -1,8 +1,9 @@
+mod Counted
 mod Leaves
 mod Texts
 mod LaterFields
 mod Tags
-pub mod Found
+pub mod HeadFacts
 mod Openings
 pub mod OpeningFacts
 mod Words

@@ -15,7 +15,7 @@ use Rattle.term_head.specs.declared.Later.{Later}
 use Rattle.term_head.specs.declared.Head.the-variants.{Refused}
 use Rattle.term_head.specs.declared.Opening.{Opening}
 use Rattle.term_head.specs.Code.{kind-later, head-at, opening-of}
-use Rattle.term_head.proofs.Found.{Past, past-is, head-past-tag, Wanting, head-wanting}
+use Rattle.term_head.proofs.HeadFacts.{Past, past-is, head-past-tag, Wanting, head-wanting}
 
 -- an opening's tag stands at `at` or past it, its head ends past the tag, in the message, with no row taken
 pub record Opens (m : List ℕ) (at rows place : ℕ) (h : format.Head) (t : Position) : Type 0 where

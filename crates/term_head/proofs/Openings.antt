@@ -20,7 +20,7 @@ use Rattle.term_head.specs.declared.Wanted.the-variants.{Any}
 use Rattle.term_head.specs.declared.Head.{Head}
 use Rattle.term_head.specs.declared.Opening.{Opening}
 use Rattle.term_head.specs.Code.{head-of, head-at, opening-of, opened-at, wanted-of, allowed, empty-at, Skipped}
-use Rattle.term_head.proofs.Found.{not-108}
+use Rattle.term_head.proofs.HeadFacts.{not-108}
 
 module _ (m : List ℕ) (p : ℕ) where
   pub empty-short : length m - p < 5 → false ≡ empty-at m p
@@ -37,7 +37,7 @@ module _ (m : List ℕ) (p : ℕ) where
 
   -- what such a 108 is
   record Empty : Type 0 where
-    whole : 5 ≤ length m - p
+    there : 5 ≤ length m - p
     tag-is : getD m p 0 ≡ 108
     none-is : big-endian (take 4 (drop (p + 1) m)) ≡ 0
 
@@ -46,17 +46,17 @@ module _ (m : List ℕ) (p : ℕ) where
   empty-is e =
       let b = both-true (leb 5 (length m - p) && eqb (getD m p 0) 108) (eqb (big-endian (take 4 (drop (p + 1) m))) 0) e in
       let c = both-true (leb 5 (length m - p)) (eqb (getD m p 0) 108) (b .0) in
-      record { whole = leb-true 5 (length m - p) (c .0); tag-is = eqb-true _ _ (c .1); none-is = eqb-true _ _ (b .1) }
+      record { there = leb-true 5 (length m - p) (c .0); tag-is = eqb-true _ _ (c .1); none-is = eqb-true _ _ (b .1) }
 
   pub empty-inside : empty-at m p ≡ true → p + 5 ≤ length m
-  empty-inside e = let i = empty-is e in omega (arith, i .whole)
+  empty-inside e = let i = empty-is e in omega (arith, i .there)
 
   module _ (atoms : Atoms) (rows : ℕ) where
     empty-head : empty-at m p ≡ true → term-head atoms any (at-offset m p rows) ≡ good (elements 0, at-offset m (p + 5) rows)
     unfolding term-head form form-or form-in forms fields
     empty-head e =
         let i = empty-is e in
-        let whole : 5 ≤ length m - p = i .whole in
+        let there : 5 ≤ length m - p = i .there in
         rw (byte-at m p p rows (omega arith), i .tag-is, number-at m p 4 (p + 1) rows (omega arith), i .none-is)
         (ap (λ (k : ℕ). good (elements 0, at-offset m k rows)) (omega arith))
 
@@ -64,7 +64,7 @@ module _ (m : List ℕ) (p : ℕ) where
     empty-step : (bound : List ℕ) → length m - p ≤ length bound → empty-at m p ≡ true
         → (rest : List ℕ) × (length m - (p + 5) ≤ length rest) × (opening atoms bound any (at-offset m p rows) ≡ opening atoms rest any (at-offset m (p + 5) rows))
     unfolding opening
-    empty-step [] h e = let i = empty-is e in absurd (omega (arith, i .whole))
+    empty-step [] h e = let i = empty-is e in absurd (omega (arith, i .there))
     empty-step (b ∷ bound) h e = (bound, omega arith, rw (empty-head e))
 
     list-full : empty-at m p ≡ false → getD m p 0 ≡ 108 → p < length m → Holds (fields atoms p list-ext (at-offset m (p + 1) rows)) (λ h _. empty-108 h ≡ false)

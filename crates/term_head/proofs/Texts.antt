@@ -1,5 +1,5 @@
 -- What the fields of atoms say, from the tests that the code makes. Assumes nothing.
-use mathlib.Core.Path.{_≡_}
+use mathlib.Core.Path.{_≡_, sym, ap}
 use mathlib.Core.Bool.{Bool, true, false}
 use mathlib.Core.List.{List}
 use Prim.Native.Nat.{ℕ, _+_, _-_, _*_, _<_, _≤_}
@@ -8,41 +8,38 @@ use lib.ListN.{length, getD, take, drop}
 use borrow.Author.Tests.{lt-ltb, le-ltb, le-leb, lt-leb}
 use Rattle.term_spec.specs.Numbers.{big-endian}
 use Rattle.term_spec.specs.Text.{invalid-at, utf-8, coding-of, check}
-use Rattle.term_spec.specs.Head.{Atoms, fields, text-or, atom-ext, atom-cache-ref}
+use Rattle.term_spec.specs.Answer.{_>>=_, Reading, done}
+use Rattle.term_spec.specs.Term.{atom}
+use Rattle.term_spec.specs.Head.{Atoms, Head, leaf, fields, text-or, atom-ext, atom-cache-ref}
 use Rattle.term_spec.specs.AtomList.{AtomList, place-length, place-bytes, place-text, atoms-of, lent-list}
 use Rattle.term_spec.specs.Rows.{kind-of}
-use Rattle.term_spec.proofs.Bridge.{number-at, number-end, bytes-at, bytes-end}
+use Rattle.term_spec.proofs.Bridge.{number-at, number-end}
 use Rattle.text.specs.Shown.{is-valid}
 use Rattle.text.proofs.Valid.{found, failed}
 use Rattle.term_head.specs.declared.Later.the-variants.{Known}
 use Rattle.term_head.specs.declared.Head.the-variants.{Refused, Parts}
-use Rattle.term_head.specs.Code.{head-of, head-at, fields-of, kind-later, later-of}
+use Rattle.term_head.proofs.Counted.{plain-cut, plain-there}
+use Rattle.term_head.specs.Code.{Counted, head-of, head-at, fields-of, kind-later, later-of}
 
-module _ (atoms : Atoms) (m : List ℕ) (at rows : ℕ) (inside : at < length m) (utf8 : Bool) (w : ℕ) where
-  pub atom-short : length m - at - 1 < w → Refused 2 at ≡ fields-of atoms m at (atom-ext (coding-of utf8) w) rows
+module _ (atoms : Atoms) (m : List ℕ) (at rows : ℕ) (inside : at < length m) (utf8 : Bool) (w end : ℕ) (c : Counted m at w 0 end) where
+  abbrev atom-head : ℕ → List ℕ → Reading Head
+  atom-head n bs = do
+    cs ← text-or (check (coding-of utf8) bs) 5 at
+    done (leaf (atom cs))
+
+  pub atom-cut : end ≡ 0 → Refused 2 at ≡ fields-of atoms m at (atom-ext (coding-of utf8) w) rows
   unfolding fields-of fields head-of
-  atom-short h = rw (number-end m at w (at + 1) rows (omega arith) (omega arith))
+  atom-cut z = sym (ap head-of (plain-cut m at w rows inside atom-head c z))
 
-  module _ (n : ℕ) (there : w ≤ length m - at - 1) (e : n ≡ big-endian (take w (drop (at + 1) m))) where
-    pub atom-cut : length m - at - 1 - w < n → Refused 2 at ≡ fields-of atoms m at (atom-ext (coding-of utf8) w) rows
-    unfolding fields-of fields head-of
-    atom-cut k = rw (number-at m at w (at + 1) rows (omega arith), ← e, bytes-end m at n (at + 1 + w) rows (omega arith) (omega arith))
+  module _ (some : end ≡ 0 → ⊥) where
+    pub atom-bad : is-valid (check (coding-of utf8) (take (end - (at + 1 + w)) (drop (at + 1 + w) m))) ≡ false → Refused 5 at ≡ fields-of atoms m at (atom-ext (coding-of utf8) w) rows
+    unfolding fields-of fields head-of text-or
+    atom-bad f = rw (plain-there m at w rows inside atom-head c some, failed (check (coding-of utf8) (take (end - (at + 1 + w)) (drop (at + 1 + w) m))) f .1)
 
-    module _ (whole : n ≤ length m - at - 1 - w) where
-      pub atom-bad : is-valid (check (coding-of utf8) (take (at + 1 + w + n - (at + 1 + w)) (drop (at + 1 + w) m))) ≡ false → Refused 5 at ≡ fields-of atoms m at (atom-ext (coding-of utf8) w) rows
-      unfolding fields-of fields head-of text-or
-      atom-bad f =
-          let same : at + 1 + w + n - (at + 1 + w) ≡ n = omega arith in
-          let b = failed (check (coding-of utf8) (take n (drop (at + 1 + w) m))) (rw same at f) in
-          rw (number-at m at w (at + 1) rows (omega arith), ← e, bytes-at m at n (at + 1 + w) rows (omega arith), b .1)
-
-      pub atom-there : is-valid (check (coding-of utf8) (take (at + 1 + w + n - (at + 1 + w)) (drop (at + 1 + w) m))) ≡ true
-          → Parts 3 0 0 Known (at + 1 + w + n) ≡ fields-of atoms m at (atom-ext (coding-of utf8) w) rows
-      unfolding fields-of fields head-of head-at kind-later kind-of later-of text-or
-      atom-there f =
-          let same : at + 1 + w + n - (at + 1 + w) ≡ n = omega arith in
-          let b = found (check (coding-of utf8) (take n (drop (at + 1 + w) m))) (rw same at f) in
-          rw (number-at m at w (at + 1) rows (omega arith), ← e, bytes-at m at n (at + 1 + w) rows (omega arith), b .1)
+    pub atom-there : is-valid (check (coding-of utf8) (take (end - (at + 1 + w)) (drop (at + 1 + w) m))) ≡ true
+        → Parts 3 0 0 Known end ≡ fields-of atoms m at (atom-ext (coding-of utf8) w) rows
+    unfolding fields-of fields head-of head-at kind-later kind-of later-of text-or
+    atom-there f = rw (plain-there m at w rows inside atom-head c some, found (check (coding-of utf8) (take (end - (at + 1 + w)) (drop (at + 1 + w) m))) f .1)
 
 -- the text of a place
 long-text : (list : AtomList) (i : ℕ) → 32 < getD (list .lengths) i 0 → place-text list i ≡ invalid-at 32

@@ -22,7 +22,7 @@ ghost use Rattle.term_spec.specs.Reading.{opening};
 ghost use Rattle.term_spec.specs.AtomList.{of-size, atoms-of, lent-list};
 ghost use Rattle.term_head.specs.Quick.{fit, quick-later, quick-word};
 ghost use Rattle.octets.specs.Parts.{Width, words-at};
-ghost use Rattle.term_head.specs.Code.{Bits, head-of, fields-of, later-of, step-of, later-fields, tag-fields, allowed, wanted-of, empty-at, Skipped, opened-at, opening-of};
+ghost use Rattle.term_head.specs.Code.{Bits, Counted, head-of, fields-of, later-of, step-of, later-fields, tag-fields, allowed, wanted-of, empty-at, Skipped, opened-at, opening-of};
 
 // An exponent of all ones, and what a float's bits are divided by to find its 11 bits of exponent.
 const EXPONENT_ONES: u64 = 2047;
@@ -122,6 +122,22 @@ pub fn list_fits(places: &[u8], lengths: &[u16]) -> bool
     lengths.len() == sizes::LIST_PLACES
 }
 
+// The offset past the bytes that are counted in `width` bytes after the tag at `at`, with `between` bytes before them; 0 where the message ends before it.
+fn past_counted(msg: &[u8], at: usize, width: usize, between: usize) -> usize
+    requires { ⌜ (at < length (now msg)) × Width width × (between ≤ 1) ⌝ }
+    ensures { λ r. ⌜ Counted (now (msg .entry)) at width between r ⌝ }
+{
+    let left = msg.len() - at - 1;
+    if left < width + between {
+        return 0;
+    }
+    let n = octets::number(msg, at + 1, width) as usize;
+    if left - width - between < n {
+        return 0;
+    }
+    at + 1 + width + between + n
+}
+
 // Tags 97 and 98.
 fn integer(msg: &[u8], at: usize, width: usize) -> Head
     requires { ⌜ at < length (now msg) ⌝ }
@@ -147,15 +163,8 @@ fn big(msg: &[u8], at: usize, width: usize) -> Head
     requires { ⌜ (at < length (now msg)) × Width width ⌝ }
     ensures { λ r. ⌜ ((atoms : Atoms) (rows : ℕ) → r ≡ fields-of atoms (now (msg .entry)) at (big-ext width) rows) ⌝ }
 {
-    let left = msg.len() - at - 1;
-    if left <= width {
-        return Head::Refused {
-            number: refusals::CUT,
-            place: at,
-        };
-    }
-    let n = octets::number(msg, at + 1, width) as usize;
-    if left - width - 1 < n {
+    let end = past_counted(msg, at, width, 1);
+    if end == 0 {
         return Head::Refused {
             number: refusals::CUT,
             place: at,
@@ -172,7 +181,7 @@ fn big(msg: &[u8], at: usize, width: usize) -> Head
         wanted: 0,
         count: 0,
         later: Later::Known,
-        next: at + 1 + width + 1 + n,
+        next: end,
     }
 }
 
@@ -227,24 +236,15 @@ fn string(msg: &[u8], at: usize) -> Head
     requires { ⌜ at < length (now msg) ⌝ }
     ensures { λ r. ⌜ ((atoms : Atoms) (rows : ℕ) → r ≡ fields-of atoms (now (msg .entry)) at string-ext rows) ⌝ }
 {
-    let left = msg.len() - at - 1;
-    if left < 2 {
+    let end = past_counted(msg, at, 2, 0);
+    if end == 0 {
         return Head::Refused {
             number: refusals::CUT,
             place: at,
         };
     }
-    let n = octets::big2(msg, at + 1);
-    if left - 2 < n {
-        return Head::Refused {
-            number: refusals::CUT,
-            place: at,
-        };
-    }
-    Head::Characters {
-        count: n,
-        next: at + 1 + 2 + n,
-    }
+    let count = end - at - 3;
+    Head::Characters { count, next: end }
 }
 
 // Tag 108.
@@ -269,15 +269,8 @@ fn binary(msg: &[u8], at: usize) -> Head
     requires { ⌜ at < length (now msg) ⌝ }
     ensures { λ r. ⌜ ((atoms : Atoms) (rows : ℕ) → r ≡ fields-of atoms (now (msg .entry)) at binary-ext rows) ⌝ }
 {
-    let left = msg.len() - at - 1;
-    if left < 4 {
-        return Head::Refused {
-            number: refusals::CUT,
-            place: at,
-        };
-    }
-    let n = octets::big4(msg, at + 1);
-    if left - 4 < n {
+    let end = past_counted(msg, at, 4, 0);
+    if end == 0 {
         return Head::Refused {
             number: refusals::CUT,
             place: at,
@@ -288,7 +281,7 @@ fn binary(msg: &[u8], at: usize) -> Head
         wanted: 0,
         count: 0,
         later: Later::Known,
-        next: at + 1 + 4 + n,
+        next: end,
     }
 }
 
@@ -319,21 +312,14 @@ fn bitstring(msg: &[u8], at: usize) -> Head
     requires { ⌜ at < length (now msg) ⌝ }
     ensures { λ r. ⌜ ((atoms : Atoms) (rows : ℕ) → r ≡ fields-of atoms (now (msg .entry)) at bit-binary-ext rows) ⌝ }
 {
-    let left = msg.len() - at - 1;
-    if left <= 4 {
+    let end = past_counted(msg, at, 4, 1);
+    if end == 0 {
         return Head::Refused {
             number: refusals::CUT,
             place: at,
         };
     }
-    let n = octets::big4(msg, at + 1);
-    if left - 4 - 1 < n {
-        return Head::Refused {
-            number: refusals::CUT,
-            place: at,
-        };
-    }
-    let kind = bits_kind(n, octets::big1(msg, at + 1 + 4));
+    let kind = bits_kind(end - at - 6, octets::big1(msg, at + 1 + 4));
     if kind == 0 {
         return Head::Refused {
             number: refusals::FIELD,
@@ -345,7 +331,7 @@ fn bitstring(msg: &[u8], at: usize) -> Head
         wanted: 0,
         count: 0,
         later: Later::Known,
-        next: at + 1 + 4 + 1 + n,
+        next: end,
     }
 }
 
@@ -404,22 +390,14 @@ fn atom(msg: &[u8], at: usize, width: usize, utf8: bool) -> Head
     requires { ⌜ (at < length (now msg)) × Width width ⌝ }
     ensures { λ r. ⌜ ((atoms : Atoms) (rows : ℕ) → r ≡ fields-of atoms (now (msg .entry)) at (atom-ext (coding-of utf8) width) rows) ⌝ }
 {
-    let left = msg.len() - at - 1;
-    if left < width {
-        return Head::Refused {
-            number: refusals::CUT,
-            place: at,
-        };
-    }
-    let n = octets::number(msg, at + 1, width) as usize;
-    if left - width < n {
+    let end = past_counted(msg, at, width, 0);
+    if end == 0 {
         return Head::Refused {
             number: refusals::CUT,
             place: at,
         };
     }
     let from = at + 1 + width;
-    let end = from + n;
     if !text::is_text(&msg[from..end], utf8) {
         return Head::Refused {
             number: refusals::TEXT,
@@ -431,7 +409,7 @@ fn atom(msg: &[u8], at: usize, width: usize, utf8: bool) -> Head
         wanted: 0,
         count: 0,
         later: Later::Known,
-        next: at + 1 + width + n,
+        next: end,
     }
 }
 

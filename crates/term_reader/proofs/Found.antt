@@ -20,19 +20,19 @@ use Rattle.term_reader.specs.declared.Parts.{Parts}
 use Rattle.term_reader.specs.declared.Parts.the-variants as parts-of
 use Rattle.term_reader.specs.Code.{whole-of, Stored, Done, RunDone, PartsDone}
 
-module _ {X : Type 0} (size-of : X → ℕ) (words : X → List ℕ) (From : X → Type 0) (m : List ℕ) (cap row : ℕ) (T : List ℕ) where
+module _ {X : Type 0} (size-of : X → ℕ) (as-rows : X → List ℕ) (From : X → Type 0) (m : List ℕ) (cap row : ℕ) (T : List ℕ) where
   -- x is found, and its rows are stored; reading goes on at `next`, with the row `end`
   pub record Found (o : Answer (X × Position)) (next end : ℕ) (T′ : List ℕ) : Type 0 where
     pub x : X
     pub is : o ≡ good (x, at-offset m next end)
-    pub table-is : T′ ≡ sets T row (words x)
+    pub table-is : T′ ≡ sets T row (as-rows x)
     pub near : next ≤ length m
     pub rows-are : end ≡ row + size-of x
     pub room : end ≤ cap
     pub from : From x
 
   found-at : (y : X × Position) (T′ : List ℕ) (next end : ℕ) → next ≡ y .1 .at → end ≡ row + size-of (y .0)
-      → Stored size-of words From m cap row T (y .0) (y .1) T′ → Found (good y) next end T′
+      → Stored size-of as-rows From m cap row T (y .0) (y .1) T′ → Found (good y) next end T′
   found-at y T′ next end a b d =
       record {
         x = y .0;
@@ -45,7 +45,7 @@ module _ {X : Type 0} (size-of : X → ℕ) (words : X → List ℕ) (From : X �
       }
 
   abbrev pub StepDone : Answer (X × Position) → Step → List ℕ → Type 0
-  StepDone = Done (λ x next end. step.Got next end) step.Refused size-of words From m cap row T
+  StepDone = Done (λ x next end. step.Got next end) step.Refused size-of as-rows From m cap row T
 
   pub step-found : (o : Answer (X × Position)) (r : Step) (T′ : List ℕ) (next end : ℕ) → r ≡ step.Got next end → StepDone o r T′ → Found o next end T′
   unfolding Done

@@ -29,7 +29,7 @@ use Rattle.term_reader.specs.declared.Parts.{Parts}
 use Rattle.term_reader.specs.declared.Parts.the-variants as parts-of
 use Rattle.term_reader.specs.Code.{whole-of, asked, Fits, Sound, Opens, inner, last, Done, TermDone, RunDone, PartsDone}
 use Rattle.term_reader.proofs.Found.{Found, step-found, step-refused, join-parts, joined-words}
-use Rattle.term_head.proofs.Found.{Past, past-is}
+use Rattle.term_head.proofs.HeadFacts.{Past, past-is}
 use Rattle.term_head.proofs.OpeningFacts.{later-kind}
 use Rattle.term_reader.proofs.Openings.{Opened-at, opened-refused, head-refused, later-past}
 use Rattle.term_reader.proofs.Runs.{run-each}
@@ -324,10 +324,10 @@ run-moves atoms cap d n s =
     (λ w u h. term-kept cap (λ t. s .at ≤ t .at) (λ t b bs e h. omega arith) (λ t l h. h) atoms d w u h) n s (omega arith)
 
 -- the tails of a list, joined on so far: what is left to read from `at` on
-pub record Tailed (atoms : Atoms) (cap deep : ℕ) (m : List ℕ) (at row : ℕ) (whole : ℕ) (T : List ℕ) (before : ℕ) (whole-list : Parts → List ℕ → Type 0) : Type 0 where
+pub record Tailed (atoms : Atoms) (cap deep : ℕ) (m : List ℕ) (at row : ℕ) (whole : ℕ) (T : List ℕ) (before : ℕ) (all-parts : Parts → List ℕ → Type 0) : Type 0 where
   pub bound : List ℕ
   pub enough : length m - at ≤ length bound
-  pub goes : (s : Parts) (U : List ℕ) → PartsDone m before cap row whole T (list-tail atoms cap deep (body atoms cap deep) bound (at-offset m at row)) s U → whole-list s U
+  pub goes : (s : Parts) (U : List ℕ) → PartsDone m before cap row whole T (list-tail atoms cap deep (body atoms cap deep) bound (at-offset m at row)) s U → all-parts s U
 
 pub tailed-none : (atoms : Atoms) (cap deep : ℕ) (m : List ℕ) (at row whole : ℕ) (T : List ℕ) (before : ℕ)
     → Tailed atoms cap deep m at row whole T before (PartsDone m before cap row whole T (list-tail atoms cap deep (body atoms cap deep) (drop at m) (at-offset m at row)))

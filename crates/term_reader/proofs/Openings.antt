@@ -15,7 +15,7 @@ use Rattle.term_head.specs.declared.Head as code
 use Rattle.term_head.specs.declared.Head.the-variants as heads
 use Rattle.term_head.specs.declared.Opening.{Opening}
 use Rattle.term_head.specs.Code.{head-at, opening-of}
-use Rattle.term_head.proofs.Found.{Past, past-byte, past-row, past-is, Wants, no-part, one-node, a-function, Wanting}
+use Rattle.term_head.proofs.HeadFacts.{Past, past-byte, past-row, past-is, Wants, no-part, one-node, a-function, Wanting}
 use Rattle.term_head.proofs.OpeningFacts.{opening-opens, refused-found}
 use Rattle.term_head.proofs.OpeningFacts as facts
 use Rattle.term_reader.specs.Code.{asked, Fits, Sound, Opens}

@@ -20,11 +20,11 @@ use Rattle.term_reader.specs.Code.{whole-of, asked, Room, Done, TermDone
 use Rattle.term_reader.proofs.Found.{Found, StepDone, step-found, step-refused, also, join}
 
 -- the room that is left after what was found
-pub room-after : {X : Type 0} (size-of : X → ℕ) (words : X → List ℕ) (From : X → Type 0) (m : List ℕ) (list : AtomList) (T T′ : List ℕ) (cap at row whole next end : ℕ)
-    (o : Answer (X × Position)) (r : Step) → Room m list T cap at row whole → StepDone size-of words From m cap row T o r T′ → r ≡ Got next end → length T′ ≡ length T
+pub room-after : {X : Type 0} (size-of : X → ℕ) (as-rows : X → List ℕ) (From : X → Type 0) (m : List ℕ) (list : AtomList) (T T′ : List ℕ) (cap at row whole next end : ℕ)
+    (o : Answer (X × Position)) (r : Step) → Room m list T cap at row whole → StepDone size-of as-rows From m cap row T o r T′ → r ≡ Got next end → length T′ ≡ length T
     → Room m list T′ cap next end whole
-room-after size-of words From m list T T′ cap at row whole next end o r room d e same =
-    let f : Found size-of words From m cap row T o next end T′ = step-found size-of words From m cap row T o r T′ next end e d in
+room-after size-of as-rows From m list T T′ cap at row whole next end o r room d e same =
+    let f : Found size-of as-rows From m cap row T o next end T′ = step-found size-of as-rows From m cap row T o r T′ next end e d in
     let g : end ≡ row + size-of (f .x) = f .rows-are in
     record {
       sized = room .sized;

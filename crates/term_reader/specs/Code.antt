@@ -104,17 +104,17 @@ module _ (atoms : Atoms) (cap deep : ℕ) where
     done (t ▹ Forest.empty, improper-list)
 
 -- What a reader leaves: T′ is T with the words of what was read stored from `row` on, and reading goes on at an offset of m
-module _ {X : Type 0} (size-of : X → ℕ) (words : X → List ℕ) (From : X → Type 0) (m : List ℕ) (cap row : ℕ) (T : List ℕ) where
+module _ {X : Type 0} (size-of : X → ℕ) (as-rows : X → List ℕ) (From : X → Type 0) (m : List ℕ) (cap row : ℕ) (T : List ℕ) where
   pub record Stored (x : X) (s : Position) (T′ : List ℕ) : Type 0 where
-    pub table-is : T′ ≡ sets T row (words x)
+    pub table-is : T′ ≡ sets T row (as-rows x)
     pub stands : s ≡ at-offset m (s .at) (row + size-of x)
     pub near : s .at ≤ length m
     pub room : row + size-of x ≤ cap
     pub from : From x
 
-module _ {X S : Type 0} (got : X → ℕ → ℕ → S) (no : ℕ → ℕ → S) (size-of : X → ℕ) (words : X → List ℕ) (From : X → Type 0) where
+module _ {X S : Type 0} (got : X → ℕ → ℕ → S) (no : ℕ → ℕ → S) (size-of : X → ℕ) (as-rows : X → List ℕ) (From : X → Type 0) where
   unfoldable pub Done : List ℕ → ℕ → ℕ → List ℕ → Answer (X × Position) → S → List ℕ → Type 0
-  Done m cap row T (good x) r T′ = (r ≡ got (x .0) (x .1 .at) (row + size-of (x .0))) × Stored size-of words From m cap row T (x .0) (x .1) T′
+  Done m cap row T (good x) r T′ = (r ≡ got (x .0) (x .1 .at) (row + size-of (x .0))) × Stored size-of as-rows From m cap row T (x .0) (x .1) T′
   Done m cap row T (refused n p) r T′ = r ≡ no n p
 
 -- one term

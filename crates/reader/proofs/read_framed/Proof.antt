@@ -1,5 +1,5 @@
 -- `reader::read_framed` meets its contract. Assumes nothing.
-use Rattle.reader.proofs.Message.{refused-first, read-whole, room-first}
+use Rattle.reader.proofs.Message.{refused-first, read-settled, room-first}
 use borrow.Author.Needs.{needs}
 use Rattle.reader.proofs.read_framed.Statement.{statement}
 use Rattle.reader.proofs.read_framed.Tie as tie
@@ -29,7 +29,7 @@ same-length-2 : tie.Need-same-length-2
 same-length-2 c = search needs
 
 returns-2 : tie.Need-returns-2
-returns-2 c = read-whole _ _ _ _ _ _ _ _ _ _ (c .before .before .before .before .before .before .before .before .before .before .before .first-refusal .ensures _) (c .before .before .before .before .before .before .before .before .before .before .if1 .left) (c .before .before .before .before .before .before .before .before .before .at-most .ensures) (c .before .before .before .before .before .before .long-terms .kept .1 .1 .1 .1 .0) (c .before .before .before .before .before .before .long-terms .ensures) (c .before .before .settle2 .ensures)
+returns-2 c = read-settled _ _ _ _ _ _ _ _ _ _ (c .before .before .before .before .before .before .before .before .before .before .before .first-refusal .ensures _) (c .before .before .before .before .before .before .before .before .before .before .if1 .left) (c .before .before .before .before .before .before .before .before .before .at-most .ensures) (c .before .before .before .before .before .before .long-terms .kept .1 .1 .1 .1 .0) (c .before .before .before .before .before .before .long-terms .ensures) (c .before .before .settle2 .ensures)
 
 short-terms-requires : tie.Need-short-terms-requires
 short-terms-requires c κs = room-first _ _ _ _ _ (c .before .before .before .before .first-refusal .ensures _) (c .before .before .before .if1 .left) (c .before .before .at-most .ensures)
@@ -41,7 +41,7 @@ same-length-3 : tie.Need-same-length-3
 same-length-3 c = search needs
 
 returns-3 : tie.Need-returns-3
-returns-3 c = read-whole _ _ _ _ _ _ _ _ _ _ (c .before .before .before .before .before .before .before .before .before .before .before .first-refusal .ensures _) (c .before .before .before .before .before .before .before .before .before .before .if1 .left) (c .before .before .before .before .before .before .before .before .before .at-most .ensures) (c .before .before .before .before .before .before .short-terms .kept .1 .1 .1 .1 .0) (c .before .before .before .before .before .before .short-terms .ensures) (c .before .before .settle3 .ensures)
+returns-3 c = read-settled _ _ _ _ _ _ _ _ _ _ (c .before .before .before .before .before .before .before .before .before .before .before .first-refusal .ensures _) (c .before .before .before .before .before .before .before .before .before .before .if1 .left) (c .before .before .before .before .before .before .before .before .before .at-most .ensures) (c .before .before .before .before .before .before .short-terms .kept .1 .1 .1 .1 .0) (c .before .before .before .before .before .before .short-terms .ensures) (c .before .before .settle3 .ensures)
 
 pub read-framed-spec : {M : Type 1} → statement M
 read-framed-spec =

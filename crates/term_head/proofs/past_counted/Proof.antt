@@ -1,0 +1,51 @@
+-- `term_head::past_counted` meets its contract. Assumes nothing.
+use Rattle.term_head.specs.Code.{cut-before, cut-inside, all-there}
+use native.Mathlib.Omega.{arith}
+use borrow.Author.Needs.{needs}
+use Rattle.term_head.proofs.past_counted.Statement.{statement}
+use Rattle.term_head.proofs.past_counted.Tie as tie
+
+sub-left : tie.Need-sub-left
+sub-left c = search needs
+
+sub-left-2 : tie.Need-sub-left-2
+sub-left-2 c = search needs
+
+add-if1 : tie.Need-add-if1
+add-if1 c = search needs
+
+returns : tie.Need-returns
+returns c = cut-before (omega arith)
+
+add-number : tie.Need-add-number
+add-number c = search needs
+
+number-requires : tie.Need-number-requires
+number-requires c κs = search needs
+
+sub-if2 : tie.Need-sub-if2
+sub-if2 c = search needs
+
+sub-if2-2 : tie.Need-sub-if2-2
+sub-if2-2 c = search needs
+
+returns-2 : tie.Need-returns-2
+returns-2 c = cut-inside _ (c .before .number .ensures) (omega arith) (omega arith)
+
+add-result : tie.Need-add-result
+add-result c = search needs
+
+add-result-2 : tie.Need-add-result-2
+add-result-2 c = search needs
+
+add-result-3 : tie.Need-add-result-3
+add-result-3 c = search needs
+
+add-result-4 : tie.Need-add-result-4
+add-result-4 c = search needs
+
+returns-3 : tie.Need-returns-3
+returns-3 c = all-there _ (c .before .number .ensures) (omega arith)
+
+pub past-counted-spec : {M : Type 1} → statement M
+past-counted-spec = tie.close (tie.spec sub-left sub-left-2 add-if1 returns add-number number-requires sub-if2 sub-if2-2 returns-2 add-result add-result-2 add-result-3 add-result-4 returns-3)
