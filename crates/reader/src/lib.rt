@@ -21,7 +21,7 @@ ghost use Rattle.term_spec.specs.Answer.{at-offset};
 ghost use Rattle.octets.specs.Cleared.{cleared};
 ghost use Rattle.term_head.specs.Code.{wanted-of, later-of, kind-later, head-at, head-of};
 ghost use Rattle.term_head.specs.Quick.{quick-word, Told};
-ghost use Rattle.map_keys.specs.Seen.{Keeps};
+ghost use Rattle.map_keys.specs.KeySet.{Keeps};
 ghost use Rattle.reader.specs.Code.{first-refusal, rows-in, asked, character-words, framing-of, Room, Sound, Opens, inner, last, TermDone, RunDone, PartsDone, MessageDone};
 
 // What reading a term, or some terms in turn, comes to: the offset and the row past it, or a refusal.
@@ -897,7 +897,7 @@ fn read_pairs(
         ) {
             Step::Refused { number, place } => return Parts::Refused { number, place },
             Step::Got { next, rows } => {
-                if map_keys::repeats(msg, places, lengths, table, seen, row, row_now) {
+                if map_keys::contains_or_insert(msg, places, lengths, table, seen, row, row_now) {
                     return Parts::Refused {
                         number: 7,
                         place: at_now,
