@@ -10,7 +10,6 @@ use lib.Seq.{sets}
 use borrow.Author.Tests.{le-ltb}
 use Rattle.term_spec.specs.Numbers.{in-bytes}
 use Rattle.term_spec.specs.Rows.{kind-in, offset-in, parts-in}
-use Rattle.octets.specs.Parts.{choose}
 use Rattle.octets.proofs.Parts.{length-words-at, part-add}
 use Rattle.row_fields.specs.Found.{value, text-width, text-end, atom-end, pid-found, pids-found, words-found, counted-found, references-found, content-of}
 use Rattle.row_fields.specs.Meaning.{words-at, label-of}
@@ -29,22 +28,22 @@ use Rattle.already_canonical.proofs.Stands.{one, number-there, copied-l
 
 module _ (m : List ℕ) (at : ℕ) where
   end-there : (w : ℕ) → eqb w 0 ≡ false → at + (1 + w) ≤ length m → at + 1 + w + value m w (at + 1) ≤ length m → text-end m w at ≡ at + 1 + w + value m w (at + 1)
-  unfolding text-end choose
+  unfolding text-end
   end-there w z h k =
       let f : 1 + w ≤ length m - at = omega arith in
       let g : value m w (at + 1) ≤ length m - (at + 1 + w) = omega arith in
       simp (z, le-ltb (length m - at) (1 + w) f, le-ltb (length m - (at + 1 + w)) (value m w (at + 1)) g)
 
   end-by : (tag : ℕ) → at < length m → getD m at 0 ≡ tag → atom-end m at ≡ text-end m (text-width tag) at
-  unfolding atom-end choose
+  unfolding atom-end
   end-by tag h e = let g : 1 ≤ length m - at = omega arith in simp (le-ltb (length m - at) 1 g) (ap (λ (t : ℕ). text-end m (text-width t) at) e)
 
   pub node-82 : at < length m → getD m at 0 ≡ 82 → at + 2 ≡ atom-end m at
-  unfolding text-end text-width choose
+  unfolding text-end text-width
   node-82 h e = sym (end-by 82 h e)
 
   pub node-119 : (v : ℕ) → getD m at 0 ≡ 119 → v ≡ value m 1 (at + 1) → at + 2 + v ≤ length m → at + 2 + v ≡ atom-end m at
-  unfolding text-width choose
+  unfolding text-width
   node-119 v e f h =
       let n : at + 2 + v ≡ at + 1 + 1 + value m 1 (at + 1) = omega arith in
       n ∙ sym (end-by 119 (omega arith) e ∙ end-there 1 refl (omega arith) (omega arith))
@@ -65,11 +64,11 @@ module _ (m places lengths : List ℕ) (kind at parts : ℕ) (b : Bytes-only m) 
       }
 
   pid-there : (end : ℕ) → end + 12 ≤ length m → pid-found m 4 end ≡ Pid (value m 4 end) (value m 4 (end + 4)) (value m 4 (end + 8))
-  unfolding pid-found choose
+  unfolding pid-found
   pid-there end h = let g : 12 ≤ length m - end = omega arith in simp (le-ltb (length m - end) 12 g)
 
   pids-there : pids-found m at 88 ≡ pid-found m 4 (atom-end m (at + 1))
-  unfolding pids-found choose
+  unfolding pids-found
   pids-there = refl
 
   three-words : (end : ℕ) → end + 12 ≤ length m
@@ -97,11 +96,11 @@ module _ (m places lengths : List ℕ) (kind at parts : ℕ) (b : Bytes-only m) 
       (three-words end h)
 
   words-there : (n end : ℕ) → end + (4 + 4 * n) ≤ length m → words-found m 4 n end ≡ Reference (value m 4 end) (end + 4) n
-  unfolding words-found choose
+  unfolding words-found
   words-there n end h = let g : 4 + 4 * n ≤ length m - end = omega arith in simp (le-ltb (length m - end) (4 + 4 * n) g)
 
   counted-there : at + 3 ≤ length m → references-found m at 90 ≡ words-found m 4 (value m 2 (at + 1)) (atom-end m (at + 3))
-  unfolding references-found counted-found choose
+  unfolding references-found counted-found
   counted-there h = let g : 3 ≤ length m - at = omega arith in simp (le-ltb (length m - at) 3 g)
 
   pub around-90 : (n end : ℕ) → kind ≡ 12 → at + 3 ≤ length m → getD m at 0 ≡ 90 → end ≡ atom-end m (at + 3) → n ≡ value m 2 (at + 1) → n < 65536

@@ -1,6 +1,6 @@
 -- Terms whose bytes stand in the message as they are written. Assumes nothing.
 use mathlib.Core.Path.{_≡_, refl, sym, _∙_, ap, ap₂}
-use mathlib.Core.Bool.{Bool, true, false}
+use mathlib.Core.Bool.{Bool, true, false, cond}
 use mathlib.Core.List.{List, [], _∷_, _++_, append-nil}
 use Prim.Native.Nat.{ℕ, _+_, _-_, _≤_, _<_, _/_}
 use native.Mathlib.Omega.{arith}
@@ -10,7 +10,6 @@ use borrow.Author.Tests.{le-ltb, ltb-true, ltb-false}
 use Rattle.term_spec.specs.Numbers.{in-bytes}
 use Rattle.term_spec.specs.Canonical.{integer-bytes, atom-bytes}
 use Rattle.term_spec.specs.Rows.{kind-in, parts-in, offset-in}
-use Rattle.octets.specs.Parts.{choose}
 use Rattle.octets.proofs.Numbers.{big-one}
 use Rattle.octets.proofs.Parts.{length-part, part-add}
 use Rattle.row_fields.specs.Meaning.{coded, bare, label-of}
@@ -48,12 +47,12 @@ module _ (m : List ℕ) (tag at w : ℕ) (b : Bytes-only m) (e : getD m at 0 ≡
 
 signed-bytes : (v : ℕ) → 256 ≤ v → v < 4294967296 → (m places : List ℕ) (parts : ℕ)
     → (before (label-of m (listed-in places) 1 (signed-whole v)) parts ≡ 98 ∷ in-bytes 4 v) × (after (label-of m (listed-in places) 1 (signed-whole v)) parts ≡ [])
-unfolding signed-whole choose label-of before after
+unfolding signed-whole label-of before after
 signed-bytes v g h m places parts = go (ltb v 2147483648) refl
   where
     go : (z : Bool) → ltb v 2147483648 ≡ z
-        → (before (label-of m (listed-in places) 1 (choose z (Whole false v) (Whole true (4294967296 - v)))) parts ≡ 98 ∷ in-bytes 4 v)
-        × (after (label-of m (listed-in places) 1 (choose z (Whole false v) (Whole true (4294967296 - v)))) parts ≡ [])
+        → (before (label-of m (listed-in places) 1 (cond z (Whole false v) (Whole true (4294967296 - v)))) parts ≡ 98 ∷ in-bytes 4 v)
+        × (after (label-of m (listed-in places) 1 (cond z (Whole false v) (Whole true (4294967296 - v)))) parts ≡ [])
     go true e = (ap integer-bytes (sym (signed-above false v refl)) ∙ sym (positive-98 v g (ltb-true v 2147483648 e)), refl)
     go false e =
         let n : ℕ = 4294967296 - v in
@@ -88,7 +87,7 @@ module _ (m places lengths : List ℕ) (at parts : ℕ) (b : Bytes-only m) where
       refl
 
   signed-there : getD m at 0 ≡ 98 → at + 5 ≤ length m → content-of m places lengths 1 at ≡ signed-whole (value m 4 (at + 1))
-  unfolding integer-found signed-found choose
+  unfolding integer-found signed-found
   signed-there e h =
       let g : 5 ≤ length m - at = omega arith in
       integer-there m places lengths 1 at (omega arith) 98 refl e ∙ simp (le-ltb (length m - at) 5 g)
@@ -101,7 +100,7 @@ module _ (m places lengths : List ℕ) (at parts : ℕ) (b : Bytes-only m) where
       (s .1)
 
   float-there : at + 9 ≤ length m → content-of m places lengths 2 at ≡ Float (value m 8 (at + 1))
-  unfolding float-found choose
+  unfolding float-found
   float-there h =
       let g : 9 ≤ length m - at = omega arith in
       there m places lengths 2 at (omega arith) ∙ sym (kind-2 m places lengths at 2 refl) ∙ simp (le-ltb (length m - at) 9 g)
@@ -112,19 +111,19 @@ module _ (m places lengths : List ℕ) (at parts : ℕ) (b : Bytes-only m) where
 
   text-there : (w : ℕ) → at + (1 + w) ≤ length m → at + 1 + w + value m w (at + 1) ≤ length m
       → text-found m w false at ≡ Text false false (at + 1 + w) (value m w (at + 1))
-  unfolding text-found choose
+  unfolding text-found
   text-there w h k =
       let f : 1 + w ≤ length m - at = omega arith in
       let g : value m w (at + 1) ≤ length m - (at + 1 + w) = omega arith in
       simp (le-ltb (length m - at) (1 + w) f, le-ltb (length m - (at + 1 + w)) (value m w (at + 1)) g)
 
   tag-119 : atom-found m places lengths at 119 ≡ text-found m 1 false at
-  unfolding atom-found text-width choose
+  unfolding atom-found text-width
   tag-119 = refl
 
   pub stands-119 : (v : ℕ) → getD m at 0 ≡ 119 → v ≡ value m 1 (at + 1) → v < 256 → at + (2 + v) ≤ length m
       → Sound m places (content-of m places lengths 3 at) → Stands m places lengths 3 at parts (2 + v)
-  unfolding label-of before after coded choose tagged-bytes
+  unfolding label-of before after coded tagged-bytes
   stands-119 v e f l h s =
       let start : ℕ = at + 1 + 1 in
       let bs : List ℕ = take v (drop start m) in
@@ -147,14 +146,14 @@ module _ (m places lengths : List ℕ) (at parts : ℕ) (b : Bytes-only m) where
       refl
 
   bytes-there : at + 5 ≤ length m → at + 5 + value m 4 (at + 1) ≤ length m → bytes-found m at ≡ Bytes (at + 5) (value m 4 (at + 1))
-  unfolding bytes-found choose
+  unfolding bytes-found
   bytes-there h k =
       let f : 5 ≤ length m - at = omega arith in
       let g : value m 4 (at + 1) ≤ length m - (at + 5) = omega arith in
       simp (le-ltb (length m - at) 5 f, le-ltb (length m - (at + 5)) (value m 4 (at + 1)) g)
 
   tag-109 : binary-found m at 109 ≡ bytes-found m at
-  unfolding binary-found choose
+  unfolding binary-found
   tag-109 = refl
 
   pub stands-109 : (v : ℕ) → getD m at 0 ≡ 109 → v ≡ value m 4 (at + 1) → at + (5 + v) ≤ length m
@@ -182,25 +181,25 @@ module _ (m places lengths : List ℕ) (at parts : ℕ) (b : Bytes-only m) where
 
   -- terms with no fields of their own
   pub stands-104 : getD m at 0 ≡ 104 → at + 2 ≤ length m → value m 1 (at + 1) ≡ parts → parts < 256 → Stands m places lengths 4 at parts 2
-  unfolding kind-found label-of bare choose after
+  unfolding kind-found label-of bare after
   stands-104 e h f l =
       by-content 4 2 Nothing (there m places lengths 4 at (omega arith)) h (omega arith)
       (sym (tuple-104 parts (omega arith)) ∙ ap (λ (k : ℕ). 104 ∷ in-bytes 1 k) (sym f) ∙ number-there m 104 at 1 b e h)
       refl
 
   pub stands-106 : getD m at 0 ≡ 106 → at + 1 ≤ length m → parts ≡ 0 → Stands m places lengths 5 at parts 1
-  unfolding kind-found label-of bare choose
+  unfolding kind-found label-of bare
   stands-106 e h f =
       by-content 5 1 Nothing (there m places lengths 5 at (omega arith)) h (omega arith)
       (sym (list-106 parts f) ∙ sym (one m 106 at 0 b e (omega arith)))
       (sym (list-over parts f))
 
   pub stands-113 : getD m at 0 ≡ 113 → at + 1 ≤ length m → Stands m places lengths 13 at parts 1
-  unfolding kind-found label-of bare choose before after
+  unfolding kind-found label-of bare before after
   stands-113 e h = by-content 13 1 Nothing (there m places lengths 13 at (omega arith)) h (omega arith) (sym (one m 113 at 0 b e (omega arith))) refl
 
   pub stands-116 : getD m at 0 ≡ 116 → at + 5 ≤ length m → value m 4 (at + 1) ≡ parts / 2 → Stands m places lengths 9 at parts 5
-  unfolding kind-found label-of bare choose before after
+  unfolding kind-found label-of bare before after
   stands-116 e h f =
       by-content 9 5 Nothing (there m places lengths 9 at (omega arith)) h (omega arith)
       (ap (λ (k : ℕ). 116 ∷ in-bytes 4 k) (sym f) ∙ number-there m 116 at 4 b e h)

@@ -17,7 +17,7 @@ use Rattle.term_spec.specs.Canonical.{big-bytes, integer-bytes, atom-bytes, tup
 use Rattle.term_spec.proofs.Numbers.{length-digits}
 use Rattle.term_spec.proofs.Holds.{big-under}
 use Rattle.term_spec.proofs.Text.{under-all}
-use Rattle.octets.specs.Parts.{choose, stretch, source}
+use Rattle.octets.specs.Parts.{stretch, source}
 use Rattle.octets.proofs.Numbers.{bytes-one, bytes-mod}
 use Rattle.octets.proofs.Parts.{length-part, part-last, part-add}
 use Rattle.row_fields.specs.Meaning.{sign, coded, words-at, bare, label-of}
@@ -95,11 +95,9 @@ part-under : (m : List ℕ) (start n : ℕ) → Bytes-only m → Under 256 (stre
 part-under m start n b = under-part m start n (under-all m (λ i l. b i))
 
 pub sign-true : (z : Bool) → z ≡ true → sign z ≡ 1
-unfolding choose
 sign-true z e = ap sign e
 
 pub sign-false : (z : Bool) → z ≡ false → sign z ≡ 0
-unfolding choose
 sign-false z e = ap sign e
 
 -- an integer of more than 8 digits is a bignum
@@ -126,7 +124,7 @@ module _ (m : List ℕ) (start n : ℕ) (h : High m start n) (b : Bytes-only m) 
       go v k many false e = ltb-false v 4294967296 e
 
   signed-large : (s : Bool) (v : ℕ) → 4294967296 ≤ v → integer-bytes (with-sign (sign s) v) ≡ big-bytes (sign s) (digits v)
-  unfolding with-sign choose
+  unfolding with-sign
   signed-large s zero l = absurd (omega arith)
   signed-large true (suc v) l =
       let e : v ≡ suc v - 1 = omega arith in
@@ -136,7 +134,7 @@ module _ (m : List ℕ) (start n : ℕ) (h : High m start n) (b : Bytes-only m) 
   pub big-lays : (s : Bool) (places : List ℕ) (w tag sg : ℕ) {l : Layout} → l ≡ laid-of 1 tag w n 1 sg (Part false start n) → tag < 256 → w ≤ 8 → sg ≡ sign s
       → big-bytes (sign s) (stretch m start n) ≡ tag ∷ (in-bytes w n ++ (in-bytes 1 (sign s) ++ stretch m start n))
       → Lays m places (integer-bytes (with-sign (sign s) (little-endian (stretch m start n)))) l
-  unfolding body-bytes Body-inside choose
+  unfolding body-bytes Body-inside
   big-lays s places w tag sg e t k g f =
       says
       (ap₂ (λ (x : List ℕ) (y : ℕ). x ++ (in-bytes w n ++ (in-bytes 1 y ++ stretch m start n))) (bytes-one tag t) g
@@ -220,14 +218,14 @@ pub bare-is : (kind k : ℕ) → kind ≡ k → bare k ≡ bare kind
 bare-is kind k e = ap bare (sym e)
 
 pub bare-export : (kind : ℕ) → (kind ≡ 4 → ⊥) → (kind ≡ 5 → ⊥) → (kind ≡ 6 → ⊥) → (kind ≡ 9 → ⊥) → export ≡ bare kind
-unfolding bare choose
+unfolding bare
 bare-export kind a b c d = simp (ne-eqb kind 4 a, ne-eqb kind 5 b, ne-eqb kind 6 c, ne-eqb kind 9 d)
 
 pub bare-over : (kind n : ℕ) → (kind ≡ 5 → ⊥) → [] ≡ after (bare kind) n
-unfolding bare choose after
+unfolding bare after
 bare-over kind n h = simp (ne-eqb kind 5 h) (go (eqb kind 4) (eqb kind 6) (eqb kind 9))
   where
-    go : (x y z : Bool) → _≡_ {A = List ℕ} [] (after (choose x tuple (choose y improper-list (choose z map export))) n)
+    go : (x y z : Bool) → _≡_ {A = List ℕ} [] (after (cond x tuple (cond y improper-list (cond z map export))) n)
     go true y z = refl
     go false true z = refl
     go false false true = refl
@@ -258,7 +256,7 @@ numbers-lay v a w b x c e f g h s m places =
 
 pub words-lay : (m places : List ℕ) (creation start words n : ℕ) {l : Layout} → l ≡ laid-of 4 creation 0 0 0 0 (Part false start (4 * words))
     → Inside m start (4 * words) → Bytes-only m → Lays m places (after (reference creation (words-at m start words)) n) l
-unfolding body-bytes Body-inside choose after in-bytes
+unfolding body-bytes Body-inside after in-bytes
 words-lay m places creation start words n e i b =
     lays 4 creation 0 0 0 0 (Part false start (4 * words)) e (omega arith) (omega arith) (omega arith) i
     (ap (λ (y : List ℕ). in-bytes 4 creation ++ y) (sym (words-stand m start words b (i .there))))
@@ -272,7 +270,7 @@ bits-lay m places bits start n e i one =
 
 pub bytes-lay : (m places : List ℕ) (start n : ℕ) {l : Layout} → Tagged 109 4 n (Part false start n) l → Inside m start n
     → Lays m places (before (binary (stretch m start n)) 0) l
-unfolding body-bytes Body-inside choose before tagged-bytes
+unfolding body-bytes Body-inside before tagged-bytes
 bytes-lay m places start n t i =
     says (ap (λ (k : ℕ). 109 ∷ (in-bytes 4 k ++ stretch m start n)) (sym (length-stretch m start n i))) (t m places i)
 
@@ -281,13 +279,13 @@ bytes-lay m places start n t i =
 pub latin1-lays : (m places : List ℕ) (latin1 listed : Bool) (start n : ℕ) {l : Layout} → latin1 ≡ true
     → Lays m places (atom-bytes (body-bytes m places (Latin1 listed start n))) l
     → Lays m places (atom-bytes (encodes (coded latin1 (stretch (source m places listed) start n)))) l
-unfolding body-bytes coded choose
+unfolding body-bytes coded
 latin1-lays m places latin1 listed start n e h = rw e h
 
 pub utf8-lays : (m places : List ℕ) (latin1 listed : Bool) (start n : ℕ) {l : Layout} → latin1 ≡ false → Spelt (stretch (source m places listed) start n)
     → Lays m places (atom-bytes (body-bytes m places (Part listed start n))) l
     → Lays m places (atom-bytes (encodes (coded latin1 (stretch (source m places listed) start n)))) l
-unfolding body-bytes coded choose
+unfolding body-bytes coded
 utf8-lays m places latin1 listed start n e s h = rw e (says (ap atom-bytes (sym (s .spelt))) h)
 
 pub latin1-there : (m places : List ℕ) (listed : Bool) (start n : ℕ) → Inside (source m places listed) start n → Body-inside m places (Latin1 listed start n)
@@ -305,12 +303,12 @@ part-length m places listed start n i = sym (length-stretch (source m places lis
 -- ---- contents
 
 pub signed-below : (z : Bool) (n : ℕ) → z ≡ true → 0 < n → negsuc (n - 1) ≡ with-sign (sign z) n
-unfolding with-sign choose
+unfolding with-sign
 signed-below z zero e h = absurd (omega arith)
 signed-below z (suc n) e h = let f : suc n - 1 ≡ n = omega arith in rw (e, f)
 
 pub signed-above : (z : Bool) (n : ℕ) → z ≡ false → pos n ≡ with-sign (sign z) n
-unfolding with-sign choose
+unfolding with-sign
 signed-above z n e = rw e
 
 module _ (m places : List ℕ) (content : Content) where

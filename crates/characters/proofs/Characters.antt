@@ -1,6 +1,6 @@
 -- Terms that are characters. Assumes nothing.
 use mathlib.Core.Path.{_≡_, refl, sym, _∙_, ap}
-use mathlib.Core.Bool.{Bool, true, false}
+use mathlib.Core.Bool.{Bool, true, false, cond}
 use mathlib.Core.List.{List}
 use Prim.Native.Nat.{ℕ, _+_, _-_, _≤_, _<_}
 use native.Mathlib.Omega.{arith}
@@ -11,7 +11,7 @@ use Rattle.term_spec.specs.Numbers.{little-endian, with-sign}
 use Rattle.term_spec.specs.Term.{integer, tuple, list, improper-list, map, export}
 use Rattle.term_spec.specs.Canonical.{small}
 use Rattle.term_spec.specs.Rows.{kind-in, offset-in}
-use Rattle.octets.specs.Parts.{choose, stretch}
+use Rattle.octets.specs.Parts.{stretch}
 use Rattle.row_fields.specs.Meaning.{sign, bare, label-of}
 use Rattle.row_fields.specs.declared.Content.{Content}
 use Rattle.row_fields.specs.declared.Content.the-variants.{Whole, Big, Nothing}
@@ -36,10 +36,10 @@ unfolding small character-code
 is-small negative n e h = let g : n < 256 = omega arith in rw (← signed-above negative n e) (simp (lt-ltb n 256 g))
 
 pub bare-none : (kind : ℕ) → 256 ≡ character-code (small (bare kind))
-unfolding bare choose small character-code
+unfolding bare small character-code
 bare-none kind = go (eqb kind 4) (eqb kind 5) (eqb kind 6) (eqb kind 9)
   where
-    go : (x y z w : Bool) → 256 ≡ character-code (small (choose x tuple (choose y list (choose z improper-list (choose w map export)))))
+    go : (x y z w : Bool) → 256 ≡ character-code (small (cond x tuple (cond y list (cond z improper-list (cond w map export)))))
     go true y z w = refl
     go false true z w = refl
     go false false true w = refl

@@ -1,6 +1,6 @@
 -- A term's own bytes by its layouts, what has nothing after its parts, and lists. Assumes nothing.
 use mathlib.Core.Path.{_≡_, refl, sym, _∙_, ap, ap₂}
-use mathlib.Core.Bool.{Bool, true, false}
+use mathlib.Core.Bool.{Bool, true, false, cond}
 use mathlib.Core.List.{List, [], _∷_}
 use Prim.Native.Nat.{ℕ, suc, _+_, _-_, _≤_, _<_}
 use native.Mathlib.Omega.{arith}
@@ -10,7 +10,6 @@ use Rattle.term_spec.specs.Numbers.{in-bytes}
 use Rattle.term_spec.specs.Term.{list}
 use Rattle.term_spec.proofs.Numbers.{length-in-bytes}
 use Rattle.term_spec.specs.Rows.{kind-in, parts-in, offset-in}
-use Rattle.octets.specs.Parts.{choose}
 use Rattle.octets.proofs.Numbers.{bytes-one}
 use Rattle.row_fields.specs.Meaning.{bare, label-of}
 use Rattle.row_fields.specs.declared.Content.{Content}
@@ -81,15 +80,15 @@ nothing-put m places lengths w kind O at e t = put-same (sym (no-trail m places 
 
 module _ (m places lengths : List ℕ) (at : ℕ) where
   list-nothing : content-of m places lengths 5 at ≡ Nothing
-  unfolding content-of kind-found choose
+  unfolding content-of kind-found
   list-nothing = go (leb (length m) at)
     where
-      go : (z : Bool) → _≡_ {A = Content} (choose z Nothing Nothing) Nothing
+      go : (z : Bool) → _≡_ {A = Content} (cond z Nothing Nothing) Nothing
       go true = refl
       go false = refl
 
   list-label : label-of m (listed-in places) 5 (content-of m places lengths 5 at) ≡ list
-  unfolding label-of bare choose
+  unfolding label-of bare
   list-label = ap (label-of m (listed-in places) 5) list-nothing
 
 module _ (m places lengths : List ℕ) (w kind n : ℕ) (e : kind ≡ kind-in w) (f : kind ≡ 5) (g : n ≡ parts-in w) where

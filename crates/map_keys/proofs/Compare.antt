@@ -1,6 +1,6 @@
 -- What a comparison of rows finds in a table that holds the rows of terms: whether the terms mean the same.
 use mathlib.Core.Path.{_≡_, refl, sym, _∙_, ap, ap₂, subst}
-use mathlib.Core.Bool.{Bool, true, false, _||_, or-false}
+use mathlib.Core.Bool.{Bool, true, false, _||_, or-false, cond}
 use mathlib.Core.List.{List, [], _∷_, _++_}
 use mathlib.Core.Option.{Option, some}
 use Prim.Native.Nat.{ℕ, zero, suc, _+_, _-_, _≤_, _<_}
@@ -18,7 +18,6 @@ use Rattle.term_spec.proofs.Preorder.{nodes, all-nodes, nodes-prefix}
 use Rattle.term_spec.proofs.Rows.{size-meaning, size-positive, count-relabels, length-tree-rows}
 use Rattle.term_spec.proofs.Words.{here-word, here-rest, Each-row, Small-row, node-packed, node-below, first-here, others-here, row-of}
 use Rattle.term_spec.proofs.Tests.{never}
-use Rattle.row_fields.specs.Found.{choose}
 use Rattle.map_keys.specs.Compare.{same-rows, same-from, pair-size, among-steps, among-from}
 use Rattle.row_compare.proofs.Alike.{Agree, through}
 
@@ -32,8 +31,7 @@ agree-same false true p q = p .back (q .sure refl)
 agree-same false false p q = refl
 
 -- one test, and where it holds another
-pub and-then : {P Q : Type 0} (b c : Bool) → Agree b P → (P → Agree c Q) → Agree (choose b c false) (P × Q)
-unfolding choose
+pub and-then : {P Q : Type 0} (b c : Bool) → Agree b P → (P → Agree c Q) → Agree (cond b c false) (P × Q)
 and-then true c p q = let k = q (p .sure refl) in record { sure = λ e. (p .sure refl, k .sure e); back = λ h. k .back (h .1) }
 and-then false c p q = record { sure = never; back = λ h. p .back (h .0) }
 
@@ -80,7 +78,7 @@ each-row-split P [] qs h = (tt, h)
 each-row-split P (r ∷ rs) qs h = let g : Each-row P rs × Each-row P qs = each-row-split P rs qs (h .1) in ((h .0, g .0), g .1)
 
 -- where nodes are told apart one by one, lists of them are
-agree-cons : {A : Type 0} (x y : A) (xs ys : List A) (b c : Bool) → Agree b (x ≡ y) → Agree c (xs ≡ ys) → Agree (choose b c false) (_≡_ {A = List A} (x ∷ xs) (y ∷ ys))
+agree-cons : {A : Type 0} (x y : A) (xs ys : List A) (b c : Bool) → Agree b (x ≡ y) → Agree c (xs ≡ ys) → Agree (cond b c false) (_≡_ {A = List A} (x ∷ xs) (y ∷ ys))
 agree-cons x y xs ys b c p q =
     through (λ e. let h : x ≡ y = e .0 in let g : xs ≡ ys = e .1 in cc) (λ e. let h : x ≡ y = cc in let g : xs ≡ ys = cc in (h, g)) (and-then b c p (λ _. q))
 
@@ -142,15 +140,14 @@ no-keys = no-pair
 pub one-more-key : {ts : Terms} {ks : List Term} (k v : Located) → Keys-of ts ks → Keys-of (ts ▹▹ (k ▹ v ▹ empty)) (meaning k ∷ ks)
 one-more-key k v p = pairs-join p (a-pair no-pair)
 
-or-later : (x s y : Bool) → (x || choose s true y) ≡ ((s || x) || y)
-unfolding choose
+or-later : (x s y : Bool) → (x || cond s true y) ≡ ((s || x) || y)
 or-later true true y = refl
 or-later true false y = refl
 or-later false true y = refl
 or-later false false y = refl
 
 pub among-ended : (alike : ℕ → ℕ → Bool) (T : List ℕ) (n at key : ℕ) → key ≤ at → among-steps alike T n at key ≡ false
-unfolding among-steps choose
+unfolding among-steps
 among-ended alike T zero at key h = refl
 among-ended alike T (suc n) at key h = rw (le-leb key at h)
 
@@ -191,12 +188,12 @@ module _
 
     -- they compare as their meanings do
     pub same-from-same : same-from alike T a b ≡ same (meaning t) (meaning u)
-    unfolding same-from choose
+    unfolding same-from
     same-from-same =
         rw (lt-leb (length T) a (tree-below t k), lt-leb (length T) b (tree-below u m), tree-size small t k, tree-size small u m)
         (agree-same _ _ (go (eqb (size t) (size u)) refl) (same-agrees (meaning t) (meaning u)))
       where
-        go : (z : Bool) → eqb (size t) (size u) ≡ z → Agree (choose z (same-rows alike T (size t) a b) false) (meaning t ≡ meaning u)
+        go : (z : Bool) → eqb (size t) (size u) ≡ z → Agree (cond z (same-rows alike T (size t) a b) false) (meaning t ≡ meaning u)
         go true e = sizes-agree (eqb-true (size t) (size u) e)
         go false e = record { sure = never; back = λ f. absurd (eqb-false (size t) (size u) e (sym (size-meaning t) ∙ ap size f ∙ size-meaning u)) }
 
@@ -204,7 +201,7 @@ module _
   module _ (whole whole′ : Option ℕ) (key : ℕ) (u : Located) (m : Known-tree Known T whole′ key u) where
     pairs-agree : (n at : ℕ) {ts : Terms} {ks ls : List Term} → Pairs ts ks ls → key ≡ at + sizes ts → sizes ts ≤ n → Known-rows Known T whole at ts
         → (among (meaning u) ks || among-steps alike T n at key) ≡ among (meaning u) ls
-    unfolding among-steps among choose
+    unfolding among-steps among
     pairs-agree n at {ks = ks} no-pair e h g =
         ap (λ (b : Bool). among (meaning u) ks || b) (among-ended alike T n at key (omega arith)) ∙ or-false (among (meaning u) ks)
     pairs-agree zero at (a-pair {k = k} p) e h g = absurd (omega (arith, size-positive k))
@@ -223,5 +220,5 @@ module _
     -- it is compared with each key
     pub among-from-among : (first : ℕ) {ts : Terms} {ks : List Term} → Keys-of ts ks → key ≡ first + sizes ts → Known-rows Known T whole first ts
         → among-from alike T first key ≡ among (meaning u) ks
-    unfolding among-from among choose
+    unfolding among-from among
     among-from-among first p e g = rw (lt-leb (length T) key (tree-below u m)) (pairs-agree (key - first) first p e (omega arith) g)

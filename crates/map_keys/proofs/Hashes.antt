@@ -1,6 +1,6 @@
--- Hashes of terms: one law for each way through the functions that make them; terms that mean the same have the same hash, so a key that is not met is new.
+-- Hashes of terms: one law for each way through the functions that make them; terms that mean the same have the same hash, so a key that is absent from the set is new.
 use mathlib.Core.Path.{_≡_, refl, sym, _∙_, ap}
-use mathlib.Core.Bool.{Bool, true, false}
+use mathlib.Core.Bool.{Bool, true, false, cond}
 use mathlib.Core.List.{List, [], _∷_}
 use Prim.Native.Nat.{ℕ, zero, suc, _+_, _*_, _-_, _/_, _≤_, _<_}
 use native.Mathlib.Omega.{arith}
@@ -10,19 +10,19 @@ use borrow.Author.Tests.{eqb-true, leb-false}
 use Rattle.term_spec.specs.Rows.{kind-in, offset-in, parts-in, size-in, Here}
 use Rattle.term_spec.proofs.Words.{here-word, here-rest}
 use Rattle.row_fields.specs.declared.Content.{Content}
-use Rattle.row_fields.specs.Found.{choose, content-of}
+use Rattle.row_fields.specs.Found.{content-of}
 use Rattle.row_fields.specs.Meaning.{term-kind}
 use Rattle.row_compare.specs.Hash.{mix, hash-contents}
 use Rattle.term_spec.proofs.Tests.{never}
 use Rattle.row_compare.proofs.Hashes.{both-true, unless-true, hash-alike}
 use Rattle.map_keys.specs.Compare.{same-fields, same-row, same-rows, same-from, pair-size, among-steps, among-from, same-terms-raw, among-rows}
-use Rattle.map_keys.specs.Seen.{slot, Known, hash-row, hash-all, hash-rows, term-hash, Unmet, Recalls-from, Recalls}
+use Rattle.map_keys.specs.KeySet.{slot, Contains, hash-row, hash-all, hash-rows, term-hash, Absent, Contains-from, Contains-before}
 
 pub kind-small : (x k : ℕ) → x ≡ term-kind k → k < 16 → x < 16
-unfolding term-kind choose
+unfolding term-kind
 kind-small x k e l = go (eqb k 14) e
   where
-    go : (t : Bool) → x ≡ choose t 1 k → x < 16
+    go : (t : Bool) → x ≡ cond t 1 k → x < 16
     go true f = omega arith
     go false f = omega arith
 
@@ -91,11 +91,11 @@ module _ (m places lengths : List ℕ) where
         let s : size-in (getD T a 0) ≡ size-in (getD T b 0) = eqb-true _ _ (f .0) in
         rw (← s) (ap (λ (x : ℕ). mix x 0 / 65536) (rows-alike (size-in (getD T a 0)) (mix 0 first) a b (f .1)))
 
-    -- ---- a key that is not met
+    -- ---- a key that is absent
 
-    module _ (first key : ℕ) (L : List ℕ) (u : Unmet m places lengths T key L (term-hash m places lengths T first key)) where
-      not-same : (at : ℕ) → Known L (term-hash m places lengths T first at) at → same-terms-raw m places lengths T key at ≡ true → ⊥
-      unfolding Unmet
+    module _ (first key : ℕ) (L : List ℕ) (u : Absent m places lengths T key L (term-hash m places lengths T first key)) where
+      not-same : (at : ℕ) → Contains L (term-hash m places lengths T first at) at → same-terms-raw m places lengths T key at ≡ true → ⊥
+      unfolding Absent
       not-same at k e =
           let f : term-hash m places lengths T first key ≡ term-hash m places lengths T first at = terms-alike first key at e in
           let w = (rw (← f) at k) .stands (u .0) (u .1) (u .2) in
@@ -104,27 +104,27 @@ module _ (m places lengths : List ℕ) where
           let d : same-terms-raw m places lengths T key at ≡ false = ap (same-terms-raw m places lengths T key) (sym s) ∙ u .3 (w .0) (w .1) in
           never (sym d ∙ e)
 
-      none-same : (n at : ℕ) → Recalls-from m places lengths T first key L n at → among-steps (same-row m places lengths) T n at key ≡ false
-      unfolding among-steps Recalls-from choose
+      none-same : (n at : ℕ) → Contains-from m places lengths T first key L n at → among-steps (same-row m places lengths) T n at key ≡ false
+      unfolding among-steps Contains-from
       none-same zero at g = refl
       none-same (suc n) at g = go (leb key at) refl (λ l. none-same n (at + pair-size T at) (g l .1))
         where
           later : at < key → (s z : Bool) → same-terms-raw m places lengths T key at ≡ s → among-steps (same-row m places lengths) T n (at + pair-size T at) key ≡ false
-              → choose s true (choose z false (among-steps (same-row m places lengths) T n (at + pair-size T at) key)) ≡ false
+              → cond s true (cond z false (among-steps (same-row m places lengths) T n (at + pair-size T at) key)) ≡ false
           later l true z e r = absurd (not-same at (g l .0) e)
           later l false true e r = refl
           later l false false e r = r
 
           go : (t : Bool) → leb key at ≡ t → (at < key → among-steps (same-row m places lengths) T n (at + pair-size T at) key ≡ false)
-              → choose t false (choose (same-terms-raw m places lengths T key at) true (choose (eqb (pair-size T at) 0) false (among-steps (same-row m places lengths) T n (at + pair-size T at) key))) ≡ false
+              → cond t false (cond (same-terms-raw m places lengths T key at) true (cond (eqb (pair-size T at) 0) false (among-steps (same-row m places lengths) T n (at + pair-size T at) key))) ≡ false
           go true e r = refl
           go false e r = let l : at < key = leb-false key at e in later l (same-terms-raw m places lengths T key at) (eqb (pair-size T at) 0) refl (r l)
 
-    pub unmet-none : (first key : ℕ) (L : List ℕ) (h : ℕ) → h ≡ term-hash m places lengths T first key → Unmet m places lengths T key L h
-        → Recalls m places lengths T first key L → false ≡ among-rows m places lengths T first key
-    unfolding among-from choose
-    unmet-none first key L h e u g = sym (go (leb (length T) key))
+    pub absent-none : (first key : ℕ) (L : List ℕ) (h : ℕ) → h ≡ term-hash m places lengths T first key → Absent m places lengths T key L h
+        → Contains-before m places lengths T first key L → false ≡ among-rows m places lengths T first key
+    unfolding among-from
+    absent-none first key L h e u g = sym (go (leb (length T) key))
       where
-        go : (t : Bool) → choose t false (among-steps (same-row m places lengths) T (key - first) first key) ≡ false
+        go : (t : Bool) → cond t false (among-steps (same-row m places lengths) T (key - first) first key) ≡ false
         go true = refl
         go false = none-same first key L (rw e at u) (key - first) first g

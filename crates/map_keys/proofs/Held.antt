@@ -1,6 +1,6 @@
 -- Terms whose rows stand in the table and that the message backs compare as their meanings do.
 use mathlib.Core.Path.{_≡_, refl, sym, _∙_, ap, ap₂}
-use mathlib.Core.Bool.{Bool, false}
+use mathlib.Core.Bool.{Bool, false, cond}
 use mathlib.Core.List.{List, [], _∷_}
 use mathlib.Core.Option.{Option, some}
 use Prim.Native.Nat.{ℕ, _+_}
@@ -18,7 +18,6 @@ use Rattle.term_spec.specs.Rows.{Row, tree-rows, rows, word, kind-of, kind-at, 
 use Rattle.term_spec.proofs.Backed.{Label-at, Backed, Backeds}
 use Rattle.term_spec.proofs.Rows.{rows-join}
 use Rattle.term_spec.proofs.Words.{Each-row, each-row-join, Small-row, Word-of, word-packed, Between, kind-of-range, left-here, right-here, first-here}
-use Rattle.row_fields.specs.Found.{choose}
 use Rattle.row_fields.specs.Meaning.{term-kind}
 use Rattle.map_keys.specs.Compare.{same-fields, same-row, same-terms-raw, among-rows}
 use Rattle.row_fields.proofs.Says.{Lent}
@@ -49,7 +48,7 @@ module _ (message : List ℕ) (cap : ℕ) (atoms : Atoms) where
 
   -- without the kind of characters a kind is that of the label
   term-kind-of : (l : Label) (p : Place) → Label-at message cap atoms p l → term-kind (kind-at l p) ≡ kind-of l
-  unfolding term-kind choose kind-at kind-of
+  unfolding term-kind kind-at kind-of
   term-kind-of l (tag-at p) h = let r : Between 1 13 (kind-of l) = kind-of-range l in rw (ne-eqb (kind-of l) 14 (λ e. omega arith))
   term-kind-of l (character-at p) h = sym (ap kind-of (h .1))
 
@@ -112,7 +111,7 @@ module _ (list : AtomList) (message : List ℕ) (lent : Lent list message) (cap 
       (λ e. contents-agree list message lent cap (r .label) (q .label) (r .place) (q .place) (k .1) (m .1) (x ∙ e ∙ sym y)))
     where
       one : (i j n n′ : ℕ) (c : Bool) → (r .label ≡ q .label → i ≡ j) → (i ≡ j → Agree c (r .label ≡ q .label))
-          → Agree (choose (eqb i j) (choose (eqb n n′) c false) false) (_≡_ {A = Label × ℕ} (r .label, n) (q .label, n′))
+          → Agree (cond (eqb i j) (cond (eqb n n′) c false) false) (_≡_ {A = Label × ℕ} (r .label, n) (q .label, n′))
       one i j n n′ c f g =
           through
           (λ z. ap₂ (λ (a : Label) (b : ℕ). (a, b)) (z .1 .1) (z .1 .0))

@@ -3,5 +3,5 @@ pub mod Steps
 pub mod Slots
 pub mod Hashes
 pub mod Held
-pub mod Seen
+pub mod KeySet
 pub mod Accepted

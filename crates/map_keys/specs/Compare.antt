@@ -1,11 +1,11 @@
 -- Terms compared by their rows, said of the table's words alone, with the tests of the code in their order.
-use mathlib.Core.Bool.{Bool, true, false}
+use mathlib.Core.Bool.{Bool, true, false, cond}
 use mathlib.Core.List.{List}
 use Prim.Native.Nat.{ℕ, zero, suc, _+_, _-_}
 use lib.Dec.{eqb, leb}
 use lib.ListN.{length, getD}
 use Rattle.term_spec.specs.Rows.{kind-in, offset-in, parts-in, size-in}
-use Rattle.row_fields.specs.Found.{choose, content-of}
+use Rattle.row_fields.specs.Found.{content-of}
 use Rattle.row_fields.specs.Meaning.{term-kind}
 use Rattle.row_compare.specs.Same.{same-contents}
 
@@ -17,8 +17,8 @@ same-fields m places lengths kind offset kind′ offset′ =
 -- do two words of rows say the same fields and number of parts?
 unfoldable pub same-row : List ℕ → List ℕ → List ℕ → ℕ → ℕ → Bool
 same-row m places lengths v w =
-    choose (eqb (term-kind (kind-in v)) (term-kind (kind-in w)))
-    (choose (eqb (parts-in v) (parts-in w)) (same-fields m places lengths (kind-in v) (offset-in v) (kind-in w) (offset-in w)) false)
+    cond (eqb (term-kind (kind-in v)) (term-kind (kind-in w)))
+    (cond (eqb (parts-in v) (parts-in w)) (same-fields m places lengths (kind-in v) (offset-in v) (kind-in w) (offset-in w)) false)
     false
 
 -- over such a comparison of words
@@ -26,14 +26,14 @@ module _ (alike : ℕ → ℕ → Bool) (T : List ℕ) where
   -- the n rows from a on and those from b on
   unfoldable pub same-rows : ℕ → ℕ → ℕ → Bool
   same-rows zero a b = true
-  same-rows (suc n) a b = choose (alike (getD T a 0) (getD T b 0)) (same-rows n (a + 1) (b + 1)) false
+  same-rows (suc n) a b = cond (alike (getD T a 0) (getD T b 0)) (same-rows n (a + 1) (b + 1)) false
 
   -- the terms whose rows start at a and b
   unfoldable pub same-from : ℕ → ℕ → Bool
   same-from a b =
-      choose (leb (length T) a) false
-      (choose (leb (length T) b) false
-      (choose (eqb (size-in (getD T a 0)) (size-in (getD T b 0))) (same-rows (size-in (getD T a 0)) a b) false))
+      cond (leb (length T) a) false
+      (cond (leb (length T) b) false
+      (cond (eqb (size-in (getD T a 0)) (size-in (getD T b 0))) (same-rows (size-in (getD T a 0)) a b) false))
 
 -- how many rows the term at a row and the next one have
 unfoldable pub pair-size : List ℕ → ℕ → ℕ
@@ -44,12 +44,12 @@ module _ (alike : ℕ → ℕ → Bool) (T : List ℕ) where
   unfoldable pub among-steps : ℕ → ℕ → ℕ → Bool
   among-steps zero at key = false
   among-steps (suc n) at key =
-      choose (leb key at) false
-      (choose (same-from alike T key at) true
-      (choose (eqb (pair-size T at) 0) false (among-steps n (at + pair-size T at) key)))
+      cond (leb key at) false
+      (cond (same-from alike T key at) true
+      (cond (eqb (pair-size T at) 0) false (among-steps n (at + pair-size T at) key)))
 
   unfoldable pub among-from : ℕ → ℕ → Bool
-  among-from first key = choose (leb (length T) key) false (among-steps (key - first) first key)
+  among-from first key = cond (leb (length T) key) false (among-steps (key - first) first key)
 
 -- the same over the message and the atom list
 abbrev pub same-terms-raw : List ℕ → List ℕ → List ℕ → List ℕ → ℕ → ℕ → Bool

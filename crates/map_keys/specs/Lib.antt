@@ -1,2 +1,2 @@
 pub mod Compare
-pub mod Seen
+pub mod KeySet

@@ -1,11 +1,12 @@
-// Terms compared by their rows: whether they mean the same, whatever their encoding.
+// Terms compared by their rows, whatever their encoding, and the hash set of a map's keys.
 ghost use mathlib.Core.Path.{_≡_};
 ghost use mathlib.Core.Bool.{false};
 ghost use Prim.Native.Nat.{_+_, _%_, _<_};
 ghost use lib.ListN.{length, getD};
 ghost use Rattle.row_fields.specs.Meaning.{term-kind};
 ghost use Rattle.map_keys.specs.Compare.{same-fields, same-row, same-rows, pair-size, same-terms-raw, among-rows};
-ghost use Rattle.map_keys.specs.Seen.{Known, Keeps, hash-row, term-hash, Unmet, Recalls};
+ghost use Rattle.map_keys.specs.KeySet.{Contains, Keeps, hash-row, term-hash, Absent, Contains-before, Contains-or-insert};
+use octets::wide16;
 use row::kind_in;
 use row::offset_in;
 use row::parts_in;
@@ -14,10 +15,10 @@ use row_compare::hash_content;
 use row_compare::mix;
 use row_compare::same_content;
 use row_fields::content_at;
-use row_fields::wide16;
+use term_spec::kinds;
 
-// The word at an index of the table, 0 past its end.
-pub fn word_at(table: &[u64], i: usize) -> u64
+// The row at an index of the table as its word, 0 past its end.
+pub fn row_at(table: &[u64], i: usize) -> u64
     ensures { λ r. ⌜ r ≡ getD (now (table .entry)) i 0 ⌝ }
 {
     if i < table.len() {
@@ -30,8 +31,8 @@ pub fn word_at(table: &[u64], i: usize) -> u64
 fn term_kind(kind: usize) -> usize
     ensures { λ r. ⌜ r ≡ term-kind kind ⌝ }
 {
-    if kind == 14 {
-        return 1;
+    if kind == kinds::CHARACTER {
+        return kinds::INTEGER;
     }
     kind
 }
@@ -91,8 +92,8 @@ fn same_rows(
 {
     let mut i = 0usize;
     while i < n {
-        let v = word_at(table, a + i);
-        let w = word_at(table, b + i);
+        let v = row_at(table, a + i);
+        let w = row_at(table, b + i);
         if !same_row(msg, places, lengths, v, w) {
             return false;
         }
@@ -123,8 +124,8 @@ fn pair_size(table: &[u64], at: usize) -> usize
     requires { ⌜ at < 4611686018427387904 ⌝ }
     ensures { λ r. ⌜ (r ≡ pair-size (now (table .entry)) at) × (r < 32768) ⌝ }
 {
-    let k = size_in(word_at(table, at));
-    let v = size_in(word_at(table, at + k));
+    let k = size_in(row_at(table, at));
+    let v = size_in(row_at(table, at + k));
     k + v
 }
 
@@ -179,11 +180,11 @@ fn term_hash(
     requires { ⌜ row < 4611686018427387904 ⌝ }
     ensures { λ r. ⌜ r ≡ term-hash (now (msg .entry)) (now (places .entry)) (now (lengths .entry)) (now (table .entry)) first row ⌝ }
 {
-    let n = size_in(word_at(table, row));
+    let n = size_in(row_at(table, row));
     let mut h = mix(0, first as u64);
     let mut i = 0usize;
     while i < n {
-        h = hash_row(msg, places, lengths, h, word_at(table, row + i));
+        h = hash_row(msg, places, lengths, h, row_at(table, row + i));
         i += 1;
     }
     (mix(h, 0) / 65536) as usize
@@ -200,28 +201,28 @@ fn next_slot(i: usize, n: usize) -> usize
     i + 1
 }
 
-// Whether a row in the slots from the hash on, before an empty one, means the same as the key; or no slot is empty.
-fn met(
+// Probes the set from the hash on: whether a row before the first empty slot means the same as the key, or no slot is empty.
+fn probe(
     msg: &[u8],
     places: &[u8],
     lengths: &[u16],
     table: &[u64],
-    seen: &[u16],
+    slots: &[u16],
     key: usize,
     hash: usize,
 ) -> bool
-    requires { ⌜ 0 < length (now seen) ⌝ }
-    ensures { λ r. ⌜ (r ≡ false → Unmet (now (msg .entry)) (now (places .entry)) (now (lengths .entry)) (now (table .entry)) key (now (seen .entry)) hash) ⌝ }
+    requires { ⌜ 0 < length (now slots) ⌝ }
+    ensures { λ r. ⌜ (r ≡ false → Absent (now (msg .entry)) (now (places .entry)) (now (lengths .entry)) (now (table .entry)) key (now (slots .entry)) hash) ⌝ }
 {
-    let n = seen.len();
+    let n = slots.len();
     let mut i = hash % n;
     let mut d = 0usize;
     while d < n {
-        let taken = wide16(seen[i]);
-        if taken == 0 {
+        let entry = wide16(slots[i]);
+        if entry == 0 {
             return false;
         }
-        if same_terms(msg, places, lengths, table, key, taken - 1) {
+        if same_terms(msg, places, lengths, table, key, entry - 1) {
             return true;
         }
         i = next_slot(i, n);
@@ -230,17 +231,17 @@ fn met(
     true
 }
 
-// Puts the key's row into the first empty slot from the hash on, if there is one.
-fn remember(seen: &mut [u16], hash: usize, key: usize)
-    requires { ⌜ (0 < length (now seen)) × (key < 65535) ⌝ }
-    ensures { λ _. ⌜ Keeps (now (seen .entry)) (now (seen .exit)) × Known (now (seen .exit)) hash key ⌝ }
+// Inserts the key's row in the first empty slot from the hash on, if there is one.
+fn insert(slots: &mut [u16], hash: usize, key: usize)
+    requires { ⌜ (0 < length (now slots)) × (key < 65535) ⌝ }
+    ensures { λ _. ⌜ Keeps (now (slots .entry)) (now (slots .exit)) × Contains (now (slots .exit)) hash key ⌝ }
 {
-    let n = seen.len();
+    let n = slots.len();
     let mut i = hash % n;
     let mut d = 0usize;
     while d < n {
-        if seen[i] == 0 {
-            seen[i] = (key + 1) as u16;
+        if slots[i] == 0 {
+            slots[i] = (key + 1) as u16;
             return;
         }
         i = next_slot(i, n);
@@ -248,45 +249,43 @@ fn remember(seen: &mut [u16], hash: usize, key: usize)
     }
 }
 
-// Whether the key means the same as an earlier key of its map; all are compared only where the slots do not rule it out.
-fn equals_earlier(
+// Whether the set contains the key; all earlier keys of its map are compared only where a probe does not rule it out.
+fn contains(
     msg: &[u8],
     places: &[u8],
     lengths: &[u16],
     table: &[u64],
-    seen: &[u16],
+    slots: &[u16],
     first: usize,
     key: usize,
     hash: usize,
 ) -> bool
-    requires { ⌜ (0 < length (now seen)) × (hash ≡ term-hash (now msg) (now places) (now lengths) (now table) first key) ⌝ }
-    ensures { λ r. ⌜ (Recalls (now (msg .entry)) (now (places .entry)) (now (lengths .entry)) (now (table .entry)) first key (now (seen .entry)) → r ≡ among-rows (now (msg .entry)) (now (places .entry)) (now (lengths .entry)) (now (table .entry)) first key) ⌝ }
+    requires { ⌜ (0 < length (now slots)) × (hash ≡ term-hash (now msg) (now places) (now lengths) (now table) first key) ⌝ }
+    ensures { λ r. ⌜ (Contains-before (now (msg .entry)) (now (places .entry)) (now (lengths .entry)) (now (table .entry)) first key (now (slots .entry)) → r ≡ among-rows (now (msg .entry)) (now (places .entry)) (now (lengths .entry)) (now (table .entry)) first key) ⌝ }
 {
-    if !met(msg, places, lengths, table, seen, key, hash) {
+    if !probe(msg, places, lengths, table, slots, key, hash) {
         return false;
     }
     key_among(msg, places, lengths, table, first, key)
 }
 
-// Whether the key at the row `key` means the same as a key of the pairs from the row `first` on; if not, it is remembered.
-pub fn repeats(
+// Whether the key at the row `key` means the same as a key of the pairs from the row `first` on; if not, it is inserted.
+pub fn contains_or_insert(
     msg: &[u8],
     places: &[u8],
     lengths: &[u16],
     table: &[u64],
-    seen: &mut [u16],
+    slots: &mut [u16],
     first: usize,
     key: usize,
 ) -> bool
-    requires { ⌜ (0 < length (now seen)) × (key < 65535) ⌝ }
-    ensures { λ r. ⌜ Keeps (now (seen .entry)) (now (seen .exit)) ⌝ }
-    ensures { λ r. ⌜ (Recalls (now (msg .entry)) (now (places .entry)) (now (lengths .entry)) (now (table .entry)) first key (now (seen .entry)) → r ≡ among-rows (now (msg .entry)) (now (places .entry)) (now (lengths .entry)) (now (table .entry)) first key) ⌝ }
-    ensures { λ r. ⌜ (r ≡ false → Known (now (seen .exit)) (term-hash (now (msg .entry)) (now (places .entry)) (now (lengths .entry)) (now (table .entry)) first key) key) ⌝ }
+    requires { ⌜ (0 < length (now slots)) × (key < 65535) ⌝ }
+    ensures { λ r. ⌜ Contains-or-insert (now (msg .entry)) (now (places .entry)) (now (lengths .entry)) (now (table .entry)) first key (now (slots .entry)) r (now (slots .exit)) ⌝ }
 {
     let hash = term_hash(msg, places, lengths, table, first, key);
-    if equals_earlier(msg, places, lengths, table, seen, first, key, hash) {
+    if contains(msg, places, lengths, table, slots, first, key, hash) {
         return true;
     }
-    remember(seen, hash, key);
+    insert(slots, hash, key);
     false
 }

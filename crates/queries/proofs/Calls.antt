@@ -20,11 +20,11 @@ use Rattle.term_spec.specs.declared.ReadAnswer.{ReadAnswer}
 use Rattle.term_spec.specs.declared.NumberAnswer.{NumberAnswer}
 use Rattle.term_spec.specs.declared.MarkAnswer.{MarkAnswer}
 use Rattle.term_spec.proofs.Message.{accepted-message, allowed-valid}
-use Rattle.row_fields.specs.Found.{choose}
 use Rattle.queries.specs.declared.TextAt.{TextAt}
-use Rattle.queries.specs.Code.{number-found, is-latin1, stretch-at, text-at, located, mark-at, Inside, bytes-at}
+use Rattle.queries.specs.Code.{numbered, is-latin1, stretch-at, text-at, located, mark-at, Inside, bytes-at}
+use Rattle.queries.specs.Promises.{Locate-call}
 use Rattle.queries.proofs.Numbers.{float-exact}
-use Rattle.queries.proofs.Found.{bits-answered, numbers-are, texts-are}
+use Rattle.queries.proofs.Rows.{bits-answered, numbers-are, texts-are}
 
 module _ (framing : Framing) (list : AtomList) (m : List ℕ) (few : list .n ≤ 255) (under : Under 256 m) (lent : ℕ) (T : List ℕ) (r : ReadAnswer)
     (all-rows : lent ≡ 8192) (answer : r ≡ read-answer (read framing list lent m)) (table : T ≡ table-after lent (read framing list lent m)) where
@@ -35,26 +35,26 @@ module _ (framing : Framing) (list : AtomList) (m : List ℕ) (few : list .n ≤
   table-is = rw all-rows at table
 
   -- a row's number
-  pub number-told : (row : ℕ) (x : NumberAnswer) → x ≡ number-found m (list .places) (list .lengths) T r row → x ≡ number-answer (number-in framing list m row)
-  unfolding number-in number-answer row-number number-found read-answer
+  pub number-told : (row : ℕ) (x : NumberAnswer) → x ≡ numbered m (list .places) (list .lengths) T r row → x ≡ number-answer (number-in framing list m row)
+  unfolding number-in number-answer row-number numbered read-answer
   number-told row x e =
       e
-      ∙ ap₂ (λ (t : List ℕ) (q : ReadAnswer). number-found m (list .places) (list .lengths) t q row) table-is answer-is
+      ∙ ap₂ (λ (t : List ℕ) (q : ReadAnswer). numbered m (list .places) (list .lengths) t q row) table-is answer-is
       ∙ go (read framing list 8192 m) refl
     where
       go : (o : Answer Terms) → read framing list 8192 m ≡ o
-          → number-found m (list .places) (list .lengths) (table-after 8192 o) (read-answer o) row ≡ number-answer (row-number row o)
+          → numbered m (list .places) (list .lengths) (table-after 8192 o) (read-answer o) row ≡ number-answer (row-number row o)
       go (good ts) f = numbers-are list m ts few under (accepted-message framing list 8192 m under ts f) row
       go (refused n p) f = refl
 
   -- where an atom's text stands
-  pub text-told : (at : ℕ) (x : TextAt) → x ≡ located m (list .places) (list .lengths) T r at → (x ≡ text-at (text-in framing list m at)) × Inside m (list .places) x
+  pub text-told : (at : ℕ) (x : TextAt) → x ≡ located m (list .places) (list .lengths) T r at → Locate-call framing list m at x
   unfolding text-in atom-text text-at located read-answer Inside
   text-told at x e =
       let f : x ≡ located m (list .places) (list .lengths) (table-after 8192 (read framing list 8192 m)) (read-answer (read framing list 8192 m)) at
       = e ∙ ap₂ (λ (t : List ℕ) (q : ReadAnswer). located m (list .places) (list .lengths) t q at) table-is answer-is in
       let k = go (read framing list 8192 m) refl in
-      (f ∙ k .0, subst (Inside m (list .places)) (sym f) (k .1))
+      record { text-located = f ∙ k .0; text-inside = subst (Inside m (list .places)) (sym f) (k .1) }
     where
       go : (o : Answer Terms) → read framing list 8192 m ≡ o
           → (located m (list .places) (list .lengths) (table-after 8192 o) (read-answer o) at ≡ text-at (atom-text m list at o))
@@ -62,7 +62,7 @@ module _ (framing : Framing) (list : AtomList) (m : List ℕ) (few : list .n ≤
       go (good ts) f = texts-are list m ts few under (accepted-message framing list 8192 m under ts f) at
       go (refused n p) f = (refl, tt)
 
--- the float that is answered has exactly the 64 bits of its term
+-- for the reader of the promise, used by no proof: the float that a row's number answers has exactly the 64 bits of its term, as encoded back
 pub exact : (framing : Framing) (list : AtomList) (m : List ℕ) → Under 256 m → (row bits : ℕ) → number-in framing list m row ≡ good (float-bits bits)
     → (bits < 2 ^ 64) × (toBits binary64 (ofBits binary64 bits) ≡ bits)
 unfolding number-in row-number
@@ -80,7 +80,7 @@ abbrev Marked : Stretch × Coding → Type 0
 Marked t = mark-at (stretch-at (t .0) (t .1)) ≡ mark-case (t .1)
 
 mark-of : (m : List ℕ) (list : AtomList) (at : ℕ) → Marked (text-of m list at)
-unfolding text-of mark-at stretch-at mark-case is-latin1 choose
+unfolding text-of mark-at stretch-at mark-case is-latin1
 mark-of m list at =
     let i : ℕ = getD m (at + 1) 0 in
     go (32 * i) (place-length list i) (at + 3) (big-endian (take 2 (drop (at + 1) m))) (at + 2) i

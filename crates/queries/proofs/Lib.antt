@@ -2,5 +2,5 @@ pub mod Signed
 pub mod Ways
 pub mod Numbers
 pub mod Texts
-pub mod Found
+pub mod Rows
 pub mod Calls

@@ -16,7 +16,6 @@ use Rattle.term_spec.specs.AtomList.{AtomList}
 use Rattle.term_spec.specs.Look.{whole-number, float-bits, neither, number-of}
 use Rattle.row_fields.specs.declared.Content.{Content}
 use Rattle.row_fields.specs.declared.Content.the-variants.{Nothing, Whole, Big, Float, Text, Bytes, Bits, Pid, Port, Reference}
-use Rattle.row_fields.specs.Found.{choose}
 use Rattle.row_fields.specs.Meaning.{sign, stretch, bare, label-of}
 use Rattle.row_fields.proofs.Values.{little-least}
 use Rattle.row_fields.proofs.Says.{Sound}
@@ -41,19 +40,19 @@ pub float-exact : (bits : ℕ) → bits < 2 ^ 64 → finite bits ≡ true → to
 float-exact bits h e = exact-bits bits h (finite-low bits e)
 
 float-is : (bits : ℕ) → finite bits ≡ true → float-bits bits ≡ float-number bits
-unfolding float-number choose
+unfolding float-number
 float-is bits e = rw (lt-ltb (bits % 9223372036854775808) 9218868437227405312 (finite-low bits e))
 
 -- ---- integers
 
 large : (negative : Bool) (n : ℕ) → 9223372036854775808 < n → number-of (integer (with-sign (sign negative) n)) ≡ neither
-unfolding with-sign number-of choose
+unfolding with-sign number-of
 large true zero h = absurd (omega arith)
 large true (suc n) h = rw (le-ltb n (2 ^ 63) (omega arith))
 large false n h = rw (le-ltb n (2 ^ 63) (omega arith))
 
 whole-is : (negative : Bool) (n : ℕ) → number-of (integer (with-sign (sign negative) n)) ≡ signed-number negative n
-unfolding with-sign number-of signed-number choose
+unfolding with-sign number-of signed-number
 whole-is true zero = refl
 whole-is true (suc n) = go (ltb n (2 ^ 63)) refl
   where
@@ -71,10 +70,10 @@ whole-is false n = go (ltb n (2 ^ 63)) refl
 -- ---- by the content
 
 no-fields : (kind : ℕ) → number-of (bare kind) ≡ neither
-unfolding bare number-of choose
+unfolding bare number-of
 no-fields kind = go (eqb kind 4) (eqb kind 5) (eqb kind 6) (eqb kind 9)
   where
-    go : (a b c d : Bool) → number-of (choose a tuple (choose b list (choose c improper-list (choose d map export)))) ≡ neither
+    go : (a b c d : Bool) → number-of (cond a tuple (cond b list (cond c improper-list (cond d map export)))) ≡ neither
     go true b c d = refl
     go false true c d = refl
     go false false true d = refl

@@ -1,6 +1,6 @@
 -- Where the text of an atom stands: what is found again of the atom says what `text-of` says. Assumes nothing.
 use mathlib.Core.Path.{_≡_, refl, sym, ap, ap₂, _∙_}
-use mathlib.Core.Bool.{Bool, true, false, _&&_, _||_}
+use mathlib.Core.Bool.{Bool, true, false, _&&_, _||_, cond}
 use mathlib.Core.List.{List, [], _∷_}
 use mathlib.Core.Logic.{_⊎_, inl, inr}
 use mathlib.Core.Option.{some}
@@ -25,7 +25,7 @@ use Rattle.term_spec.proofs.Tests.{also}
 use Rattle.octets.proofs.Numbers.{big-one}
 use Rattle.row_fields.specs.declared.Content.{Content}
 use Rattle.row_fields.specs.declared.Content.the-variants.{Nothing, Whole, Big, Float, Text, Bytes, Bits, Pid, Port, Reference}
-use Rattle.row_fields.specs.Found.{choose, value, text-width, text-found, place-found, listed-found, atom-found, kind-found, content-of}
+use Rattle.row_fields.specs.Found.{value, text-width, text-found, place-found, listed-found, atom-found, kind-found, content-of}
 use Rattle.row_fields.specs.Meaning.{bare, label-of}
 use Rattle.row_fields.proofs.Says.{Sound}
 use Rattle.row_fields.proofs.Read.{All-rows, row-of, position-is, head-here}
@@ -149,15 +149,15 @@ module _ (atoms : AtomList) (m : List ℕ) (cs : List ℕ) where
   Says-atom c = label-of m atoms 3 c ≡ atom cs
 
   -- fields that are not there say no atom
-  present : (t : Bool) (c : Content) → Says-atom (choose t Nothing c) → (t ≡ false) × (choose t Nothing c ≡ c) × Says-atom c
-  unfolding choose label-of bare kind-of
+  present : (t : Bool) (c : Content) → Says-atom (cond t Nothing c) → (t ≡ false) × (cond t Nothing c ≡ c) × Says-atom c
+  unfolding label-of bare kind-of
   present true c e = absurd (let k : 13 ≡ 3 = ap kind-of e in omega arith)
   present false c e = (refl, refl, e)
 
   module _ (p : ℕ) where
     atom-content : Says-atom (content-of m (atoms .places) (atoms .lengths) 3 p)
         → (content-of m (atoms .places) (atoms .lengths) 3 p ≡ atom-found m (atoms .places) (atoms .lengths) p (getD m p 0)) × Says-atom (atom-found m (atoms .places) (atoms .lengths) p (getD m p 0))
-    unfolding content-of kind-found choose
+    unfolding content-of kind-found
     atom-content e = let a = present (leb (length m) p) (atom-found m (atoms .places) (atoms .lengths) p (getD m p 0)) e in (a .1, a .2)
 
     text-content : (w : ℕ) (latin1 : Bool) → Says-atom (text-found m w latin1 p) → (text-found m w latin1 p ≡ Text latin1 false (p + 1 + w) (value m w (p + 1))) × (1 + w ≤ length m - p)
@@ -165,7 +165,7 @@ module _ (atoms : AtomList) (m : List ℕ) (cs : List ℕ) where
     text-content w latin1 e =
         let x : Content = Text latin1 false (p + 1 + w) (value m w (p + 1)) in
         let t : Bool = ltb (length m - (p + 1 + w)) (value m w (p + 1)) in
-        let a = present (ltb (length m - p) (1 + w)) (choose t Nothing x) e in
+        let a = present (ltb (length m - p) (1 + w)) (cond t Nothing x) e in
         (a .1 ∙ present t x (a .2) .1, ltb-false (length m - p) (1 + w) (a .0))
 
     place-content : (i : ℕ) → Says-atom (place-found (atoms .places) (atoms .lengths) i) → place-found (atoms .places) (atoms .lengths) i ≡ Text false true (32 * i) (getD (atoms .lengths) i 0)
@@ -173,7 +173,7 @@ module _ (atoms : AtomList) (m : List ℕ) (cs : List ℕ) where
     place-content i e =
         let x : Content = Text false true (32 * i) (getD (atoms .lengths) i 0) in
         let t : Bool = ltb (length (atoms .places) - 32 * i) (getD (atoms .lengths) i 0) in
-        let a = present (leb (length (atoms .lengths)) i) (choose t Nothing x) e in
+        let a = present (leb (length (atoms .lengths)) i) (cond t Nothing x) e in
         a .1 ∙ present t x (a .2) .1
 
     listed-content : Says-atom (listed-found m (atoms .places) (atoms .lengths) p)
@@ -190,7 +190,7 @@ module _ (atoms : AtomList) (m : List ℕ) (cs : List ℕ) where
     message-stands : (tag w : ℕ) (coding : Coding) (start n : ℕ) → getD m p 0 ≡ tag → atom-found m (atoms .places) (atoms .lengths) p tag ≡ text-found m w (is-latin1 coding) p
         → text-of m atoms p ≡ (of-message start n, coding) → p + 1 + w ≡ start → (1 + w ≤ length m - p → value m w (p + 1) ≡ n) → Says-atom (atom-found m (atoms .places) (atoms .lengths) p (getD m p 0))
         → Stands (atom-found m (atoms .places) (atoms .lengths) p (getD m p 0))
-    unfolding text-said stretch-at choose
+    unfolding text-said stretch-at
     message-stands tag w coding start n e f g a b s =
         let q : atom-found m (atoms .places) (atoms .lengths) p (getD m p 0) ≡ text-found m w (is-latin1 coding) p = ap (atom-found m (atoms .places) (atoms .lengths) p) e ∙ f in
         let k = text-content w (is-latin1 coding) (ap (label-of m atoms 3) (sym q) ∙ s) in
@@ -203,7 +203,7 @@ module _ (atoms : AtomList) (m : List ℕ) (cs : List ℕ) where
 
     atom-stands : (tag : ℕ) (f : Form) → Atom-form tag f → getD m p 0 ≡ tag → Says-atom (atom-found m (atoms .places) (atoms .lengths) p (getD m p 0))
         → Stands (atom-found m (atoms .places) (atoms .lengths) p (getD m p 0))
-    unfolding atom-found text-width choose text-of is-latin1 text-said stretch-at place-length
+    unfolding atom-found text-width text-of is-latin1 text-said stretch-at place-length
     atom-stands tag f is-82 e s =
         let q : atom-found m (atoms .places) (atoms .lengths) p (getD m p 0) ≡ listed-found m (atoms .places) (atoms .lengths) p = ap (atom-found m (atoms .places) (atoms .lengths) p) e in
         let k = listed-content (ap (label-of m atoms 3) (sym q) ∙ s) in
@@ -225,7 +225,7 @@ module _ (atoms : AtomList) (m : List ℕ) (cs : List ℕ) where
 
 -- a text that is found is there
 pub said-inside : (m places : List ℕ) (at : ℕ) (c : Content) → Sound m places c → Inside m places (text-said at c)
-unfolding text-said Inside choose
+unfolding text-said Inside
 said-inside m places at Nothing s = tt
 said-inside m places at (Whole negative n) s = tt
 said-inside m places at (Big negative start n) s = tt

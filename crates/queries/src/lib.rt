@@ -2,12 +2,12 @@
 ghost use mathlib.Core.Path.{_≡_};
 ghost use Prim.Native.Nat.{_<_};
 ghost use lib.IntN.{pos, negsuc};
-ghost use Rattle.term_spec.specs.Answers.{number-case, number-answer, mark-answer};
-ghost use Rattle.term_spec.specs.Look.{number-in, text-in, text-bytes};
+ghost use Rattle.term_spec.specs.Answers.{number-case};
 ghost use Rattle.term_spec.specs.Message.{standalone, payload};
-ghost use Rattle.queries.specs.Code.{signed-number, float-number, content-number, number-found, atom-row, atom-among, text-said, located, text-at, mark-at, Inside, bytes-at};
+ghost use Rattle.queries.specs.Code.{signed-number, float-number, content-number, numbered, atom-row, atom-among, text-said, located, mark-at, Inside, bytes-at};
+ghost use Rattle.queries.specs.Promises.{Number-call, Locate-call, Text-call, Mark-call};
 ghost use Rattle.term_spec.specs.AtomList.{lent-list};
-use map_keys::word_at;
+use map_keys::row_at;
 use reader::read_payload;
 use reader::read_standalone;
 use row::kind_in;
@@ -18,6 +18,14 @@ use term_spec::MarkAnswer;
 use term_spec::NumberAnswer;
 use term_spec::ReadAnswer;
 use term_spec::Refusal;
+use term_spec::kinds;
+use term_spec::refusals;
+use term_spec::sizes;
+
+// 2^63: the magnitude of the least i64, and the sign bit of a float.
+const SIGN_BIT: u64 = 9223372036854775808;
+// The bits of a float's infinity.
+const INFINITY: u64 = 9218868437227405312;
 
 // Where an atom's text stands: in the message, or in the list's places.
 pub enum TextAt {
@@ -56,12 +64,12 @@ fn signed_number(negative: bool, n: u64) -> NumberAnswer
         if n == 0 {
             return NumberAnswer::Whole(0);
         }
-        if 9223372036854775808 < n {
+        if SIGN_BIT < n {
             return NumberAnswer::Neither;
         }
         return NumberAnswer::Whole(below_zero(n - 1));
     }
-    if n < 9223372036854775808 {
+    if n < SIGN_BIT {
         return NumberAnswer::Whole(from_zero(n));
     }
     NumberAnswer::Neither
@@ -71,7 +79,7 @@ fn signed_number(negative: bool, n: u64) -> NumberAnswer
 fn float_number(bits: u64) -> NumberAnswer
     ensures { λ r. ⌜ r ≡ number-case (float-number bits) ⌝ }
 {
-    if bits % 9223372036854775808 < 9218868437227405312 {
+    if bits % SIGN_BIT < INFINITY {
         return NumberAnswer::Float(f64::from_bits(bits));
     }
     NumberAnswer::Neither
@@ -92,7 +100,7 @@ fn content_number(c: Content) -> NumberAnswer
 }
 
 // The number of a row of a message, whose reading gave this answer and this table.
-fn number_found(
+fn numbered(
     msg: &[u8],
     places: &[u8],
     lengths: &[u16],
@@ -100,14 +108,14 @@ fn number_found(
     read: ReadAnswer,
     row: usize,
 ) -> NumberAnswer
-    ensures { λ r. ⌜ r ≡ number-found (now (msg .entry)) (now (places .entry)) (now (lengths .entry)) (now (table .entry)) read row ⌝ }
+    ensures { λ r. ⌜ r ≡ numbered (now (msg .entry)) (now (places .entry)) (now (lengths .entry)) (now (table .entry)) read row ⌝ }
 {
     match read {
         ReadAnswer::Terms { terms, rows } => {
             if rows <= row {
                 return NumberAnswer::Neither;
             }
-            let w = word_at(table, row);
+            let w = row_at(table, row);
             content_number(content_at(msg, places, lengths, kind_in(w), offset_in(w)))
         }
         ReadAnswer::Refused(refusal) => NumberAnswer::Refused(refusal),
@@ -118,7 +126,7 @@ fn number_found(
 fn atom_row(w: u64, at: usize) -> bool
     ensures { λ r. ⌜ r ≡ atom-row w at ⌝ }
 {
-    if kind_in(w) != 3 {
+    if kind_in(w) != kinds::ATOM {
         return false;
     }
     offset_in(w) == at
@@ -130,7 +138,7 @@ fn atom_among(table: &[u64], rows: usize, at: usize) -> bool
 {
     let mut i = 0usize;
     while i < rows {
-        if atom_row(word_at(table, i), at) {
+        if atom_row(row_at(table, i), at) {
             return true;
         }
         i += 1;
@@ -138,7 +146,7 @@ fn atom_among(table: &[u64], rows: usize, at: usize) -> bool
     false
 }
 
-// Where the text stands that an atom's own fields say; 4 where they are no atom's.
+// Where the text stands that an atom's own fields say; refused where they are no atom's.
 fn text_said(c: Content, at: usize) -> TextAt
     ensures { λ r. ⌜ r ≡ text-said at c ⌝ }
 {
@@ -159,7 +167,7 @@ fn text_said(c: Content, at: usize) -> TextAt
             }
         }
         _ => TextAt::Refused(Refusal {
-            number: 4,
+            number: refusals::FIELD,
             place: at,
         }),
     }
@@ -180,11 +188,11 @@ fn located(
         ReadAnswer::Terms { terms, rows } => {
             if !atom_among(table, rows, at) {
                 return TextAt::Refused(Refusal {
-                    number: 4,
+                    number: refusals::FIELD,
                     place: at,
                 });
             }
-            text_said(content_at(msg, places, lengths, 3, at), at)
+            text_said(content_at(msg, places, lengths, kinds::ATOM, at), at)
         }
         ReadAnswer::Refused(refusal) => TextAt::Refused(refusal),
     }
@@ -240,18 +248,18 @@ pub fn number_standalone(
     lengths: &[u16],
     row: usize,
 ) -> NumberAnswer
-    ensures { λ r. ⌜ r ≡ number-answer (number-in standalone (lent-list n (now (places .entry)) (now (lengths .entry))) (now (msg .entry)) row) ⌝ }
+    ensures { λ r. ⌜ Number-call standalone (lent-list n (now (places .entry)) (now (lengths .entry))) (now (msg .entry)) row r ⌝ }
 {
-    let mut table = [0u64; 8192];
+    let mut table = [0u64; sizes::ROWS_MOST];
     let read = read_standalone(msg, n, places, lengths, &mut table);
-    number_found(msg, places, lengths, &table, read, row)
+    numbered(msg, places, lengths, &table, read, row)
 }
 
 // Where the text stands of the atom whose tag is at this offset of a standalone term.
 pub fn locate_standalone(msg: &[u8], n: u8, places: &[u8], lengths: &[u16], at: usize) -> TextAt
-    ensures { λ r. ⌜ (r ≡ text-at (text-in standalone (lent-list n (now (places .entry)) (now (lengths .entry))) (now (msg .entry)) at)) × Inside (now (msg .entry)) (now (places .entry)) r ⌝ }
+    ensures { λ r. ⌜ Locate-call standalone (lent-list n (now (places .entry)) (now (lengths .entry))) (now (msg .entry)) at r ⌝ }
 {
-    let mut table = [0u64; 8192];
+    let mut table = [0u64; sizes::ROWS_MOST];
     let read = read_standalone(msg, n, places, lengths, &mut table);
     located(msg, places, lengths, &table, read, at)
 }
@@ -264,32 +272,32 @@ pub fn text_standalone<'a>(
     lengths: &[u16],
     at: usize,
 ) -> &'a [u8]
-    ensures { λ r. ⌜ now r ≡ text-bytes (now (msg .entry)) (lent-list n (now (places .entry)) (now (lengths .entry))) (text-in standalone (lent-list n (now (places .entry)) (now (lengths .entry))) (now (msg .entry)) at) ⌝ }
+    ensures { λ r. ⌜ Text-call standalone (lent-list n (now (places .entry)) (now (lengths .entry))) (now (msg .entry)) at (now r) ⌝ }
 {
     bytes_at(msg, places, locate_standalone(msg, n, places, lengths, at))
 }
 
 // The mark of that text, or the refusal.
 pub fn mark_standalone(msg: &[u8], n: u8, places: &[u8], lengths: &[u16], at: usize) -> MarkAnswer
-    ensures { λ r. ⌜ r ≡ mark-answer (text-in standalone (lent-list n (now (places .entry)) (now (lengths .entry))) (now (msg .entry)) at) ⌝ }
+    ensures { λ r. ⌜ Mark-call standalone (lent-list n (now (places .entry)) (now (lengths .entry))) (now (msg .entry)) at r ⌝ }
 {
     mark_at(locate_standalone(msg, n, places, lengths, at))
 }
 
 // The number of a row of a payload, with this atom list.
 pub fn number_payload(msg: &[u8], n: u8, places: &[u8], lengths: &[u16], row: usize) -> NumberAnswer
-    ensures { λ r. ⌜ r ≡ number-answer (number-in payload (lent-list n (now (places .entry)) (now (lengths .entry))) (now (msg .entry)) row) ⌝ }
+    ensures { λ r. ⌜ Number-call payload (lent-list n (now (places .entry)) (now (lengths .entry))) (now (msg .entry)) row r ⌝ }
 {
-    let mut table = [0u64; 8192];
+    let mut table = [0u64; sizes::ROWS_MOST];
     let read = read_payload(msg, n, places, lengths, &mut table);
-    number_found(msg, places, lengths, &table, read, row)
+    numbered(msg, places, lengths, &table, read, row)
 }
 
 // Where the text stands of the atom whose tag is at this offset of a payload.
 pub fn locate_payload(msg: &[u8], n: u8, places: &[u8], lengths: &[u16], at: usize) -> TextAt
-    ensures { λ r. ⌜ (r ≡ text-at (text-in payload (lent-list n (now (places .entry)) (now (lengths .entry))) (now (msg .entry)) at)) × Inside (now (msg .entry)) (now (places .entry)) r ⌝ }
+    ensures { λ r. ⌜ Locate-call payload (lent-list n (now (places .entry)) (now (lengths .entry))) (now (msg .entry)) at r ⌝ }
 {
-    let mut table = [0u64; 8192];
+    let mut table = [0u64; sizes::ROWS_MOST];
     let read = read_payload(msg, n, places, lengths, &mut table);
     located(msg, places, lengths, &table, read, at)
 }
@@ -302,14 +310,14 @@ pub fn text_payload<'a>(
     lengths: &[u16],
     at: usize,
 ) -> &'a [u8]
-    ensures { λ r. ⌜ now r ≡ text-bytes (now (msg .entry)) (lent-list n (now (places .entry)) (now (lengths .entry))) (text-in payload (lent-list n (now (places .entry)) (now (lengths .entry))) (now (msg .entry)) at) ⌝ }
+    ensures { λ r. ⌜ Text-call payload (lent-list n (now (places .entry)) (now (lengths .entry))) (now (msg .entry)) at (now r) ⌝ }
 {
     bytes_at(msg, places, locate_payload(msg, n, places, lengths, at))
 }
 
 // The mark of that text, or the refusal.
 pub fn mark_payload(msg: &[u8], n: u8, places: &[u8], lengths: &[u16], at: usize) -> MarkAnswer
-    ensures { λ r. ⌜ r ≡ mark-answer (text-in payload (lent-list n (now (places .entry)) (now (lengths .entry))) (now (msg .entry)) at) ⌝ }
+    ensures { λ r. ⌜ Mark-call payload (lent-list n (now (places .entry)) (now (lengths .entry))) (now (msg .entry)) at r ⌝ }
 {
     mark_at(locate_payload(msg, n, places, lengths, at))
 }

@@ -1,7 +1,7 @@
 -- Two contents that are found of nodes are the same exactly where they say the same label. Assumes nothing.
 use mathlib.Core.Path.{_≡_, refl, sym, _∙_, ap, ap₂, subst}
 use mathlib.Core.Logic.{_⊎_, inl, inr}
-use mathlib.Core.Bool.{Bool, true, false}
+use mathlib.Core.Bool.{Bool, true, false, cond}
 use mathlib.Core.List.{List, [], _∷_, _++_}
 use Prim.Native.Nat.{ℕ, zero, suc, _+_, _*_, _-_, _/_, _^_, _≤_, _<_}
 use native.Mathlib.Nat.{pow-le-pow-right, le-antisymm}
@@ -25,7 +25,7 @@ use Rattle.octets.proofs.Bits.{clear-last}
 use Rattle.row_compare.specs.declared.Flat.{Flat}
 use Rattle.row_fields.specs.declared.Content.{Content}
 use Rattle.row_fields.specs.declared.Content.the-variants.{Nothing, Whole, Big, Float, Text, Bytes, Bits, Pid, Port, Reference}
-use Rattle.row_fields.specs.Found.{choose, value}
+use Rattle.row_fields.specs.Found.{value}
 use Rattle.row_fields.specs.Meaning.{stretch, sign, words-at, characters-of, coded, bare, label-of}
 use Rattle.row_compare.specs.Same.{same-bool, same-list, high, same-part, same-stretch, same-spelling, same-text, same-last, same-bits, same-words, numbers-of, stretch-of, text-of, flat-of, same-numbers, source, same-texts, same-atoms, same-stretches, same-flat, same-contents}
 use Rattle.row_compare.proofs.Lists.{same-true, same-self}
@@ -38,11 +38,10 @@ pub record Agree (t : Bool) (A : Type 0) : Type 0 where
   pub back : A → t ≡ true
 
 -- one test and then another
-both : {t u : Bool} {A B : Type 0} → Agree t A → Agree u B → Agree (choose t u false) (A × B)
-unfolding choose
+both : {t u : Bool} {A B : Type 0} → Agree t A → Agree u B → Agree (cond t u false) (A × B)
 both {t} {u} {A} {B} p q = go t p
   where
-    go : (t : Bool) → Agree t A → Agree (choose t u false) (A × B)
+    go : (t : Bool) → Agree t A → Agree (cond t u false) (A × B)
     go true p = record { sure = λ e. (p .sure refl, q .sure e); back = λ x. q .back (x .1) }
     go false p = record { sure = λ e. never e; back = λ x. p .back (x .0) }
 
@@ -71,14 +70,14 @@ lists-agree xs ys = record { sure = same-true xs ys; back = λ e. rw e (same-sel
 
 module _ (a : List ℕ) (i : ℕ) (b : List ℕ) (j : ℕ) where
   part-agrees : (n : ℕ) → i + n ≤ length a → j + n ≤ length b → Agree (same-part a i b j n) (stretch a i n ≡ stretch b j n)
-  unfolding same-part choose
+  unfolding same-part
   part-agrees n h k = rw (le-leb (i + n) (length a) h, le-leb (j + n) (length b) k) (lists-agree (stretch a i n) (stretch b j n))
 
   stretch-agrees : (n k : ℕ) → i + n ≤ length a → j + k ≤ length b → Agree (same-stretch a i n b j k) (stretch a i n ≡ stretch b j k)
-  unfolding same-stretch choose
+  unfolding same-stretch
   stretch-agrees n k h g = go (eqb n k) refl
     where
-      go : (t : Bool) → eqb n k ≡ t → Agree (choose t (same-part a i b j n) false) (stretch a i n ≡ stretch b j k)
+      go : (t : Bool) → eqb n k ≡ t → Agree (cond t (same-part a i b j n) false) (stretch a i n ≡ stretch b j k)
       go true e =
           let q : n ≡ k = eqb-true n k e in
           let u : j + n ≤ length b = omega arith in
@@ -90,7 +89,7 @@ module _ (a : List ℕ) (i : ℕ) (b : List ℕ) (j : ℕ) where
           }
 
   spelling-agrees : (n k : ℕ) → i + n ≤ length a → j + k ≤ length b → Agree (same-spelling a i n b j k) (encodes (stretch a i n) ≡ stretch b j k)
-  unfolding same-spelling choose
+  unfolding same-spelling
   spelling-agrees n k h g = rw (le-leb (i + n) (length a) h, le-leb (j + k) (length b) g) (lists-agree (encodes (stretch a i n)) (stretch b j k))
 
 -- ---- texts
@@ -103,7 +102,7 @@ spelt-alike bs ds cs u h e =
 module _ (a : List ℕ) (i n : ℕ) (b : List ℕ) (j k : ℕ) (h : i + n ≤ length a) (g : j + k ≤ length b) where
   texts-agree : (x y : Bool) → Readable x (stretch a i n) → Readable y (stretch b j k)
       → Agree (same-text a i n x b j k y) (coded x (stretch a i n) ≡ coded y (stretch b j k))
-  unfolding same-text coded choose characters-of
+  unfolding same-text coded characters-of
   texts-agree true true p q = stretch-agrees a i b j n k h g
   texts-agree true false p q =
       let w = spelt-alike (stretch a i n) (stretch b j k) (q .0) (p .0) (p .1) (q .1) in
@@ -146,11 +145,11 @@ module _ (m : List ℕ) (bits i j : ℕ) where
       (both (part-agrees m i m j n (omega arith) (omega arith)) (numbers-agree x y))
 
   bits-agree : (n k : ℕ) → i + n ≤ length m → j + k ≤ length m → Agree (same-bits m bits i n j k) (clear-low bits (stretch m i n) ≡ clear-low bits (stretch m j k))
-  unfolding same-bits choose
+  unfolding same-bits
   bits-agree n k h g = go (eqb n k) refl (eqb n 0) refl
     where
       go : (t : Bool) → eqb n k ≡ t → (u : Bool) → eqb n 0 ≡ u
-          → Agree (choose t (choose u true (choose (leb (i + n) (length m)) (choose (leb (j + n) (length m)) (same-last m bits i j (n - 1)) false) false)) false)
+          → Agree (cond t (cond u true (cond (leb (i + n) (length m)) (cond (leb (j + n) (length m)) (same-last m bits i j (n - 1)) false) false)) false)
           (clear-low bits (stretch m i n) ≡ clear-low bits (stretch m j k))
       go true e true f =
           let z : n ≡ 0 = eqb-true n 0 f in
@@ -200,10 +199,10 @@ module _ (m : List ℕ) (under : Under 256 m) where
       ∙ sym (four-more m j n)
 
   words-agree : (i n j k : ℕ) → i + 4 * n ≤ length m → j + 4 * k ≤ length m → Agree (same-words m i n j k) (words-at m i n ≡ words-at m j k)
-  unfolding same-words choose
+  unfolding same-words
   words-agree i n j k h g = go (eqb n k) refl
     where
-      go : (t : Bool) → eqb n k ≡ t → Agree (choose t (choose (ltb (length m / 4) n) false (same-part m i m j (4 * n))) false) (words-at m i n ≡ words-at m j k)
+      go : (t : Bool) → eqb n k ≡ t → Agree (cond t (cond (ltb (length m / 4) n) false (same-part m i m j (4 * n))) false) (words-at m i n ≡ words-at m j k)
       go true e =
           let q : n ≡ k = eqb-true n k e in
           let u : j + 4 * n ≤ length m = omega arith in
@@ -219,7 +218,7 @@ module _ (m : List ℕ) (under : Under 256 m) where
 
 -- a magnitude with its sign, where zero is not negative
 sign-magnitude : (a b : Bool) (n k : ℕ) → (n ≡ 0 → a ≡ false) → (k ≡ 0 → b ≡ false) → with-sign (sign a) n ≡ with-sign (sign b) k → (a ≡ b) × (n ≡ k)
-unfolding with-sign choose
+unfolding with-sign
 sign-magnitude false false n k f g e = (refl, cc)
 sign-magnitude false true n zero f g e = never (sym (g refl))
 sign-magnitude false true n (suc k) f g e = absurd (pos-ne-negsuc n k e)
@@ -263,19 +262,19 @@ module _ (m : List ℕ) (under : Under 256 m) where
 
 case-of : ℕ → Flat → Content
 case-of code f =
-    choose (eqb code 0) Nothing
-    (choose (eqb code 1) (Whole (f .negative) (f .first))
-    (choose (eqb code 2) (Big (f .negative) (f .start) (f .length))
-    (choose (eqb code 3) (Float (f .first))
-    (choose (eqb code 4) (Text (f .latin1) (f .listed) (f .start) (f .length))
-    (choose (eqb code 5) (Bytes (f .start) (f .length))
-    (choose (eqb code 6) (Bits (f .first) (f .start) (f .length))
-    (choose (eqb code 7) (Pid (f .first) (f .second) (f .third))
-    (choose (eqb code 8) (Port (f .first) (f .second))
+    cond (eqb code 0) Nothing
+    (cond (eqb code 1) (Whole (f .negative) (f .first))
+    (cond (eqb code 2) (Big (f .negative) (f .start) (f .length))
+    (cond (eqb code 3) (Float (f .first))
+    (cond (eqb code 4) (Text (f .latin1) (f .listed) (f .start) (f .length))
+    (cond (eqb code 5) (Bytes (f .start) (f .length))
+    (cond (eqb code 6) (Bits (f .first) (f .start) (f .length))
+    (cond (eqb code 7) (Pid (f .first) (f .second) (f .third))
+    (cond (eqb code 8) (Port (f .first) (f .second))
     (Reference (f .first) (f .start) (f .length))))))))))
 
 case-is : (c : Content) → c ≡ case-of (flat-of c .code) (flat-of c)
-unfolding case-of flat-of numbers-of stretch-of text-of choose
+unfolding case-of flat-of numbers-of stretch-of text-of
 case-is Nothing = refl
 case-is (Whole s n) = refl
 case-is (Big s i n) = refl
@@ -308,13 +307,13 @@ class export = 0
 
 -- integers have two cases
 merged : ℕ → ℕ
-merged code = choose (eqb code 2) 1 code
+merged code = cond (eqb code 2) 1 code
 
 bare-class : (kind : ℕ) → class (bare kind) ≡ 0
-unfolding class bare choose
+unfolding class bare
 bare-class kind = go (eqb kind 4) (eqb kind 5) (eqb kind 6) (eqb kind 9)
   where
-    go : (a b c d : Bool) → class (choose a tuple (choose b list (choose c improper-list (choose d map export)))) ≡ 0
+    go : (a b c d : Bool) → class (cond a tuple (cond b list (cond c improper-list (cond d map export)))) ≡ 0
     go true b c d = refl
     go false true c d = refl
     go false false true d = refl
@@ -322,7 +321,7 @@ bare-class kind = go (eqb kind 4) (eqb kind 5) (eqb kind 6) (eqb kind 9)
     go false false false false = refl
 
 label-class : (m : List ℕ) (atoms : AtomList) (kind : ℕ) (c : Content) → class (label-of m atoms kind c) ≡ merged (flat-of c .code)
-unfolding class merged label-of flat-of numbers-of stretch-of text-of choose
+unfolding class merged label-of flat-of numbers-of stretch-of text-of
 label-class m atoms kind Nothing = bare-class kind
 label-class m atoms kind (Whole s n) = refl
 label-class m atoms kind (Big s i n) = refl
@@ -335,18 +334,18 @@ label-class m atoms kind (Port i c) = refl
 label-class m atoms kind (Reference c i n) = refl
 
 merged-other : (x c : ℕ) → merged x ≡ c → (c ≡ 1 → ⊥) → x ≡ c
-unfolding merged choose
+unfolding merged
 merged-other x c e f = go (eqb x 2) e
   where
-    go : (t : Bool) → choose t 1 x ≡ c → x ≡ c
+    go : (t : Bool) → cond t 1 x ≡ c → x ≡ c
     go true k = absurd (f (sym k))
     go false k = k
 
 merged-integer : (x : ℕ) → merged x ≡ 1 → (x ≡ 1) ⊎ (x ≡ 2)
-unfolding merged choose
+unfolding merged
 merged-integer x e = go (eqb x 2) refl e
   where
-    go : (t : Bool) → eqb x 2 ≡ t → choose t 1 x ≡ 1 → (x ≡ 1) ⊎ (x ≡ 2)
+    go : (t : Bool) → eqb x 2 ≡ t → cond t 1 x ≡ 1 → (x ≡ 1) ⊎ (x ≡ 2)
     go true p k = inr (eqb-true x 2 p)
     go false p k = inl k
 
@@ -380,11 +379,11 @@ module _ (atoms : AtomList) (m : List ℕ) (under : Under 256 m) (k k′ : ℕ) 
   -- contents of one case
 
   nothings : Goal Nothing Nothing
-  unfolding same-contents same-flat same-numbers same-stretches flat-of numbers-of same-bool label-of choose
+  unfolding same-contents same-flat same-numbers same-stretches flat-of numbers-of same-bool label-of
   nothings = record { sure = λ _. alike; back = λ _. refl }
 
   wholes : (s t : Bool) (n o : ℕ) → (n ≡ 0 → s ≡ false) → (o ≡ 0 → t ≡ false) → Goal (Whole s n) (Whole t o)
-  unfolding same-contents flat-of numbers-of same-stretches label-of choose
+  unfolding same-contents flat-of numbers-of same-stretches label-of
   wholes s t n o f g =
       through
       (λ x. ap₂ (λ (z : Bool) (y : ℕ). integer (with-sign (sign z) y)) (x .0 .negative) (x .0 .first))
@@ -393,7 +392,7 @@ module _ (atoms : AtomList) (m : List ℕ) (under : Under 256 m) (k k′ : ℕ) 
 
   module _ (s t : Bool) (i n j o : ℕ) (a : Sound m (atoms .places) (Big s i n)) (b : Sound m (atoms .places) (Big t j o)) where
     bigs : Goal (Big s i n) (Big t j o)
-    unfolding same-contents flat-of stretch-of same-stretches label-of choose
+    unfolding same-contents flat-of stretch-of same-stretches label-of
     bigs =
         let x : 18446744073709551616 ≤ little-endian (stretch m i n) = large m under i n (a .0) (a .1) (a .2) in
         let y : 18446744073709551616 ≤ little-endian (stretch m j o) = large m under j o (b .0) (b .1) (b .2) in
@@ -413,22 +412,22 @@ module _ (atoms : AtomList) (m : List ℕ) (under : Under 256 m) (k k′ : ℕ) 
         omega (arith, v .1, a .0)
 
     whole-big : Goal (Whole s n) (Big t j o)
-    unfolding same-contents same-flat same-numbers flat-of numbers-of stretch-of label-of choose
+    unfolding same-contents same-flat same-numbers flat-of numbers-of stretch-of label-of
     whole-big = record { sure = λ e. never e; back = λ e. let w : with-sign (sign s) n ≡ with-sign (sign t) (little-endian (stretch m j o)) = cc in absurd (apart w) }
 
     big-whole : Goal (Big t j o) (Whole s n)
-    unfolding same-contents same-flat same-numbers flat-of numbers-of stretch-of label-of choose
+    unfolding same-contents same-flat same-numbers flat-of numbers-of stretch-of label-of
     big-whole = record { sure = λ e. never e; back = λ e. let w : with-sign (sign s) n ≡ with-sign (sign t) (little-endian (stretch m j o)) = cc in absurd (apart w) }
 
   floats : (x y : ℕ) → Goal (Float x) (Float y)
-  unfolding same-contents flat-of numbers-of same-stretches label-of choose
+  unfolding same-contents flat-of numbers-of same-stretches label-of
   floats x y =
       through (λ x. ap float (x .0 .first))
       (λ e. (record { code = refl; negative = refl; first = cc; second = refl; third = refl }, tt))
       (flats-agree m (atoms .places) (flat-of (Float x)) (flat-of (Float y)) yes-agrees)
 
   texts : (x y p q : Bool) (i n j o : ℕ) → Sound m (atoms .places) (Text x p i n) → Sound m (atoms .places) (Text y q j o) → Goal (Text x p i n) (Text y q j o)
-  unfolding same-contents flat-of text-of same-stretches same-atoms same-texts label-of choose
+  unfolding same-contents flat-of text-of same-stretches same-atoms same-texts label-of
   texts x y p q i n j o a b =
       through (λ z. ap atom (z .1))
       (λ e. (record { code = refl; negative = refl; first = refl; second = refl; third = refl }, cc))
@@ -436,14 +435,14 @@ module _ (atoms : AtomList) (m : List ℕ) (under : Under 256 m) (k k′ : ℕ) 
       (texts-agree (source m (atoms .places) p) i n (source m (atoms .places) q) j o (a .0) (b .0) x y (a .1) (b .1)))
 
   byteses : (i n j o : ℕ) → i + n ≤ length m → j + o ≤ length m → Goal (Bytes i n) (Bytes j o)
-  unfolding same-contents flat-of stretch-of same-stretches label-of choose
+  unfolding same-contents flat-of stretch-of same-stretches label-of
   byteses i n j o a b =
       through (λ z. ap binary (z .1))
       (λ e. (record { code = refl; negative = refl; first = refl; second = refl; third = refl }, cc))
       (flats-agree m (atoms .places) (flat-of (Bytes i n)) (flat-of (Bytes j o)) (stretch-agrees m i m j n o a b))
 
   bitses : (x y i n j o : ℕ) → i + n ≤ length m → j + o ≤ length m → Goal (Bits x i n) (Bits y j o)
-  unfolding same-contents flat-of stretch-of same-stretches label-of choose
+  unfolding same-contents flat-of stretch-of same-stretches label-of
   bitses x y i n j o a b =
       through
       (λ z. ap₂ (λ (u : ℕ) (v : List ℕ). bitstring u v) (z .0 .first) (z .1 ∙ ap (λ (u : ℕ). clear-low u (stretch m j o)) (z .0 .first)))
@@ -452,21 +451,21 @@ module _ (atoms : AtomList) (m : List ℕ) (under : Under 256 m) (k k′ : ℕ) 
       (flats-agree m (atoms .places) (flat-of (Bits x i n)) (flat-of (Bits y j o)) (bits-agree m x i j n o a b))
 
   pids : (i s c j t d : ℕ) → Goal (Pid i s c) (Pid j t d)
-  unfolding same-contents flat-of numbers-of same-stretches label-of choose
+  unfolding same-contents flat-of numbers-of same-stretches label-of
   pids i s c j t d =
       through (λ z. let n = z .0 in ap₂ (λ (u : ℕ) (v : ℕ). pid u v c) (n .first) (n .second) ∙ ap (pid j t) (n .third))
       (λ e. (record { code = refl; negative = refl; first = cc; second = cc; third = cc }, tt))
       (flats-agree m (atoms .places) (flat-of (Pid i s c)) (flat-of (Pid j t d)) yes-agrees)
 
   ports : (i c j d : ℕ) → Goal (Port i c) (Port j d)
-  unfolding same-contents flat-of numbers-of same-stretches label-of choose
+  unfolding same-contents flat-of numbers-of same-stretches label-of
   ports i c j d =
       through (λ z. let n = z .0 in ap₂ (λ (u : ℕ) (v : ℕ). port u v) (n .first) (n .second))
       (λ e. (record { code = refl; negative = refl; first = cc; second = cc; third = refl }, tt))
       (flats-agree m (atoms .places) (flat-of (Port i c)) (flat-of (Port j d)) yes-agrees)
 
   references : (c i n d j o : ℕ) → i + 4 * n ≤ length m → j + 4 * o ≤ length m → Goal (Reference c i n) (Reference d j o)
-  unfolding same-contents flat-of stretch-of same-stretches label-of choose
+  unfolding same-contents flat-of stretch-of same-stretches label-of
   references c i n d j o a b =
       through (λ z. ap₂ (λ (u : ℕ) (v : List ℕ). reference u v) (z .0 .first) (z .1))
       (λ e. (record { code = refl; negative = refl; first = cc; second = refl; third = refl }, cc))
@@ -506,7 +505,7 @@ module _ (atoms : AtomList) (m : List ℕ) (under : Under 256 m) (k k′ : ℕ) 
       go (inr x) = at-case a b 2 s h x
 
   pub alike-contents : (a b : Content) → S a → S b → Goal a b
-  unfolding case-of flat-of numbers-of stretch-of text-of merged choose
+  unfolding case-of flat-of numbers-of stretch-of text-of merged
   alike-contents Nothing b s t = one-case Nothing b 0 refl refl (λ z. omega arith) t (λ _. nothings)
   alike-contents (Whole x n) b s t =
       let f : Flat = flat-of b in

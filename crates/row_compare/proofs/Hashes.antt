@@ -1,6 +1,6 @@
 -- Hashes of contents: one law for each way through the functions that make them, and that contents that say the same have the same. Assumes nothing.
 use mathlib.Core.Path.{_≡_, refl, sym, _∙_, ap, ap₂, subst}
-use mathlib.Core.Bool.{Bool, true, false}
+use mathlib.Core.Bool.{Bool, true, false, cond}
 use mathlib.Core.List.{List, [], _∷_, _++_, append-nil}
 use Prim.Native.Nat.{ℕ, _+_, _*_, _-_, _/_, _%_, _≤_, _<_}
 use native.Mathlib.Omega.{arith}
@@ -9,13 +9,12 @@ use lib.ListN.{length, getD, take, drop}
 use borrow.Author.Tests.{eqb-true, eqb-false, eq-eqb, ne-eqb, lt-ltb, le-ltb}
 use Rattle.term_spec.specs.Text.{encode, encodes}
 use Rattle.term_spec.proofs.Tests.{never}
+use Rattle.octets.proofs.Parts.{part-cons}
 use Rattle.row_compare.specs.declared.Flat.{Flat}
 use Rattle.row_fields.specs.declared.Content.{Content}
-use Rattle.row_fields.specs.Found.{choose}
 use Rattle.row_fields.specs.Meaning.{stretch}
 use Rattle.row_compare.specs.Same.{same-list, same-part, same-stretch, same-spelling, same-text, same-last, same-bits, same-words, flat-of, source, same-texts, same-atoms, same-stretches, same-contents}
 use Rattle.row_compare.specs.Hash.{mix, mix-all, as-utf8, hash-part, hashed, hash-stretch, hash-flat, hash-contents}
-use Rattle.row_fields.proofs.Digits.{part-cons}
 use Rattle.row_compare.proofs.Lists.{same-true, encode-low, encode-high}
 use Rattle.row_compare.proofs.Alike.{Numbers, flats-agree, self-agrees}
 
@@ -23,15 +22,15 @@ use Rattle.row_compare.proofs.Alike.{Numbers, flats-agree, self-agrees}
 
 module _ (latin1 : Bool) (h c r : ℕ) where
   pub byte-plain : latin1 ≡ false → r ≡ mix h c → r ≡ mix-all h (as-utf8 latin1 (c ∷ []))
-  unfolding mix-all as-utf8 choose
+  unfolding mix-all as-utf8
   byte-plain e f = rw e f
 
   pub byte-low : latin1 ≡ true → c < 128 → r ≡ mix h c → r ≡ mix-all h (as-utf8 latin1 (c ∷ []))
-  unfolding mix-all as-utf8 encodes choose
+  unfolding mix-all as-utf8 encodes
   byte-low e l f = rw (e, encode-low c l) f
 
   pub byte-high : latin1 ≡ true → 128 ≤ c → c < 256 → (x : ℕ) → x ≡ mix h (192 + c / 64) → r ≡ mix x (128 + c % 64) → r ≡ mix-all h (as-utf8 latin1 (c ∷ []))
-  unfolding mix-all as-utf8 encodes choose
+  unfolding mix-all as-utf8 encodes
   byte-high e l s x f g = rw (e, encode-high c l s, ← f) g
 
 mix-join : (h : ℕ) (xs ys : List ℕ) → mix-all h (xs ++ ys) ≡ mix-all (mix-all h xs) ys
@@ -40,7 +39,7 @@ mix-join h [] ys = refl
 mix-join h (x ∷ xs) ys = mix-join (mix h x) xs ys
 
 utf8-cons : (latin1 : Bool) (c : ℕ) (cs : List ℕ) → as-utf8 latin1 (c ∷ cs) ≡ as-utf8 latin1 (c ∷ []) ++ as-utf8 latin1 cs
-unfolding as-utf8 encodes choose
+unfolding as-utf8 encodes
 utf8-cons true c cs = ap (λ (l : List ℕ). l ++ encodes cs) (sym (append-nil (encode c)))
 utf8-cons false c cs = refl
 
@@ -68,7 +67,7 @@ module _ (s : List ℕ) (at n : ℕ) (latin1 : Bool) where
       rw f (sym (mix-join sum (as-utf8 latin1 (c ∷ [])) (as-utf8 latin1 rest)) ∙ ap (mix-all sum) (sym (utf8-cons latin1 c rest)) ∙ ap (λ (l : List ℕ). mix-all sum (as-utf8 latin1 l)) (sym p) ∙ h)
 
   pub bytes-end : (i sum r : ℕ) → left-after i sum ≡ r → n ≤ i → sum ≡ r
-  unfolding left-after mix-all as-utf8 encodes choose
+  unfolding left-after mix-all as-utf8 encodes
   bytes-end i sum r h l = let e : n - i ≡ 0 = omega arith in sym (none latin1) ∙ (rw e at h)
     where
       none : (b : Bool) → mix-all sum (as-utf8 b []) ≡ sum
@@ -77,55 +76,55 @@ module _ (s : List ℕ) (at n : ℕ) (latin1 : Bool) where
 
   module _ (h : ℕ) (t : Bool) (e : t ≡ leb (at + n) (length s)) where
     pub part-missing : t ≡ false → h ≡ hash-part s at n latin1 h
-    unfolding hash-part choose
+    unfolding hash-part
     part-missing f = rw (← e, f)
 
     pub part-there : (r : ℕ) → t ≡ true → r ≡ mix-all h (as-utf8 latin1 (take n (drop at s))) → r ≡ hash-part s at n latin1 h
-    unfolding hash-part choose
+    unfolding hash-part
     part-there r f g = rw (← e, f) g
 
 -- ---- by the case's number
 
 module _ (m : List ℕ) (code n : ℕ) where
   pub hashed-digits : code ≡ 2 → n ≡ hashed m code n
-  unfolding hashed choose
+  unfolding hashed
   hashed-digits e = rw (eq-eqb code 2 e)
 
   module _ (two : code ≡ 2 → ⊥) where
     pub hashed-bytes : code ≡ 5 → n ≡ hashed m code n
-    unfolding hashed choose
+    unfolding hashed
     hashed-bytes e = rw (ne-eqb code 2 two, eq-eqb code 5 e)
 
     module _ (five : code ≡ 5 → ⊥) where
       pub hashed-bits : (r : ℕ) → code ≡ 6 → r ≡ n - 1 → r ≡ hashed m code n
-      unfolding hashed choose
+      unfolding hashed
       hashed-bits r e f = rw (ne-eqb code 2 two, ne-eqb code 5 five, eq-eqb code 6 e) f
 
       module _ (six : code ≡ 6 → ⊥) where
         pub hashed-beyond : code ≡ 9 → length m / 4 < n → 0 ≡ hashed m code n
-        unfolding hashed choose
+        unfolding hashed
         hashed-beyond e l = rw (ne-eqb code 2 two, ne-eqb code 5 five, ne-eqb code 6 six, eq-eqb code 9 e, lt-ltb (length m / 4) n l)
 
         pub hashed-words : code ≡ 9 → n ≤ length m / 4 → 4 * n ≡ hashed m code n
-        unfolding hashed choose
+        unfolding hashed
         hashed-words e l = rw (ne-eqb code 2 two, ne-eqb code 5 five, ne-eqb code 6 six, eq-eqb code 9 e, le-ltb (length m / 4) n l)
 
         pub hashed-none : (code ≡ 9 → ⊥) → 0 ≡ hashed m code n
-        unfolding hashed choose
+        unfolding hashed
         hashed-none nine = rw (ne-eqb code 2 two, ne-eqb code 5 five, ne-eqb code 6 six, ne-eqb code 9 nine)
 
 module _ (m places : List ℕ) (h code : ℕ) (f : Flat) (r : ℕ) where
   pub stretch-plain : (n : ℕ) → (code ≡ 4 → ⊥) → n ≡ hashed m code (f .length) → r ≡ hash-part m (f .start) n false h → r ≡ hash-stretch m places h code f
-  unfolding hash-stretch choose
+  unfolding hash-stretch
   stretch-plain n e k p = rw (ne-eqb code 4 e, ← k) p
 
   module _ (e : code ≡ 4) where
     pub stretch-listed : f .listed ≡ true → r ≡ hash-part places (f .start) (f .length) (f .latin1) h → r ≡ hash-stretch m places h code f
-    unfolding hash-stretch choose
+    unfolding hash-stretch
     stretch-listed k p = rw (eq-eqb code 4 e, k) p
 
     pub stretch-own : f .listed ≡ false → r ≡ hash-part m (f .start) (f .length) (f .latin1) h → r ≡ hash-stretch m places h code f
-    unfolding hash-stretch choose
+    unfolding hash-stretch
     stretch-own k p = rw (eq-eqb code 4 e, k) p
 
 module _ (m places : List ℕ) (h : ℕ) (f : Flat) (r : ℕ) where
@@ -139,19 +138,16 @@ module _ (m places : List ℕ) (h : ℕ) (f : Flat) (r : ℕ) where
 
 -- ---- contents that say the same
 
-pub both-true : (b c : Bool) → choose b c false ≡ true → (b ≡ true) × (c ≡ true)
-unfolding choose
+pub both-true : (b c : Bool) → cond b c false ≡ true → (b ≡ true) × (c ≡ true)
 both-true true c e = (refl, e)
 both-true false c e = never e
 
-pub unless-true : (b c : Bool) → choose b false c ≡ true → (b ≡ false) × (c ≡ true)
-unfolding choose
+pub unless-true : (b c : Bool) → cond b false c ≡ true → (b ≡ false) × (c ≡ true)
 unless-true true c e = never e
 unless-true false c e = (refl, e)
 
 -- two stretches that are there, and whose bytes are tested
-two-parts : (x y s : Bool) (p q h : ℕ) → (s ≡ true → p ≡ q) → choose x (choose y s false) false ≡ true → choose x p h ≡ choose y q h
-unfolding choose
+two-parts : (x y s : Bool) (p q h : ℕ) → (s ≡ true → p ≡ q) → cond x (cond y s false) false ≡ true → cond x p h ≡ cond y q h
 two-parts true true s p q h f e = f e
 two-parts true false s p q h f e = never e
 two-parts false y s p q h f e = never e
@@ -171,35 +167,35 @@ module _ (a : List ℕ) (i n : ℕ) (b : List ℕ) (j k h : ℕ) where
       rw (← f) (part-alike a i b j n latin1 h (g .1))
 
   spelling-alike : same-spelling a i n b j k ≡ true → hash-part a i n true h ≡ hash-part b j k false h
-  unfolding same-spelling hash-part as-utf8 choose
+  unfolding same-spelling hash-part as-utf8
   spelling-alike =
       two-parts (leb (i + n) (length a)) (leb (j + k) (length b)) (same-list (encodes (stretch a i n)) (stretch b j k)) _ _ h
       (λ e. ap (mix-all h) (same-true (encodes (stretch a i n)) (stretch b j k) e))
 
 text-alike : (a : List ℕ) (i n : ℕ) (b : List ℕ) (j k h : ℕ) (x y : Bool) → same-text a i n x b j k y ≡ true → hash-part a i n x h ≡ hash-part b j k y h
-unfolding same-text choose
+unfolding same-text
 text-alike a i n b j k h true true e = stretch-alike a i n b j k h true e
 text-alike a i n b j k h true false e = spelling-alike a i n b j k h e
 text-alike a i n b j k h false true e = sym (spelling-alike b j k a i n h e)
 text-alike a i n b j k h false false e = stretch-alike a i n b j k h false e
 
 none-hashed : (s : List ℕ) (at h : ℕ) → hash-part s at 0 false h ≡ h
-unfolding hash-part mix-all as-utf8 choose
+unfolding hash-part mix-all as-utf8
 none-hashed s at h = go (leb (at + 0) (length s))
   where
-    go : (t : Bool) → choose t h h ≡ h
+    go : (t : Bool) → cond t h h ≡ h
     go true = refl
     go false = refl
 
 module _ (m : List ℕ) (i n j k h : ℕ) where
   bits-alike : (bits : ℕ) → same-bits m bits i n j k ≡ true → hash-part m i (n - 1) false h ≡ hash-part m j (k - 1) false h
-  unfolding same-bits same-last choose
+  unfolding same-bits same-last
   bits-alike bits e =
       let g = both-true (eqb n k) _ e in
       let f : n ≡ k = eqb-true n k (g .0) in
       rw (← f) (go (eqb n 0) refl (g .1))
     where
-      go : (t : Bool) → eqb n 0 ≡ t → choose t true (choose (leb (i + n) (length m)) (choose (leb (j + n) (length m)) (same-last m bits i j (n - 1)) false) false) ≡ true
+      go : (t : Bool) → eqb n 0 ≡ t → cond t true (cond (leb (i + n) (length m)) (cond (leb (j + n) (length m)) (same-last m bits i j (n - 1)) false) false) ≡ true
           → hash-part m i (n - 1) false h ≡ hash-part m j (n - 1) false h
       go true z e = let f : n ≡ 0 = eqb-true n 0 z in let g : n - 1 ≡ 0 = omega arith in rw g (none-hashed m i h ∙ sym (none-hashed m j h))
       go false z e =
@@ -207,7 +203,7 @@ module _ (m : List ℕ) (i n j k h : ℕ) where
           part-alike m i m j (n - 1) false h (both-true (same-part m i m j (n - 1)) _ last .0)
 
   words-alike : same-words m i n j k ≡ true → hash-part m i (hashed m 9 n) false h ≡ hash-part m j (hashed m 9 k) false h
-  unfolding same-words hashed choose
+  unfolding same-words hashed
   words-alike e =
       let g = both-true (eqb n k) _ e in
       let f : n ≡ k = eqb-true n k (g .0) in
@@ -226,7 +222,7 @@ module _ (m places : List ℕ) (h : ℕ) (a b : Flat) where
   Alike code = same-stretches m places code a b ≡ true → hash-stretch m places h code a ≡ hash-stretch m places h code b
 
   stretches-alike : (code : ℕ) → Alike code
-  unfolding same-stretches same-atoms same-texts hash-stretch hashed choose
+  unfolding same-stretches same-atoms same-texts hash-stretch hashed
   stretches-alike code =
       by-number code 2 Alike (stretch-alike m (a .start) (a .length) m (b .start) (b .length) h false) λ two.
       by-number code 4 Alike

@@ -1,6 +1,6 @@
 -- The comparison of lists, of parts of them, and of characters with bytes. Assumes nothing.
 use mathlib.Core.Path.{_≡_, refl, sym, _∙_, ap, ap₂}
-use mathlib.Core.Bool.{Bool, true, false}
+use mathlib.Core.Bool.{Bool, true, false, cond}
 use mathlib.Core.List.{List, [], _∷_, _++_}
 use Prim.Native.Nat.{ℕ, zero, suc, _+_, _-_, _/_, _%_, _≤_, _<_}
 use native.Mathlib.Omega.{arith}
@@ -10,26 +10,24 @@ use lib.Seq.{drop-drop, take-nil}
 use borrow.Author.Tests.{eqb-true, eqb-false, eq-eqb, ne-eqb, lt-ltb, le-ltb}
 use Rattle.term_spec.specs.Text.{encode, encodes}
 use Rattle.term_spec.proofs.Tests.{by-less}
-use Rattle.octets.proofs.Parts.{length-part}
-use Rattle.row_fields.specs.Found.{choose}
+use Rattle.octets.proofs.Parts.{length-part, part-cons}
 use Rattle.row_compare.specs.Same.{same-list, Spelling}
-use Rattle.row_fields.proofs.Digits.{part-cons}
 
 -- ---- equality as a test
 
 pub same-true : (xs ys : List ℕ) → same-list xs ys ≡ true → xs ≡ ys
-unfolding same-list choose
+unfolding same-list
 same-true [] [] e = refl
 same-true [] (y ∷ ys) e = let z : _≡_ {A = ℕ} 0 1 = cc in absurd (omega arith)
 same-true (x ∷ xs) [] e = let z : _≡_ {A = ℕ} 0 1 = cc in absurd (omega arith)
 same-true (x ∷ xs) (y ∷ ys) e = go (eqb x y) refl e (λ f. same-true xs ys f)
   where
-    go : (t : Bool) → eqb x y ≡ t → choose t (same-list xs ys) false ≡ true → (same-list xs ys ≡ true → xs ≡ ys) → _≡_ {A = List ℕ} (x ∷ xs) (y ∷ ys)
+    go : (t : Bool) → eqb x y ≡ t → cond t (same-list xs ys) false ≡ true → (same-list xs ys ≡ true → xs ≡ ys) → _≡_ {A = List ℕ} (x ∷ xs) (y ∷ ys)
     go true p f ih = ap₂ (λ (v : ℕ) (vs : List ℕ). v ∷ vs) (eqb-true x y p) (ih f)
     go false p f ih = let z : _≡_ {A = ℕ} 0 1 = cc in absurd (omega arith)
 
 pub same-self : (xs : List ℕ) → same-list xs xs ≡ true
-unfolding same-list choose
+unfolding same-list
 same-self [] = refl
 same-self (x ∷ xs) = rw (eq-eqb x x refl) (same-self xs)
 
@@ -49,11 +47,11 @@ same-by xs ys true f g = same-equal xs ys (f refl)
 same-by xs ys false f g = same-unequal xs ys (g refl)
 
 same-cons : (x : ℕ) (xs : List ℕ) (y : ℕ) (ys : List ℕ) → x ≡ y → same-list (x ∷ xs) (y ∷ ys) ≡ same-list xs ys
-unfolding same-list choose
+unfolding same-list
 same-cons x xs y ys e = rw (eq-eqb x y e)
 
 differ-cons : (x : ℕ) (xs : List ℕ) (y : ℕ) (ys : List ℕ) → (x ≡ y → ⊥) → same-list (x ∷ xs) (y ∷ ys) ≡ false
-unfolding same-list choose
+unfolding same-list
 differ-cons x xs y ys e = rw (ne-eqb x y e)
 
 -- ---- characters under 256 in UTF-8
@@ -67,7 +65,7 @@ unfolding encode
 encode-high c h k = rw (le-ltb c 0x80 h, lt-ltb c 0x800 (omega arith))
 
 none-spelt : (c : ℕ) (bs : List ℕ) → ((more : List ℕ) → same-list (encode c ++ more) bs ≡ false) → Spelling c bs 0
-none-spelt c bs f = record { some = omega arith; here = λ e. absurd (e refl); none = λ _ more. f more }
+none-spelt c bs f = record { fits = omega arith; spells = λ e. absurd (e refl); differs = λ _ more. f more }
 
 module _ (c : ℕ) (b : List ℕ) (j k : ℕ) where
   pub spelling-end : c < 256 → k ≡ 0 → Spelling c (take k (drop j b)) 0
@@ -84,9 +82,9 @@ module _ (c : ℕ) (b : List ℕ) (j k : ℕ) where
     spelling-low x p h e =
         let f : c ≡ getD b j 0 = sym e ∙ p in
         record {
-          some = omega (arith, length-part b j k fits);
-          here = λ _ more. rw (encode-low c h, first-byte) (same-cons c more (getD b j 0) (take (k - 1) (drop (j + 1) b)) f);
-          none = λ z. absurd (omega arith);
+          fits = omega (arith, length-part b j k fits);
+          spells = λ _ more. rw (encode-low c h, first-byte) (same-cons c more (getD b j 0) (take (k - 1) (drop (j + 1) b)) f);
+          differs = λ z. absurd (omega arith);
         }
 
     pub spelling-not-low : (x : ℕ) → x ≡ getD b j 0 → c < 128 → (x ≡ c → ⊥) → Spelling c (take k (drop j b)) 0
@@ -107,12 +105,12 @@ module _ (c : ℕ) (b : List ℕ) (j k : ℕ) where
           rw (encode-high c h small, first-byte) (same-cons (192 + c / 64) ((128 + c % 64) ∷ more) (getD b j 0) (take (k - 1) (drop (j + 1) b)) f)
 
       pub spelling-short : (x : ℕ) → x ≡ getD b j 0 → k ≡ 1 → Spelling c (take k (drop j b)) 0
-      unfolding same-list choose
+      unfolding same-list
       spelling-short x p e =
           none-spelt c (take k (drop j b))
           (λ more. rw (encode-high c h small, first-byte) (go more (eqb (192 + c / 64) (getD b j 0))))
         where
-          go : (more : List ℕ) (t : Bool) → choose t (same-list ((128 + c % 64) ∷ more) (take (k - 1) (drop (j + 1) b))) false ≡ false
+          go : (more : List ℕ) (t : Bool) → cond t (same-list ((128 + c % 64) ∷ more) (take (k - 1) (drop (j + 1) b))) false ≡ false
           go more true = let u : k - 1 ≡ 0 = omega arith in rw u
           go more false = refl
 
@@ -131,9 +129,9 @@ module _ (c : ℕ) (b : List ℕ) (j k : ℕ) where
             let tail : List ℕ = take (k - 1 - 1) (drop (j + 1 + 1) b) in
             let d : drop 2 (take k (drop j b)) ≡ tail = rw (first-byte, second-byte) in
             record {
-              some = omega (arith, length-part b j k fits);
-              here = λ _ more. high-next x p e more ∙ rw second-byte (same-cons (128 + c % 64) more (getD b (j + 1) 0) tail z) ∙ ap (same-list more) (sym d);
-              none = λ w. absurd (omega arith);
+              fits = omega (arith, length-part b j k fits);
+              spells = λ _ more. high-next x p e more ∙ rw second-byte (same-cons (128 + c % 64) more (getD b (j + 1) 0) tail z) ∙ ap (same-list more) (sym d);
+              differs = λ w. absurd (omega arith);
             }
 
 -- ---- a walk over characters and their bytes
@@ -170,16 +168,16 @@ module _ (a : List ℕ) (i n : ℕ) (b : List ℕ) (j k : ℕ) where
         rw (part-cons a (i + x) (n - x) (omega arith) (omega arith), u, v, ← is)
 
     pub walk-differs : w ≡ 0 → false ≡ rest x y
-    walk-differs e = sym (next-character ∙ s .none e _)
+    walk-differs e = sym (next-character ∙ s .differs e _)
 
     pub walk-more : (w ≡ 0 → ⊥) → rest x y ≡ rest (x + 1) (y + w)
     walk-more f =
         let u : k - y - w ≡ k - (y + w) = omega arith in
         let v : j + y + w ≡ j + (y + w) = omega arith in
-        next-character ∙ s .here f _ ∙ ap (same-list _) (drop-part w (k - y) (j + y) b ∙ rw (u, v))
+        next-character ∙ s .spells f _ ∙ ap (same-list _) (drop-part w (k - y) (j + y) b ∙ rw (u, v))
 
     pub walk-inside : j + k ≤ length b → y ≤ k → y + w ≤ k
-    walk-inside h l = omega (arith, s .some, length-part b (j + y) (k - y) (omega arith))
+    walk-inside h l = omega (arith, s .fits, length-part b (j + y) (k - y) (omega arith))
 
   pub walk-end : (x y : ℕ) → j + k ≤ length b → y ≤ k → n ≤ x → eqb y k ≡ rest x y
   unfolding encodes same-list

@@ -1,6 +1,6 @@
 -- What is found again of two nodes of one kind is compared: the same exactly where their labels are equal. Assumes nothing.
 use mathlib.Core.Path.{_≡_, refl, sym, _∙_, ap}
-use mathlib.Core.Bool.{Bool, true, false}
+use mathlib.Core.Bool.{Bool, true, false, cond}
 use mathlib.Core.List.{List}
 use Prim.Native.Nat.{ℕ}
 use lib.Dec.{eqb}
@@ -10,7 +10,7 @@ use Rattle.term_spec.specs.Reading.{Place}
 use Rattle.term_spec.specs.AtomList.{AtomList, atoms-of}
 use Rattle.term_spec.specs.Rows.{kind-at, offset-of}
 use Rattle.term_spec.proofs.Backed.{Label-at}
-use Rattle.row_fields.specs.Found.{choose, content-of}
+use Rattle.row_fields.specs.Found.{content-of}
 use Rattle.row_fields.specs.Meaning.{bare, term-kind}
 use Rattle.row_fields.proofs.Says.{Lent}
 use Rattle.row_fields.proofs.Again.{content-says}
@@ -18,15 +18,15 @@ use Rattle.row_compare.specs.Same.{same-contents}
 use Rattle.row_compare.proofs.Alike.{Agree, through, alike-contents}
 
 fourteen : bare 14 ≡ bare 1
-unfolding bare choose
+unfolding bare
 fourteen = refl
 
 -- characters have no bare label of their own
 term-bare : (kind : ℕ) → bare kind ≡ bare (term-kind kind)
-unfolding term-kind choose
+unfolding term-kind
 term-bare kind = go (eqb kind 14) refl
   where
-    go : (t : Bool) → eqb kind 14 ≡ t → bare kind ≡ bare (choose t 1 kind)
+    go : (t : Bool) → eqb kind 14 ≡ t → bare kind ≡ bare (cond t 1 kind)
     go true e = ap bare (eqb-true kind 14 e) ∙ fourteen
     go false e = refl
 

@@ -1,11 +1,10 @@
 -- A number of 32 bits for a content, over what it says, not over how it is encoded: contents that say the same have the same.
-use mathlib.Core.Bool.{Bool, false}
+use mathlib.Core.Bool.{Bool, false, cond}
 use mathlib.Core.List.{List, [], _∷_}
 use Prim.Native.Nat.{ℕ, _+_, _*_, _-_, _/_, _%_}
 use lib.Dec.{eqb, leb, ltb}
 use lib.ListN.{length}
 use Rattle.term_spec.specs.Text.{encodes}
-use Rattle.row_fields.specs.Found.{choose}
 use Rattle.row_fields.specs.Meaning.{stretch}
 use Rattle.row_compare.specs.Same.{flat-of, source}
 use Rattle.row_compare.specs.declared.Flat.{Flat}
@@ -21,22 +20,22 @@ mix-all h (x ∷ xs) = mix-all (mix h x) xs
 
 -- a text's bytes in UTF-8
 unfoldable pub as-utf8 : Bool → List ℕ → List ℕ
-as-utf8 latin1 bs = choose latin1 (encodes bs) bs
+as-utf8 latin1 bs = cond latin1 (encodes bs) bs
 
 unfoldable pub hash-part : List ℕ → ℕ → ℕ → Bool → ℕ → ℕ
-hash-part s at n latin1 h = choose (leb (at + n) (length s)) (mix-all h (as-utf8 latin1 (stretch s at n))) h
+hash-part s at n latin1 h = cond (leb (at + n) (length s)) (mix-all h (as-utf8 latin1 (stretch s at n))) h
 
 -- how many bytes of a stretch that is no text count: of bits (6) all but the last, of n words (9) four times as many
 unfoldable pub hashed : List ℕ → ℕ → ℕ → ℕ
 hashed m code n =
-    choose (eqb code 2) n
-    (choose (eqb code 5) n
-    (choose (eqb code 6) (n - 1)
-    (choose (eqb code 9) (choose (ltb (length m / 4) n) 0 (4 * n)) 0)))
+    cond (eqb code 2) n
+    (cond (eqb code 5) n
+    (cond (eqb code 6) (n - 1)
+    (cond (eqb code 9) (cond (ltb (length m / 4) n) 0 (4 * n)) 0)))
 
 unfoldable pub hash-stretch : List ℕ → List ℕ → ℕ → ℕ → Flat → ℕ
 hash-stretch m places h code f =
-    choose (eqb code 4) (hash-part (source m places (f .listed)) (f .start) (f .length) (f .latin1) h)
+    cond (eqb code 4) (hash-part (source m places (f .listed)) (f .start) (f .length) (f .latin1) h)
     (hash-part m (f .start) (hashed m code (f .length)) false h)
 
 unfoldable pub hash-flat : List ℕ → List ℕ → ℕ → Flat → ℕ

@@ -1,6 +1,6 @@
 -- Whether two contents say the same label, with the tests of the code in their order.
 use mathlib.Core.Path.{_≡_}
-use mathlib.Core.Bool.{Bool, true, false, not}
+use mathlib.Core.Bool.{Bool, true, false, not, cond}
 use mathlib.Core.List.{List, [], _∷_, _++_}
 use Prim.Native.Nat.{ℕ, _+_, _*_, _-_, _/_, _≤_}
 use lib.Dec.{eqb, leb, ltb}
@@ -8,7 +8,6 @@ use lib.ListN.{length, getD, drop}
 use Rattle.term_spec.specs.Text.{encode, encodes}
 use Rattle.octets.specs.Parts.{stretch}
 pub use Rattle.octets.specs.Parts.{source, high}
-use Rattle.row_fields.specs.Found.{choose}
 use Rattle.row_compare.specs.declared.Flat.{Flat}
 use Rattle.row_fields.specs.declared.Content.{Content}
 use Rattle.row_fields.specs.declared.Content.the-variants.{Nothing, Whole, Big, Float, Text, Bytes, Bits, Pid, Port, Reference}
@@ -21,51 +20,51 @@ unfoldable pub same-list : List ℕ → List ℕ → Bool
 same-list [] [] = true
 same-list [] (y ∷ ys) = false
 same-list (x ∷ xs) [] = false
-same-list (x ∷ xs) (y ∷ ys) = choose (eqb x y) (same-list xs ys) false
+same-list (x ∷ xs) (y ∷ ys) = cond (eqb x y) (same-list xs ys) false
 
 -- the n bytes of a from i on are those of b from j on
 unfoldable pub same-part : List ℕ → ℕ → List ℕ → ℕ → ℕ → Bool
 same-part a i b j n =
-    choose (leb (i + n) (length a)) (choose (leb (j + n) (length b)) (same-list (stretch a i n) (stretch b j n)) false) false
+    cond (leb (i + n) (length a)) (cond (leb (j + n) (length b)) (same-list (stretch a i n) (stretch b j n)) false) false
 
 unfoldable pub same-stretch : List ℕ → ℕ → ℕ → List ℕ → ℕ → ℕ → Bool
-same-stretch a i n b j k = choose (eqb n k) (same-part a i b j n) false
+same-stretch a i n b j k = cond (eqb n k) (same-part a i b j n) false
 
 -- r bytes of bs spell the character c, and the rest of bs is compared with what follows c; or, where r is 0, none do
 pub record Spelling (c : ℕ) (bs : List ℕ) (r : ℕ) : Type 0 where
-  pub some : r ≤ length bs
-  pub here : (r ≡ 0 → ⊥) → (more : List ℕ) → same-list (encode c ++ more) bs ≡ same-list more (drop r bs)
-  pub none : r ≡ 0 → (more : List ℕ) → same-list (encode c ++ more) bs ≡ false
+  pub fits : r ≤ length bs
+  pub spells : (r ≡ 0 → ⊥) → (more : List ℕ) → same-list (encode c ++ more) bs ≡ same-list more (drop r bs)
+  pub differs : r ≡ 0 → (more : List ℕ) → same-list (encode c ++ more) bs ≡ false
 
 -- the n characters that are the bytes of a from i on are, in UTF-8, the k bytes of b from j on
 unfoldable pub same-spelling : List ℕ → ℕ → ℕ → List ℕ → ℕ → ℕ → Bool
 same-spelling a i n b j k =
-    choose (leb (i + n) (length a))
-    (choose (leb (j + k) (length b)) (same-list (encodes (stretch a i n)) (stretch b j k)) false)
+    cond (leb (i + n) (length a))
+    (cond (leb (j + k) (length b)) (same-list (encodes (stretch a i n)) (stretch b j k)) false)
     false
 
 -- two texts, each in Latin-1 or UTF-8
 unfoldable pub same-text : List ℕ → ℕ → ℕ → Bool → List ℕ → ℕ → ℕ → Bool → Bool
 same-text a i n latin b j k latin′ =
-    choose latin (choose latin′ (same-stretch a i n b j k) (same-spelling a i n b j k))
-    (choose latin′ (same-spelling b j k a i n) (same-stretch a i n b j k))
+    cond latin (cond latin′ (same-stretch a i n b j k) (same-spelling a i n b j k))
+    (cond latin′ (same-spelling b j k a i n) (same-stretch a i n b j k))
 
 -- two stretches, of whose last bytes so many bits count
 unfoldable pub same-last : List ℕ → ℕ → ℕ → ℕ → ℕ → Bool
 same-last m bits i j n =
-    choose (same-part m i m j n) (eqb (high (getD m (i + n) 0) bits) (high (getD m (j + n) 0) bits)) false
+    cond (same-part m i m j n) (eqb (high (getD m (i + n) 0) bits) (high (getD m (j + n) 0) bits)) false
 
 unfoldable pub same-bits : List ℕ → ℕ → ℕ → ℕ → ℕ → ℕ → Bool
 same-bits m bits i n j k =
-    choose (eqb n k)
-    (choose (eqb n 0) true
-    (choose (leb (i + n) (length m))
-    (choose (leb (j + n) (length m)) (same-last m bits i j (n - 1)) false)
+    cond (eqb n k)
+    (cond (eqb n 0) true
+    (cond (leb (i + n) (length m))
+    (cond (leb (j + n) (length m)) (same-last m bits i j (n - 1)) false)
     false))
     false
 
 unfoldable pub same-words : List ℕ → ℕ → ℕ → ℕ → ℕ → Bool
-same-words m i n j k = choose (eqb n k) (choose (ltb (length m / 4) n) false (same-part m i m j (4 * n))) false
+same-words m i n j k = cond (eqb n k) (cond (ltb (length m / 4) n) false (same-part m i m j (4 * n))) false
 
 -- a content as its case's number and its fields, zero and false where it has none
 unfoldable pub numbers-of : ℕ → Bool → ℕ → ℕ → ℕ → Flat
@@ -94,10 +93,10 @@ flat-of (Reference creation start n) = stretch-of 9 false creation start n
 
 unfoldable pub same-numbers : Flat → Flat → Bool
 same-numbers a b =
-    choose (eqb (a .code) (b .code))
-    (choose (same-bool (a .negative) (b .negative))
-    (choose (eqb (a .first) (b .first))
-    (choose (eqb (a .second) (b .second)) (eqb (a .third) (b .third)) false)
+    cond (eqb (a .code) (b .code))
+    (cond (same-bool (a .negative) (b .negative))
+    (cond (eqb (a .first) (b .first))
+    (cond (eqb (a .second) (b .second)) (eqb (a .third) (b .third)) false)
     false)
     false)
     false
@@ -111,15 +110,15 @@ same-atoms m places a b = same-texts (source m places (a .listed)) (source m pla
 
 unfoldable pub same-stretches : List ℕ → List ℕ → ℕ → Flat → Flat → Bool
 same-stretches m places code a b =
-    choose (eqb code 2) (same-stretch m (a .start) (a .length) m (b .start) (b .length))
-    (choose (eqb code 4) (same-atoms m places a b)
-    (choose (eqb code 5) (same-stretch m (a .start) (a .length) m (b .start) (b .length))
-    (choose (eqb code 6) (same-bits m (a .first) (a .start) (a .length) (b .start) (b .length))
-    (choose (eqb code 9) (same-words m (a .start) (a .length) (b .start) (b .length))
+    cond (eqb code 2) (same-stretch m (a .start) (a .length) m (b .start) (b .length))
+    (cond (eqb code 4) (same-atoms m places a b)
+    (cond (eqb code 5) (same-stretch m (a .start) (a .length) m (b .start) (b .length))
+    (cond (eqb code 6) (same-bits m (a .first) (a .start) (a .length) (b .start) (b .length))
+    (cond (eqb code 9) (same-words m (a .start) (a .length) (b .start) (b .length))
     true))))
 
 unfoldable pub same-flat : List ℕ → List ℕ → Flat → Flat → Bool
-same-flat m places a b = choose (same-numbers a b) (same-stretches m places (a .code) a b) false
+same-flat m places a b = cond (same-numbers a b) (same-stretches m places (a .code) a b) false
 
 -- do two contents say the same label?
 unfoldable pub same-contents : List ℕ → List ℕ → Content → Content → Bool

@@ -1,4 +1,6 @@
 // Two terms' own fields compared, and hashed, over what they say and not over how they are encoded.
+mod codes;
+
 use row_fields::Content;
 ghost use mathlib.Core.Path.{_≡_};
 ghost use mathlib.Core.Bool.{true, false};
@@ -59,7 +61,7 @@ fn text_of(latin1: bool, listed: bool, start: usize, length: usize) -> Flat
     ensures { λ r. ⌜ r ≡ text-of latin1 listed start length ⌝ }
 {
     Flat {
-        code: 4,
+        code: codes::TEXT,
         negative: false,
         latin1: latin1,
         listed: listed,
@@ -75,40 +77,40 @@ fn flatten(c: Content) -> Flat
     ensures { λ r. ⌜ r ≡ flat-of c ⌝ }
 {
     match c {
-        Content::Nothing => numbers_of(0, false, 0, 0, 0),
+        Content::Nothing => numbers_of(codes::NOTHING, false, 0, 0, 0),
         Content::Whole {
             negative,
             magnitude,
-        } => numbers_of(1, negative, magnitude, 0, 0),
+        } => numbers_of(codes::WHOLE, negative, magnitude, 0, 0),
         Content::Big {
             negative,
             start,
             digits,
-        } => stretch_of(2, negative, 0, start, digits),
-        Content::Float { bits } => numbers_of(3, false, bits, 0, 0),
+        } => stretch_of(codes::BIG, negative, 0, start, digits),
+        Content::Float { bits } => numbers_of(codes::FLOAT, false, bits, 0, 0),
         Content::Text {
             latin1,
             listed,
             start,
             length,
         } => text_of(latin1, listed, start, length),
-        Content::Bytes { start, length } => stretch_of(5, false, 0, start, length),
+        Content::Bytes { start, length } => stretch_of(codes::BYTES, false, 0, start, length),
         Content::Bits {
             bits,
             start,
             length,
-        } => stretch_of(6, false, bits as u64, start, length),
+        } => stretch_of(codes::BITS, false, bits as u64, start, length),
         Content::Pid {
             id,
             serial,
             creation,
-        } => numbers_of(7, false, id, serial, creation),
-        Content::Port { id, creation } => numbers_of(8, false, id, creation, 0),
+        } => numbers_of(codes::PID, false, id, serial, creation),
+        Content::Port { id, creation } => numbers_of(codes::PORT, false, id, creation, 0),
         Content::Reference {
             creation,
             start,
             words,
-        } => stretch_of(9, false, creation, start, words),
+        } => stretch_of(codes::REFERENCE, false, creation, start, words),
     }
 }
 
@@ -329,11 +331,11 @@ fn same_stretches(msg: &[u8], places: &[u8], code: usize, a: Flat, b: Flat) -> b
     ensures { λ r. ⌜ r ≡ same-stretches (now (msg .entry)) (now (places .entry)) code a b ⌝ }
 {
     match code {
-        2 => same_stretch(msg, a.start, a.length, msg, b.start, b.length),
-        4 => same_atoms(msg, places, a, b),
-        5 => same_stretch(msg, a.start, a.length, msg, b.start, b.length),
-        6 => same_bits(msg, a.first as usize, a.start, a.length, b.start, b.length),
-        9 => same_words(msg, a.start, a.length, b.start, b.length),
+        codes::BIG => same_stretch(msg, a.start, a.length, msg, b.start, b.length),
+        codes::TEXT => same_atoms(msg, places, a, b),
+        codes::BYTES => same_stretch(msg, a.start, a.length, msg, b.start, b.length),
+        codes::BITS => same_bits(msg, a.first as usize, a.start, a.length, b.start, b.length),
+        codes::REFERENCE => same_words(msg, a.start, a.length, b.start, b.length),
         _ => true,
     }
 }
@@ -354,12 +356,17 @@ pub fn same_content(msg: &[u8], places: &[u8], a: Content, b: Content) -> bool
     same_flat(msg, places, flatten(a), flatten(b))
 }
 
+// A hash is below 2^32; the factor is that of a common random number generator.
+const HASH_SIZE: u64 = 4294967296;
+
+const HASH_FACTOR: u64 = 22695477;
+
 // A hash after one number more.
 pub fn mix(h: u64, x: u64) -> u64
     requires { ⌜ h < 4294967296 ⌝ }
     ensures { λ r. ⌜ (r ≡ mix h x) × (r < 4294967296) ⌝ }
 {
-    (h * 22695477 + x % 4294967296 + x / 4294967296) % 4294967296
+    (h * HASH_FACTOR + x % HASH_SIZE + x / HASH_SIZE) % HASH_SIZE
 }
 
 // A hash after the byte c, or after the Latin-1 character c in UTF-8.
@@ -405,19 +412,19 @@ fn hash_part(s: &[u8], at: usize, n: usize, latin1: bool, h: u64) -> u64
 fn hashed(msg: &[u8], code: usize, n: usize) -> usize
     ensures { λ r. ⌜ r ≡ hashed (now (msg .entry)) code n ⌝ }
 {
-    if code == 2 {
+    if code == codes::BIG {
         return n;
     }
-    if code == 5 {
+    if code == codes::BYTES {
         return n;
     }
-    if code == 6 {
+    if code == codes::BITS {
         if n == 0 {
             return 0;
         }
         return n - 1;
     }
-    if code == 9 {
+    if code == codes::REFERENCE {
         if msg.len() / 4 < n {
             return 0;
         }
@@ -431,7 +438,7 @@ fn hash_stretch(msg: &[u8], places: &[u8], h: u64, code: usize, f: Flat) -> u64
     requires { ⌜ h < 4294967296 ⌝ }
     ensures { λ r. ⌜ (r ≡ hash-stretch (now (msg .entry)) (now (places .entry)) h code f) × (r < 4294967296) ⌝ }
 {
-    if code != 4 {
+    if code != codes::TEXT {
         let n = hashed(msg, code, f.length);
         return hash_part(msg, f.start, n, false, h);
     }

@@ -18,7 +18,7 @@ use Rattle.term_spec.proofs.Invariant.{In-step}
 use Rattle.term_spec.proofs.Backed.{Agrees, Label-at}
 use Rattle.octets.proofs.Numbers.{big-one}
 use Rattle.row_fields.specs.declared.Content.the-variants.{Whole}
-use Rattle.row_fields.specs.Found.{choose, value, content-of}
+use Rattle.row_fields.specs.Found.{value, content-of}
 use Rattle.row_fields.specs.Meaning.{label-of}
 use Rattle.row_fields.proofs.Tests.{above}
 use Rattle.row_fields.proofs.ByKind.{kind-14}
@@ -30,7 +30,7 @@ use Rattle.row_fields.proofs.Layouts.{form-told}
 
 module _ (atoms : AtomList) (m : List ℕ) (l : Lent atoms m) (cap : ℕ) where
   character-says : (p : ℕ) → p < length m → Says atoms m 14 p (integer (pos (getD m p 0)))
-  unfolding content-of label-of with-sign choose
+  unfolding content-of label-of with-sign
   character-says p h =
       let v : value m 1 p < 256 ^ 1 = value-small m 1 p (l .under) (omega arith) in
       says-by atoms m 14 p _ (Whole false (value m 1 p))

@@ -1,4 +1,5 @@
 -- Digits least first: high zeros are left out, and the rest summed from the highest down. Assumes nothing.
+use mathlib.Core.Bool.{cond}
 use mathlib.Core.Path.{_≡_, _∙_}
 use mathlib.Core.List.{List, _∷_}
 use Prim.Native.Nat.{ℕ, zero, suc, _+_, _*_, _-_, _^_, _≤_, _<_}
@@ -9,10 +10,11 @@ use lib.ListN.{length, getD, take, drop}
 use lib.Seq.{drop-cons}
 use borrow.Author.Tests.{eq-eqb, ne-eqb}
 use Rattle.term_spec.specs.Numbers.{little-endian}
-use Rattle.row_fields.specs.Found.{choose, stripped}
+use Rattle.octets.proofs.Parts.{part-cons}
+use Rattle.row_fields.specs.Found.{stripped}
 
 module _ (m : List ℕ) (start : ℕ) where
-  stripped-suc : (k : ℕ) → 0 < k → stripped m start k ≡ choose (eqb (getD m (start + k - 1) 0) 0) (stripped m start (k - 1)) k
+  stripped-suc : (k : ℕ) → 0 < k → stripped m start k ≡ cond (eqb (getD m (start + k - 1) 0) 0) (stripped m start (k - 1)) k
   unfolding stripped
   stripped-suc (suc k) h =
       let e : start + suc k - 1 ≡ start + k = omega arith in
@@ -21,24 +23,14 @@ module _ (m : List ℕ) (start : ℕ) where
   stripped-suc zero h = absurd (omega arith)
 
   pub strip-here : (k : ℕ) → 0 < k → (getD m (start + k - 1) 0 ≡ 0 → ⊥) → stripped m start k ≡ k
-  unfolding choose
   strip-here k h f = stripped-suc k h ∙ rw (ne-eqb (getD m (start + k - 1) 0) 0 f)
 
   pub strip-next : (k : ℕ) → 0 < k → getD m (start + k - 1) 0 ≡ 0 → stripped m start k ≡ stripped m start (k - 1)
-  unfolding choose
   strip-next k h f = stripped-suc k h ∙ rw (eq-eqb (getD m (start + k - 1) 0) 0 f)
 
   pub strip-none : (k : ℕ) → k ≡ 0 → stripped m start k ≡ 0
   unfolding stripped
   strip-none k e = rw e
-
--- a part that is not empty
-pub part-cons : (m : List ℕ) (at n : ℕ) → 0 < n → at < length m → take n (drop at m) ≡ getD m at 0 ∷ take (n - 1) (drop (at + 1) m)
-part-cons m at (suc n) h k =
-    let e : at + 1 ≡ suc at = omega arith in
-    let f : suc n - 1 ≡ n = omega arith in
-    rw (drop-cons m at 0 k, e, f)
-part-cons m at zero h k = absurd (omega arith)
 
 -- the digits from k up to n are summed
 pub record Summed (m : List ℕ) (start n k sum : ℕ) : Type 0 where

@@ -1,7 +1,7 @@
 -- Each layout of the tag table, read at an offset of the message: what is found again of the row says the label that was read. Assumes nothing.
 use mathlib.Core.Path.{_≡_, refl, sym, _∙_, ap, ap₂, subst}
 use mathlib.Core.Logic.{inl, inr}
-use mathlib.Core.Bool.{Bool, true, false, _&&_, _||_}
+use mathlib.Core.Bool.{Bool, true, false, _&&_, _||_, cond}
 use mathlib.Core.List.{List, [], _∷_}
 use mathlib.Core.Option.{some}
 use Prim.Native.Nat.{ℕ, _+_, _*_, _^_, _≤_, _<_}
@@ -22,7 +22,7 @@ use Rattle.term_spec.proofs.Backed.{Atom-form, is-82, is-100, is-115, is-118, i
 use Rattle.term_spec.proofs.Tests.{also, sizes-of}
 use Rattle.row_fields.specs.declared.Content.{Content}
 use Rattle.row_fields.specs.declared.Content.the-variants.{Nothing, Whole, Float, Text, Bytes, Bits, Pid, Port, Reference}
-use Rattle.row_fields.specs.Found.{choose, value, big-found, signed-whole, integer-found, text-width, atom-end, atom-found, bits-of, binary-found, pid-found, port-found, counted-found, pids-found, ports-found, references-found, kind-found, content-of}
+use Rattle.row_fields.specs.Found.{value, big-found, signed-whole, integer-found, text-width, atom-end, atom-found, bits-of, binary-found, pid-found, port-found, counted-found, pids-found, ports-found, references-found, kind-found, content-of}
 use Rattle.row_fields.specs.Meaning.{stretch, words-at, bare, label-of}
 use Rattle.row_fields.proofs.Tests.{above}
 use Rattle.row_fields.proofs.ByKind.{kind-1, kind-2, kind-3, kind-7, kind-8, kind-10, kind-11, kind-12}
@@ -57,7 +57,7 @@ module _ (atoms : AtomList) (m : List ℕ) (at r : ℕ) (less : at < length m) w
       done-holds _ _ (atom-ends m at w _ less (ap text-width e ∙ f) (end-there m at w _ refl k b)))))
 
   node-ended : (tag : ℕ) (f : Form) → Atom-form tag f → getD m at 0 ≡ tag → Ended f
-  unfolding fields text-width choose
+  unfolding fields text-width
   node-ended tag f is-82 e =
       let q : at + 1 + 1 ≡ at + 2 = omega arith in
       bind (number-here m at 1 (at + 1) r (omega arith) λ a. bind (rule-holds (ltb (value m 1 (at + 1)) (atoms-of atoms .n)) 6 at _ λ g.
@@ -127,7 +127,7 @@ module _ (atoms : AtomList) (m : List ℕ) (l : Lent atoms m) (cap p : ℕ) (les
     -- ---- integers
 
     row-97 : Row 97 small-integer-ext
-    unfolding fields kind-of label-of with-sign choose
+    unfolding fields kind-of label-of with-sign
     row-97 e =
         bind (number-here m p 1 (p + 1) r (omega arith) λ a.
         let v : value m 1 (p + 1) < 256 ^ 1 = value-small m 1 (p + 1) (l .under) a in
@@ -171,7 +171,7 @@ module _ (atoms : AtomList) (m : List ℕ) (l : Lent atoms m) (cap p : ℕ) (les
         (latin-says atoms m 3 (p + 1 + w) (value m w (p + 1)) cs (l .under) b h))))))
 
     utf8-row : (tag w : ℕ) → 0 < w → text-width tag ≡ w → ltb tag 118 ≡ false → Row tag (atom-ext utf-8 w)
-    unfolding fields kind-of choose
+    unfolding fields kind-of
     utf8-row tag w k f g e =
         bind (number-here m p w (p + 1) r (omega arith) λ a. bind (bytes-here m p (value m w (p + 1)) (p + 1 + w) r a λ b.
         bind (text-holds (check utf-8 (stretch m (p + 1 + w) (value m w (p + 1)))) 5 p _ λ cs h.
@@ -180,7 +180,7 @@ module _ (atoms : AtomList) (m : List ℕ) (l : Lent atoms m) (cap p : ℕ) (les
         (utf8-says atoms m 3 false (p + 1 + w) (value m w (p + 1)) cs b h))))))
 
     row-82 : Row 82 atom-cache-ref
-    unfolding fields kind-of choose atoms-of place-bytes place-length
+    unfolding fields kind-of atoms-of place-bytes place-length
     row-82 e =
         bind (number-here m p 1 (p + 1) r (omega arith) λ a. bind (rule-holds (ltb (value m 1 (p + 1)) (atoms .n)) 6 p _ λ g.
         bind (text-holds (place-text atoms (value m 1 (p + 1))) 14 0 _ λ cs h.
@@ -197,23 +197,23 @@ module _ (atoms : AtomList) (m : List ℕ) (l : Lent atoms m) (cap p : ℕ) (les
     -- ---- terms that have parts and no fields of their own
 
     tuple-says : Says atoms m 4 p tuple
-    unfolding kind-found bare choose
+    unfolding kind-found bare
     tuple-says = bare-says 4 tuple refl refl
 
     list-says : Says atoms m 5 p list
-    unfolding kind-found bare choose
+    unfolding kind-found bare
     list-says = bare-says 5 list refl refl
 
     improper-says : Says atoms m 6 p improper-list
-    unfolding kind-found bare choose
+    unfolding kind-found bare
     improper-says = bare-says 6 improper-list refl refl
 
     map-says : Says atoms m 9 p map
-    unfolding kind-found bare choose
+    unfolding kind-found bare
     map-says = bare-says 9 map refl refl
 
     export-says : Says atoms m 13 p export
-    unfolding kind-found bare choose
+    unfolding kind-found bare
     export-says = bare-says 13 export refl refl
 
     tuple-row : (tag w : ℕ) → Row tag (tuple-ext w)
@@ -265,10 +265,10 @@ module _ (atoms : AtomList) (m : List ℕ) (l : Lent atoms m) (cap p : ℕ) (les
 
     bits-told : (bits start n : ℕ) → start + n ≤ length m → bits-of bits start n ≡ binary-found m p 77 → getD m p 0 ≡ 77
         → Says atoms m (kind-of (bits-meaning bits (stretch m start n))) p (bits-meaning bits (stretch m start n))
-    unfolding bits-meaning bits-of kind-of label-of choose
+    unfolding bits-meaning bits-of kind-of label-of
     bits-told bits start n h f e = go (eqb bits 0) (eqb bits 8) f
       where
-        go : (t u : Bool) → choose t (Bytes start n) (choose u (Bytes start n) (Bits bits start n)) ≡ binary-found m p 77
+        go : (t u : Bool) → cond t (Bytes start n) (cond u (Bytes start n) (Bits bits start n)) ≡ binary-found m p 77
             → Says atoms m (kind-of (elim (t || u) as (λ _. Label) [ true ↦ binary (stretch m start n) | false ↦ bitstring bits (clear-low bits (stretch m start n)) ])) p
             (elim (t || u) as (λ _. Label) [ true ↦ binary (stretch m start n) | false ↦ bitstring bits (clear-low bits (stretch m start n)) ])
         go true u f = binary-says 77 e _ (Bytes start n) f (refl, h)
@@ -343,7 +343,7 @@ module _ (atoms : AtomList) (m : List ℕ) (l : Lent atoms m) (cap p : ℕ) (les
 
     -- every row of the table, in its order
     all-rows : All-rows Row forms
-    unfolding forms text-width choose
+    unfolding forms text-width
     all-rows =
         also row-97
         (also row-98

@@ -1,6 +1,6 @@
 -- What is found again of a node that the message backs says the node's label. Assumes nothing.
 use mathlib.Core.Path.{_≡_, refl, sym, _∙_, ap, subst}
-use mathlib.Core.Bool.{Bool, true, false}
+use mathlib.Core.Bool.{Bool, true, false, cond}
 use mathlib.Core.List.{List}
 use Prim.Native.Nat.{ℕ, zero, suc, _+_, _*_, _-_, _^_, _≤_, _<_}
 use native.Mathlib.Nat.{pow-le-pow-right}
@@ -18,7 +18,7 @@ use Rattle.term_spec.proofs.Holds.{little-under}
 use Rattle.octets.proofs.Parts.{length-part}
 use Rattle.row_fields.specs.declared.Content.{Content}
 use Rattle.row_fields.specs.declared.Content.the-variants.{Nothing, Whole, Big, Float, Text, Bytes, Bits, Pid, Port, Reference}
-use Rattle.row_fields.specs.Found.{choose, stripped, signed-whole, whole-of, stripped-found, content-of}
+use Rattle.row_fields.specs.Found.{stripped, signed-whole, whole-of, stripped-found, content-of}
 use Rattle.row_fields.specs.Meaning.{stretch, sign, characters-of, coded, label-of}
 use Rattle.octets.specs.Parts.{source}
 use Rattle.row_fields.proofs.Values.{under-part, stripped-value, stripped-few, stripped-top}
@@ -61,7 +61,6 @@ module _ (atoms : AtomList) (m : List ℕ) where
 
 -- a sign of 0 or 1
 sign-is : (s n : ℕ) → s ≤ 1 → with-sign (sign (ltb 0 s)) n ≡ with-sign s n
-unfolding choose
 sign-is zero n h = refl
 sign-is (suc zero) n h = refl
 sign-is (suc (suc s)) n h = absurd (omega arith)
@@ -74,22 +73,22 @@ no-sign (suc s) = refl
 module _ (atoms : AtomList) (m : List ℕ) (l : Lent atoms m) where
   whole-says : (s n : ℕ) → s ≤ 1 → n < 18446744073709551616
       → (label-of m atoms 1 (whole-of (ltb 0 s) n) ≡ integer (with-sign s n)) × Sound m (atoms .places) (whole-of (ltb 0 s) n)
-  unfolding whole-of label-of choose with-sign
+  unfolding whole-of label-of with-sign
   whole-says s n h k = go (eqb n 0) refl
     where
       go : (t : Bool) → eqb n 0 ≡ t
-          → (label-of m atoms 1 (choose t (Whole false 0) (Whole (ltb 0 s) n)) ≡ integer (with-sign s n)) × Sound m (atoms .places) (choose t (Whole false 0) (Whole (ltb 0 s) n))
+          → (label-of m atoms 1 (cond t (Whole false 0) (Whole (ltb 0 s) n)) ≡ integer (with-sign s n)) × Sound m (atoms .places) (cond t (Whole false 0) (Whole (ltb 0 s) n))
       go true e = let z : n ≡ 0 = eqb-true n 0 e in (ap integer (sym (ap (with-sign s) z ∙ no-sign s)), (omega arith, λ _. refl))
       go false e = (ap integer (sign-is s n h), (k, λ z. absurd (eqb-false n 0 e z)))
 
   stripped-says : (s start d : ℕ) → s ≤ 1 → start + d ≤ length m → (0 < d → getD m (start + (d - 1)) 0 ≡ 0 → ⊥)
       → (label-of m atoms 1 (stripped-found m (ltb 0 s) start d) ≡ integer (with-sign s (little-endian (stretch m start d)))) × Sound m (atoms .places) (stripped-found m (ltb 0 s) start d)
-  unfolding stripped-found label-of choose
+  unfolding stripped-found label-of
   stripped-says s start d h k top = go (ltb 8 d) refl
     where
       go : (t : Bool) → ltb 8 d ≡ t
-          → (label-of m atoms 1 (choose t (Big (ltb 0 s) start d) (whole-of (ltb 0 s) (little-endian (stretch m start d)))) ≡ integer (with-sign s (little-endian (stretch m start d))))
-          × Sound m (atoms .places) (choose t (Big (ltb 0 s) start d) (whole-of (ltb 0 s) (little-endian (stretch m start d))))
+          → (label-of m atoms 1 (cond t (Big (ltb 0 s) start d) (whole-of (ltb 0 s) (little-endian (stretch m start d)))) ≡ integer (with-sign s (little-endian (stretch m start d))))
+          × Sound m (atoms .places) (cond t (Big (ltb 0 s) start d) (whole-of (ltb 0 s) (little-endian (stretch m start d))))
       go true e =
           let b : 8 < d = ltb-true 8 d e in
           (ap integer (sign-is s (little-endian (stretch m start d)) h), (b, k, top (omega arith)))
@@ -108,12 +107,12 @@ module _ (atoms : AtomList) (m : List ℕ) (l : Lent atoms m) where
       (w .0 ∙ ap (λ (x : ℕ). integer (with-sign s x)) (stripped-value m start n k), w .1)
 
   pub signed-says : (n : ℕ) → n < 4294967296 → (label-of m atoms 1 (signed-whole n) ≡ integer (signed32 n)) × Sound m (atoms .places) (signed-whole n)
-  unfolding signed-whole label-of choose with-sign signed32
+  unfolding signed-whole label-of with-sign signed32
   signed-says n h = go (ltb n 2147483648) refl
     where
       go : (t : Bool) → ltb n 2147483648 ≡ t
-          → (label-of m atoms 1 (choose t (Whole false n) (Whole true (4294967296 - n))) ≡ integer (elim t [ true ↦ pos n | false ↦ negsuc (4294967296 - suc n) ]))
-          × Sound m (atoms .places) (choose t (Whole false n) (Whole true (4294967296 - n)))
+          → (label-of m atoms 1 (cond t (Whole false n) (Whole true (4294967296 - n))) ≡ integer (elim t [ true ↦ pos n | false ↦ negsuc (4294967296 - suc n) ]))
+          × Sound m (atoms .places) (cond t (Whole false n) (Whole true (4294967296 - n)))
       go true e = (refl, (omega arith, λ _. refl))
       go false e =
           let u : 4294967296 - n ≡ suc (4294967296 - suc n) = omega arith in
@@ -124,12 +123,12 @@ module _ (atoms : AtomList) (m : List ℕ) (l : Lent atoms m) where
 module _ (atoms : AtomList) (m : List ℕ) (kind : ℕ) where
   pub latin-says : (start n : ℕ) (cs : List ℕ) → Under 256 m → start + n ≤ length m → check latin-1 (stretch m start n) ≡ valid cs
       → (label-of m atoms kind (Text true false start n) ≡ atom cs) × Sound m (atoms .places) (Text true false start n)
-  unfolding label-of coded choose
+  unfolding label-of coded
   latin-says start n cs u h e =
       let k = latin1-is (stretch m start n) cs e in
       (ap atom (k .0), (h, (under-part m start n u, k .1)))
 
   pub utf8-says : (listed : Bool) (start n : ℕ) (cs : List ℕ) → start + n ≤ length (source m (atoms .places) listed) → check utf-8 (stretch (source m (atoms .places) listed) start n) ≡ valid cs
       → (label-of m atoms kind (Text false listed start n) ≡ atom cs) × Sound m (atoms .places) (Text false listed start n)
-  unfolding label-of coded choose characters-of
+  unfolding label-of coded characters-of
   utf8-says listed start n cs h e = (ap (λ (x : Checked). atom (characters-of x)) e, (h, (cs, e)))

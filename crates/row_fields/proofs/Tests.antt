@@ -1,42 +1,39 @@
 -- The ways through a definition that follows the code's tests: one law for each test and its outcome. Assumes nothing.
 use mathlib.Core.Path.{_≡_, refl, sym, _∙_, ap, ap₂}
-use mathlib.Core.Bool.{Bool, true, false}
+use mathlib.Core.Bool.{Bool, true, false, cond}
 use Prim.Native.Nat.{ℕ, _+_, _-_, _≤_, _<_}
 use native.Mathlib.Omega.{arith}
 use lib.Dec.{eqb, leb, ltb}
 use borrow.Author.Tests.{leb-true, leb-false, lt-ltb, le-ltb, lt-leb, le-leb, eq-eqb, ne-eqb}
-use Rattle.row_fields.specs.Found.{choose}
 
 module _ {A : Type 0} {t u : Bool} where
-  pub yes-way : {z a : A} (b : A) → t ≡ u → t ≡ true → z ≡ a → z ≡ choose u a b
-  unfolding choose
-  yes-way {z} {a} b p e f = f ∙ ap (λ (x : Bool). choose x a b) (sym e ∙ p)
+  pub yes-way : {z a : A} (b : A) → t ≡ u → t ≡ true → z ≡ a → z ≡ cond u a b
+  yes-way {z} {a} b p e f = f ∙ ap (λ (x : Bool). cond x a b) (sym e ∙ p)
 
-  pub no-way : {z b : A} (a : A) → t ≡ u → t ≡ false → z ≡ b → z ≡ choose u a b
-  unfolding choose
-  no-way {z} {b} a p e f = f ∙ ap (λ (x : Bool). choose x a b) (sym e ∙ p)
+  pub no-way : {z b : A} (a : A) → t ≡ u → t ≡ false → z ≡ b → z ≡ cond u a b
+  no-way {z} {b} a p e f = f ∙ ap (λ (x : Bool). cond x a b) (sym e ∙ p)
 
 module _ {A : Type 0} {x y k n : ℕ} where
-  pub below : {z a : A} (b : A) → x ≡ y → k ≡ n → x < k → z ≡ a → z ≡ choose (ltb y n) a b
+  pub below : {z a : A} (b : A) → x ≡ y → k ≡ n → x < k → z ≡ a → z ≡ cond (ltb y n) a b
   below b p q h f = yes-way b (ap₂ ltb p q) (lt-ltb x k h) f
 
-  pub not-below : {z b : A} (a : A) → x ≡ y → k ≡ n → k ≤ x → z ≡ b → z ≡ choose (ltb y n) a b
+  pub not-below : {z b : A} (a : A) → x ≡ y → k ≡ n → k ≤ x → z ≡ b → z ≡ cond (ltb y n) a b
   not-below a p q h f = no-way a (ap₂ ltb p q) (le-ltb x k h) f
 
-  pub at-most : {z a : A} (b : A) → x ≡ y → k ≡ n → x ≤ k → z ≡ a → z ≡ choose (leb y n) a b
+  pub at-most : {z a : A} (b : A) → x ≡ y → k ≡ n → x ≤ k → z ≡ a → z ≡ cond (leb y n) a b
   at-most b p q h f = yes-way b (ap₂ leb p q) (le-leb x k h) f
 
-  pub above : {z b : A} (a : A) → x ≡ y → k ≡ n → k < x → z ≡ b → z ≡ choose (leb y n) a b
+  pub above : {z b : A} (a : A) → x ≡ y → k ≡ n → k < x → z ≡ b → z ≡ cond (leb y n) a b
   above a p q h f = no-way a (ap₂ leb p q) (lt-leb x k h) f
 
-  pub equal : {z a : A} (b : A) → x ≡ y → k ≡ n → x ≡ k → z ≡ a → z ≡ choose (eqb y n) a b
+  pub equal : {z a : A} (b : A) → x ≡ y → k ≡ n → x ≡ k → z ≡ a → z ≡ cond (eqb y n) a b
   equal b p q h f = yes-way b (ap₂ eqb p q) (eq-eqb x k h) f
 
-  pub unequal : {z b : A} (a : A) → x ≡ y → k ≡ n → (x ≡ k → ⊥) → z ≡ b → z ≡ choose (eqb y n) a b
+  pub unequal : {z b : A} (a : A) → x ≡ y → k ≡ n → (x ≡ k → ⊥) → z ≡ b → z ≡ cond (eqb y n) a b
   unequal a p q h f = no-way a (ap₂ eqb p q) (ne-eqb x k h) f
 
 -- k are left after `at`
-pub enough : {A : Type 0} {z b : A} (a : A) (l at k n : ℕ) → k ≡ n → at + k ≤ l → z ≡ b → z ≡ choose (ltb (l - at) n) a b
+pub enough : {A : Type 0} {z b : A} (a : A) (l at k n : ℕ) → k ≡ n → at + k ≤ l → z ≡ b → z ≡ cond (ltb (l - at) n) a b
 enough a l at k n q h f = let g : k ≤ l - at = omega arith in not-below a refl q g f
 
 -- n past at, at most a limit

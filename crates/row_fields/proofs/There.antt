@@ -7,8 +7,8 @@ use native.Mathlib.Omega.{arith}
 use lib.Dec.{ltb}
 use lib.ListN.{length, getD}
 use Rattle.row_fields.specs.declared.Content.the-variants.{Whole, Float, Text, Bytes, Pid, Port, Reference}
-use Rattle.row_fields.specs.Found.{choose, value, stripped, byte-found, signed-whole, signed-found, stripped-found, big-found, integer-found, float-found, text-width, text-found, place-found, listed-found, atom-found, text-end, atom-end, bytes-found, bits-of, bits-found, binary-found, pid-found, port-found, words-found, word-found, counted-found, pids-found, ports-found, references-found}
-use Rattle.row_fields.proofs.Tests.{enough, above, equal, unequal}
+use Rattle.row_fields.specs.Found.{value, stripped, byte-found, signed-whole, signed-found, stripped-found, big-found, integer-found, float-found, text-width, text-found, place-found, listed-found, atom-found, text-end, atom-end, bytes-found, bits-of, bits-found, binary-found, pid-found, port-found, words-found, word-found, counted-found, pids-found, ports-found, references-found}
+use Rattle.row_fields.proofs.Tests.{enough, above, unequal}
 
 module _ (m : List ℕ) (at : ℕ) where
   pub byte-there : at + 1 ≤ length m → Whole false (value m 1 at) ≡ byte-found m at
@@ -40,7 +40,7 @@ module _ (m : List ℕ) (at : ℕ) where
 
   pub end-listed : at + 2 ≡ text-end m 0 at
   unfolding text-end
-  end-listed = equal {x = 0} {k = 0} _ refl refl refl refl
+  end-listed = refl
 
   pub atom-ends : (w n : ℕ) → at < length m → text-width (getD m at 0) ≡ w → n ≡ text-end m w at → n ≡ atom-end m at
   unfolding atom-end
@@ -86,23 +86,23 @@ module _ (m : List ℕ) (end : ℕ) where
 -- by the tag
 module _ (m : List ℕ) (at : ℕ) where
   pub tag-97 : byte-found m (at + 1) ≡ integer-found m at 97
-  unfolding integer-found choose
+  unfolding integer-found
   tag-97 = refl
 
   pub tag-98 : signed-found m at ≡ integer-found m at 98
-  unfolding integer-found choose
+  unfolding integer-found
   tag-98 = refl
 
   pub tag-110 : big-found m 1 at ≡ integer-found m at 110
-  unfolding integer-found choose
+  unfolding integer-found
   tag-110 = refl
 
   pub tag-111 : big-found m 4 at ≡ integer-found m at 111
-  unfolding integer-found choose
+  unfolding integer-found
   tag-111 = refl
 
   pub tag-82 : (places lengths : List ℕ) → listed-found m places lengths at ≡ atom-found m places lengths at 82
-  unfolding atom-found text-width choose
+  unfolding atom-found text-width
   tag-82 places lengths = refl
 
   -- an atom's tag with the width of its length, and its coding
@@ -112,41 +112,41 @@ module _ (m : List ℕ) (at : ℕ) where
       unequal {x = w} {k = 0} _ (sym e) refl (λ z. omega arith) (ap₂ (λ (x : ℕ) (y : Bool). text-found m x y at) (sym e) (sym f))
 
   pub tag-77 : bits-found m at ≡ binary-found m at 77
-  unfolding binary-found choose
+  unfolding binary-found
   tag-77 = refl
 
   pub tag-109 : bytes-found m at ≡ binary-found m at 109
-  unfolding binary-found choose
+  unfolding binary-found
   tag-109 = refl
 
   pub tag-88 : pid-found m 4 (atom-end m (at + 1)) ≡ pids-found m at 88
-  unfolding pids-found choose
+  unfolding pids-found
   tag-88 = refl
 
   pub tag-103 : pid-found m 1 (atom-end m (at + 1)) ≡ pids-found m at 103
-  unfolding pids-found choose
+  unfolding pids-found
   tag-103 = refl
 
   pub tag-89 : port-found m 4 4 (atom-end m (at + 1)) ≡ ports-found m at 89
-  unfolding ports-found choose
+  unfolding ports-found
   tag-89 = refl
 
   pub tag-102 : port-found m 4 1 (atom-end m (at + 1)) ≡ ports-found m at 102
-  unfolding ports-found choose
+  unfolding ports-found
   tag-102 = refl
 
   pub tag-120 : port-found m 8 4 (atom-end m (at + 1)) ≡ ports-found m at 120
-  unfolding ports-found choose
+  unfolding ports-found
   tag-120 = refl
 
   pub tag-90 : counted-found m 4 at ≡ references-found m at 90
-  unfolding references-found choose
+  unfolding references-found
   tag-90 = refl
 
   pub tag-114 : counted-found m 1 at ≡ references-found m at 114
-  unfolding references-found choose
+  unfolding references-found
   tag-114 = refl
 
   pub tag-101 : word-found m (atom-end m (at + 1)) ≡ references-found m at 101
-  unfolding references-found choose
+  unfolding references-found
   tag-101 = refl

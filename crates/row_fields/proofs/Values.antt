@@ -1,6 +1,6 @@
 -- Numbers in bytes: how large they are, that equal ones have equal bytes, and what high zero digits are worth. Assumes nothing.
 use mathlib.Core.Path.{_≡_, refl, sym, _∙_, ap, ap₂}
-use mathlib.Core.Bool.{Bool, true, false}
+use mathlib.Core.Bool.{Bool, true, false, cond}
 use mathlib.Core.List.{List, [], _∷_, _++_}
 use Prim.Native.Nat.{ℕ, zero, suc, _+_, _*_, _-_, _/_, _%_, _^_, _≤_, _<_}
 use native.Mathlib.Nat.{pow-succ', one-le-pow, mul-left-comm, mul-le-mul-right}
@@ -12,7 +12,7 @@ use borrow.Author.Tests.{eqb-true, eqb-false}
 use Rattle.term_spec.specs.Numbers.{big-endian, little-endian, Under}
 use Rattle.term_spec.proofs.Holds.{big-under}
 use Rattle.octets.proofs.Parts.{length-part, part-last}
-use Rattle.row_fields.specs.Found.{choose, value, stripped}
+use Rattle.row_fields.specs.Found.{value, stripped}
 
 -- ---- bytes under 256
 
@@ -82,34 +82,34 @@ module _ (m : List ℕ) (start : ℕ) where
 
   -- high zeros are worth nothing
   pub stripped-value : (n : ℕ) → start + n ≤ length m → little-endian (take (stripped m start n) (drop start m)) ≡ little-endian (take n (drop start m))
-  unfolding stripped choose
+  unfolding stripped
   stripped-value zero h = refl
   stripped-value (suc n) h = go (eqb (getD m (start + n) 0) 0) refl (λ k. stripped-value n k)
     where
       go : (t : Bool) → eqb (getD m (start + n) 0) 0 ≡ t → (start + n ≤ length m → little-endian (take (stripped m start n) (drop start m)) ≡ little-endian (take n (drop start m)))
-          → little-endian (take (choose t (stripped m start n) (suc n)) (drop start m)) ≡ little-endian (take (suc n) (drop start m))
+          → little-endian (take (cond t (stripped m start n) (suc n)) (drop start m)) ≡ little-endian (take (suc n) (drop start m))
       go true e ih =
           let z : getD m (start + n) 0 ≡ 0 = eqb-true _ _ e in
           ih (omega arith) ∙ sym (little-more n h ∙ rw z (omega arith))
       go false e ih = refl
 
   pub stripped-few : (n : ℕ) → stripped m start n ≤ n
-  unfolding stripped choose
+  unfolding stripped
   stripped-few zero = omega arith
   stripped-few (suc n) = go (eqb (getD m (start + n) 0) 0) (stripped-few n)
     where
-      go : (t : Bool) → stripped m start n ≤ n → choose t (stripped m start n) (suc n) ≤ suc n
+      go : (t : Bool) → stripped m start n ≤ n → cond t (stripped m start n) (suc n) ≤ suc n
       go true k = omega arith
       go false k = omega arith
 
   -- the highest digit kept is not zero
   pub stripped-top : (n : ℕ) → 0 < stripped m start n → getD m (start + (stripped m start n - 1)) 0 ≡ 0 → ⊥
-  unfolding stripped choose
+  unfolding stripped
   stripped-top zero h e = omega arith
   stripped-top (suc n) h e = go (eqb (getD m (start + n) 0) 0) refl h e (λ k f. stripped-top n k f)
     where
-      go : (t : Bool) → eqb (getD m (start + n) 0) 0 ≡ t → 0 < choose t (stripped m start n) (suc n)
-          → getD m (start + (choose t (stripped m start n) (suc n) - 1)) 0 ≡ 0
+      go : (t : Bool) → eqb (getD m (start + n) 0) 0 ≡ t → 0 < cond t (stripped m start n) (suc n)
+          → getD m (start + (cond t (stripped m start n) (suc n) - 1)) 0 ≡ 0
           → (0 < stripped m start n → getD m (start + (stripped m start n - 1)) 0 ≡ 0 → ⊥) → ⊥
       go true p k f ih = ih k f
       go false p k f ih =

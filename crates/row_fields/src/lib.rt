@@ -1,12 +1,13 @@
 // The own fields of a row's term, found again in the message and the atom list. The message was read before: only bounds are tested.
 ghost use mathlib.Core.Path.{_≡_};
 ghost use mathlib.Core.Bool.{true, false};
-ghost use mathlib.Core.List.{[], _∷_, _++_};
-ghost use Prim.Native.Nat.{ℕ, _+_, _*_, _-_, _≤_, _<_};
-ghost use lib.Dec.{leb};
+ghost use Prim.Native.Nat.{_+_, _-_, _≤_, _<_};
 ghost use lib.ListN.{length, getD, take, drop};
 ghost use Rattle.term_spec.specs.Numbers.{little-endian};
-ghost use Rattle.row_fields.specs.Found.{Width, value, stripped, byte-found, signed-whole, signed-found, whole-of, stripped-found, big-found, integer-found, float-found, text-width, text-found, place-found, listed-found, atom-found, text-end, atom-end, bytes-found, bits-of, bits-found, binary-found, pid-found, port-found, words-found, word-found, counted-found, pids-found, ports-found, references-found, content-of};
+ghost use Rattle.row_fields.specs.Found.{Width, stripped, byte-found, signed-whole, signed-found, whole-of, stripped-found, big-found, integer-found, float-found, text-width, text-found, place-found, listed-found, atom-found, text-end, atom-end, bytes-found, bits-of, bits-found, binary-found, pid-found, port-found, words-found, word-found, counted-found, pids-found, ports-found, references-found, content-of};
+use term_spec::kinds;
+use term_spec::sizes;
+use term_spec::tags;
 
 // A term's own fields.
 pub enum Content {
@@ -187,15 +188,15 @@ fn big(msg: &[u8], w: usize, at: usize) -> Content
 }
 
 // The integer whose tag is at `at`.
-fn integer(msg: &[u8], at: usize, tag: usize) -> Content
+fn integer(msg: &[u8], at: usize, tag: u8) -> Content
     requires { ⌜ at < length (now msg) ⌝ }
     ensures { λ r. ⌜ r ≡ integer-found (now (msg .entry)) at tag ⌝ }
 {
     match tag {
-        97 => byte(msg, at + 1),
-        98 => signed(msg, at),
-        110 => big(msg, 1, at),
-        111 => big(msg, 4, at),
+        tags::SMALL_INTEGER_EXT => byte(msg, at + 1),
+        tags::INTEGER_EXT => signed(msg, at),
+        tags::SMALL_BIG_EXT => big(msg, 1, at),
+        tags::LARGE_BIG_EXT => big(msg, 4, at),
         _ => Content::Nothing,
     }
 }
@@ -211,15 +212,15 @@ fn float(msg: &[u8], at: usize) -> Content
     Content::Float { bits: bits }
 }
 
-// The width of the length of an atom with this tag; 0 for tag 82, which has none.
-fn width_of(tag: usize) -> usize
+// The width of the length of an atom with this tag; 0 for one of the list, which has none.
+fn width_of(tag: u8) -> usize
     ensures { λ r. ⌜ (r ≡ text-width tag) × (r ≤ 2) × ((r ≡ 0 → ⊥) → Width r) ⌝ }
 {
     match tag {
-        100 => 2,
-        118 => 2,
-        115 => 1,
-        119 => 1,
+        tags::ATOM_EXT => 2,
+        tags::ATOM_UTF8_EXT => 2,
+        tags::SMALL_ATOM_EXT => 1,
+        tags::SMALL_ATOM_UTF8_EXT => 1,
         _ => 0,
     }
 }
@@ -250,14 +251,7 @@ fn length_at(lengths: &[u16], i: usize) -> usize
     requires { ⌜ i < length (now lengths) ⌝ }
     ensures { λ r. ⌜ r ≡ getD (now (lengths .entry)) i 0 ⌝ }
 {
-    wide16(lengths[i])
-}
-
-// A number of 16 bits as one of a machine word.
-pub fn wide16(x: u16) -> usize
-    ensures { λ r. ⌜ r ≡ x ⌝ }
-{
-    x as usize
+    octets::wide16(lengths[i])
 }
 
 // The text of the list's place i.
@@ -269,7 +263,7 @@ fn place(places: &[u8], lengths: &[u16], i: usize) -> Content
         return Content::Nothing;
     }
     let n = length_at(lengths, i);
-    let start = 32 * i;
+    let start = sizes::PLACE_BYTES * i;
     if left(places, start) < n {
         return Content::Nothing;
     }
@@ -292,14 +286,14 @@ fn listed(msg: &[u8], places: &[u8], lengths: &[u16], at: usize) -> Content
 }
 
 // The atom whose tag is at `at`.
-fn atom(msg: &[u8], places: &[u8], lengths: &[u16], at: usize, tag: usize) -> Content
+fn atom(msg: &[u8], places: &[u8], lengths: &[u16], at: usize, tag: u8) -> Content
     ensures { λ r. ⌜ r ≡ atom-found (now (msg .entry)) (now (places .entry)) (now (lengths .entry)) at tag ⌝ }
 {
     let w = width_of(tag);
     if w == 0 {
         return listed(msg, places, lengths, at);
     }
-    text(msg, w, tag < 118, at)
+    text(msg, w, tag < tags::ATOM_UTF8_EXT, at)
 }
 
 fn text_end(msg: &[u8], w: usize, at: usize) -> usize
@@ -327,7 +321,7 @@ fn atom_end(msg: &[u8], at: usize) -> usize
     if left(msg, at) < 1 {
         return msg.len();
     }
-    text_end(msg, width_of(octets::wide(msg[at])), at)
+    text_end(msg, width_of(msg[at]), at)
 }
 
 // The bytes of the binary whose tag is at `at`.
@@ -384,10 +378,10 @@ fn bits(msg: &[u8], at: usize) -> Content
 }
 
 // The binary or bitstring whose tag is at `at`.
-fn binary(msg: &[u8], at: usize, tag: usize) -> Content
+fn binary(msg: &[u8], at: usize, tag: u8) -> Content
     ensures { λ r. ⌜ r ≡ binary-found (now (msg .entry)) at tag ⌝ }
 {
-    if tag == 77 {
+    if tag == tags::BIT_BINARY_EXT {
         return bits(msg, at);
     }
     bytes(msg, at)
@@ -471,41 +465,41 @@ fn counted(msg: &[u8], w: usize, at: usize) -> Content
 }
 
 // The pid whose tag is at `at`.
-fn pid(msg: &[u8], at: usize, tag: usize) -> Content
+fn pid(msg: &[u8], at: usize, tag: u8) -> Content
     requires { ⌜ at < length (now msg) ⌝ }
     ensures { λ r. ⌜ r ≡ pids-found (now (msg .entry)) at tag ⌝ }
 {
     let end = atom_end(msg, at + 1);
-    if tag == 103 {
+    if tag == tags::PID_EXT {
         return pid_from(msg, 1, end);
     }
     pid_from(msg, 4, end)
 }
 
 // The port whose tag is at `at`.
-fn port(msg: &[u8], at: usize, tag: usize) -> Content
+fn port(msg: &[u8], at: usize, tag: u8) -> Content
     requires { ⌜ at < length (now msg) ⌝ }
     ensures { λ r. ⌜ r ≡ ports-found (now (msg .entry)) at tag ⌝ }
 {
     let end = atom_end(msg, at + 1);
-    if tag == 120 {
+    if tag == tags::V4_PORT_EXT {
         return port_from(msg, 8, 4, end);
     }
-    if tag == 102 {
+    if tag == tags::PORT_EXT {
         return port_from(msg, 4, 1, end);
     }
     port_from(msg, 4, 4, end)
 }
 
 // The reference whose tag is at `at`.
-fn reference(msg: &[u8], at: usize, tag: usize) -> Content
+fn reference(msg: &[u8], at: usize, tag: u8) -> Content
     requires { ⌜ at < length (now msg) ⌝ }
     ensures { λ r. ⌜ r ≡ references-found (now (msg .entry)) at tag ⌝ }
 {
-    if tag == 101 {
+    if tag == tags::REFERENCE_EXT {
         return word_from(msg, atom_end(msg, at + 1));
     }
-    if tag == 114 {
+    if tag == tags::NEW_REFERENCE_EXT {
         return counted(msg, 1, at);
     }
     counted(msg, 4, at)
@@ -518,17 +512,17 @@ pub fn content_at(msg: &[u8], places: &[u8], lengths: &[u16], kind: usize, offse
     if msg.len() <= offset {
         return Content::Nothing;
     }
-    let tag = octets::wide(msg[offset]);
+    let tag = msg[offset];
     match kind {
-        1 => integer(msg, offset, tag),
-        2 => float(msg, offset),
-        3 => atom(msg, places, lengths, offset, tag),
-        7 => binary(msg, offset, tag),
-        8 => binary(msg, offset, tag),
-        10 => pid(msg, offset, tag),
-        11 => port(msg, offset, tag),
-        12 => reference(msg, offset, tag),
-        14 => byte(msg, offset),
+        kinds::INTEGER => integer(msg, offset, tag),
+        kinds::FLOAT => float(msg, offset),
+        kinds::ATOM => atom(msg, places, lengths, offset, tag),
+        kinds::BINARY => binary(msg, offset, tag),
+        kinds::BITSTRING => binary(msg, offset, tag),
+        kinds::PID => pid(msg, offset, tag),
+        kinds::PORT => port(msg, offset, tag),
+        kinds::REFERENCE => reference(msg, offset, tag),
+        kinds::CHARACTER => byte(msg, offset),
         _ => Content::Nothing,
     }
 }

@@ -24,11 +24,11 @@ use Rattle.term_spec.proofs.Words.{small-rows, sets-here, length-words-of}
 use Rattle.term_head.specs.declared.Wanted.the-variants.{Any}
 use Rattle.term_head.specs.Code.{wanted-of}
 use Rattle.map_keys.specs.Compare.{among-rows}
-use Rattle.map_keys.specs.Seen.{Known, Keeps, term-hash, Recalls}
+use Rattle.map_keys.specs.KeySet.{Contains, Keeps, term-hash, Contains-before}
 use Rattle.map_keys.proofs.Compare.{Keys-of, no-keys, one-more-key}
 use Rattle.map_keys.proofs.Held.{Held-rows, last-among}
-use Rattle.map_keys.proofs.Slots.{keeps-trans, known-as, known-kept}
-use Rattle.map_keys.proofs.Seen.{Remembered, no-key, remembered-kept, remembered-more, recalled, hash-held}
+use Rattle.map_keys.proofs.Slots.{keeps-trans, contains-as, contains-kept}
+use Rattle.map_keys.proofs.KeySet.{Contains-keys, no-key, keys-kept, keys-more, contains-before, hash-held}
 use Rattle.term_reader.specs.declared.Step.{Step}
 use Rattle.term_reader.specs.declared.Step.the-variants as step
 use Rattle.term_reader.specs.declared.Parts.{Parts}
@@ -72,7 +72,7 @@ pub record Entered (atoms : Atoms) (cap deep : ℕ) (m places lengths : List ℕ
   pub backed : Backeds m cap atoms ts
   pub placed : Each-nodes (Placed 65536) ts
   pub goes : entries (term atoms cap deep) [] all (at-offset m start first) ≡ after (entries (term atoms cap deep) earlier more (at-offset m at row)) (λ us. done (ts ▹▹ us))
-  pub remembered : Remembered m places lengths (whole-of first) first first ts L
+  pub remembered : Contains-keys m places lengths (whole-of first) first first ts L
 
 pub entered-none : (atoms : Atoms) (cap deep : ℕ) (m places lengths : List ℕ) (start first all : ℕ) (T L : List ℕ) → Entered atoms cap deep m places lengths start first all T start first all T L
 unfolding rows row-words Each-node
@@ -141,7 +141,7 @@ module _ (atoms : Atoms) (cap deep : ℕ) (m places lengths : List ℕ) (start f
 
       module _ (list : AtomList) (room : Room m list T cap at row first) (next end : ℕ) (e : r ≡ step.Got next end)
           (tell : Told m cap atoms places lengths first)
-          (b : Bool) (L₁ : List ℕ) (kept₁ : Keeps L L₁) (judged : Recalls m places lengths T′ first row L₁ → b ≡ among-rows m places lengths T′ first row) where
+          (b : Bool) (L₁ : List ℕ) (kept₁ : Keeps L L₁) (judged : Contains-before m places lengths T′ first row L₁ → b ≡ among-rows m places lengths T′ first row) where
         abbrev key : Found size (λ t. row-words (tree-rows (whole-of first) row t)) (Each-node (Placed 65536)) m cap row T (Part (wanted-of Any) (at-offset m at row)) next end T′
         key = step-found size _ _ m cap row T (Part (wanted-of Any) (at-offset m at row)) r T′ next end e d
 
@@ -177,10 +177,10 @@ module _ (atoms : Atoms) (cap deep : ℕ) (m places lengths : List ℕ) (start f
               all-backed = backing.joined m cap atoms (i .ts) (key .x ▹ empty) (i .backed) (backed-key, tt);
             }
 
-        recalls-keys : Recalls m places lengths T′ first row L₁
+        recalls-keys : Contains-before m places lengths T′ first row L₁
         recalls-keys =
-            subst (λ (k : ℕ). Recalls m places lengths T′ first k L₁) (sym (i .rows-are))
-            (recalled m places lengths cap atoms (i .ts) (key .x) held (remembered-kept kept₁ (i .remembered)))
+            subst (λ (k : ℕ). Contains-before m places lengths T′ first k L₁) (sym (i .rows-are))
+            (contains-before m places lengths cap atoms (i .ts) (key .x) held (keys-kept kept₁ (i .remembered)))
 
         is-among : b ≡ among (meaning (key .x)) (i .earlier)
         is-among = judged recalls-keys ∙ ap (λ (k : ℕ). among-rows m places lengths T′ first k) (i .rows-are) ∙ tell T′ (i .ts) (key .x) (i .earlier) (i .keys) held
@@ -196,14 +196,14 @@ module _ (atoms : Atoms) (cap deep : ℕ) (m places lengths : List ℕ) (start f
               rw (i .goes, next-pair, key .is, sym is-among ∙ new, step-refused _ _ _ m cap end T′ (Part any (at-offset m next end)) r′ T″ k p f d′)
 
           -- the new key is remembered, and so are the others
-          remembered-key : (v : Located) (L₂ L₃ : List ℕ) → Keeps L₁ L₂ → Keeps L₂ L₃ → Known L₂ (term-hash m places lengths T′ first row) row
-              → Remembered m places lengths (whole-of first) first first (i .ts ▹▹ (key .x ▹ v ▹ empty)) L₃
+          remembered-key : (v : Located) (L₂ L₃ : List ℕ) → Keeps L₁ L₂ → Keeps L₂ L₃ → Contains L₂ (term-hash m places lengths T′ first row) row
+              → Contains-keys m places lengths (whole-of first) first first (i .ts ▹▹ (key .x ▹ v ▹ empty)) L₃
           remembered-key v L₂ L₃ kept₂ kept₃ known =
-              remembered-more (key .x) v (remembered-kept (keeps-trans kept₁ (keeps-trans kept₂ kept₃)) (i .remembered))
-              (known-as (hash-held m places lengths cap atoms (i .ts) (key .x) held)
-              (subst (λ (k : ℕ). Known L₃ (term-hash m places lengths T′ first k) k) (i .rows-are) (known-kept kept₃ known)))
+              keys-more (key .x) v (keys-kept (keeps-trans kept₁ (keeps-trans kept₂ kept₃)) (i .remembered))
+              (contains-as (hash-held m places lengths cap atoms (i .ts) (key .x) held)
+              (subst (λ (k : ℕ). Contains L₃ (term-hash m places lengths T′ first k) k) (i .rows-are) (contains-kept kept₃ known)))
 
-          pub entered-more : (next′ end′ : ℕ) → r′ ≡ step.Got next′ end′ → (L₂ L₃ : List ℕ) → Keeps L₁ L₂ → Keeps L₂ L₃ → (b ≡ false → Known L₂ (term-hash m places lengths T′ first row) row)
+          pub entered-more : (next′ end′ : ℕ) → r′ ≡ step.Got next′ end′ → (L₂ L₃ : List ℕ) → Keeps L₁ L₂ → Keeps L₂ L₃ → (b ≡ false → Contains L₂ (term-hash m places lengths T′ first row) row)
               → Entered atoms cap deep m places lengths start first all T₀ next′ end′ (more - 1) T″ L₃
           unfolding rows Each-node wanted-of
           entered-more next′ end′ f L₂ L₃ kept₂ kept₃ known =

@@ -18,7 +18,7 @@ use Rattle.term_head.specs.declared.Head as code
 use Rattle.term_head.specs.declared.Later as code-later
 use Rattle.term_head.specs.Code.{kind-later, later-of, head-at}
 use Rattle.term_head.specs.Quick.{Told}
-use Rattle.map_keys.specs.Seen.{Keeps}
+use Rattle.map_keys.specs.KeySet.{Keeps}
 use Rattle.term_reader.specs.declared.Step.{Step}
 use Rattle.term_reader.specs.declared.Step.the-variants as step
 use Rattle.term_reader.specs.declared.Parts.{Parts}

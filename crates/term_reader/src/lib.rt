@@ -892,7 +892,7 @@ fn read_pairs(
         ) {
             Step::Refused { number, place } => return Parts::Refused { number, place },
             Step::Got { next, rows } => {
-                if map_keys::repeats(msg, places, lengths, table, seen, row, row_now) {
+                if map_keys::contains_or_insert(msg, places, lengths, table, seen, row, row_now) {
                     return Parts::Refused {
                         number: refusals::KEY,
                         place: at_now,

@@ -4,9 +4,10 @@ ghost use Prim.Native.Nat.{_+_, _*_, _≤_, _<_};
 ghost use lib.ListN.{length, take, drop};
 ghost use lib.Seq.{sets};
 ghost use Rattle.term_spec.specs.Text.{_to_, holds, utf-8, latin-1, coding-of, check, encode, encodes};
-ghost use Rattle.term_spec.specs.Text as format;
+ghost use Rattle.term_spec.specs.Text as texts;
 ghost use Rattle.text.specs.Shown.{shown, is-valid};
 ghost use Rattle.text.specs.Characters.{due, Completes, CharacterAt};
+use term_spec::sizes;
 
 // The number of a text's characters, or the offset at which it fails.
 pub enum Checked {
@@ -97,7 +98,7 @@ fn check_utf8(s: &[u8]) -> Checked
     let mut at = 0;
     let mut count = 0;
     while at < s.len() {
-        if count == 255 {
+        if count == sizes::CHARACTERS_MOST {
             return Checked::Bad(at);
         }
         match character_at(s, at) {
@@ -117,15 +118,15 @@ fn check_utf8(s: &[u8]) -> Checked
 fn check_latin1(s: &[u8]) -> Checked
     ensures { λ r. ⌜ r ≡ shown (check latin-1 (now (s .entry))) ⌝ }
 {
-    if 255 < s.len() {
-        return Checked::Bad(255);
+    if sizes::CHARACTERS_MOST < s.len() {
+        return Checked::Bad(sizes::CHARACTERS_MOST);
     }
     Checked::Characters(s.len())
 }
 
-// Whether a text was found.
+// Whether the check found a text.
 fn is_valid(c: Checked) -> bool
-    ensures { λ r. ⌜ ((o : format.Checked) → c ≡ shown o → r ≡ is-valid o) ⌝ }
+    ensures { λ r. ⌜ ((o : texts.Checked) → c ≡ shown o → r ≡ is-valid o) ⌝ }
 {
     match c {
         Checked::Characters(_) => true,

@@ -25,7 +25,7 @@ use Rattle.term_spec.proofs.Words.{table-rows}
 use Rattle.term_spec.proofs.Message.{Accepted-message, accepted-message, allowed-valid}
 use Rattle.row_fields.specs.declared.Content.{Content}
 use Rattle.row_fields.specs.declared.Content.the-variants.{Nothing, Whole, Big, Float, Text, Bytes, Bits, Pid, Port, Reference}
-use Rattle.row_fields.specs.Found.{choose, content-of}
+use Rattle.row_fields.specs.Found.{content-of}
 use Rattle.row_fields.specs.Meaning.{characters-of, label-of}
 use Rattle.row_fields.proofs.Says as contents
 use Rattle.row_fields.proofs.Says.{Readable, Lent, Says}
@@ -66,7 +66,7 @@ not-zero negative (suc n) h e = omega arith
 
 module _ (m : List ℕ) (atoms : AtomList) (short : length m ≤ 65536) (fits : length (atoms .places) ≤ 65536) where
   text-sound : (latin1 listed : Bool) (start n : ℕ) → contents.Sound m (atoms .places) (Text latin1 listed start n) → Sound m (atoms .places) (Text latin1 listed start n)
-  unfolding Sound choose
+  unfolding Sound
   text-sound latin1 true start n (h, r) = (record { there = h; few = omega arith }, λ e. spelt-by _ (subst (λ (z : Bool). Readable z (stretch (atoms .places) start n)) e r))
   text-sound latin1 false start n (h, r) = (record { there = h; few = omega arith }, λ e. spelt-by _ (subst (λ (z : Bool). Readable z (stretch m start n)) e r))
 

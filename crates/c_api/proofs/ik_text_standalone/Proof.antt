@@ -12,7 +12,7 @@ flat-text-requires : tie.Need-flat-text-requires
 flat-text-requires c κs = search needs
 
 returns : tie.Need-returns
-returns c = c .flat-text .ensures ∙ ap flat-text (c .before .locate-standalone .ensures .0)
+returns c = c .flat-text .ensures ∙ ap flat-text (c .before .locate-standalone .ensures .text-located)
 
 pub ik-text-standalone-spec : {M : Type 1} → statement M
 ik-text-standalone-spec =

@@ -1,7 +1,6 @@
 -- `canonical_fields::bare_lead` meets its contract. By the kind. Assumes nothing.
 use Rattle.canonical_fields.specs.Shape.{before}
 use Rattle.row_fields.specs.Meaning.{bare}
-use Rattle.row_fields.specs.Found.{choose}
 use Rattle.term_spec.specs.Numbers.{in-bytes}
 use Rattle.term_spec.specs.Term.{Label}
 use Rattle.canonical_fields.proofs.Leads.{says, only-tagged, bare-is, bare-export}
@@ -29,25 +28,25 @@ tagged-requires-3 : tie.Need-tagged-requires-3
 tagged-requires-3 c κs = search needs
 
 returns : tie.Need-returns
-unfolding bare choose
+unfolding bare
 returns c =
     let args = c .before .before .args in
     λ m places. says (ap (λ (l : Label). before l (args .n)) (bare-is (args .kind) 4 (c .before .match .keys1))) (c .tuple-lead .ensures m places)
 
 returns-2 : tie.Need-returns-2
-unfolding bare choose
+unfolding bare
 returns-2 c =
     let args = c .before .before .args in
     λ m places. says (ap (λ (l : Label). before l (args .n)) (bare-is (args .kind) 5 (c .before .match .keys2))) (c .list-lead .ensures m places)
 
 returns-3 : tie.Need-returns-3
-unfolding bare choose before
+unfolding bare before
 returns-3 c =
     let args = c .before .before .args in
     λ m places. says (ap (λ (l : Label). before l (args .n)) (bare-is (args .kind) 6 (c .before .match .keys3))) (only-tagged _ _ _ (c .tagged .ensures) refl m places)
 
 returns-4 : tie.Need-returns-4
-unfolding bare choose before
+unfolding bare before
 returns-4 c =
     let args = c .before .before .args in
     λ m places. says (ap (λ (l : Label). before l (args .n)) (bare-is (args .kind) 9 (c .before .match .keys4))) (only-tagged _ _ _ (c .tagged2 .ensures) refl m places)

@@ -1,7 +1,6 @@
 -- `canonical_fields::bare_trail` meets its contract. Only lists have an end. Assumes nothing.
 use Rattle.canonical_fields.specs.Shape.{after}
 use Rattle.row_fields.specs.Meaning.{bare}
-use Rattle.row_fields.specs.Found.{choose}
 use Rattle.term_spec.specs.Term.{Label}
 use Rattle.canonical_fields.proofs.Leads.{says, bare-is, bare-over}
 use mathlib.Core.Path.{ap}
@@ -13,7 +12,7 @@ list-trail-requires : tie.Need-list-trail-requires
 list-trail-requires c κs = search needs
 
 returns : tie.Need-returns
-unfolding bare choose
+unfolding bare
 returns c =
     let args = c .before .before .args in
     λ m places. says (ap (λ (l : Label). after l (args .n)) (bare-is (args .kind) 5 (c .before .if1 .taken))) (c .list-trail .ensures m places)

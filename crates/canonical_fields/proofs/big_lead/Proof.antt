@@ -13,13 +13,13 @@ laid-requires : tie.Need-laid-requires
 laid-requires c κs = search needs
 
 returns : tie.Need-returns
-returns c = (λ m places h b. big-lays m _ _ h b _ places _ _ _ (c .laid .ensures) (omega arith) (omega arith) (c .before .before .sign-of .ensures) (big-110 _ _ _ (length-stretch m _ _ (h .there)) (c .before .if1 .taken)))
+returns c = (λ m places h b. big-lays m _ _ h b (c .before .before .before .args .negative) places _ _ _ (c .laid .ensures) (omega arith) (omega arith) (c .before .before .sign-of .ensures) (big-110 _ _ _ (length-stretch m _ _ (h .there)) (c .before .if1 .taken)))
 
 laid-requires-2 : tie.Need-laid-requires-2
 laid-requires-2 c κs = search needs
 
 returns-2 : tie.Need-returns-2
-returns-2 c = (λ m places h b. big-lays m _ _ h b _ places _ _ _ (c .laid2 .ensures) (omega arith) (omega arith) (c .before .before .sign-of .ensures) (big-111 _ _ _ (length-stretch m _ _ (h .there)) (c .before .if1 .left)))
+returns-2 c = (λ m places h b. big-lays m _ _ h b (c .before .before .before .args .negative) places _ _ _ (c .laid2 .ensures) (omega arith) (omega arith) (c .before .before .sign-of .ensures) (big-111 _ _ _ (length-stretch m _ _ (h .there)) (c .before .if1 .left)))
 
 pub big-lead-spec : {M : Type 1} → statement M
 big-lead-spec =

@@ -1,6 +1,5 @@
 -- `layout::body_length` meets its contract. Case by case, the length of the body's bytes. Assumes nothing.
 use Rattle.layout.proofs.Bodies.{part-inside, latin1-inside, bits-inside, body-empty, body-part, body-latin1, body-digits, body-bits, length-stretch, length-bits}
-use Rattle.octets.specs.Parts.{choose}
 use lib.ListN.{length}
 use native.Mathlib.Omega.{arith}
 use mathlib.Core.Bool.{true, false}
@@ -19,19 +18,16 @@ enum-known-body-2 : tie.Need-enum-known-body-2
 enum-known-body-2 c = search needs
 
 utf8-length-requires : tie.Need-utf8-length-requires
-unfolding choose
 utf8-length-requires c κs =
     let args = c .before .before .before .before .before .before .args in
     let i = latin1-inside (args .msg .now) (args .places .now) (args .body) _ true _ _ (c .if1 .taken) (c .before .before .body2 .given .1) (c .before .before .before .before .before .before .pre) in (i .there, i .few)
 
 returns : tie.Need-returns
-unfolding choose
 returns c =
     let args = c .before .before .before .before .before .before .before .args in
     let i = latin1-inside (args .msg .now) (args .places .now) (args .body) _ true _ _ (c .before .if1 .taken) (c .before .before .before .body2 .given .1) (c .before .before .before .before .before .before .before .pre) in (c .utf8-length .ensures .0 ∙ sym (ap length (body-latin1 (args .msg .now) (args .places .now) (args .body) _ true _ _ (c .before .if1 .taken) (c .before .before .before .body2 .given .1))), omega arith)
 
 utf8-length-requires-2 : tie.Need-utf8-length-requires-2
-unfolding choose
 utf8-length-requires-2 c κs =
     let args = c .before .before .before .before .before .before .args in
     let i = latin1-inside (args .msg .now) (args .places .now) (args .body) _ false _ _ (c .if1 .left) (c .before .before .body2 .given .1) (c .before .before .before .before .before .before .pre) in (i .there, i .few)
@@ -56,7 +52,6 @@ returns-3 c =
     let i = part-inside (args .msg .now) (args .places .now) (args .body) _ _ _ _ refl (c .before .body .given .1) (c .before .before .before .before .before .pre) in (sym (ap length (body-part (args .msg .now) (args .places .now) (args .body) _ _ _ _ refl (c .before .body .given .1)) ∙ length-stretch _ _ _ i), omega arith)
 
 returns-4 : tie.Need-returns-4
-unfolding choose
 returns-4 c =
     let args = c .before .before .before .before .before .before .before .args in
     let i = latin1-inside (args .msg .now) (args .places .now) (args .body) _ false _ _ (c .before .if1 .left) (c .before .before .before .body2 .given .1) (c .before .before .before .before .before .before .before .pre) in (c .utf8-length2 .ensures .0 ∙ sym (ap length (body-latin1 (args .msg .now) (args .places .now) (args .body) _ false _ _ (c .before .if1 .left) (c .before .before .before .body2 .given .1))), omega arith)

@@ -1,7 +1,6 @@
 -- `layout::put_body` meets its contract. Case by case, the body's bytes are stored. Assumes nothing.
 use Rattle.layout.proofs.Bodies.{part-needs, latin1-needs, bits-needs, body-empty, body-part, body-latin1, body-digits, body-bits}
 use Rattle.layout.proofs.Puts.{put-same, put-none}
-use Rattle.octets.specs.Parts.{choose}
 use mathlib.Core.Bool.{true, false}
 use mathlib.Core.Path.{sym}
 use borrow.Author.Needs.{needs}
@@ -15,7 +14,6 @@ enum-known-body : tie.Need-enum-known-body
 enum-known-body c = search needs
 
 put-part-requires : tie.Need-put-part-requires
-unfolding choose
 put-part-requires c κs =
     let args = c .before .before .before .before .before .before .before .before .args in
     part-needs (args .msg .now) (args .places .now) (args .body) _ true _ _ (c .before .if1 .taken) _ _ (c .before .before .before .body .given .1) (c .before .before .before .before .before .before .before .before .pre)
@@ -24,13 +22,11 @@ same-length : tie.Need-same-length
 same-length c = search needs
 
 returns : tie.Need-returns
-unfolding choose
 returns c =
     let args = c .before .before .before .before .before .before .before .before .before .before .before .args in
     put-same (sym (body-part (args .msg .now) (args .places .now) (args .body) _ true _ _ (c .before .before .before .before .if1 .taken) (c .before .before .before .before .before .before .body .given .1))) (c .before .before .put-part .ensures)
 
 put-part-requires-2 : tie.Need-put-part-requires-2
-unfolding choose
 put-part-requires-2 c κs =
     let args = c .before .before .before .before .before .before .before .before .args in
     part-needs (args .msg .now) (args .places .now) (args .body) _ false _ _ (c .before .if1 .left) _ _ (c .before .before .before .body .given .1) (c .before .before .before .before .before .before .before .before .pre)
@@ -39,7 +35,6 @@ enum-known-body-2 : tie.Need-enum-known-body-2
 enum-known-body-2 c = search needs
 
 put-text-requires : tie.Need-put-text-requires
-unfolding choose
 put-text-requires c κs =
     let args = c .before .before .before .before .before .before .before .before .args in
     latin1-needs (args .msg .now) (args .places .now) (args .body) _ true _ _ (c .before .if2 .taken) _ _ (c .before .before .before .body2 .given .1) (c .before .before .before .before .before .before .before .before .pre)
@@ -48,13 +43,11 @@ same-length-2 : tie.Need-same-length-2
 same-length-2 c = search needs
 
 returns-2 : tie.Need-returns-2
-unfolding choose
 returns-2 c =
     let args = c .before .before .before .before .before .before .before .before .before .before .before .args in
     put-same (sym (body-latin1 (args .msg .now) (args .places .now) (args .body) _ true _ _ (c .before .before .before .before .if2 .taken) (c .before .before .before .before .before .before .body2 .given .1))) (c .before .before .put-text .ensures)
 
 put-text-requires-2 : tie.Need-put-text-requires-2
-unfolding choose
 put-text-requires-2 c κs =
     let args = c .before .before .before .before .before .before .before .before .args in
     latin1-needs (args .msg .now) (args .places .now) (args .body) _ false _ _ (c .before .if2 .left) _ _ (c .before .before .before .body2 .given .1) (c .before .before .before .before .before .before .before .before .pre)
@@ -84,7 +77,6 @@ same-length-3 : tie.Need-same-length-3
 same-length-3 c = search needs
 
 returns-4 : tie.Need-returns-4
-unfolding choose
 returns-4 c =
     let args = c .before .before .before .before .before .before .before .before .before .before .before .args in
     put-same (sym (body-part (args .msg .now) (args .places .now) (args .body) _ false _ _ (c .before .before .before .before .if1 .left) (c .before .before .before .before .before .before .body .given .1))) (c .before .before .put-part2 .ensures)
@@ -93,7 +85,6 @@ same-length-4 : tie.Need-same-length-4
 same-length-4 c = search needs
 
 returns-5 : tie.Need-returns-5
-unfolding choose
 returns-5 c =
     let args = c .before .before .before .before .before .before .before .before .before .before .before .args in
     put-same (sym (body-latin1 (args .msg .now) (args .places .now) (args .body) _ false _ _ (c .before .before .before .before .if2 .left) (c .before .before .before .before .before .before .body2 .given .1))) (c .before .before .put-text2 .ensures)

@@ -1,4 +1,4 @@
--- `keys::same_rows` meets its contract. The rows that are left find what all of them find; the measure is their number.
+-- `map_keys::same_rows` meets its contract. The rows that are left find what all of them find; the measure is their number.
 use mathlib.Core.Path.{_≡_}
 use Prim.Native.Nat.{_+_, _-_, _≤_}
 use native.Mathlib.Omega.{arith}
@@ -18,23 +18,23 @@ abbrev μ-loop : tie.MeasureT-loop
 loop-holds : tie.Need-loop-holds Inv-loop μ-loop
 loop-holds c = (omega arith, rows-start _ _ _ _ _)
 
-add-word-at : tie.Need-add-word-at Inv-loop μ-loop
-add-word-at c = omega arith
+add-row-at : tie.Need-add-row-at Inv-loop μ-loop
+add-row-at c = omega arith
 
-word-at-requires : tie.Need-word-at-requires Inv-loop μ-loop
-word-at-requires c κs = search needs
+row-at-requires : tie.Need-row-at-requires Inv-loop μ-loop
+row-at-requires c κs = search needs
 
-add-word-at-2 : tie.Need-add-word-at-2 Inv-loop μ-loop
-add-word-at-2 c = omega arith
+add-row-at-2 : tie.Need-add-row-at-2 Inv-loop μ-loop
+add-row-at-2 c = omega arith
 
-word-at-requires-2 : tie.Need-word-at-requires-2 Inv-loop μ-loop
-word-at-requires-2 c κs = search needs
+row-at-requires-2 : tie.Need-row-at-requires-2 Inv-loop μ-loop
+row-at-requires-2 c κs = search needs
 
 same-row-requires : tie.Need-same-row-requires Inv-loop μ-loop
 same-row-requires c κs = search needs
 
 returns : tie.Need-returns Inv-loop μ-loop
-returns c = rows-differ (same-row _ _ _) _ _ _ _ _ _ (c .before .before .before .before .before .loop .inv .1) (c .before .before .before .before .loop-test .taken) _ _ (c .before .before .before .word-at .ensures) (c .before .before .word-at2 .ensures) _ (c .before .same-row .ensures) (not-true _ (c .if1 .taken))
+returns c = rows-differ (same-row _ _ _) _ _ _ _ _ _ (c .before .before .before .before .before .loop .inv .1) (c .before .before .before .before .loop-test .taken) _ _ (c .before .before .before .row-at .ensures) (c .before .before .row-at2 .ensures) _ (c .before .same-row .ensures) (not-true _ (c .if1 .taken))
 
 add-i : tie.Need-add-i Inv-loop μ-loop
 add-i c = omega arith
@@ -43,7 +43,7 @@ loop-less : tie.Need-loop-less Inv-loop μ-loop
 loop-less c = omega arith
 
 loop-again : tie.Need-loop-again Inv-loop μ-loop
-loop-again c = (omega arith, rows-next (same-row _ _ _) _ _ _ _ _ _ (c .before .before .before .before .before .loop .inv .1) (c .before .before .before .before .loop-test .taken) _ _ (c .before .before .before .word-at .ensures) (c .before .before .word-at2 .ensures) _ (c .before .same-row .ensures) (not-false _ (c .if1 .left)))
+loop-again c = (omega arith, rows-next (same-row _ _ _) _ _ _ _ _ _ (c .before .before .before .before .before .loop .inv .1) (c .before .before .before .before .loop-test .taken) _ _ (c .before .before .before .row-at .ensures) (c .before .before .row-at2 .ensures) _ (c .before .same-row .ensures) (not-false _ (c .if1 .left)))
 
 returns-2 : tie.Need-returns-2 Inv-loop μ-loop
 returns-2 c = rows-ended (same-row _ _ _) _ _ _ _ _ _ (c .before .loop .inv .1) (c .loop-test .left)
@@ -55,10 +55,10 @@ same-rows-spec =
     Inv-loop
     μ-loop
     loop-holds
-    add-word-at
-    word-at-requires
-    add-word-at-2
-    word-at-requires-2
+    add-row-at
+    row-at-requires
+    add-row-at-2
+    row-at-requires-2
     same-row-requires
     returns
     add-i

@@ -1,4 +1,4 @@
--- `keys::term_hash` meets its contract. The rows that are left give what all of them give; the measure is their number.
+-- `map_keys::term_hash` meets its contract. The rows that are left give what all of them give; the measure is their number.
 use mathlib.Core.Path.{_≡_}
 use Prim.Native.Nat.{_+_, _-_, _≤_, _<_}
 use native.Mathlib.Omega.{arith}
@@ -6,7 +6,7 @@ use borrow.Author.Needs.{needs}
 use lib.ListN.{getD}
 use Rattle.term_spec.specs.Rows.{size-in}
 use Rattle.row_compare.specs.Hash.{mix}
-use Rattle.map_keys.specs.Seen.{hash-rows}
+use Rattle.map_keys.specs.KeySet.{hash-rows}
 use Rattle.map_keys.proofs.Hashes.{hash-start, hash-next, hash-end}
 use Rattle.map_keys.proofs.term_hash.Statement.{statement}
 use Rattle.map_keys.proofs.term_hash.Tie as tie
@@ -17,8 +17,8 @@ Inv-loop msg places lengths table first row n h₀ i₀ h i = (i ≤ n) × (h < 
 abbrev μ-loop : tie.MeasureT-loop
 μ-loop msg places lengths table first row n h₀ i₀ h i = n - i
 
-word-at-requires : tie.Need-word-at-requires Inv-loop μ-loop
-word-at-requires c κs = search needs
+row-at-requires : tie.Need-row-at-requires Inv-loop μ-loop
+row-at-requires c κs = search needs
 
 size-in-requires : tie.Need-size-in-requires Inv-loop μ-loop
 size-in-requires c κs = search needs
@@ -27,13 +27,13 @@ mix-requires : tie.Need-mix-requires Inv-loop μ-loop
 mix-requires c κs = omega arith
 
 loop-holds : tie.Need-loop-holds Inv-loop μ-loop
-loop-holds c = (omega arith, c .mix .ensures .1, hash-start _ _ _ _ _ _ _ _ _ (c .before .before .word-at .ensures) (c .before .size-in .ensures .0) (c .mix .ensures .0))
+loop-holds c = (omega arith, c .mix .ensures .1, hash-start _ _ _ _ _ _ _ _ _ (c .before .before .row-at .ensures) (c .before .size-in .ensures .0) (c .mix .ensures .0))
 
-add-word-at : tie.Need-add-word-at Inv-loop μ-loop
-add-word-at c = omega arith
+add-row-at : tie.Need-add-row-at Inv-loop μ-loop
+add-row-at c = omega arith
 
-word-at-requires-2 : tie.Need-word-at-requires-2 Inv-loop μ-loop
-word-at-requires-2 c κs = search needs
+row-at-requires-2 : tie.Need-row-at-requires-2 Inv-loop μ-loop
+row-at-requires-2 c κs = search needs
 
 hash-row-requires : tie.Need-hash-row-requires Inv-loop μ-loop
 hash-row-requires c κs = omega arith
@@ -45,7 +45,7 @@ loop-less : tie.Need-loop-less Inv-loop μ-loop
 loop-less c = omega arith
 
 loop-again : tie.Need-loop-again Inv-loop μ-loop
-loop-again c = (omega arith, c .hash-row .ensures .1, hash-next _ _ _ _ _ _ _ _ _ _ _ (c .before .before .before .loop .inv .2) (c .before .before .loop-test .taken) (c .before .word-at2 .ensures) (c .hash-row .ensures .0))
+loop-again c = (omega arith, c .hash-row .ensures .1, hash-next _ _ _ _ _ _ _ _ _ _ _ (c .before .before .before .loop .inv .2) (c .before .before .loop-test .taken) (c .before .row-at2 .ensures) (c .hash-row .ensures .0))
 
 mix-requires-2 : tie.Need-mix-requires-2 Inv-loop μ-loop
 mix-requires-2 c κs = omega arith
@@ -59,12 +59,12 @@ term-hash-spec =
     (tie.spec
     Inv-loop
     μ-loop
-    word-at-requires
+    row-at-requires
     size-in-requires
     mix-requires
     loop-holds
-    add-word-at
-    word-at-requires-2
+    add-row-at
+    row-at-requires-2
     hash-row-requires
     add-i
     loop-less

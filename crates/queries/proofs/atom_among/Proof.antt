@@ -1,4 +1,4 @@
--- `asking::atom_among` meets its contract.
+-- `queries::atom_among` meets its contract.
 use mathlib.Core.Path.{_≡_}
 use Prim.Native.Nat.{_-_, _≤_}
 use native.Mathlib.Omega.{arith}
@@ -17,14 +17,14 @@ abbrev μ-loop : tie.MeasureT-loop
 loop-holds : tie.Need-loop-holds Inv-loop μ-loop
 loop-holds c = (omega arith, among-start _ _ _)
 
-word-at-requires : tie.Need-word-at-requires Inv-loop μ-loop
-word-at-requires c κs = search needs
+row-at-requires : tie.Need-row-at-requires Inv-loop μ-loop
+row-at-requires c κs = search needs
 
 atom-row-requires : tie.Need-atom-row-requires Inv-loop μ-loop
 atom-row-requires c κs = search needs
 
 returns : tie.Need-returns Inv-loop μ-loop
-returns c = among-here _ _ _ _ _ (c .before .before .before .before .loop .inv .1) (c .before .before .before .loop-test .taken) _ (c .before .before .word-at .ensures) _ (c .before .atom-row .ensures) (c .if1 .taken)
+returns c = among-here _ _ _ _ _ (c .before .before .before .before .loop .inv .1) (c .before .before .before .loop-test .taken) _ (c .before .before .row-at .ensures) _ (c .before .atom-row .ensures) (c .if1 .taken)
 
 add-i : tie.Need-add-i Inv-loop μ-loop
 add-i c = omega arith
@@ -33,7 +33,7 @@ loop-less : tie.Need-loop-less Inv-loop μ-loop
 loop-less c = omega arith
 
 loop-again : tie.Need-loop-again Inv-loop μ-loop
-loop-again c = (omega arith, among-next _ _ _ _ _ (c .before .before .before .before .loop .inv .1) (c .before .before .before .loop-test .taken) _ (c .before .before .word-at .ensures) _ (c .before .atom-row .ensures) (c .if1 .left))
+loop-again c = (omega arith, among-next _ _ _ _ _ (c .before .before .before .before .loop .inv .1) (c .before .before .before .loop-test .taken) _ (c .before .before .row-at .ensures) _ (c .before .atom-row .ensures) (c .if1 .left))
 
 returns-2 : tie.Need-returns-2 Inv-loop μ-loop
 returns-2 c = among-ended _ _ _ _ _ (c .before .loop .inv .1) (c .loop-test .left)
@@ -45,7 +45,7 @@ atom-among-spec =
     Inv-loop
     μ-loop
     loop-holds
-    word-at-requires
+    row-at-requires
     atom-row-requires
     returns
     add-i

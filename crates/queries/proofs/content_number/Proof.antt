@@ -1,4 +1,4 @@
--- `asking::content_number` meets its contract.
+-- `queries::content_number` meets its contract.
 use mathlib.Core.Path.{sym, ap, _∙_}
 use borrow.Author.Needs.{needs}
 use Rattle.term_spec.specs.Answers.{number-case}

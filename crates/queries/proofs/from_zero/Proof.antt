@@ -1,4 +1,4 @@
--- `asking::from_zero` meets its contract.
+-- `queries::from_zero` meets its contract.
 use mir.Syntax.{w64}
 use mir.ValLaws.{toZ-pos}
 use borrow.Author.Needs.{needs}

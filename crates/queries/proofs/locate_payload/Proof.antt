@@ -1,4 +1,4 @@
--- `asking::locate_payload` meets its contract.
+-- `queries::locate_payload` meets its contract.
 use mathlib.Core.Path.{refl}
 use native.Mathlib.Omega.{arith}
 use borrow.Author.Needs.{needs}

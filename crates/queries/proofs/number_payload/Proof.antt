@@ -1,4 +1,4 @@
--- `asking::number_payload` meets its contract.
+-- `queries::number_payload` meets its contract.
 use mathlib.Core.Path.{refl}
 use native.Mathlib.Omega.{arith}
 use borrow.Author.Needs.{needs}
@@ -15,16 +15,16 @@ slice-aggregate-read-payload c = search needs
 read-payload-requires : tie.Need-read-payload-requires
 read-payload-requires c κs = search needs
 
-slice-aggregate-number-found : tie.Need-slice-aggregate-number-found
-slice-aggregate-number-found c = search needs
+slice-aggregate-numbered : tie.Need-slice-aggregate-numbered
+slice-aggregate-numbered c = search needs
 
-number-found-requires : tie.Need-number-found-requires
-number-found-requires c κs = search needs
+numbered-requires : tie.Need-numbered-requires
+numbered-requires c κs = search needs
 
 returns : tie.Need-returns
 returns c =
     let a = c .before .before .before .before .before .before .before .before .args in
-    number-told payload (lent-list (a .n) (a .places .now) (a .lengths .now)) (a .msg .now) (omega arith) (under-all (a .msg .now) (λ i _. omega (arith, c .before .before .before .before .before .before .before .shared-slice-known .given i))) _ _ _ refl (c .before .before .before .read-payload .ensures .read-answered) (c .before .before .before .read-payload .ensures .table-left) _ _ (c .number-found .ensures)
+    number-told payload (lent-list (a .n) (a .places .now) (a .lengths .now)) (a .msg .now) (omega arith) (under-all (a .msg .now) (λ i _. omega (arith, c .before .before .before .before .before .before .before .shared-slice-known .given i))) _ _ _ refl (c .before .before .before .read-payload .ensures .read-answered) (c .before .before .before .read-payload .ensures .table-left) _ _ (c .numbered .ensures)
 
 pub number-payload-spec : {M : Type 1} → statement M
 number-payload-spec =
@@ -32,6 +32,6 @@ number-payload-spec =
     (tie.spec
     slice-aggregate-read-payload
     read-payload-requires
-    slice-aggregate-number-found
-    number-found-requires
+    slice-aggregate-numbered
+    numbered-requires
     returns)

@@ -1,4 +1,4 @@
--- `asking::signed_number` meets its contract.
+-- `queries::signed_number` meets its contract.
 use mathlib.Core.Path.{_∙_}
 use mir.ValLaws.{toZ-ofZ}
 use mir.Syntax.{w64}

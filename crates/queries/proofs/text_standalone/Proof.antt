@@ -1,4 +1,4 @@
--- `asking::text_standalone` meets its contract.
+-- `queries::text_standalone` meets its contract.
 use borrow.Author.Needs.{needs}
 use Rattle.queries.proofs.Calls.{bytes-told}
 use Rattle.queries.proofs.text_standalone.Statement.{statement}
@@ -9,12 +9,12 @@ locate-standalone-requires : tie.Need-locate-standalone-requires
 locate-standalone-requires c κs = search needs
 
 bytes-at-requires : tie.Need-bytes-at-requires
-bytes-at-requires c κs = search needs
+bytes-at-requires c κs = c .locate-standalone .ensures .text-inside
 
 returns : tie.Need-returns
 returns c =
     let a = c .before .before .before .before .before .args in
-    bytes-told (a .msg .now) (lent-list (a .n) (a .places .now) (a .lengths .now)) _ _ _ (c .before .locate-standalone .ensures .0) (c .bytes-at .ensures)
+    bytes-told (a .msg .now) (lent-list (a .n) (a .places .now) (a .lengths .now)) _ _ _ (c .before .locate-standalone .ensures .text-located) (c .bytes-at .ensures)
 
 pub text-standalone-spec : {M : Type 1} → statement M
 text-standalone-spec = tie.close (tie.spec locate-standalone-requires bytes-at-requires returns)

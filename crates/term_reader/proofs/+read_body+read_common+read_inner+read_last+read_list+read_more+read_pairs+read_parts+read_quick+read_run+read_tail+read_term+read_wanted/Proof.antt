@@ -7,7 +7,7 @@ use Rattle.term_reader.proofs.Runs.{room-after, run-none, run-refused, 
 use Rattle.term_reader.proofs.Openings.{opened, opens}
 use Rattle.term_reader.specs.Code.{Room, RunDone, PartsDone}
 use Rattle.term_reader.specs.declared.Step.{Step}
-use Rattle.map_keys.specs.Seen.{Keeps}
+use Rattle.map_keys.specs.KeySet.{Keeps}
 use Rattle.map_keys.proofs.Slots.{keeps-refl, keeps-trans}
 use Rattle.term_head.specs.Code.{wanted-of}
 use Rattle.term_spec.specs.Answer.{at-offset}
@@ -65,7 +65,7 @@ use Rattle.term_head.proofs.leaf_at.Reads as leaf-at-reads
 use Rattle.term_head.proofs.quick_at.Reads as quick-at-reads
 use Rattle.term_head.proofs.read_later.Reads as read-later-reads
 use Rattle.term_head.proofs.read_opening.Reads as read-opening-reads
-use Rattle.map_keys.proofs.repeats.Reads as repeats-reads
+use Rattle.map_keys.proofs.contains_or_insert.Reads as insert-reads
 use Rattle.row.proofs.pack.Reads as pack-reads
 use Rattle.term_reader.proofs.at_most.Reads as at-most-reads
 use Rattle.term_reader.proofs.is_leaf.Reads as is-leaf-reads
@@ -230,7 +230,7 @@ abbrev read-more-calls : ℕ → read-more-lts.Claims
 read-more-calls t = (read-run-below t, read-run.Post)
 
 abbrev read-pairs-calls : ℕ → read-pairs-lts.Claims
-read-pairs-calls t = (read-run-below t, read-run.Post, repeats-reads.Asked, repeats-reads.Learnt)
+read-pairs-calls t = (read-run-below t, read-run.Post, insert-reads.Asked, insert-reads.Learnt)
 
 abbrev read-parts-calls : ℕ → read-parts-lts.Claims
 read-parts-calls t = (read-wanted-below t, read-wanted.Post, read-more-below t, read-more.Post, read-later-reads.Asked, read-later-reads.Learnt)
@@ -486,23 +486,23 @@ read-pairs-returns t c =
 read-pairs-enum-known-next : (t : ℕ) → read-pairs-lts.Need-enum-known-next (read-pairs-calls t) (read-pairs-at t) read-pairs.Post read-pairs-Inv-loop read-pairs-μ-loop
 read-pairs-enum-known-next t c = search needs
 
-read-pairs-repeats-requires : (t : ℕ) → read-pairs-lts.Need-repeats-requires (read-pairs-calls t) (read-pairs-at t) read-pairs.Post read-pairs-Inv-loop read-pairs-μ-loop
-read-pairs-repeats-requires t c κs = (omega (arith, c .before .before .before .before .before .before .before .before .before .before .before .before .before .before .before .before .before .before .before .pre .1 .1, c .before .before .before .before .before .before .before .before .before .before .before .before .before .loop .inv .3 .as-many, c .before .before .before .before .before .before .before .before .before .read-run .ensures .keys-kept .as-many), omega (arith, term-inside _ _ _ _ _ _ _ _ _ _ (c .before .before .before .next .given .1) (run-one _ _ _ _ _ _ _ _ _ _ (c .before .before .before .before .before .before .before .before .before .read-run .ensures .rows-stored)), c .before .before .before .before .before .before .before .before .before .before .before .before .before .loop .inv .0 .few))
+read-pairs-contains-or-insert-requires : (t : ℕ) → read-pairs-lts.Need-contains-or-insert-requires (read-pairs-calls t) (read-pairs-at t) read-pairs.Post read-pairs-Inv-loop read-pairs-μ-loop
+read-pairs-contains-or-insert-requires t c κs = (omega (arith, c .before .before .before .before .before .before .before .before .before .before .before .before .before .before .before .before .before .before .before .pre .1 .1, c .before .before .before .before .before .before .before .before .before .before .before .before .before .loop .inv .3 .as-many, c .before .before .before .before .before .before .before .before .before .read-run .ensures .keys-kept .as-many), omega (arith, term-inside _ _ _ _ _ _ _ _ _ _ (c .before .before .before .next .given .1) (run-one _ _ _ _ _ _ _ _ _ _ (c .before .before .before .before .before .before .before .before .before .read-run .ensures .rows-stored)), c .before .before .before .before .before .before .before .before .before .before .before .before .before .loop .inv .0 .few))
 
 read-pairs-same-length-3 : (t : ℕ) → read-pairs-lts.Need-same-length-3 (read-pairs-calls t) (read-pairs-at t) read-pairs.Post read-pairs-Inv-loop read-pairs-μ-loop
 read-pairs-same-length-3 t c = c .before .before .before .before .before .before .before .before .before .before .before .before .before .read-run .kept .1 .1 .1 .1 .0 ∙ c .before .before .before .before .before .before .before .before .before .before .before .before .before .before .before .before .before .loop .inv .1
 
 read-pairs-same-length-4 : (t : ℕ) → read-pairs-lts.Need-same-length-4 (read-pairs-calls t) (read-pairs-at t) read-pairs.Post read-pairs-Inv-loop read-pairs-μ-loop
-read-pairs-same-length-4 t c = c .before .before .before .repeats .kept .1 .1 .1 .1 .0 ∙ c .before .before .before .before .before .before .before .before .before .before .before .before .before .read-run .kept .1 .1 .1 .1 .1 .0 ∙ c .before .before .before .before .before .before .before .before .before .before .before .before .before .before .before .before .before .loop .inv .3 .as-many
+read-pairs-same-length-4 t c = c .before .before .before .contains-or-insert .kept .1 .1 .1 .1 .0 ∙ c .before .before .before .before .before .before .before .before .before .before .before .before .before .read-run .kept .1 .1 .1 .1 .1 .0 ∙ c .before .before .before .before .before .before .before .before .before .before .before .before .before .before .before .before .before .loop .inv .3 .as-many
 
 read-pairs-returns-2 : (t : ℕ) → read-pairs-lts.Need-returns-2 (read-pairs-calls t) (read-pairs-at t) read-pairs.Post read-pairs-Inv-loop read-pairs-μ-loop
 read-pairs-returns-2 t c =
     let i = c .before .before .before .before .before .before .before .before .before .before .before .before .before .before .before .before .before .loop in
     let e : i .more ≡ 0 → ⊥ = omega (arith, c .before .before .before .before .before .before .before .before .before .before .before .before .before .before .before .before .loop-test .taken) in
-    record { rows-stored = λ place. key-twice _ _ _ _ _ _ _ _ _ _ _ _ _ _ _ (i .inv .2) e _ _ (run-one _ _ _ _ _ _ _ _ _ _ (c .before .before .before .before .before .before .before .before .before .before .before .before .before .read-run .ensures .rows-stored)) _ (i .inv .0) _ _ (c .before .before .before .before .before .before .before .next .given .1) (keys-told _ _ _ _ _ _ (i .inv .0 .sized) (omega (arith, c .before .before .before .before .before .before .before .before .before .before .before .before .before .before .before .before .before .before .before .before .before .before .before .fits .n)) (λ j. omega (arith, c .before .before .before .before .before .before .before .before .before .before .before .before .before .before .before .before .before .before .before .before .before .before .shared-slice-known .given j))) _ _ (c .before .before .before .before .before .before .before .before .before .before .before .before .before .read-run .ensures .keys-kept) (c .before .before .before .repeats .ensures .1 .0) place _ (c .if1 .taken); keys-kept = keeps-trans (keeps-trans (c .before .before .before .before .before .before .before .before .before .before .before .before .before .before .before .before .before .loop .inv .3) (c .before .before .before .before .before .before .before .before .before .before .before .before .before .read-run .ensures .keys-kept)) (c .before .before .before .repeats .ensures .0) }
+    record { rows-stored = λ place. key-twice _ _ _ _ _ _ _ _ _ _ _ _ _ _ _ (i .inv .2) e _ _ (run-one _ _ _ _ _ _ _ _ _ _ (c .before .before .before .before .before .before .before .before .before .before .before .before .before .read-run .ensures .rows-stored)) _ (i .inv .0) _ _ (c .before .before .before .before .before .before .before .next .given .1) (keys-told _ _ _ _ _ _ (i .inv .0 .sized) (omega (arith, c .before .before .before .before .before .before .before .before .before .before .before .before .before .before .before .before .before .before .before .before .before .before .before .fits .n)) (λ j. omega (arith, c .before .before .before .before .before .before .before .before .before .before .before .before .before .before .before .before .before .before .before .before .before .before .shared-slice-known .given j))) _ _ (c .before .before .before .before .before .before .before .before .before .before .before .before .before .read-run .ensures .keys-kept) (c .before .before .before .contains-or-insert .ensures .1 .0) place _ (c .if1 .taken); keys-kept = keeps-trans (keeps-trans (c .before .before .before .before .before .before .before .before .before .before .before .before .before .before .before .before .before .loop .inv .3) (c .before .before .before .before .before .before .before .before .before .before .before .before .before .read-run .ensures .keys-kept)) (c .before .before .before .contains-or-insert .ensures .0) }
 
 read-pairs-read-run-requires-2 : (t : ℕ) → read-pairs-lts.Need-read-run-requires-2 (read-pairs-calls t) (read-pairs-at t) read-pairs.Post read-pairs-Inv-loop read-pairs-μ-loop
-read-pairs-read-run-requires-2 t c κs = (omega (arith, c .before .before .before .before .before .before .before .before .before .before .before .before .before .before .before .before .before .before .before .before .before .before .before .before .before .pre .0), (room-after _ _ _ _ _ _ _ _ _ _ _ _ _ _ _ (c .before .before .before .before .before .before .before .before .before .before .before .before .before .before .before .before .before .before .before .loop .inv .0) (run-one _ _ _ _ _ _ _ _ _ _ (c .before .before .before .before .before .before .before .before .before .before .before .before .before .before .before .read-run .ensures .rows-stored)) (c .before .before .before .before .before .before .before .before .before .next .given .1) (c .before .before .before .before .before .before .before .before .before .before .before .before .before .before .before .read-run .kept .1 .1 .1 .1 .0), omega (arith, c .before .before .before .before .before .before .before .before .before .before .before .before .before .before .before .before .before .before .before .before .before .before .before .before .before .pre .1 .1, c .before .before .before .before .before .before .before .before .before .before .before .before .before .before .before .before .before .before .before .loop .inv .3 .as-many, c .before .before .before .before .before .before .before .before .before .before .before .before .before .before .before .read-run .ensures .keys-kept .as-many, c .before .before .before .before .before .repeats .ensures .0 .as-many)))
+read-pairs-read-run-requires-2 t c κs = (omega (arith, c .before .before .before .before .before .before .before .before .before .before .before .before .before .before .before .before .before .before .before .before .before .before .before .before .before .pre .0), (room-after _ _ _ _ _ _ _ _ _ _ _ _ _ _ _ (c .before .before .before .before .before .before .before .before .before .before .before .before .before .before .before .before .before .before .before .loop .inv .0) (run-one _ _ _ _ _ _ _ _ _ _ (c .before .before .before .before .before .before .before .before .before .before .before .before .before .before .before .read-run .ensures .rows-stored)) (c .before .before .before .before .before .before .before .before .before .next .given .1) (c .before .before .before .before .before .before .before .before .before .before .before .before .before .before .before .read-run .kept .1 .1 .1 .1 .0), omega (arith, c .before .before .before .before .before .before .before .before .before .before .before .before .before .before .before .before .before .before .before .before .before .before .before .before .before .pre .1 .1, c .before .before .before .before .before .before .before .before .before .before .before .before .before .before .before .before .before .before .before .loop .inv .3 .as-many, c .before .before .before .before .before .before .before .before .before .before .before .before .before .before .before .read-run .ensures .keys-kept .as-many, c .before .before .before .before .before .contains-or-insert .ensures .0 .as-many)))
 
 read-pairs-enum-known-number-2 : (t : ℕ) → read-pairs-lts.Need-enum-known-number-2 (read-pairs-calls t) (read-pairs-at t) read-pairs.Post read-pairs-Inv-loop read-pairs-μ-loop
 read-pairs-enum-known-number-2 t c = search needs
@@ -511,13 +511,13 @@ read-pairs-same-length-5 : (t : ℕ) → read-pairs-lts.Need-same-length-5 (read
 read-pairs-same-length-5 t c = c .before .before .before .before .before .before .before .read-run2 .kept .1 .1 .1 .1 .0 ∙ c .before .before .before .before .before .before .before .before .before .before .before .before .before .before .before .before .before .before .before .before .before .before .before .read-run .kept .1 .1 .1 .1 .0 ∙ c .before .before .before .before .before .before .before .before .before .before .before .before .before .before .before .before .before .before .before .before .before .before .before .before .before .before .before .loop .inv .1
 
 read-pairs-same-length-6 : (t : ℕ) → read-pairs-lts.Need-same-length-6 (read-pairs-calls t) (read-pairs-at t) read-pairs.Post read-pairs-Inv-loop read-pairs-μ-loop
-read-pairs-same-length-6 t c = c .before .before .before .before .before .before .before .read-run2 .kept .1 .1 .1 .1 .1 .0 ∙ c .before .before .before .before .before .before .before .before .before .before .before .before .before .repeats .kept .1 .1 .1 .1 .0 ∙ c .before .before .before .before .before .before .before .before .before .before .before .before .before .before .before .before .before .before .before .before .before .before .before .read-run .kept .1 .1 .1 .1 .1 .0 ∙ c .before .before .before .before .before .before .before .before .before .before .before .before .before .before .before .before .before .before .before .before .before .before .before .before .before .before .before .loop .inv .3 .as-many
+read-pairs-same-length-6 t c = c .before .before .before .before .before .before .before .read-run2 .kept .1 .1 .1 .1 .1 .0 ∙ c .before .before .before .before .before .before .before .before .before .before .before .before .before .contains-or-insert .kept .1 .1 .1 .1 .0 ∙ c .before .before .before .before .before .before .before .before .before .before .before .before .before .before .before .before .before .before .before .before .before .before .before .read-run .kept .1 .1 .1 .1 .1 .0 ∙ c .before .before .before .before .before .before .before .before .before .before .before .before .before .before .before .before .before .before .before .before .before .before .before .before .before .before .before .loop .inv .3 .as-many
 
 read-pairs-returns-3 : (t : ℕ) → read-pairs-lts.Need-returns-3 (read-pairs-calls t) (read-pairs-at t) read-pairs.Post read-pairs-Inv-loop read-pairs-μ-loop
 read-pairs-returns-3 t c =
     let i = c .before .before .before .before .before .before .before .before .before .before .before .before .before .before .before .before .before .before .before .before .before .before .before .before .before .before .before .loop in
     let e : i .more ≡ 0 → ⊥ = omega (arith, c .before .before .before .before .before .before .before .before .before .before .before .before .before .before .before .before .before .before .before .before .before .before .before .before .before .before .loop-test .taken) in
-    record { rows-stored = λ place. value-refused _ _ _ _ _ _ _ _ _ _ _ _ _ _ _ (i .inv .2) e _ _ (run-one _ _ _ _ _ _ _ _ _ _ (c .before .before .before .before .before .before .before .before .before .before .before .before .before .before .before .before .before .before .before .before .before .before .before .read-run .ensures .rows-stored)) _ (i .inv .0) _ _ (c .before .before .before .before .before .before .before .before .before .before .before .before .before .before .before .before .before .next .given .1) (keys-told _ _ _ _ _ _ (i .inv .0 .sized) (omega (arith, c .before .before .before .before .before .before .before .before .before .before .before .before .before .before .before .before .before .before .before .before .before .before .before .before .before .before .before .before .before .before .before .before .before .fits .n)) (λ j. omega (arith, c .before .before .before .before .before .before .before .before .before .before .before .before .before .before .before .before .before .before .before .before .before .before .before .before .before .before .before .before .before .before .before .before .shared-slice-known .given j))) _ _ (c .before .before .before .before .before .before .before .before .before .before .before .before .before .before .before .before .before .before .before .before .before .before .before .read-run .ensures .keys-kept) (c .before .before .before .before .before .before .before .before .before .before .before .before .before .repeats .ensures .1 .0) (c .before .before .before .before .before .before .before .before .before .before .if1 .left) _ _ (run-one _ _ _ _ _ _ _ _ _ _ (c .before .before .before .before .before .before .before .read-run2 .ensures .rows-stored)) _ _ place _ (c .before .number2 .given .1); keys-kept = keeps-trans (keeps-trans (keeps-trans (c .before .before .before .before .before .before .before .before .before .before .before .before .before .before .before .before .before .before .before .before .before .before .before .before .before .before .before .loop .inv .3) (c .before .before .before .before .before .before .before .before .before .before .before .before .before .before .before .before .before .before .before .before .before .before .before .read-run .ensures .keys-kept)) (c .before .before .before .before .before .before .before .before .before .before .before .before .before .repeats .ensures .0)) (c .before .before .before .before .before .before .before .read-run2 .ensures .keys-kept) }
+    record { rows-stored = λ place. value-refused _ _ _ _ _ _ _ _ _ _ _ _ _ _ _ (i .inv .2) e _ _ (run-one _ _ _ _ _ _ _ _ _ _ (c .before .before .before .before .before .before .before .before .before .before .before .before .before .before .before .before .before .before .before .before .before .before .before .read-run .ensures .rows-stored)) _ (i .inv .0) _ _ (c .before .before .before .before .before .before .before .before .before .before .before .before .before .before .before .before .before .next .given .1) (keys-told _ _ _ _ _ _ (i .inv .0 .sized) (omega (arith, c .before .before .before .before .before .before .before .before .before .before .before .before .before .before .before .before .before .before .before .before .before .before .before .before .before .before .before .before .before .before .before .before .before .fits .n)) (λ j. omega (arith, c .before .before .before .before .before .before .before .before .before .before .before .before .before .before .before .before .before .before .before .before .before .before .before .before .before .before .before .before .before .before .before .before .shared-slice-known .given j))) _ _ (c .before .before .before .before .before .before .before .before .before .before .before .before .before .before .before .before .before .before .before .before .before .before .before .read-run .ensures .keys-kept) (c .before .before .before .before .before .before .before .before .before .before .before .before .before .contains-or-insert .ensures .1 .0) (c .before .before .before .before .before .before .before .before .before .before .if1 .left) _ _ (run-one _ _ _ _ _ _ _ _ _ _ (c .before .before .before .before .before .before .before .read-run2 .ensures .rows-stored)) _ _ place _ (c .before .number2 .given .1); keys-kept = keeps-trans (keeps-trans (keeps-trans (c .before .before .before .before .before .before .before .before .before .before .before .before .before .before .before .before .before .before .before .before .before .before .before .before .before .before .before .loop .inv .3) (c .before .before .before .before .before .before .before .before .before .before .before .before .before .before .before .before .before .before .before .before .before .before .before .read-run .ensures .keys-kept)) (c .before .before .before .before .before .before .before .before .before .before .before .before .before .contains-or-insert .ensures .0)) (c .before .before .before .before .before .before .before .read-run2 .ensures .keys-kept) }
 
 read-pairs-enum-known-next-2 : (t : ℕ) → read-pairs-lts.Need-enum-known-next-2 (read-pairs-calls t) (read-pairs-at t) read-pairs.Post read-pairs-Inv-loop read-pairs-μ-loop
 read-pairs-enum-known-next-2 t c = search needs
@@ -532,7 +532,7 @@ read-pairs-loop-again : (t : ℕ) → read-pairs-lts.Need-loop-again (read-pairs
 read-pairs-loop-again t c =
     let i = c .before .before .before .before .before .before .before .before .before .before .before .before .before .before .before .before .before .before .before .before .before .before .before .before .before .before .before .loop in
     let e : i .more ≡ 0 → ⊥ = omega (arith, c .before .before .before .before .before .before .before .before .before .before .before .before .before .before .before .before .before .before .before .before .before .before .before .before .before .before .loop-test .taken) in
-    (room-after _ _ _ _ _ _ _ _ _ _ _ _ _ _ _ (room-after _ _ _ _ _ _ _ _ _ _ _ _ _ _ _ (i .inv .0) (run-one _ _ _ _ _ _ _ _ _ _ (c .before .before .before .before .before .before .before .before .before .before .before .before .before .before .before .before .before .before .before .before .before .before .before .read-run .ensures .rows-stored)) (c .before .before .before .before .before .before .before .before .before .before .before .before .before .before .before .before .before .next .given .1) (c .before .before .before .before .before .before .before .before .before .before .before .before .before .before .before .before .before .before .before .before .before .before .before .read-run .kept .1 .1 .1 .1 .0)) (run-one _ _ _ _ _ _ _ _ _ _ (c .before .before .before .before .before .before .before .read-run2 .ensures .rows-stored)) (c .before .next2 .given .1) (c .before .before .before .before .before .before .before .read-run2 .kept .1 .1 .1 .1 .0), c .before .before .before .before .before .before .before .read-run2 .kept .1 .1 .1 .1 .0 ∙ c .before .before .before .before .before .before .before .before .before .before .before .before .before .before .before .before .before .before .before .before .before .before .before .read-run .kept .1 .1 .1 .1 .0 ∙ i .inv .1, entered-more _ _ _ _ _ _ _ _ _ _ _ _ _ _ _ (i .inv .2) e _ _ (run-one _ _ _ _ _ _ _ _ _ _ (c .before .before .before .before .before .before .before .before .before .before .before .before .before .before .before .before .before .before .before .before .before .before .before .read-run .ensures .rows-stored)) _ (i .inv .0) _ _ (c .before .before .before .before .before .before .before .before .before .before .before .before .before .before .before .before .before .next .given .1) (keys-told _ _ _ _ _ _ (i .inv .0 .sized) (omega (arith, c .before .before .before .before .before .before .before .before .before .before .before .before .before .before .before .before .before .before .before .before .before .before .before .before .before .before .before .before .before .before .before .before .before .fits .n)) (λ j. omega (arith, c .before .before .before .before .before .before .before .before .before .before .before .before .before .before .before .before .before .before .before .before .before .before .before .before .before .before .before .before .before .before .before .before .shared-slice-known .given j))) _ _ (c .before .before .before .before .before .before .before .before .before .before .before .before .before .before .before .before .before .before .before .before .before .before .before .read-run .ensures .keys-kept) (c .before .before .before .before .before .before .before .before .before .before .before .before .before .repeats .ensures .1 .0) (c .before .before .before .before .before .before .before .before .before .before .if1 .left) _ _ (run-one _ _ _ _ _ _ _ _ _ _ (c .before .before .before .before .before .before .before .read-run2 .ensures .rows-stored)) _ _ (c .before .next2 .given .1) _ _ (c .before .before .before .before .before .before .before .before .before .before .before .before .before .repeats .ensures .0) (c .before .before .before .before .before .before .before .read-run2 .ensures .keys-kept) (c .before .before .before .before .before .before .before .before .before .before .before .before .before .repeats .ensures .1 .1), keeps-trans (keeps-trans (keeps-trans (c .before .before .before .before .before .before .before .before .before .before .before .before .before .before .before .before .before .before .before .before .before .before .before .before .before .before .before .loop .inv .3) (c .before .before .before .before .before .before .before .before .before .before .before .before .before .before .before .before .before .before .before .before .before .before .before .read-run .ensures .keys-kept)) (c .before .before .before .before .before .before .before .before .before .before .before .before .before .repeats .ensures .0)) (c .before .before .before .before .before .before .before .read-run2 .ensures .keys-kept))
+    (room-after _ _ _ _ _ _ _ _ _ _ _ _ _ _ _ (room-after _ _ _ _ _ _ _ _ _ _ _ _ _ _ _ (i .inv .0) (run-one _ _ _ _ _ _ _ _ _ _ (c .before .before .before .before .before .before .before .before .before .before .before .before .before .before .before .before .before .before .before .before .before .before .before .read-run .ensures .rows-stored)) (c .before .before .before .before .before .before .before .before .before .before .before .before .before .before .before .before .before .next .given .1) (c .before .before .before .before .before .before .before .before .before .before .before .before .before .before .before .before .before .before .before .before .before .before .before .read-run .kept .1 .1 .1 .1 .0)) (run-one _ _ _ _ _ _ _ _ _ _ (c .before .before .before .before .before .before .before .read-run2 .ensures .rows-stored)) (c .before .next2 .given .1) (c .before .before .before .before .before .before .before .read-run2 .kept .1 .1 .1 .1 .0), c .before .before .before .before .before .before .before .read-run2 .kept .1 .1 .1 .1 .0 ∙ c .before .before .before .before .before .before .before .before .before .before .before .before .before .before .before .before .before .before .before .before .before .before .before .read-run .kept .1 .1 .1 .1 .0 ∙ i .inv .1, entered-more _ _ _ _ _ _ _ _ _ _ _ _ _ _ _ (i .inv .2) e _ _ (run-one _ _ _ _ _ _ _ _ _ _ (c .before .before .before .before .before .before .before .before .before .before .before .before .before .before .before .before .before .before .before .before .before .before .before .read-run .ensures .rows-stored)) _ (i .inv .0) _ _ (c .before .before .before .before .before .before .before .before .before .before .before .before .before .before .before .before .before .next .given .1) (keys-told _ _ _ _ _ _ (i .inv .0 .sized) (omega (arith, c .before .before .before .before .before .before .before .before .before .before .before .before .before .before .before .before .before .before .before .before .before .before .before .before .before .before .before .before .before .before .before .before .before .fits .n)) (λ j. omega (arith, c .before .before .before .before .before .before .before .before .before .before .before .before .before .before .before .before .before .before .before .before .before .before .before .before .before .before .before .before .before .before .before .before .shared-slice-known .given j))) _ _ (c .before .before .before .before .before .before .before .before .before .before .before .before .before .before .before .before .before .before .before .before .before .before .before .read-run .ensures .keys-kept) (c .before .before .before .before .before .before .before .before .before .before .before .before .before .contains-or-insert .ensures .1 .0) (c .before .before .before .before .before .before .before .before .before .before .if1 .left) _ _ (run-one _ _ _ _ _ _ _ _ _ _ (c .before .before .before .before .before .before .before .read-run2 .ensures .rows-stored)) _ _ (c .before .next2 .given .1) _ _ (c .before .before .before .before .before .before .before .before .before .before .before .before .before .contains-or-insert .ensures .0) (c .before .before .before .before .before .before .before .read-run2 .ensures .keys-kept) (c .before .before .before .before .before .before .before .before .before .before .before .before .before .contains-or-insert .ensures .1 .1), keeps-trans (keeps-trans (keeps-trans (c .before .before .before .before .before .before .before .before .before .before .before .before .before .before .before .before .before .before .before .before .before .before .before .before .before .before .before .loop .inv .3) (c .before .before .before .before .before .before .before .before .before .before .before .before .before .before .before .before .before .before .before .before .before .before .before .read-run .ensures .keys-kept)) (c .before .before .before .before .before .before .before .before .before .before .before .before .before .contains-or-insert .ensures .0)) (c .before .before .before .before .before .before .before .read-run2 .ensures .keys-kept))
 
 read-pairs-mul-t41 : (t : ℕ) → read-pairs-lts.Need-mul-t41 (read-pairs-calls t) (read-pairs-at t) read-pairs.Post read-pairs-Inv-loop read-pairs-μ-loop
 read-pairs-mul-t41 t c =
@@ -1090,7 +1090,7 @@ pub +read-body+read-common+read-inner+read-last+read-list+read-more+read-pairs+r
     (read-pairs-same-length-2 t)
     (read-pairs-returns t)
     (read-pairs-enum-known-next t)
-    (read-pairs-repeats-requires t)
+    (read-pairs-contains-or-insert-requires t)
     (read-pairs-same-length-3 t)
     (read-pairs-same-length-4 t)
     (read-pairs-returns-2 t)

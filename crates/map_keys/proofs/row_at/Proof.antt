@@ -1,9 +1,9 @@
--- `keys::word_at` meets its contract: past the end a list has its default.
+-- `map_keys::row_at` meets its contract: past the end a list has its default.
 use mathlib.Core.Path.{sym}
 use lib.ListN.{List·getD-eq-default}
 use borrow.Author.Needs.{needs}
-use Rattle.map_keys.proofs.word_at.Statement.{statement}
-use Rattle.map_keys.proofs.word_at.Tie as tie
+use Rattle.map_keys.proofs.row_at.Statement.{statement}
+use Rattle.map_keys.proofs.row_at.Tie as tie
 
 mul-result : tie.Need-mul-result
 mul-result c = search needs
@@ -17,5 +17,5 @@ returns c = search needs
 returns-2 : tie.Need-returns-2
 returns-2 c = sym (List·getD-eq-default (c .before .args .table .now) 0 (c .if1 .left))
 
-pub word-at-spec : {M : Type 1} → statement M
-word-at-spec = tie.close (tie.spec mul-result shared-slice-read-result returns returns-2)
+pub row-at-spec : {M : Type 1} → statement M
+row-at-spec = tie.close (tie.spec mul-result shared-slice-read-result returns returns-2)

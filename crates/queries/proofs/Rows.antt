@@ -27,14 +27,14 @@ use Rattle.term_spec.proofs.Words.{Each-row, each-row-join, each-row-at, Small-
 use Rattle.term_spec.proofs.Backed.{Label-at}
 use Rattle.term_spec.proofs.Message.{Accepted-message, allowed-valid}
 use Rattle.row_fields.specs.declared.Content.{Content}
-use Rattle.row_fields.specs.Found.{choose, content-of}
+use Rattle.row_fields.specs.Found.{content-of}
 use Rattle.row_fields.proofs.Says.{Lent, Says}
 use Rattle.row_fields.proofs.Again.{content-says}
 use Rattle.map_keys.proofs.Held.{Held-rows, Backed-row, backed-rows}
 use Rattle.map_keys.proofs.Accepted.{held-rows}
 use Rattle.queries.specs.declared.TextAt.{TextAt}
 use Rattle.queries.specs.declared.TextAt.the-variants as texts
-use Rattle.queries.specs.Code.{content-number, number-found, atom-row, atom-among, text-at, text-said, located, Inside}
+use Rattle.queries.specs.Code.{content-number, numbered, atom-row, atom-among, text-at, text-said, located, Inside}
 use Rattle.queries.proofs.Numbers.{content-is, float-label}
 use Rattle.queries.proofs.Texts.{atom-tag, content-stands, said-inside}
 
@@ -108,18 +108,17 @@ kind-atom (port i c) e = absurd (omega arith)
 kind-atom (reference c ws) e = absurd (omega arith)
 kind-atom export e = absurd (omega arith)
 
-or-else : (b x : Bool) → (b || x) ≡ choose b true x
-unfolding choose
+or-else : (b x : Bool) → (b || x) ≡ cond b true x
 or-else true x = refl
 or-else false x = refl
 
 module _ (at : ℕ) where
   abbrev test : Label → Place → Bool
-  test l p = choose (eqb (kind-at l p) 3) (eqb (offset-of p) at) false
+  test l p = cond (eqb (kind-at l p) 3) (eqb (offset-of p) at) false
 
   first-row : (l : Label) (p : Place) (whole : Option ℕ) (n k : ℕ) (rs : List Row)
-      → atom-at at (record { label = l; place = p; whole = whole; parts = n; size = k } ∷ rs) ≡ choose (test l p) true (atom-at at rs)
-  unfolding atom-at choose kind-at kind-of offset-of
+      → atom-at at (record { label = l; place = p; whole = whole; parts = n; size = k } ∷ rs) ≡ cond (test l p) true (atom-at at rs)
+  unfolding atom-at kind-at kind-of offset-of
   first-row (atom cs) (tag-at q) whole n k rs = or-else (eqb q at) (atom-at at rs)
   first-row (integer z) (tag-at q) whole n k rs = refl
   first-row (float bits) (tag-at q) whole n k rs = refl
@@ -159,13 +158,13 @@ module _ (at : ℕ) where
   module _ (P : Place → Label → Type 0) where
     -- where one is, it is backed as each row is
     atom-backed : (rs : List Row) → Each-row (λ r. P (r .place) (r .label)) rs → atom-at at rs ≡ true → (cs : List ℕ) × P (tag-at at) (atom cs)
-    unfolding Each-row atom-at choose
+    unfolding Each-row atom-at
     atom-backed [] h e = let no-way : _≡_ {A = ℕ} 0 1 = cc in absurd (omega arith)
     atom-backed (r ∷ rs) h e =
         by-kind (eqb (kind-at (r .label) (r .place)) 3) refl (eqb (offset-of (r .place)) at) refl (sym (first-row (r .label) (r .place) (r .whole) (r .parts) (r .size) rs) ∙ e)
         (λ k. atom-backed rs (h .1) k)
       where
-        by-kind : (t : Bool) → eqb (kind-at (r .label) (r .place)) 3 ≡ t → (u : Bool) → eqb (offset-of (r .place)) at ≡ u → choose (choose t u false) true (atom-at at rs) ≡ true
+        by-kind : (t : Bool) → eqb (kind-at (r .label) (r .place)) 3 ≡ t → (u : Bool) → eqb (offset-of (r .place)) at ≡ u → cond (cond t u false) true (atom-at at rs) ≡ true
             → (atom-at at rs ≡ true → (cs : List ℕ) × P (tag-at at) (atom cs)) → (cs : List ℕ) × P (tag-at at) (atom cs)
         by-kind true f true g k ih =
             let three : kind-at (r .label) (r .place) ≡ 3 = eqb-true _ _ f in
@@ -216,11 +215,11 @@ module _ (list : AtomList) (m : List ℕ) (ts : Terms) (few : list .n ≤ 255) (
       ∙ content-is list m kind c (says .sound) (λ bits e. fit bits (sym (says .means) ∙ e) .1)
       ∙ ap content-number (sym same)
 
-  pub numbers-are : (i : ℕ) → number-found m (list .places) (list .lengths) T (read-answer (good ts)) i ≡ number-case (number-at i all)
-  unfolding read-answer number-found choose number-case
+  pub numbers-are : (i : ℕ) → numbered m (list .places) (list .lengths) T (read-answer (good ts)) i ≡ number-case (number-at i all)
+  unfolding read-answer numbered number-case
   numbers-are i = go (leb (sizes ts) i) refl
     where
-      go : (t : Bool) → leb (sizes ts) i ≡ t → choose t numbers.Neither (number-case (content-number (found-at (getD T i 0)))) ≡ number-case (number-at i all)
+      go : (t : Bool) → leb (sizes ts) i ≡ t → cond t numbers.Neither (number-case (content-number (found-at (getD T i 0)))) ≡ number-case (number-at i all)
       go true e =
           let h : length all ≤ i = rw (length-rows option.none 0 ts) (leb-true (sizes ts) i e) in
           sym (ap number-case (number-past i all h))
@@ -240,14 +239,14 @@ module _ (list : AtomList) (m : List ℕ) (ts : Terms) (few : list .n ≤ 255) (
 
   pub texts-are : (at : ℕ) → (located m (list .places) (list .lengths) T (read-answer (good ts)) at ≡ text-at (atom-text m list at (good ts)))
       × Inside m (list .places) (located m (list .places) (list .lengths) T (read-answer (good ts)) at)
-  unfolding read-answer located atom-text text-at choose Inside
+  unfolding read-answer located atom-text text-at Inside
   texts-are at =
       let e : atom-among T (sizes ts) 0 at ≡ atom-at at all
       = ap (λ (n : ℕ). atom-among T n 0 at) (sym (length-rows option.none 0 ts)) ∙ among-is at T all 0 (held .stand .words) (held .all-small) in
       rw e (go (atom-at at all) refl)
     where
       go : (t : Bool) → atom-at at all ≡ t
-          → (choose t (said at) (texts.Refused (record { number = 4; place = at })) ≡ text-at (cond t (good (text-of m list at)) (refused 4 at)))
-          × Inside m (list .places) (choose t (said at) (texts.Refused (record { number = 4; place = at })))
+          → (cond t (said at) (texts.Refused (record { number = 4; place = at })) ≡ text-at (cond t (good (text-of m list at)) (refused 4 at)))
+          × Inside m (list .places) (cond t (said at) (texts.Refused (record { number = 4; place = at })))
       go true e = atom-says at e
       go false e = (refl, tt)

@@ -1,18 +1,18 @@
--- `keys::met` meets its contract. No row in the slots passed means the same; the measure is the number of slots left.
+-- `map_keys::probe` meets its contract. No row in the slots passed means the same as the key; the measure is the number of slots left.
 use mathlib.Core.Path.{sym}
 use Prim.Native.Nat.{_-_}
 use native.Mathlib.Omega.{arith}
 use borrow.Author.Needs.{needs}
 use Rattle.term_spec.proofs.Tests.{never}
-use Rattle.map_keys.proofs.Slots.{Other, Probe, probe-start, probe-empty, probe-other}
-use Rattle.map_keys.proofs.met.Statement.{statement}
-use Rattle.map_keys.proofs.met.Tie as tie
+use Rattle.map_keys.proofs.Slots.{Other, Probed, probe-start, probe-empty, probe-other}
+use Rattle.map_keys.proofs.probe.Statement.{statement}
+use Rattle.map_keys.proofs.probe.Tie as tie
 
 abbrev Inv-loop : tie.InvT-loop
-Inv-loop msg places lengths table seen key hash n i₀ d₀ i d = Probe (Other msg places lengths table key) seen hash n i d
+Inv-loop msg places lengths table slots key hash n i₀ d₀ i d = Probed (Other msg places lengths table key) slots hash n i d
 
 abbrev μ-loop : tie.MeasureT-loop
-μ-loop msg places lengths table seen key hash n i₀ d₀ i d = n - d
+μ-loop msg places lengths table slots key hash n i₀ d₀ i d = n - d
 
 rem-i : tie.Need-rem-i Inv-loop μ-loop
 rem-i c = omega arith
@@ -56,8 +56,8 @@ loop-again c = probe-other _ _ _ _ _ _ _ _ _ _ (c .before .before .before .befor
 returns-3 : tie.Need-returns-3 Inv-loop μ-loop
 returns-3 c = λ e. never (sym e)
 
-pub met-spec : {M : Type 1} → statement M
-met-spec =
+pub probe-spec : {M : Type 1} → statement M
+probe-spec =
     tie.close
     (tie.spec
     Inv-loop

@@ -1,6 +1,6 @@
--- Keys that were read, remembered in slots by their hash. A slot is 0 (empty) or the row of a key plus 1.
+-- The hash set of keys: each is inserted in the first empty slot from its hash on. A slot is 0 (empty) or the row of a key plus 1.
 use mathlib.Core.Path.{_≡_}
-use mathlib.Core.Bool.{false}
+use mathlib.Core.Bool.{Bool, false}
 use mathlib.Core.List.{List, [], _∷_}
 use Prim.Native.Nat.{ℕ, zero, suc, _+_, _*_, _-_, _/_, _%_, _<_}
 use lib.ListN.{length, getD}
@@ -8,20 +8,20 @@ use Rattle.term_spec.specs.Rows.{kind-in, offset-in, parts-in, size-in}
 use Rattle.row_fields.specs.Found.{content-of}
 use Rattle.row_fields.specs.Meaning.{term-kind}
 use Rattle.row_compare.specs.Hash.{mix, hash-contents}
-use Rattle.map_keys.specs.Compare.{same-terms-raw, pair-size}
+use Rattle.map_keys.specs.Compare.{same-terms-raw, pair-size, among-rows}
 
 -- the d-th slot from the hash h on
 abbrev pub slot : List ℕ → ℕ → ℕ → ℕ
 slot L h d = getD L ((h + d) % length L) 0
 
--- the key at the row k, whose hash is h, stands in a slot before the first empty one, if one is empty
-pub record Known (L : List ℕ) (h k : ℕ) : Type 0 where
+-- the set contains the key at the row k, whose hash is h: in a slot before the first empty one, if one is empty
+pub record Contains (L : List ℕ) (h k : ℕ) : Type 0 where
   pub stands : (d : ℕ) → d < length L → slot L h d ≡ 0 → (e : ℕ) × (e < d) × (slot L h e ≡ k + 1)
 
--- taken slots stay as they are, and so does the number of slots
+-- occupied slots stay as they are, and so does the number of slots
 pub record Keeps (L L′ : List ℕ) : Type 0 where
   pub as-many : length L′ ≡ length L
-  pub taken : (i : ℕ) → (getD L i 0 ≡ 0 → ⊥) → getD L′ i 0 ≡ getD L i 0
+  pub occupied : (i : ℕ) → (getD L i 0 ≡ 0 → ⊥) → getD L′ i 0 ≡ getD L i 0
 
 -- hashes of terms, over the words of their rows
 module _ (m places lengths : List ℕ) where
@@ -35,8 +35,8 @@ module _ (m places lengths : List ℕ) where
   hash-all h (w ∷ ws) = hash-all (hash-row h w) ws
 
   -- equal keys of two maps get two hashes: each map's start from the row of its first key; the step at the end and the half that is taken part keys that differ in their last byte alone
-  unfoldable pub hash-words : ℕ → List ℕ → ℕ
-  hash-words first ws = mix (hash-all (mix 0 first) ws) 0 / 65536
+  unfoldable pub hash-row-words : ℕ → List ℕ → ℕ
+  hash-row-words first ws = mix (hash-all (mix 0 first) ws) 0 / 65536
 
   -- the same of the n rows of a table from a on
   unfoldable pub hash-rows : List ℕ → ℕ → ℕ → ℕ → ℕ
@@ -47,17 +47,23 @@ module _ (m places lengths : List ℕ) where
   unfoldable pub term-hash : List ℕ → ℕ → ℕ → ℕ
   term-hash T first row = mix (hash-rows T (mix 0 first) (size-in (getD T row 0)) row) 0 / 65536
 
-  -- an empty slot comes from the hash h on, and no row in the slots before it means the same as the key
-  unfoldable pub Unmet : List ℕ → ℕ → List ℕ → ℕ → Type 0
-  Unmet T key L h =
+  -- the key is absent: an empty slot comes from the hash h on, and no row in the slots before it means the same
+  unfoldable pub Absent : List ℕ → ℕ → List ℕ → ℕ → Type 0
+  Absent T key L h =
       (d : ℕ) × (d < length L) × (slot L h d ≡ 0) × ((e : ℕ) → e < d → same-terms-raw m places lengths T key (slot L h e - 1) ≡ false)
 
   module _ (T : List ℕ) (first key : ℕ) (L : List ℕ) where
-    -- the keys at which among-steps looks are known: in n steps from the row `at` on
-    unfoldable pub Recalls-from : ℕ → ℕ → Type 0
-    Recalls-from zero at = Unit {0}
-    Recalls-from (suc n) at = at < key → Known L (term-hash T first at) at × Recalls-from n (at + pair-size T at)
+    -- the set contains the keys at which among-steps looks, in n steps from the row `at` on
+    unfoldable pub Contains-from : ℕ → ℕ → Type 0
+    Contains-from zero at = Unit {0}
+    Contains-from (suc n) at = at < key → Contains L (term-hash T first at) at × Contains-from n (at + pair-size T at)
 
-    -- each key before the row `key` is known
-    abbrev pub Recalls : Type 0
-    Recalls = Recalls-from (key - first) first
+    -- the set contains each key before the row `key`
+    abbrev pub Contains-before : Type 0
+    Contains-before = Contains-from (key - first) first
+
+    -- what a call promises that inserts the key unless it equals an earlier one: the answer, whether it does, and the slots after it
+    pub record Contains-or-insert (answer : Bool) (L′ : List ℕ) : Type 0 where
+      pub slots-kept : Keeps L L′
+      pub judged : Contains-before → answer ≡ among-rows m places lengths T first key
+      pub inserted : answer ≡ false → Contains L′ (term-hash T first key) key

@@ -1,8 +1,8 @@
--- `asking::number_found` meets its contract.
+-- `queries::numbered` meets its contract.
 use borrow.Author.Needs.{needs}
 use Rattle.queries.proofs.Ways.{row-past, row-here, row-refused}
-use Rattle.queries.proofs.number_found.Statement.{statement}
-use Rattle.queries.proofs.number_found.Tie as tie
+use Rattle.queries.proofs.numbered.Statement.{statement}
+use Rattle.queries.proofs.numbered.Tie as tie
 
 enum-known-read : tie.Need-enum-known-read
 enum-known-read c = search needs
@@ -10,8 +10,8 @@ enum-known-read c = search needs
 returns : tie.Need-returns
 returns c = row-past _ _ _ _ _ _ _ _ (c .before .before .read .given .1) (c .if1 .taken)
 
-word-at-requires : tie.Need-word-at-requires
-word-at-requires c κs = search needs
+row-at-requires : tie.Need-row-at-requires
+row-at-requires c κs = search needs
 
 kind-in-requires : tie.Need-kind-in-requires
 kind-in-requires c κs = search needs
@@ -29,18 +29,18 @@ enum-known-read-2 : tie.Need-enum-known-read-2
 enum-known-read-2 c = search needs
 
 returns-2 : tie.Need-returns-2
-returns-2 c = row-here _ _ _ _ _ _ _ _ (c .before .before .before .before .before .before .before .read .given .1) (c .before .before .before .before .before .if1 .left) _ _ _ _ _ (c .before .before .before .before .word-at .ensures) (c .before .before .before .kind-in .ensures .0) (c .before .before .offset-in .ensures .0) (c .before .content-at .ensures) (c .content-number .ensures)
+returns-2 c = row-here _ _ _ _ _ _ _ _ (c .before .before .before .before .before .before .before .read .given .1) (c .before .before .before .before .before .if1 .left) _ _ _ _ _ (c .before .before .before .before .row-at .ensures) (c .before .before .before .kind-in .ensures .0) (c .before .before .offset-in .ensures .0) (c .before .content-at .ensures) (c .content-number .ensures)
 
 returns-3 : tie.Need-returns-3
 returns-3 c = row-refused _ _ _ _ _ _ _ (c .before .read2 .given .1)
 
-pub number-found-spec : {M : Type 1} → statement M
-number-found-spec =
+pub numbered-spec : {M : Type 1} → statement M
+numbered-spec =
     tie.close
     (tie.spec
     enum-known-read
     returns
-    word-at-requires
+    row-at-requires
     kind-in-requires
     offset-in-requires
     content-at-requires
