@@ -10,6 +10,7 @@ use lib.Seq.{sets}
 use borrow.Author.Tests.{le-ltb}
 use Rattle.term_spec.specs.Numbers.{in-bytes}
 use Rattle.term_spec.specs.Rows.{kind-in, offset-in, parts-in}
+use Rattle.octets.proofs.Numbers.{big-one}
 use Rattle.octets.proofs.Parts.{length-words-at, part-add}
 use Rattle.row_fields.specs.Found.{value, text-width, text-end, atom-end, pid-found, pids-found, words-found, counted-found, references-found, content-of}
 use Rattle.row_fields.specs.Meaning.{words-at, label-of}
@@ -19,7 +20,7 @@ use Rattle.row_fields.proofs.ByKind.{kind-10, kind-12}
 use Rattle.layout.specs.Layout.{Put}
 use Rattle.canonical_fields.specs.Shape.{before, after}
 use Rattle.canonical_fields.specs.Sound.{Bytes-only, listed-in, before-in, after-in}
-use Rattle.already_canonical.specs.Stands.{Around}
+use Rattle.already_canonical.specs.Stands.{Tagged, Bodied, Around}
 use Rattle.canonical_fields.proofs.Leads.{number-stands, words-stand}
 use Rattle.canonical_fields.proofs.There.{there}
 use Rattle.already_canonical.proofs.Stands.{one, number-there, copied-length, copied-room, copied-put}
@@ -38,15 +39,19 @@ module _ (m : List ℕ) (at : ℕ) where
   unfolding atom-end
   end-by tag h e = let g : 1 ≤ length m - at = omega arith in simp (le-ltb (length m - at) 1 g) (ap (λ (t : ℕ). text-end m (text-width t) at) e)
 
-  pub node-82 : at < length m → getD m at 0 ≡ 82 → at + 2 ≡ atom-end m at
+  pub node-82 : {r : ℕ} → Tagged m at 82 2 r → at + 2 ≡ atom-end m at
   unfolding text-end text-width
-  node-82 h e = sym (end-by 82 h e)
+  node-82 t = let h = t .inside in sym (end-by 82 (omega arith) (t .tag-is))
 
-  pub node-119 : (v : ℕ) → getD m at 0 ≡ 119 → v ≡ value m 1 (at + 1) → at + 2 + v ≤ length m → at + 2 + v ≡ atom-end m at
+  pub node-119 : {r : ℕ} → Bytes-only m → Bodied m at 119 1 r → (at + r ≡ atom-end m at) × (r < 258)
   unfolding text-width
-  node-119 v e f h =
-      let n : at + 2 + v ≡ at + 1 + 1 + value m 1 (at + 1) = omega arith in
-      n ∙ sym (end-by 119 (omega arith) e ∙ end-there 1 refl (omega arith) (omega arith))
+  node-119 {r} b t =
+      let v : ℕ = value m 1 (at + 1) in
+      let e : r ≡ 1 + 1 + v = t .all in
+      let h : at + r ≤ length m = t .inside in
+      let o : v ≡ getD m (at + 1) 0 = big-one m (at + 1) (omega arith) in
+      let n : at + r ≡ at + 1 + 1 + v = omega arith in
+      (n ∙ sym (end-by 119 (omega arith) (t .body-tag) ∙ end-there 1 refl (omega arith) (omega arith)), omega (arith, b (at + 1)))
 
 -- ---- the fields around it
 

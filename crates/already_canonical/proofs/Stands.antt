@@ -2,7 +2,7 @@
 use mathlib.Core.Path.{_≡_, refl, sym, _∙_, ap, ap₂}
 use mathlib.Core.Bool.{Bool, true, false, cond}
 use mathlib.Core.List.{List, [], _∷_, _++_, append-nil}
-use Prim.Native.Nat.{ℕ, _+_, _-_, _≤_, _<_, _/_}
+use Prim.Native.Nat.{ℕ, zero, suc, _+_, _-_, _≤_, _<_, _/_}
 use native.Mathlib.Omega.{arith}
 use lib.Dec.{ltb}
 use lib.ListN.{length, getD, take, drop, length-append}
@@ -22,9 +22,13 @@ use Rattle.canonical_fields.specs.Sound.{Bytes-only, Sound, listed-in, before-i
 use lib.Seq.{drop-cons, sets}
 use Rattle.row_fields.specs.Found.{value, signed-whole, signed-found, integer-found, float-found, text-width, text-found, atom-found, bytes-found, binary-found, kind-found, content-of}
 use Rattle.row_fields.proofs.ByKind.{kind-2, kind-3, kind-7}
-use Rattle.already_canonical.specs.Stands.{Stands}
+use Rattle.already_canonical.specs.Stands.{Tagged, Counted, Bodied, Stands}
 use Rattle.canonical_fields.proofs.Leads.{number-stands, positive-97, positive-98, negative-98, atom-119, tuple-104, list-106, list-over, signed-above, signed-below, sound-text, sound-bytes}
 use Rattle.canonical_fields.proofs.There.{byte-there, there, integer-there, tag-97}
+
+pub positive : (n : ℕ) → (n ≡ 0 → ⊥) → 0 < n
+positive zero h = absurd (h refl)
+positive (suc n) h = omega arith
 
 -- a tag and a number after it, and bytes after these
 module _ (m : List ℕ) (tag at w : ℕ) (b : Bytes-only m) (e : getD m at 0 ≡ tag) where
@@ -105,7 +109,7 @@ module _ (m places lengths : List ℕ) (at parts : ℕ) (b : Bytes-only m) where
       let g : 9 ≤ length m - at = omega arith in
       there m places lengths 2 at (omega arith) ∙ sym (kind-2 m places lengths at 2 refl) ∙ simp (le-ltb (length m - at) 9 g)
 
-  pub stands-70 : getD m at 0 ≡ 70 → at + 9 ≤ length m → Stands m places lengths 2 at parts 9
+  stands-70 : getD m at 0 ≡ 70 → at + 9 ≤ length m → Stands m places lengths 2 at parts 9
   unfolding label-of before after
   stands-70 e h = by-content 2 9 (Float (value m 8 (at + 1))) (float-there h) h (omega arith) (number-there m 70 at 8 b e h) refl
 
@@ -121,7 +125,7 @@ module _ (m places lengths : List ℕ) (at parts : ℕ) (b : Bytes-only m) where
   unfolding atom-found text-width
   tag-119 = refl
 
-  pub stands-119 : (v : ℕ) → getD m at 0 ≡ 119 → v ≡ value m 1 (at + 1) → v < 256 → at + (2 + v) ≤ length m
+  stands-119 : (v : ℕ) → getD m at 0 ≡ 119 → v ≡ value m 1 (at + 1) → v < 256 → at + (2 + v) ≤ length m
       → Sound m places (content-of m places lengths 3 at) → Stands m places lengths 3 at parts (2 + v)
   unfolding label-of before after coded tagged-bytes
   stands-119 v e f l h s =
@@ -156,7 +160,7 @@ module _ (m places lengths : List ℕ) (at parts : ℕ) (b : Bytes-only m) where
   unfolding binary-found
   tag-109 = refl
 
-  pub stands-109 : (v : ℕ) → getD m at 0 ≡ 109 → v ≡ value m 4 (at + 1) → at + (5 + v) ≤ length m
+  stands-109 : (v : ℕ) → getD m at 0 ≡ 109 → v ≡ value m 4 (at + 1) → at + (5 + v) ≤ length m
       → Sound m places (content-of m places lengths 7 at) → Stands m places lengths 7 at parts (5 + v)
   unfolding label-of before after
   stands-109 v e f h s =
@@ -180,30 +184,68 @@ module _ (m places lengths : List ℕ) (at parts : ℕ) (b : Bytes-only m) where
       refl
 
   -- terms with no fields of their own
-  pub stands-104 : getD m at 0 ≡ 104 → at + 2 ≤ length m → value m 1 (at + 1) ≡ parts → parts < 256 → Stands m places lengths 4 at parts 2
+  stands-104 : getD m at 0 ≡ 104 → at + 2 ≤ length m → value m 1 (at + 1) ≡ parts → parts < 256 → Stands m places lengths 4 at parts 2
   unfolding kind-found label-of bare after
   stands-104 e h f l =
       by-content 4 2 Nothing (there m places lengths 4 at (omega arith)) h (omega arith)
       (sym (tuple-104 parts (omega arith)) ∙ ap (λ (k : ℕ). 104 ∷ in-bytes 1 k) (sym f) ∙ number-there m 104 at 1 b e h)
       refl
 
-  pub stands-106 : getD m at 0 ≡ 106 → at + 1 ≤ length m → parts ≡ 0 → Stands m places lengths 5 at parts 1
+  stands-106 : getD m at 0 ≡ 106 → at + 1 ≤ length m → parts ≡ 0 → Stands m places lengths 5 at parts 1
   unfolding kind-found label-of bare
   stands-106 e h f =
       by-content 5 1 Nothing (there m places lengths 5 at (omega arith)) h (omega arith)
       (sym (list-106 parts f) ∙ sym (one m 106 at 0 b e (omega arith)))
       (sym (list-over parts f))
 
-  pub stands-113 : getD m at 0 ≡ 113 → at + 1 ≤ length m → Stands m places lengths 13 at parts 1
+  stands-113 : getD m at 0 ≡ 113 → at + 1 ≤ length m → Stands m places lengths 13 at parts 1
   unfolding kind-found label-of bare before after
   stands-113 e h = by-content 13 1 Nothing (there m places lengths 13 at (omega arith)) h (omega arith) (sym (one m 113 at 0 b e (omega arith))) refl
 
-  pub stands-116 : getD m at 0 ≡ 116 → at + 5 ≤ length m → value m 4 (at + 1) ≡ parts / 2 → Stands m places lengths 9 at parts 5
+  stands-116 : getD m at 0 ≡ 116 → at + 5 ≤ length m → value m 4 (at + 1) ≡ parts / 2 → Stands m places lengths 9 at parts 5
   unfolding kind-found label-of bare before after
   stands-116 e h f =
       by-content 9 5 Nothing (there m places lengths 9 at (omega arith)) h (omega arith)
       (ap (λ (k : ℕ). 116 ∷ in-bytes 4 k) (sym f) ∙ number-there m 116 at 4 b e h)
       refl
+
+  -- by what was found at the tag
+  module _ {r : ℕ} where
+    pub tagged-70 : Tagged m at 70 9 r → Stands m places lengths 2 at parts r
+    tagged-70 t = rw (t .all) (stands-70 (t .tag-is) (t .inside))
+
+    pub tagged-113 : Tagged m at 113 1 r → Stands m places lengths 13 at parts r
+    tagged-113 t = rw (t .all) (stands-113 (t .tag-is) (t .inside))
+
+    pub tagged-106 : Tagged m at 106 1 r → parts ≡ 0 → Stands m places lengths 5 at parts r
+    tagged-106 t e = rw (t .all) (stands-106 (t .tag-is) (t .inside) e)
+
+    pub counted-104 : Counted m at 104 1 parts r → Stands m places lengths 4 at parts r
+    counted-104 t =
+        let h = t .count-tagged .inside in
+        let v : value m 1 (at + 1) ≡ getD m (at + 1) 0 = big-one m (at + 1) (omega arith) in
+        let e : value m 1 (at + 1) ≡ parts = t .count-is in
+        let l : parts < 256 = omega (arith, b (at + 1)) in
+        rw (t .count-tagged .all) (stands-104 (t .count-tagged .tag-is) h e l)
+
+    pub counted-116 : Counted m at 116 4 (parts / 2) r → Stands m places lengths 9 at parts r
+    counted-116 t = rw (t .count-tagged .all) (stands-116 (t .count-tagged .tag-is) (t .count-tagged .inside) (t .count-is))
+
+    pub bodied-119 : Bodied m at 119 1 r → Sound m places (content-of m places lengths 3 at) → Stands m places lengths 3 at parts r
+    bodied-119 t s =
+        let n : ℕ = value m 1 (at + 1) in
+        let e : r ≡ 2 + n = t .all in
+        let h : at + r ≤ length m = t .inside in
+        let v : n ≡ getD m (at + 1) 0 = big-one m (at + 1) (omega arith) in
+        let l : n < 256 = omega (arith, b (at + 1)) in
+        rw e (stands-119 n (t .body-tag) refl l (omega arith) s)
+
+    pub bodied-109 : Bodied m at 109 4 r → Sound m places (content-of m places lengths 7 at) → Stands m places lengths 7 at parts r
+    bodied-109 t s =
+        let n : ℕ = value m 4 (at + 1) in
+        let e : r ≡ 5 + n = t .all in
+        let h : at + r ≤ length m = t .inside in
+        rw e (stands-109 n (t .body-tag) refl (omega arith) s)
 
 -- by the word
 module _ (m places lengths : List ℕ) (w kind k at : ℕ) (e : kind ≡ kind-in w) (f : kind ≡ k) (g : at ≡ offset-in w) where

@@ -1,28 +1,69 @@
 // Bytes of the message that are a term's own in canonical form already.
+use term_spec::kinds;
+use term_spec::tags;
 ghost use mathlib.Core.Path.{_≡_};
 ghost use mathlib.Core.List.{List};
-ghost use Prim.Native.Nat.{ℕ, _+_, _*_, _-_, _<_};
+ghost use Prim.Native.Nat.{ℕ, _+_, _*_, _≤_, _<_};
 ghost use Rattle.term_spec.specs.Rows.{kind-in, offset-in, parts-in};
-ghost use Rattle.row_fields.specs.Found.{value, atom-end, content-of};
-ghost use Rattle.canonical_fields.specs.Sound.{Sound, Sound-word};
-ghost use Rattle.already_canonical.specs.Stands.{Stands, Around};
+ghost use Rattle.row_fields.specs.Found.{value, atom-end};
+ghost use Rattle.canonical_fields.specs.Sound.{Sound-word};
+ghost use Rattle.octets.specs.Parts.{Width};
+ghost use Rattle.already_canonical.specs.Stands.{Tagged, Counted, Bodied, Stands, Around};
+
+// n, where the n bytes from `at` on are there and the first is this tag; else 0.
+fn tagged(msg: &[u8], at: usize, tag: u8, n: usize) -> usize
+    requires { ⌜ (at < 65539) × (1 ≤ n) × (n ≤ 9) ⌝ }
+    ensures { λ r. ⌜ (0 < r → Tagged (now (msg .entry)) at tag n r) ⌝ }
+{
+    if msg.len() < at + n {
+        return 0;
+    }
+    if msg[at] != tag {
+        return 0;
+    }
+    n
+}
+
+// How many bytes this tag and then the number n in w bytes are, where they stand from `at` on; else 0.
+fn counted(msg: &[u8], at: usize, tag: u8, w: usize, n: usize) -> usize
+    requires { ⌜ (at < 65539) × Width w ⌝ }
+    ensures { λ r. ⌜ (0 < r → Counted (now (msg .entry)) at tag w n r) ⌝ }
+{
+    let first = tagged(msg, at, tag, 1 + w);
+    if first == 0 {
+        return 0;
+    }
+    if octets::number(msg, at + 1, w) != n as u64 {
+        return 0;
+    }
+    first
+}
+
+// How many bytes this tag, a length in w bytes and so many bytes are, where they stand from `at` on; else 0.
+fn bodied(msg: &[u8], at: usize, tag: u8, w: usize) -> usize
+    requires { ⌜ (at < 65539) × Width w ⌝ }
+    ensures { λ r. ⌜ (0 < r → Bodied (now (msg .entry)) at tag w r) ⌝ }
+{
+    let first = tagged(msg, at, tag, 1 + w);
+    if first == 0 {
+        return 0;
+    }
+    let n = octets::number(msg, at + 1, w) as usize;
+    if msg.len() - (at + first) < n {
+        return 0;
+    }
+    first + n
+}
 
 // How many bytes from its tag at `at` on are an integer's own in canonical form: a 97, or a 98 that has to be one. 0 where they are not.
 fn integer_stands(msg: &[u8], at: usize) -> usize
     requires { ⌜ at < 65536 ⌝ }
     ensures { λ r. ⌜ ((places lengths : List ℕ) (parts : ℕ) → 0 < r → Stands (now (msg .entry)) places lengths 1 at parts r) ⌝ }
 {
-    if msg.len() < at + 2 {
-        return 0;
-    }
-    let tag = octets::wide(msg[at]);
-    if tag == 97 {
+    if 0 < tagged(msg, at, tags::SMALL_INTEGER_EXT, 2) {
         return 2;
     }
-    if tag != 98 {
-        return 0;
-    }
-    if msg.len() < at + 5 {
+    if tagged(msg, at, tags::INTEGER_EXT, 5) == 0 {
         return 0;
     }
     if octets::big4(msg, at + 1) < 256 {
@@ -31,119 +72,15 @@ fn integer_stands(msg: &[u8], at: usize) -> usize
     5
 }
 
-// The same of a float.
-fn float_stands(msg: &[u8], at: usize) -> usize
-    requires { ⌜ at < 65536 ⌝ }
-    ensures { λ r. ⌜ ((places lengths : List ℕ) (parts : ℕ) → 0 < r → Stands (now (msg .entry)) places lengths 2 at parts r) ⌝ }
-{
-    if msg.len() < at + 9 {
-        return 0;
-    }
-    if octets::wide(msg[at]) != 70 {
-        return 0;
-    }
-    9
-}
-
-// The same of an atom: a 119.
-fn text_stands(msg: &[u8], at: usize) -> usize
-    requires { ⌜ at < 65536 ⌝ }
-    ensures { λ r. ⌜ ((places lengths : List ℕ) (parts : ℕ) → Sound (now (msg .entry)) places (content-of (now (msg .entry)) places lengths 3 at) → 0 < r → Stands (now (msg .entry)) places lengths 3 at parts r) ⌝ }
-{
-    if msg.len() < at + 2 {
-        return 0;
-    }
-    if octets::wide(msg[at]) != 119 {
-        return 0;
-    }
-    let n = octets::big1(msg, at + 1);
-    if msg.len() < at + 2 + n {
-        return 0;
-    }
-    2 + n
-}
-
-// The same of a tuple of n elements: a 104.
-fn tuple_stands(msg: &[u8], at: usize, n: usize) -> usize
-    requires { ⌜ at < 65536 ⌝ }
-    ensures { λ r. ⌜ ((places lengths : List ℕ) → 0 < r → Stands (now (msg .entry)) places lengths 4 at n r) ⌝ }
-{
-    if msg.len() < at + 2 {
-        return 0;
-    }
-    if octets::wide(msg[at]) != 104 {
-        return 0;
-    }
-    if octets::big1(msg, at + 1) != n {
-        return 0;
-    }
-    2
-}
-
 // The same of a list of n elements: a 106.
 fn list_stands(msg: &[u8], at: usize, n: usize) -> usize
     requires { ⌜ at < 65536 ⌝ }
-    ensures { λ r. ⌜ ((places lengths : List ℕ) → 0 < r → Stands (now (msg .entry)) places lengths 5 at n r) ⌝ }
+    ensures { λ r. ⌜ (0 < r → Tagged (now (msg .entry)) at 106 1 r × (n ≡ 0)) ⌝ }
 {
     if n != 0 {
         return 0;
     }
-    if msg.len() < at + 1 {
-        return 0;
-    }
-    if octets::wide(msg[at]) != 106 {
-        return 0;
-    }
-    1
-}
-
-// The same of a binary: a 109.
-fn bytes_stand(msg: &[u8], at: usize) -> usize
-    requires { ⌜ at < 65536 ⌝ }
-    ensures { λ r. ⌜ ((places lengths : List ℕ) (parts : ℕ) → Sound (now (msg .entry)) places (content-of (now (msg .entry)) places lengths 7 at) → 0 < r → Stands (now (msg .entry)) places lengths 7 at parts r) ⌝ }
-{
-    if msg.len() < at + 5 {
-        return 0;
-    }
-    if octets::wide(msg[at]) != 109 {
-        return 0;
-    }
-    let n = octets::big4(msg, at + 1);
-    if msg.len() < at + 5 + n {
-        return 0;
-    }
-    5 + n
-}
-
-// The same of a map with n keys and values.
-fn map_stands(msg: &[u8], at: usize, n: usize) -> usize
-    requires { ⌜ at < 65536 ⌝ }
-    ensures { λ r. ⌜ ((places lengths : List ℕ) → 0 < r → Stands (now (msg .entry)) places lengths 9 at n r) ⌝ }
-{
-    if msg.len() < at + 5 {
-        return 0;
-    }
-    if octets::wide(msg[at]) != 116 {
-        return 0;
-    }
-    if octets::big4(msg, at + 1) != n / 2 {
-        return 0;
-    }
-    5
-}
-
-// The same of an export.
-fn export_stands(msg: &[u8], at: usize) -> usize
-    requires { ⌜ at < 65536 ⌝ }
-    ensures { λ r. ⌜ ((places lengths : List ℕ) (parts : ℕ) → 0 < r → Stands (now (msg .entry)) places lengths 13 at parts r) ⌝ }
-{
-    if msg.len() < at + 1 {
-        return 0;
-    }
-    if octets::wide(msg[at]) != 113 {
-        return 0;
-    }
-    1
+    tagged(msg, at, tags::NIL_EXT, 1)
 }
 
 // How many bytes of the message from its tag on are the own bytes, in canonical form, of the term whose row this is; 0 where they may not be.
@@ -154,14 +91,14 @@ pub fn as_it_stands(msg: &[u8], word: u64) -> usize
     let n = row::parts_in(word);
     let kind = row::kind_in(word);
     match kind {
-        1 => integer_stands(msg, at),
-        2 => float_stands(msg, at),
-        3 => text_stands(msg, at),
-        4 => tuple_stands(msg, at, n),
-        5 => list_stands(msg, at, n),
-        7 => bytes_stand(msg, at),
-        9 => map_stands(msg, at, n),
-        13 => export_stands(msg, at),
+        kinds::INTEGER => integer_stands(msg, at),
+        kinds::FLOAT => tagged(msg, at, tags::NEW_FLOAT_EXT, 9),
+        kinds::ATOM => bodied(msg, at, tags::SMALL_ATOM_UTF8_EXT, 1),
+        kinds::TUPLE => counted(msg, at, tags::SMALL_TUPLE_EXT, 1, n),
+        kinds::LIST => list_stands(msg, at, n),
+        kinds::BINARY => bodied(msg, at, tags::BINARY_EXT, 4),
+        kinds::MAP => counted(msg, at, tags::MAP_EXT, 4, n / 2),
+        kinds::EXPORT => tagged(msg, at, tags::EXPORT_EXT, 1),
         _ => 0,
     }
 }
@@ -171,21 +108,14 @@ fn node_end(msg: &[u8], at: usize) -> usize
     requires { ⌜ at < 65539 ⌝ }
     ensures { λ r. ⌜ (0 < r → r ≡ atom-end (now (msg .entry)) at) × (r < 65798) ⌝ }
 {
-    if msg.len() < at + 2 {
-        return 0;
-    }
-    let tag = octets::wide(msg[at]);
-    if tag == 82 {
+    if 0 < tagged(msg, at, tags::ATOM_CACHE_REF, 2) {
         return at + 2;
     }
-    if tag != 119 {
+    let n = bodied(msg, at, tags::SMALL_ATOM_UTF8_EXT, 1);
+    if n == 0 {
         return 0;
     }
-    let n = octets::big1(msg, at + 1);
-    if msg.len() < at + 2 + n {
-        return 0;
-    }
-    at + 2 + n
+    at + n
 }
 
 // Where the node of a pid with tag 88 ends, by its row's kind and offset; 0 for any other term.
@@ -193,13 +123,10 @@ pub fn pid_node(msg: &[u8], kind: usize, at: usize) -> usize
     requires { ⌜ at < 65536 ⌝ }
     ensures { λ r. ⌜ ((places lengths : List ℕ) (parts : ℕ) → 0 < r → Around (now (msg .entry)) places lengths kind at parts 1 r 12) ⌝ }
 {
-    if kind != 10 {
+    if kind != kinds::PID {
         return 0;
     }
-    if msg.len() < at + 1 {
-        return 0;
-    }
-    if octets::wide(msg[at]) != 88 {
+    if tagged(msg, at, tags::NEW_PID_EXT, 1) == 0 {
         return 0;
     }
     let end = node_end(msg, at + 1);
@@ -214,13 +141,10 @@ pub fn reference_node(msg: &[u8], kind: usize, at: usize) -> usize
     requires { ⌜ at < 65536 ⌝ }
     ensures { λ r. ⌜ ((places lengths : List ℕ) (parts : ℕ) → 0 < r → Around (now (msg .entry)) places lengths kind at parts 3 r (4 + 4 * value (now (msg .entry)) 2 (at + 1))) ⌝ }
 {
-    if kind != 12 {
+    if kind != kinds::REFERENCE {
         return 0;
     }
-    if msg.len() < at + 3 {
-        return 0;
-    }
-    if octets::wide(msg[at]) != 90 {
+    if tagged(msg, at, tags::NEWER_REFERENCE_EXT, 3) == 0 {
         return 0;
     }
     let end = node_end(msg, at + 3);

@@ -1,6 +1,7 @@
 // One line of the bench program: the canonical form of a standalone term in hex, or its refusal.
 use term_spec::Refusal;
 use term_spec::WriteAnswer;
+use term_spec::sizes;
 ghost use mathlib.Core.Path.{_≡_};
 ghost use Prim.Native.Nat.{_+_, _*_, _≤_, _<_};
 ghost use lib.ListN.{length};
@@ -98,16 +99,16 @@ fn put_answer(
 }
 
 // The longest line: two digits for each byte of the output, and room for a refusal.
-pub const LINE_MOST: usize = 131122;
+pub const LINE_MOST: usize = 2 * sizes::MESSAGE_MOST + 50;
 
 // Stores the bench's line for an input at the start of dst, and nothing else; how long it is.
 pub fn line(input: &[u8], dst: &mut [u8; LINE_MOST]) -> usize
     ensures { λ r. ⌜ Stored (Line (bench-answer (now (input .entry)))) (now (dst .entry)) 0 r (now (dst .exit)) ⌝ }
     ensures { λ r. ⌜ Counts r (now (dst .exit)) ⌝ }
 {
-    let places = [0u8; 8160];
-    let lengths = [0u16; 255];
-    let mut scratch = [0u64; 8192];
-    let mut output = [0u8; 65536];
+    let places = [0u8; sizes::LIST_BYTES];
+    let lengths = [0u16; sizes::LIST_PLACES];
+    let mut scratch = [0u64; sizes::ROWS_MOST];
+    let mut output = [0u8; sizes::MESSAGE_MOST];
     put_answer(input, &places, &lengths, &mut scratch, &mut output, dst)
 }

@@ -24,6 +24,9 @@ use Rattle.row_fields.specs.Meaning.{sign, coded, words-at, bare, label-of}
 use Rattle.row_fields.specs.declared.Content.{Content}
 use Rattle.row_fields.specs.declared.Content.the-variants as fields
 use Rattle.row_fields.specs.declared.Content.the-variants.{Whole, Big, Text, Bytes, Reference}
+use denote.Enum.Declared.{tagOf}
+use types.Run.{OneOf, miss}
+use Rattle.row_fields.proofs.Content.{the-type}
 use Rattle.row_fields.proofs.Values.{under-part}
 use Rattle.layout.specs.declared.Body.{Body}
 use Rattle.layout.specs.declared.Body.the-variants.{Empty, Part, Latin1, Digits, Bits}
@@ -311,6 +314,21 @@ pub signed-above : (z : Bool) (n : ℕ) → z ≡ false → pos n ≡ with-sign 
 unfolding with-sign
 signed-above z n e = rw e
 
+-- nothing stands after the parts of what is neither bare, nor a pid, port or reference
+plain-trail : (m places : List ℕ) (kind n : ℕ) (c : Content) → OneOf (1 ∷ 2 ∷ 3 ∷ 4 ∷ 5 ∷ 6 ∷ []) (tagOf the-type c)
+    → after (label-of m (listed-in places) kind c) n ≡ []
+unfolding label-of after
+plain-trail m places kind n fields.Nothing o = absurd (miss (1 ∷ 2 ∷ 3 ∷ 4 ∷ 5 ∷ 6 ∷ []) 0 tt o)
+plain-trail m places kind n (Whole negative k) o = refl
+plain-trail m places kind n (Big negative start k) o = refl
+plain-trail m places kind n (fields.Float bits) o = refl
+plain-trail m places kind n (Text latin1 listed start k) o = refl
+plain-trail m places kind n (Bytes start k) o = refl
+plain-trail m places kind n (fields.Bits bits start k) o = refl
+plain-trail m places kind n (fields.Pid id serial creation) o = absurd (miss (1 ∷ 2 ∷ 3 ∷ 4 ∷ 5 ∷ 6 ∷ []) 7 tt o)
+plain-trail m places kind n (fields.Port id creation) o = absurd (miss (1 ∷ 2 ∷ 3 ∷ 4 ∷ 5 ∷ 6 ∷ []) 8 tt o)
+plain-trail m places kind n (Reference creation start k) o = absurd (miss (1 ∷ 2 ∷ 3 ∷ 4 ∷ 5 ∷ 6 ∷ []) 9 tt o)
+
 module _ (m places : List ℕ) (content : Content) where
   pub sound-whole : (negative : Bool) (n : ℕ) → content ≡ Whole negative n → Sound m places content → negative ≡ true → 0 < n
   unfolding Sound
@@ -346,6 +364,9 @@ module _ (m places : List ℕ) (content : Content) where
 
     pub lead-by : (c : Content) {l : Layout} → content ≡ c → Lays m places (before-of c) l → Lays m places (before-of content) l
     lead-by c e h = says (sym (ap before-of e)) h
+
+    pub no-trail : OneOf (1 ∷ 2 ∷ 3 ∷ 4 ∷ 5 ∷ 6 ∷ []) (tagOf the-type content) → {l : Layout} → Lays m places [] l → Lays m places (after-of content) l
+    no-trail o h = says (sym (plain-trail m places kind n content o)) h
 
     pub trail-by : (c : Content) {l : Layout} → content ≡ c → Lays m places (after-of c) l → Lays m places (after-of content) l
     trail-by c e h = says (sym (ap after-of e)) h

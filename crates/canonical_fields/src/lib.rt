@@ -2,6 +2,8 @@
 use layout::Body;
 use layout::Layout;
 use row_fields::Content;
+use term_spec::kinds;
+use term_spec::tags;
 ghost use mathlib.Core.Path.{_≡_};
 ghost use mathlib.Core.Bool.{false};
 ghost use mathlib.Core.List.{List, []};
@@ -19,6 +21,48 @@ ghost use Rattle.layout.specs.Layout.{body-bytes, Inside, Body-inside, Lays};
 ghost use Rattle.canonical_fields.specs.Shape.{tagged-bytes, before, after};
 ghost use Rattle.canonical_fields.specs.Sound.{High, Bytes-only, Sound-text, Sound, listed-in, content-in};
 
+// The tags of the canonical form, as numbers of a layout.
+const SMALL_INTEGER: u64 = tags::SMALL_INTEGER_EXT as u64;
+
+const INTEGER: u64 = tags::INTEGER_EXT as u64;
+
+const SMALL_BIG: u64 = tags::SMALL_BIG_EXT as u64;
+
+const LARGE_BIG: u64 = tags::LARGE_BIG_EXT as u64;
+
+const FLOAT: u64 = tags::NEW_FLOAT_EXT as u64;
+
+const SMALL_ATOM: u64 = tags::SMALL_ATOM_UTF8_EXT as u64;
+
+const ATOM: u64 = tags::ATOM_UTF8_EXT as u64;
+
+const SMALL_TUPLE: u64 = tags::SMALL_TUPLE_EXT as u64;
+
+const LARGE_TUPLE: u64 = tags::LARGE_TUPLE_EXT as u64;
+
+const NIL: u64 = tags::NIL_EXT as u64;
+
+const LIST: u64 = tags::LIST_EXT as u64;
+
+const BINARY: u64 = tags::BINARY_EXT as u64;
+
+const BITSTRING: u64 = tags::BIT_BINARY_EXT as u64;
+
+const MAP: u64 = tags::MAP_EXT as u64;
+
+const PID: u64 = tags::NEW_PID_EXT as u64;
+
+const NEW_PORT: u64 = tags::NEW_PORT_EXT as u64;
+
+const V4_PORT: u64 = tags::V4_PORT_EXT as u64;
+
+const REFERENCE: u64 = tags::NEWER_REFERENCE_EXT as u64;
+
+const EXPORT: u64 = tags::EXPORT_EXT as u64;
+
+// The IDs of ports below this are written with tag 89.
+const NEW_PORT_IDS: u64 = 268435456;
+
 // The layout of a tag, a number of so many bytes, and a body.
 fn tagged(tag: u64, width: usize, n: u64, body: Body) -> Layout
     requires { ⌜ (tag < 256) × (width ≤ 8) ⌝ }
@@ -32,7 +76,7 @@ fn digits_lead(sign: u64, n: u64) -> Layout
     ensures { λ r. ⌜ ((m places : List ℕ) → Lays m places (big-bytes sign (digits n)) r) ⌝ }
 {
     let count = layout::count_digits(n) as u64;
-    layout::laid(1, 110, 1, count, 1, sign, Body::Digits { number: n })
+    layout::laid(1, SMALL_BIG, 1, count, 1, sign, Body::Digits { number: n })
 }
 
 // An integer that is not negative.
@@ -40,10 +84,10 @@ fn positive_lead(n: u64) -> Layout
     ensures { λ r. ⌜ ((m places : List ℕ) → Lays m places (integer-bytes (pos n)) r) ⌝ }
 {
     if n < 256 {
-        return tagged(97, 1, n, Body::Empty);
+        return tagged(SMALL_INTEGER, 1, n, Body::Empty);
     }
     if n < 2147483648 {
-        return tagged(98, 4, n, Body::Empty);
+        return tagged(INTEGER, 4, n, Body::Empty);
     }
     digits_lead(0, n)
 }
@@ -54,7 +98,7 @@ fn negative_lead(n: u64) -> Layout
     ensures { λ r. ⌜ ((m places : List ℕ) → Lays m places (integer-bytes (negsuc (n - 1))) r) ⌝ }
 {
     if n <= 2147483648 {
-        return tagged(98, 4, 4294967296 - n, Body::Empty);
+        return tagged(INTEGER, 4, 4294967296 - n, Body::Empty);
     }
     digits_lead(1, n)
 }
@@ -70,9 +114,9 @@ fn big_lead(negative: bool, start: usize, n: usize) -> Layout
     };
     let sign = sign_of(negative);
     if n <= 255 {
-        return layout::laid(1, 110, 1, n as u64, 1, sign, body);
+        return layout::laid(1, SMALL_BIG, 1, n as u64, 1, sign, body);
     }
-    layout::laid(1, 111, 4, n as u64, 1, sign, body)
+    layout::laid(1, LARGE_BIG, 4, n as u64, 1, sign, body)
 }
 
 fn sign_of(negative: bool) -> u64
@@ -89,9 +133,9 @@ fn text_lead(n: usize, body: Body) -> Layout
     ensures { λ r. ⌜ ((m places : List ℕ) → Body-inside m places body → n ≡ length (body-bytes m places body) → Lays m places (atom-bytes (body-bytes m places body)) r) ⌝ }
 {
     if n <= 255 {
-        return tagged(119, 1, n as u64, body);
+        return tagged(SMALL_ATOM, 1, n as u64, body);
     }
-    tagged(118, 2, n as u64, body)
+    tagged(ATOM, 2, n as u64, body)
 }
 
 // An atom whose text stands in the message or in the list, in Latin-1 or UTF-8.
@@ -123,7 +167,7 @@ fn bytes_lead(start: usize, n: usize) -> Layout
     ensures { λ r. ⌜ ((m places : List ℕ) → Inside m start n → Lays m places (before (binary (stretch m start n)) 0) r) ⌝ }
 {
     tagged(
-        109,
+        BINARY,
         4,
         n as u64,
         Body::Part {
@@ -140,7 +184,7 @@ fn bits_lead(bits: usize, start: usize, n: usize) -> Layout
 {
     layout::laid(
         1,
-        77,
+        BITSTRING,
         4,
         n as u64,
         1,
@@ -158,9 +202,9 @@ fn tuple_lead(n: usize) -> Layout
     ensures { λ r. ⌜ ((m places : List ℕ) → Lays m places (before tuple n) r) ⌝ }
 {
     if n <= 255 {
-        return tagged(104, 1, n as u64, Body::Empty);
+        return tagged(SMALL_TUPLE, 1, n as u64, Body::Empty);
     }
-    tagged(105, 4, n as u64, Body::Empty)
+    tagged(LARGE_TUPLE, 4, n as u64, Body::Empty)
 }
 
 // A list of n elements that is written with them.
@@ -168,9 +212,9 @@ fn list_lead(n: usize) -> Layout
     ensures { λ r. ⌜ ((m places : List ℕ) → Lays m places (before list n) r) ⌝ }
 {
     if n == 0 {
-        return tagged(106, 0, 0, Body::Empty);
+        return tagged(NIL, 0, 0, Body::Empty);
     }
-    tagged(108, 4, n as u64, Body::Empty)
+    tagged(LIST, 4, n as u64, Body::Empty)
 }
 
 // A term that has no fields of its own but its number of parts.
@@ -179,11 +223,11 @@ fn bare_lead(kind: usize, n: usize) -> Layout
     ensures { λ r. ⌜ ((m places : List ℕ) → Lays m places (before (bare kind) n) r) ⌝ }
 {
     match kind {
-        4 => tuple_lead(n),
-        5 => list_lead(n),
-        6 => tagged(108, 4, (n - 1) as u64, Body::Empty),
-        9 => tagged(116, 4, (n / 2) as u64, Body::Empty),
-        _ => tagged(113, 0, 0, Body::Empty),
+        kinds::TUPLE => tuple_lead(n),
+        kinds::LIST => list_lead(n),
+        kinds::IMPROPER_LIST => tagged(LIST, 4, (n - 1) as u64, Body::Empty),
+        kinds::MAP => tagged(MAP, 4, (n / 2) as u64, Body::Empty),
+        _ => tagged(EXPORT, 0, 0, Body::Empty),
     }
 }
 
@@ -191,10 +235,10 @@ fn bare_lead(kind: usize, n: usize) -> Layout
 fn port_lead(id: u64, creation: u64, n: usize) -> Layout
     ensures { λ r. ⌜ ((m places : List ℕ) → Lays m places (before (port id creation) n) r) ⌝ }
 {
-    if id < 268435456 {
-        return tagged(89, 0, 0, Body::Empty);
+    if id < NEW_PORT_IDS {
+        return tagged(NEW_PORT, 0, 0, Body::Empty);
     }
-    tagged(120, 0, 0, Body::Empty)
+    tagged(V4_PORT, 0, 0, Body::Empty)
 }
 
 // The bytes before the parts of a term of this kind, with this content and n parts.
@@ -218,7 +262,7 @@ pub fn lead(msg: &[u8], places: &[u8], kind: usize, content: Content, n: usize) 
             start,
             digits,
         } => big_lead(negative, start, digits),
-        Content::Float { bits } => tagged(70, 8, bits, Body::Empty),
+        Content::Float { bits } => tagged(FLOAT, 8, bits, Body::Empty),
         Content::Text {
             latin1,
             listed,
@@ -235,13 +279,13 @@ pub fn lead(msg: &[u8], places: &[u8], kind: usize, content: Content, n: usize) 
             id,
             serial,
             creation,
-        } => tagged(88, 0, 0, Body::Empty),
+        } => tagged(PID, 0, 0, Body::Empty),
         Content::Port { id, creation } => port_lead(id, creation, n),
         Content::Reference {
             creation,
             start,
             words,
-        } => tagged(90, 2, words as u64, Body::Empty),
+        } => tagged(REFERENCE, 2, words as u64, Body::Empty),
     }
 }
 
@@ -259,14 +303,14 @@ fn list_trail(n: usize) -> Layout
     if n == 0 {
         return no_trail();
     }
-    tagged(106, 0, 0, Body::Empty)
+    tagged(NIL, 0, 0, Body::Empty)
 }
 
 // The end of a term that has no fields of its own but its number of parts.
 fn bare_trail(kind: usize, n: usize) -> Layout
     ensures { λ r. ⌜ ((m places : List ℕ) → Lays m places (after (bare kind) n) r) ⌝ }
 {
-    if kind == 5 {
+    if kind == kinds::LIST {
         return list_trail(n);
     }
     no_trail()
@@ -283,7 +327,7 @@ fn pid_trail(id: u64, serial: u64, creation: u64, n: usize) -> Layout
 fn port_trail(id: u64, creation: u64, n: usize) -> Layout
     ensures { λ r. ⌜ ((m places : List ℕ) → Lays m places (after (port id creation) n) r) ⌝ }
 {
-    if id < 268435456 {
+    if id < NEW_PORT_IDS {
         return layout::laid(4, id, 4, creation, 0, 0, Body::Empty);
     }
     layout::laid(8, id, 4, creation, 0, 0, Body::Empty)
@@ -316,28 +360,6 @@ pub fn trail(msg: &[u8], places: &[u8], kind: usize, content: Content, n: usize)
 {
     match content {
         Content::Nothing => bare_trail(kind, n),
-        Content::Whole {
-            negative,
-            magnitude,
-        } => no_trail(),
-        Content::Big {
-            negative,
-            start,
-            digits,
-        } => no_trail(),
-        Content::Float { bits } => no_trail(),
-        Content::Text {
-            latin1,
-            listed,
-            start,
-            length,
-        } => no_trail(),
-        Content::Bytes { start, length } => no_trail(),
-        Content::Bits {
-            bits,
-            start,
-            length,
-        } => no_trail(),
         Content::Pid {
             id,
             serial,
@@ -349,6 +371,7 @@ pub fn trail(msg: &[u8], places: &[u8], kind: usize, content: Content, n: usize)
             start,
             words,
         } => words_trail(creation, start, words, n),
+        _ => no_trail(),
     }
 }
 

@@ -1,7 +1,7 @@
 -- Terms that are characters. Assumes nothing.
 use mathlib.Core.Path.{_≡_, refl, sym, _∙_, ap}
-use mathlib.Core.Bool.{Bool, true, false, cond}
-use mathlib.Core.List.{List}
+use mathlib.Core.Bool.{Bool, true, false}
+use mathlib.Core.List.{List, [], _∷_}
 use Prim.Native.Nat.{ℕ, _+_, _-_, _≤_, _<_}
 use native.Mathlib.Omega.{arith}
 use lib.Dec.{eqb}
@@ -14,7 +14,11 @@ use Rattle.term_spec.specs.Rows.{kind-in, offset-in}
 use Rattle.octets.specs.Parts.{stretch}
 use Rattle.row_fields.specs.Meaning.{sign, bare, label-of}
 use Rattle.row_fields.specs.declared.Content.{Content}
-use Rattle.row_fields.specs.declared.Content.the-variants.{Whole, Big, Nothing}
+use Rattle.row_fields.specs.declared.Content.the-variants as fields
+use Rattle.row_fields.specs.declared.Content.the-variants.{Whole, Big, Nothing, Float, Text, Bytes, Reference}
+use denote.Enum.Declared.{tagOf}
+use types.Run.{OneOf, miss}
+use Rattle.row_fields.proofs.Content.{the-type}
 use Rattle.canonical_fields.specs.Sound.{High, Bytes-only, Sound, listed-in, label-in}
 use Rattle.row_fields.specs.Found.{content-of}
 use Rattle.row_fields.proofs.ByKind.{kind-14}
@@ -60,6 +64,22 @@ module _ (m places : List ℕ) (kind : ℕ) (content : Content) where
   code-big negative start n e s b =
       let h : High m start n = sound-big m places content negative start n e s in
       code-by (Big negative start n) e (big-none negative (little-endian (stretch m start n)) (big-large m start n h b))
+
+-- what is no integer of at most 8 digits is no character
+module _ (m places : List ℕ) (kind : ℕ) where
+  pub other-content : (c : Content) → OneOf (0 ∷ 2 ∷ 3 ∷ 4 ∷ 5 ∷ 6 ∷ 7 ∷ 8 ∷ 9 ∷ []) (tagOf the-type c) → Sound m places c → Bytes-only m
+      → 256 ≡ character-code (small (label-of m (listed-in places) kind c))
+  unfolding label-of small character-code
+  other-content Nothing o s b = bare-none kind
+  other-content (Whole negative n) o s b = absurd (miss (0 ∷ 2 ∷ 3 ∷ 4 ∷ 5 ∷ 6 ∷ 7 ∷ 8 ∷ 9 ∷ []) 1 tt o)
+  other-content (Big negative start n) o s b = code-big m places kind (Big negative start n) negative start n refl s b
+  other-content (Float bits) o s b = refl
+  other-content (Text latin1 listed start n) o s b = refl
+  other-content (Bytes start n) o s b = refl
+  other-content (fields.Bits bits start n) o s b = refl
+  other-content (fields.Pid id serial creation) o s b = refl
+  other-content (fields.Port id creation) o s b = refl
+  other-content (Reference creation start n) o s b = refl
 
 module _ (m places lengths : List ℕ) (kind at : ℕ) (h : at < length m) where
   code-there : (n : ℕ) → content-of m places lengths kind at ≡ Whole false n → n < 256

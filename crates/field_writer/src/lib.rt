@@ -1,4 +1,6 @@
 // A term's own bytes, before and after its parts, measured and written: copied where they stand in canonical form, else by their layouts.
+use term_spec::kinds;
+use term_spec::tags;
 ghost use mathlib.Core.Path.{_≡_};
 ghost use mathlib.Core.Bool.{true, false};
 ghost use mathlib.Core.List.{_++_};
@@ -8,6 +10,10 @@ ghost use Rattle.term_spec.specs.Term.{list, pid, reference};
 ghost use Rattle.layout.specs.Layout.{Put};
 ghost use Rattle.canonical_fields.specs.Shape.{before, after};
 ghost use Rattle.canonical_fields.specs.Sound.{before-in, after-in, Sound-word};
+
+const NIL: usize = tags::NIL_EXT as usize;
+
+const LIST: usize = tags::LIST_EXT as usize;
 
 // How many bytes stand before and after the parts of the term whose row this is, by its content.
 fn found_length(msg: &[u8], places: &[u8], lengths: &[u16], word: u64) -> usize
@@ -46,10 +52,10 @@ fn put_list_start(n: usize, out: &mut [u8], at: usize) -> usize
     ensures { λ r. ⌜ Put (now (out .entry)) at (before list n) r (now (out .exit)) ⌝ }
 {
     if n == 0 {
-        octets::put1(out, at, 106);
+        octets::put1(out, at, NIL);
         return at + 1;
     }
-    octets::put1(out, at, 108);
+    octets::put1(out, at, LIST);
     octets::put4(out, at + 1, n);
     at + 5
 }
@@ -62,7 +68,7 @@ fn put_list_end(n: usize, out: &mut [u8], at: usize) -> usize
     if n == 0 {
         return at;
     }
-    octets::put1(out, at, 106);
+    octets::put1(out, at, NIL);
     at + 1
 }
 
@@ -76,7 +82,7 @@ pub fn own_length(msg: &[u8], places: &[u8], lengths: &[u16], word: u64) -> usiz
         return n;
     }
     let kind = row::kind_in(word);
-    if kind == 5 {
+    if kind == kinds::LIST {
         return list_length(row::parts_in(word));
     }
     let tag = row::offset_in(word);
@@ -124,7 +130,7 @@ pub fn put_before(
         return at + n;
     }
     let kind = row::kind_in(word);
-    if kind == 5 {
+    if kind == kinds::LIST {
         return put_list_start(row::parts_in(word), out, at);
     }
     let tag = row::offset_in(word);
@@ -161,10 +167,10 @@ fn has_trail(kind: usize) -> bool
     ensures { λ r. ⌜ (r ≡ false → (kind ≡ 5 → ⊥) × (kind ≡ 10 → ⊥) × (kind ≡ 11 → ⊥) × (kind ≡ 12 → ⊥)) ⌝ }
 {
     match kind {
-        5 => true,
-        10 => true,
-        11 => true,
-        12 => true,
+        kinds::LIST => true,
+        kinds::PID => true,
+        kinds::PORT => true,
+        kinds::REFERENCE => true,
         _ => false,
     }
 }
@@ -182,7 +188,7 @@ pub fn put_after(
     ensures { λ r. ⌜ Put (now (out .entry)) at (after-in (now (msg .entry)) (now (places .entry)) (now (lengths .entry)) word) r (now (out .exit)) ⌝ }
 {
     let kind = row::kind_in(word);
-    if kind == 5 {
+    if kind == kinds::LIST {
         return put_list_end(row::parts_in(word), out, at);
     }
     if !has_trail(kind) {

@@ -23,7 +23,7 @@ fn all_small(
     let mut i = 0;
     while i < n {
         let c = characters::character_at(msg, places, lengths, table[row + i]);
-        if c == 256 {
+        if c == characters::NO_CHARACTER {
             return false;
         }
         i += 1;
