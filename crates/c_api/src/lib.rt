@@ -488,7 +488,7 @@ fn flat_packet(answer: PacketAnswer) -> PacketReply
 pub extern "C" fn ik_reference(utf8: u8, packet: &[u8], index: usize) -> PlaceReply
     ensures { λ r. ⌜ r ≡ flat-place (place-answer (place-of-reference (coding-of (flag utf8)) (now (packet .entry)) index)) ⌝ }
 {
-    flat_place(packet_calls::place_of_reference(utf8 != 0, packet, ReferenceIndex(index)))
+    flat_place(cache_lookup::place_of_reference(utf8 != 0, packet, ReferenceIndex(index)))
 }
 
 // The text that a place of the cache holds.
@@ -496,14 +496,14 @@ pub extern "C" fn ik_reference(utf8: u8, packet: &[u8], index: usize) -> PlaceRe
 pub extern "C" fn ik_place(places: &[u8], lengths: &[u16], place: usize) -> CachedReply
     ensures { λ r. ⌜ r ≡ flat-cached (text-answer place (text-of-place (cache-of (now (places .entry)) (now (lengths .entry))) place)) ⌝ }
 {
-    flat_cached(packet_calls::text_of_place(places, lengths, Place(place)))
+    flat_cached(cache_lookup::text_of_place(places, lengths, Place(place)))
 }
 
 // A drop, by value.
 pub fn drop_by_value(pending: Pending) -> Kept
     ensures { λ r. ⌜ r ≡ kept-by (drop-answer pending) ⌝ }
 {
-    let settled = packet_calls::drop_sequence(pending);
+    let settled = link_state::drop_sequence(pending);
     let answer = settled.answer;
     let then = settled.pending;
     let reply = flat_done(answer);
@@ -517,7 +517,7 @@ pub fn drop_by_value(pending: Pending) -> Kept
 pub fn reset_by_value(places: &mut [u8], lengths: &mut [u16], pending: Pending) -> Kept
     ensures { λ r. ⌜ (r ≡ kept-by (reset-answer (cache-of (now (places .entry)) (now (lengths .entry))) pending)) × (cache-of (now (places .exit)) (now (lengths .exit)) ≡ cache-after-reset (cache-of (now (places .entry)) (now (lengths .entry)))) ⌝ }
 {
-    let settled = packet_calls::reset(places, lengths, pending);
+    let settled = link_state::reset(places, lengths, pending);
     let answer = settled.answer;
     let then = settled.pending;
     let reply = flat_done(answer);

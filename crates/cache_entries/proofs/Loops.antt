@@ -15,7 +15,8 @@ use Rattle.packet_spec.specs.Calls.{zeros-to, enter, entered, texts-in-places, 
 use Rattle.packet_spec.proofs.Stores.{length-zeros-to}
 use Rattle.packet_spec.proofs.SizesKept.{length-lengths}
 use Rattle.dist_header.specs.Code.{flags-of, GoodHeader}
-use Rattle.dist_header.proofs.Walk.{Along, along-none, along-more, along-all, Turned, turned}
+use Rattle.dist_header.proofs.Walk.{along-more, along-all, Turned, turned}
+use Rattle.dist_header.proofs.Accepted.{Half-way, start}
 use Rattle.cache_entries.specs.Code.{Stands, StandsSome, Lists, Listed, Enters, Entered}
 use Rattle.cache_entries.proofs.Storing.{stored-next, length-next}
 
@@ -41,17 +42,7 @@ done-is whole d rs u t e f =
     ap (λ (x : List Reference × Position). x .0) p
 
 module _ (agreed : Coding) (holding : ℕ → Held) (s : List ℕ) (at n width first : ℕ) where
-  -- the references before reference i are done, and it stands at `next`
-  pub record Half-way (i next : ℕ) : Type 0 where
-    pub earlier : List Reference
-    pub done : List Reference
-    pub along : Along agreed holding s (flags-of s at n) width (references agreed holding (flags-of s at n) width [] 0 n (at-offset s first 0)) n i next earlier done
-    pub count : length done ≡ i
-
-  abbrev pub start : Half-way 0 first
-  start = record { earlier = []; done = []; along = along-none agreed holding s (flags-of s at n) width n first; count = refl }
-
-  module _ (good-header : GoodHeader agreed holding s at n width first) (i next : ℕ) (w : Half-way i next) (less : i < n) where
+  module _ (good-header : GoodHeader agreed holding s at n width first) (i next : ℕ) (w : Half-way agreed holding s at n width first i next) (less : i < n) where
     abbrev next-turn : Turned agreed holding s (flags-of s at n) width _ n i next (w .earlier) (w .done) (w .along)
     next-turn = turned agreed holding s (flags-of s at n) width _ n i next (w .earlier) (w .done) (w .along) (good-header .found) (good-header .end) less (good-header .is)
 
@@ -59,7 +50,7 @@ module _ (agreed : Coding) (holding : ℕ → Held) (s : List ℕ) (at n width f
     abbrev pub stands-next : Stands agreed holding s (half (flags-of s at n) i) width next
     stands-next = record { earlier = w .earlier; i = i; found = next-turn .found; end = next-turn .end; is = next-turn .is }
 
-    abbrev onward : (a : ℕ) → next-turn .end ≡ at-offset s a 0 → Half-way (i + 1) a
+    abbrev onward : (a : ℕ) → next-turn .end ≡ at-offset s a 0 → Half-way agreed holding s at n width first (i + 1) a
     onward a e =
         let c : length (w .done) ≡ i = w .count in
         record {
@@ -73,7 +64,7 @@ module _ (agreed : Coding) (holding : ℕ → Held) (s : List ℕ) (at n width f
   -- ---- a list
 
   pub record ListWalk (i next : ℕ) (list sizes : List ℕ) : Type 0 where
-    pub way : Half-way i next
+    pub way : Half-way agreed holding s at n width first i next
     pub places-are : list ≡ texts-in-places (way .done) ++ replicate (8160 - 32 * i) 0
     pub long : length (texts-in-places (way .done)) ≡ 32 * i
     pub lengths-are : sizes ≡ lengths-of (way .done) ++ replicate (255 - i) 0
@@ -83,7 +74,7 @@ module _ (agreed : Coding) (holding : ℕ → Held) (s : List ℕ) (at n width f
   unfolding texts-in-places lengths-of
   list-none list sizes list₀ sizes₀ h k e f =
       record {
-        way = start;
+        way = start agreed holding s at n width first;
         places-are = e ∙ cleared-all list₀ ∙ ap (λ (m : ℕ). replicate m 0) h;
         long = refl;
         lengths-are = f ∙ ap (λ (m : ℕ). replicate m 0) k;

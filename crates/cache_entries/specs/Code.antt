@@ -13,6 +13,13 @@ use Rattle.packet_spec.specs.Calls.{enter, entered, list-of}
 use Rattle.dist_header.specs.Code.{flags-of}
 use Rattle.cache_entries.specs.declared.Stored.{Stored}
 
+-- the cache and the list that a header is written into are of their stated sizes
+pub record Room (cache cache-lengths list-places list-lengths : List ℕ) : Type 0 where
+  pub cache-is : length cache ≡ 65536
+  pub cache-lengths-are : length cache-lengths ≡ 2048
+  pub list-is : length list-places ≡ 8160
+  pub list-lengths-are : length list-lengths ≡ 255
+
 -- a good reference stands at `at`
 pub record Stands (agreed : Coding) (holding : ℕ → Held) (s : List ℕ) (h width at : ℕ) : Type 0 where
   pub earlier : List Reference

@@ -5,18 +5,19 @@ ghost use lib.ListN.{length, take, drop, replicate};
 ghost use Rattle.packet_spec.specs.Memory.{cache-of, held};
 ghost use Rattle.term_spec.specs.Text.{coding-of};
 ghost use Rattle.dist_header.specs.Code.{TextFits, GoodHeader};
-ghost use Rattle.cache_entries.specs.Code.{Stands, StandsSome, StoresText, Lists, Enters, Listed, Entered};
+ghost use Rattle.cache_entries.specs.Code.{Room, Stands, StandsSome, StoresText, Lists, Enters, Listed, Entered};
 use dist_header::Spelled;
 use packet_spec::Place;
 use packet_spec::ReferenceIndex;
+use term_spec::sizes;
 
 // Sets every length to `value`.
-pub fn fill_lengths(d: &mut [u16], value: u16)
-    ensures { λ _. ⌜ now (d .exit) ≡ replicate (length (now (d .entry))) value ⌝ }
+pub fn fill_lengths(lengths: &mut [u16], value: u16)
+    ensures { λ _. ⌜ now (lengths .exit) ≡ replicate (length (now (lengths .entry))) value ⌝ }
 {
     let mut i = 0;
-    while i < d.len() {
-        d[i] = value;
+    while i < lengths.len() {
+        lengths[i] = value;
         i += 1;
     }
 }
@@ -34,18 +35,25 @@ fn list_reference(
     half: usize,
     width: usize,
     at: usize,
-    places: &[u8],
-    lengths: &[u16],
+    cache: &[u8],
+    cache_lengths: &[u16],
     i: usize,
-    list: &mut [u8],
+    list_places: &mut [u8],
 ) -> Stored
-    requires { ⌜ (half < 16) × (0 < width) × (width ≤ 2) × (at ≤ length (now packet)) × (length (now places) ≡ 65536) × (length (now lengths) ≡ 2048) × (i < 255) × (length (now list) ≡ 8160) × Stands (coding-of utf8) (held (cache-of (now places) (now lengths))) (now packet) half width at ⌝ }
-    ensures { λ r. ⌜ Lists (coding-of utf8) (held (cache-of (now (places .entry)) (now (lengths .entry)))) (now (packet .entry)) half width at (32 * i) (now (list .entry)) (now (list .exit)) r ⌝ }
+    requires { ⌜ (half < 16) × (0 < width) × (width ≤ 2) × (at ≤ length (now packet)) × (length (now cache) ≡ 65536) × (length (now «cache_lengths») ≡ 2048) × (i < 255) × (length (now «list_places») ≡ 8160) × Stands (coding-of utf8) (held (cache-of (now cache) (now «cache_lengths»))) (now packet) half width at ⌝ }
+    ensures { λ r. ⌜ Lists (coding-of utf8) (held (cache-of (now (cache .entry)) (now («cache_lengths» .entry)))) (now (packet .entry)) half width at (32 * i) (now («list_places» .entry)) (now («list_places» .exit)) r ⌝ }
 {
     match dist_header::read_reference(packet, half, width, at) {
         Spelled::Cut => Stored { size: 0, next: at },
         Spelled::New { place, from, size } => {
-            let stored = dist_header::put_text(utf8, packet, from, size, list, 32 * i);
+            let stored = dist_header::put_text(
+                utf8,
+                packet,
+                from,
+                size,
+                list_places,
+                sizes::PLACE_BYTES * i,
+            );
             Stored {
                 size: stored,
                 next: from + size,
@@ -53,8 +61,14 @@ fn list_reference(
         }
         Spelled::Cached { place } => {
             let k = place.0;
-            let size = dist_header::wide_length(lengths[k]);
-            octets::copy(places, 32 * k, list, 32 * i, size);
+            let size = dist_header::wide_length(cache_lengths[k]);
+            octets::copy(
+                cache,
+                sizes::PLACE_BYTES * k,
+                list_places,
+                sizes::PLACE_BYTES * i,
+                size,
+            );
             Stored {
                 size: size,
                 next: at + 1,
@@ -71,22 +85,33 @@ pub fn write_list(
     n: usize,
     width: usize,
     first: usize,
-    places: &[u8],
-    lengths: &[u16],
-    list: &mut [u8],
-    sizes: &mut [u16],
+    cache: &[u8],
+    cache_lengths: &[u16],
+    list_places: &mut [u8],
+    list_lengths: &mut [u16],
 )
-    requires { ⌜ (length (now places) ≡ 65536) × (length (now lengths) ≡ 2048) × (length (now list) ≡ 8160) × (length (now sizes) ≡ 255) × GoodHeader (coding-of utf8) (held (cache-of (now places) (now lengths))) (now packet) at n width first ⌝ }
-    ensures { λ _. ⌜ Listed (coding-of utf8) (held (cache-of (now (places .entry)) (now (lengths .entry)))) (now (packet .entry)) at n width first (now (list .exit)) (now (sizes .exit)) ⌝ }
+    requires { ⌜ Room (now cache) (now «cache_lengths») (now «list_places») (now «list_lengths»)
+        × GoodHeader (coding-of utf8) (held (cache-of (now cache) (now «cache_lengths»))) (now packet) at n width first ⌝ }
+    ensures { λ _. ⌜ Listed (coding-of utf8) (held (cache-of (now (cache .entry)) (now («cache_lengths» .entry)))) (now (packet .entry)) at n width first (now («list_places» .exit)) (now («list_lengths» .exit)) ⌝ }
 {
-    octets::clear_bytes(list, 0);
-    fill_lengths(sizes, 0);
+    octets::clear_bytes(list_places, 0);
+    fill_lengths(list_lengths, 0);
     let mut next = first;
     let mut i = 0;
     while i < n {
         let half = dist_header::half_of(packet, at, n, ReferenceIndex(i));
-        let stored = list_reference(utf8, packet, half, width, next, places, lengths, i, list);
-        sizes[i] = stored.size as u16;
+        let stored = list_reference(
+            utf8,
+            packet,
+            half,
+            width,
+            next,
+            cache,
+            cache_lengths,
+            i,
+            list_places,
+        );
+        list_lengths[i] = stored.size as u16;
         next = stored.next;
         i += 1;
     }
@@ -99,17 +124,17 @@ fn enter_text(
     place: Place,
     from: usize,
     size: usize,
-    places: &mut [u8],
-    lengths: &mut [u16],
+    cache: &mut [u8],
+    cache_lengths: &mut [u16],
 )
-    requires { ⌜ (place .0 < 2048) × (from + size ≤ length (now packet)) × (size < 65536) × (length (now places) ≡ 65536) × (length (now lengths) ≡ 2048) × TextFits (coding-of utf8) (take size (drop from (now packet))) 0 32 ⌝ }
-    ensures { λ _. ⌜ StoresText (coding-of utf8) (take size (drop from (now (packet .entry)))) (place .0) (cache-of (now (places .entry)) (now (lengths .entry))) (cache-of (now (places .exit)) (now (lengths .exit))) ⌝ }
+    requires { ⌜ (place .0 < 2048) × (from + size ≤ length (now packet)) × (size < 65536) × (length (now cache) ≡ 65536) × (length (now «cache_lengths») ≡ 2048) × TextFits (coding-of utf8) (take size (drop from (now packet))) 0 32 ⌝ }
+    ensures { λ _. ⌜ StoresText (coding-of utf8) (take size (drop from (now (packet .entry)))) (place .0) (cache-of (now (cache .entry)) (now («cache_lengths» .entry))) (cache-of (now (cache .exit)) (now («cache_lengths» .exit))) ⌝ }
 {
     let k = place.0;
-    let zeros = [0u8; 32];
-    octets::copy(&zeros, 0, places, 32 * k, 32);
-    let stored = dist_header::put_text(utf8, packet, from, size, places, 32 * k);
-    lengths[k] = stored as u16;
+    let zeros = [0u8; sizes::PLACE_BYTES];
+    octets::copy(&zeros, 0, cache, sizes::PLACE_BYTES * k, sizes::PLACE_BYTES);
+    let stored = dist_header::put_text(utf8, packet, from, size, cache, sizes::PLACE_BYTES * k);
+    cache_lengths[k] = stored as u16;
 }
 
 // Enters the reference at `at` into the cache where it is new; the offset past it.
@@ -119,16 +144,16 @@ fn enter_reference(
     half: usize,
     width: usize,
     at: usize,
-    places: &mut [u8],
-    lengths: &mut [u16],
+    cache: &mut [u8],
+    cache_lengths: &mut [u16],
 ) -> usize
-    requires { ⌜ (half < 16) × (0 < width) × (width ≤ 2) × (at ≤ length (now packet)) × (length (now places) ≡ 65536) × (length (now lengths) ≡ 2048) × StandsSome (coding-of utf8) (now packet) half width at ⌝ }
-    ensures { λ r. ⌜ Enters (coding-of utf8) (now (packet .entry)) half width at (cache-of (now (places .entry)) (now (lengths .entry))) (cache-of (now (places .exit)) (now (lengths .exit))) r ⌝ }
+    requires { ⌜ (half < 16) × (0 < width) × (width ≤ 2) × (at ≤ length (now packet)) × (length (now cache) ≡ 65536) × (length (now «cache_lengths») ≡ 2048) × StandsSome (coding-of utf8) (now packet) half width at ⌝ }
+    ensures { λ r. ⌜ Enters (coding-of utf8) (now (packet .entry)) half width at (cache-of (now (cache .entry)) (now («cache_lengths» .entry))) (cache-of (now (cache .exit)) (now («cache_lengths» .exit))) r ⌝ }
 {
     match dist_header::read_reference(packet, half, width, at) {
         Spelled::Cut => at,
         Spelled::New { place, from, size } => {
-            enter_text(utf8, packet, place, from, size, places, lengths);
+            enter_text(utf8, packet, place, from, size, cache, cache_lengths);
             from + size
         }
         Spelled::Cached { place } => at + 1,
@@ -143,17 +168,17 @@ pub fn write_cache(
     n: usize,
     width: usize,
     first: usize,
-    places: &mut [u8],
-    lengths: &mut [u16],
+    cache: &mut [u8],
+    cache_lengths: &mut [u16],
 )
-    requires { ⌜ (length (now places) ≡ 65536) × (length (now lengths) ≡ 2048) × GoodHeader (coding-of utf8) (held (cache-of (now places) (now lengths))) (now packet) at n width first ⌝ }
-    ensures { λ _. ⌜ Entered (coding-of utf8) (now (packet .entry)) at n width first (cache-of (now (places .entry)) (now (lengths .entry))) (cache-of (now (places .exit)) (now (lengths .exit))) ⌝ }
+    requires { ⌜ (length (now cache) ≡ 65536) × (length (now «cache_lengths») ≡ 2048) × GoodHeader (coding-of utf8) (held (cache-of (now cache) (now «cache_lengths»))) (now packet) at n width first ⌝ }
+    ensures { λ _. ⌜ Entered (coding-of utf8) (now (packet .entry)) at n width first (cache-of (now (cache .entry)) (now («cache_lengths» .entry))) (cache-of (now (cache .exit)) (now («cache_lengths» .exit))) ⌝ }
 {
     let mut next = first;
     let mut i = 0;
     while i < n {
         let half = dist_header::half_of(packet, at, n, ReferenceIndex(i));
-        next = enter_reference(utf8, packet, half, width, next, places, lengths);
+        next = enter_reference(utf8, packet, half, width, next, cache, cache_lengths);
         i += 1;
     }
 }

@@ -13,9 +13,9 @@ use Rattle.text.specs.Shown.{is-valid}
 use Rattle.text.proofs.Valid.{found, failed}
 use Rattle.packet_spec.specs.Memory.{Held, nothing, no-text, text}
 use Rattle.packet_spec.specs.Header.{Reference, held-or, new-reference, cached-reference}
-use Rattle.dist_header.specs.Code.{held-case, Marked, Went, Judges, JudgesNew, JudgesCached}
+use Rattle.dist_header.specs.Code.{place-text, Marked, Went, Judges, JudgesNew, JudgesCached}
 use Rattle.dist_header.proofs.Marks.{not-named, is-named, is-filled, not-filled, marked-new, marked-cached}
-use Rattle.dist_header.specs.declared.Held.the-variants as holds
+use Rattle.dist_header.specs.declared.PlaceText.the-variants as texts
 use Rattle.dist_header.specs.declared.Judged.the-variants as judged
 
 module _ (agreed : Coding) (p : ℕ) (bs marks : List ℕ) (small : p < 2048) where
@@ -59,29 +59,29 @@ module _ (holding : ℕ → Held) (p : ℕ) (marks : List ℕ) (small : p < 2048
   cached-again z agreed t earlier i m = rw (is-filled marks earlier p m small z)
 
   module _ (z : getD marks p 0 ≡ 2 → ⊥) where
-    pub cached-empty : holds.Nothing ≡ held-case (holding p) → JudgesCached holding p marks marks (judged.Refused 21)
-    unfolding JudgesCached Judges cached-reference held-or held-case
+    pub cached-empty : texts.Empty ≡ place-text (holding p) → JudgesCached holding p marks marks (judged.Refused 21)
+    unfolding JudgesCached Judges cached-reference held-or place-text
     cached-empty e agreed t earlier i m = go (holding p) refl e
       where
-        go : (h : Held) → holding p ≡ h → holds.Nothing ≡ held-case h → cached-reference agreed holding earlier i p t ≡ refused 21 i
+        go : (h : Held) → holding p ≡ h → texts.Empty ≡ place-text h → cached-reference agreed holding earlier i p t ≡ refused 21 i
         go nothing g f = rw (not-filled marks earlier p m small z, g)
         go no-text g f = let no-way : _≡_ {A = ℕ} 0 1 = cc in absurd (omega arith)
         go (text bs) g f = let no-way : _≡_ {A = ℕ} 0 1 = cc in absurd (omega arith)
 
-    pub cached-false : holds.NoText ≡ held-case (holding p) → JudgesCached holding p marks marks (judged.Refused 14)
-    unfolding JudgesCached Judges cached-reference held-or held-case
+    pub cached-false : texts.Bad ≡ place-text (holding p) → JudgesCached holding p marks marks (judged.Refused 14)
+    unfolding JudgesCached Judges cached-reference held-or place-text
     cached-false e agreed t earlier i m = go (holding p) refl e
       where
-        go : (h : Held) → holding p ≡ h → holds.NoText ≡ held-case h → cached-reference agreed holding earlier i p t ≡ refused 14 i
+        go : (h : Held) → holding p ≡ h → texts.Bad ≡ place-text h → cached-reference agreed holding earlier i p t ≡ refused 14 i
         go no-text g f = rw (not-filled marks earlier p m small z, g)
         go nothing g f = let no-way : _≡_ {A = ℕ} 0 1 = cc in absurd (omega arith)
         go (text bs) g f = let no-way : _≡_ {A = ℕ} 0 1 = cc in absurd (omega arith)
 
-    pub cached-good : (n : ℕ) → holds.Text n ≡ held-case (holding p) → length marks ≡ 2048 → JudgesCached holding p marks (set marks p 1) judged.Good
-    unfolding JudgesCached Judges cached-reference held-or held-case
+    pub cached-good : (n : ℕ) → texts.Text n ≡ place-text (holding p) → length marks ≡ 2048 → JudgesCached holding p marks (set marks p 1) judged.Good
+    unfolding JudgesCached Judges cached-reference held-or place-text
     cached-good n e size agreed t earlier i m = go (holding p) refl e
       where
-        go : (h : Held) → holding p ≡ h → holds.Text n ≡ held-case h → Went (cached-reference agreed holding earlier i p t) t (set marks p 1) earlier
+        go : (h : Held) → holding p ≡ h → texts.Text n ≡ place-text h → Went (cached-reference agreed holding earlier i p t) t (set marks p 1) earlier
         go nothing g f = let no-way : _≡_ {A = ℕ} 0 1 = cc in absurd (omega arith)
         go no-text g f = let no-way : _≡_ {A = ℕ} 0 1 = cc in absurd (omega arith)
         go (text bs) g f =

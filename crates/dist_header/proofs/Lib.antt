@@ -4,3 +4,4 @@ pub mod Texts
 pub mod Judging
 pub mod Walk
 pub mod Good
+pub mod Accepted

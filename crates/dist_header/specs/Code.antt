@@ -6,19 +6,18 @@ use Prim.Native.Nat.{ℕ, _+_, _≤_, _<_}
 use lib.ListN.{length, getD, take, drop}
 use Rattle.term_spec.specs.Text.{Coding, valid, check, encodes}
 use Rattle.term_spec.specs.Answer.{Answer, good, refused, Position, at-offset}
-use Rattle.packet_spec.specs.Memory.{Cache, held, nothing, no-text, text}
+use Rattle.packet_spec.specs.Memory.{Cache, Held, held, nothing, no-text, text}
 use Rattle.packet_spec.specs.Header.{Reference, flag-bytes, named, filled, new-reference, cached-reference, reference, references, header}
-use Rattle.packet_spec.specs.Memory as memory
 use Rattle.dist_header.specs.declared.Opened.{Opened}
 use Rattle.dist_header.specs.declared.Spelled.{Spelled}
-use Rattle.dist_header.specs.declared.Held.{Held}
+use Rattle.dist_header.specs.declared.PlaceText.{PlaceText}
 use Rattle.dist_header.specs.declared.Judged.{Judged}
 use Rattle.dist_header.specs.declared.Step.{Step}
 use Rattle.dist_header.specs.declared.References.{References}
 use Rattle.dist_header.specs.declared.HeaderAnswer.{HeaderAnswer}
 use Rattle.dist_header.specs.declared.Opened.the-variants as opened
 use Rattle.dist_header.specs.declared.Spelled.the-variants as spelled
-use Rattle.dist_header.specs.declared.Held.the-variants as holds
+use Rattle.dist_header.specs.declared.PlaceText.the-variants as texts
 use Rattle.dist_header.specs.declared.Judged.the-variants as judged
 use Rattle.dist_header.specs.declared.Step.the-variants as step
 use Rattle.dist_header.specs.declared.References.the-variants as ends
@@ -29,28 +28,28 @@ unfoldable pub flags-of : List ℕ → ℕ → ℕ → List ℕ
 flags-of s at n = take (flag-bytes n) (drop (at + 1) s)
 
 -- what the places hold where the cache is looked at; else a text, whatever the place
-unfoldable pub holding-when : Bool → Cache → ℕ → memory.Held
+unfoldable pub holding-when : Bool → Cache → ℕ → Held
 holding-when true c = held c
 holding-when false c = λ p. text []
 
 -- what stands before the references of the header at `at`
 unfoldable pub Opens : List ℕ → ℕ → Opened → Type 0
-Opens s at opened.Cut = (agreed : Coding) (holding : ℕ → memory.Held) → header agreed holding (at-offset s at 0) ≡ refused 2 0
+Opens s at opened.Cut = (agreed : Coding) (holding : ℕ → Held) → header agreed holding (at-offset s at 0) ≡ refused 2 0
 Opens s at (opened.Header n width first) =
-    ((agreed : Coding) (holding : ℕ → memory.Held) → header agreed holding (at-offset s at 0) ≡ references agreed holding (flags-of s at n) width [] 0 n (at-offset s first 0))
+    ((agreed : Coding) (holding : ℕ → Held) → header agreed holding (at-offset s at 0) ≡ references agreed holding (flags-of s at n) width [] 0 n (at-offset s first 0))
     × (0 < width) × (width ≤ 2) × (first ≡ at + 1 + flag-bytes n) × (first ≤ length s) × (n < 256)
 
 -- the reference at `at`, with the half h and the width of lengths
 unfoldable pub Spells : List ℕ → ℕ → ℕ → ℕ → Spelled → Type 0
 Spells s h width at spelled.Cut =
-    (agreed : Coding) (holding : ℕ → memory.Held) (earlier : List Reference) (i : ℕ) → reference agreed holding width earlier i h (at-offset s at 0) ≡ refused 2 i
+    (agreed : Coding) (holding : ℕ → Held) (earlier : List Reference) (i : ℕ) → reference agreed holding width earlier i h (at-offset s at 0) ≡ refused 2 i
 Spells s h width at (spelled.New p from size) =
-    ((agreed : Coding) (holding : ℕ → memory.Held) (earlier : List Reference) (i : ℕ)
+    ((agreed : Coding) (holding : ℕ → Held) (earlier : List Reference) (i : ℕ)
     → reference agreed holding width earlier i h (at-offset s at 0)
     ≡ new-reference agreed holding earlier i (p .0) (take size (drop from s)) (at-offset s (from + size) 0))
     × (p .0 < 2048) × (at < from) × (from + size ≤ length s) × (size < 65536)
 Spells s h width at (spelled.Cached p) =
-    ((agreed : Coding) (holding : ℕ → memory.Held) (earlier : List Reference) (i : ℕ)
+    ((agreed : Coding) (holding : ℕ → Held) (earlier : List Reference) (i : ℕ)
     → reference agreed holding width earlier i h (at-offset s at 0) ≡ cached-reference agreed holding earlier i (p .0) (at-offset s (at + 1) 0))
     × (p .0 < 2048) × (at < length s)
 
@@ -61,10 +60,10 @@ pub record TextFits (agreed : Coding) (bs : List ℕ) (at room : ℕ) : Type 0 w
   pub fits : at + length (encodes characters) ≤ room
 
 -- what a place holds, its text by its length
-unfoldable pub held-case : memory.Held → Held
-held-case nothing = holds.Nothing
-held-case no-text = holds.NoText
-held-case (text bs) = holds.Text (length bs)
+unfoldable pub place-text : Held → PlaceText
+place-text nothing = texts.Empty
+place-text no-text = texts.Bad
+place-text (text bs) = texts.Text (length bs)
 
 -- the mark of place p: 2 where one of these references fills it new, 1 where one names it, else 0
 unfoldable pub mark-of : ℕ → List Reference → ℕ
@@ -88,15 +87,15 @@ Judges steps t marks marks′ judged.Good = (earlier : List Reference) (i : ℕ)
 -- a new reference to place p with these bytes
 unfoldable pub JudgesNew : Coding → ℕ → List ℕ → List ℕ → List ℕ → Judged → Type 0
 JudgesNew agreed p bs marks marks′ r =
-    (holding : ℕ → memory.Held) (t : Position) → Judges (λ earlier i. new-reference agreed holding earlier i p bs t) t marks marks′ r
+    (holding : ℕ → Held) (t : Position) → Judges (λ earlier i. new-reference agreed holding earlier i p bs t) t marks marks′ r
 
 -- a cached reference to place p
-unfoldable pub JudgesCached : (ℕ → memory.Held) → ℕ → List ℕ → List ℕ → Judged → Type 0
+unfoldable pub JudgesCached : (ℕ → Held) → ℕ → List ℕ → List ℕ → Judged → Type 0
 JudgesCached holding p marks marks′ r =
     (agreed : Coding) (t : Position) → Judges (λ earlier i. cached-reference agreed holding earlier i p t) t marks marks′ r
 
 -- the reference at `at`, read and judged
-unfoldable pub Steps : Coding → (ℕ → memory.Held) → List ℕ → ℕ → ℕ → ℕ → List ℕ → List ℕ → Step → Type 0
+unfoldable pub Steps : Coding → (ℕ → Held) → List ℕ → ℕ → ℕ → ℕ → List ℕ → List ℕ → Step → Type 0
 Steps agreed holding s h width at marks marks′ (step.Refused k) =
     (earlier : List Reference) (i : ℕ) → Marked marks earlier → reference agreed holding width earlier i h (at-offset s at 0) ≡ refused k i
 Steps agreed holding s h width at marks marks′ (step.Next a) =
@@ -114,13 +113,13 @@ Ends o s (ends.Refused f) = o ≡ refused (f .number) (f .place)
 Ends o s (ends.End a) = Reads o s a × (a ≤ length s)
 
 -- a header judged
-unfoldable pub HeaderIs : Coding → (ℕ → memory.Held) → List ℕ → ℕ → HeaderAnswer → Type 0
+unfoldable pub HeaderIs : Coding → (ℕ → Held) → List ℕ → ℕ → HeaderAnswer → Type 0
 HeaderIs agreed holding s at (headers.Refused f) = header agreed holding (at-offset s at 0) ≡ refused (f .number) (f .place)
 HeaderIs agreed holding s at (headers.Header n width first payload) =
     Opens s at (opened.Header n width first) × Reads (header agreed holding (at-offset s at 0)) s payload × (payload ≤ length s)
 
 -- the references of the header at `at` are good, with where they stand
-pub record GoodHeader (agreed : Coding) (holding : ℕ → memory.Held) (s : List ℕ) (at n width first : ℕ) : Type 0 where
+pub record GoodHeader (agreed : Coding) (holding : ℕ → Held) (s : List ℕ) (at n width first : ℕ) : Type 0 where
   pub found : List Reference
   pub end : Position
   pub is : references agreed holding (flags-of s at n) width [] 0 n (at-offset s first 0) ≡ good (found, end)

@@ -10,10 +10,12 @@ ghost use Rattle.term_spec.specs.Text.{coding-of, check, valid, encodes};
 ghost use Rattle.packet_spec.specs.Memory.{cache-of, held};
 ghost use Rattle.packet_spec.specs.Header.{flag-bytes, half, references};
 ghost use Rattle.term_spec.specs.Answer.{at-offset};
-ghost use Rattle.dist_header.specs.Code.{flags-of, holding-when, Opens, Spells, TextFits, held-case, JudgesNew, JudgesCached, Steps, Ends, HeaderIs};
+ghost use Rattle.dist_header.specs.Code.{flags-of, holding-when, Opens, Spells, TextFits, place-text, JudgesNew, JudgesCached, Steps, Ends, HeaderIs};
 use packet_spec::Place;
 use packet_spec::ReferenceIndex;
 use term_spec::Refusal;
+use term_spec::refusals;
+use term_spec::sizes;
 
 // What stands before the references: their number, the width of lengths, the offset of the first.
 pub enum Opened {
@@ -38,10 +40,10 @@ pub enum Spelled {
     },
 }
 
-// What a place of the cache holds: nothing, what is no text, or a text of this length.
-pub enum Held {
-    Nothing,
-    NoText,
+// What a place of the cache holds: nothing, bytes or a length that are no text's, or a text of this length.
+pub enum PlaceText {
+    Empty,
+    Bad,
     Text(usize),
 }
 
@@ -191,35 +193,35 @@ pub fn put_text(
 }
 
 // What a place of the cache holds.
-pub fn held_at(places: &[u8], lengths: &[u16], place: Place) -> Held
-    requires { ⌜ (place .0 < 2048) × (length (now places) ≡ 65536) × (length (now lengths) ≡ 2048) ⌝ }
-    ensures { λ r. ⌜ r ≡ held-case (held (cache-of (now (places .entry)) (now (lengths .entry))) (place .0)) ⌝ }
+pub fn held_at(cache: &[u8], cache_lengths: &[u16], place: Place) -> PlaceText
+    requires { ⌜ (place .0 < 2048) × (length (now cache) ≡ 65536) × (length (now «cache_lengths») ≡ 2048) ⌝ }
+    ensures { λ r. ⌜ r ≡ place-text (held (cache-of (now (cache .entry)) (now («cache_lengths» .entry))) (place .0)) ⌝ }
 {
     let k = place.0;
-    let size = wide_length(lengths[k]);
-    if size == 65535 {
-        return Held::Nothing;
+    let size = wide_length(cache_lengths[k]);
+    if size == packet_spec::sizes::CACHE_EMPTY as usize {
+        return PlaceText::Empty;
     }
-    if 32 < size {
-        return Held::NoText;
+    if sizes::PLACE_BYTES < size {
+        return PlaceText::Bad;
     }
-    let from = 32 * k;
+    let from = sizes::PLACE_BYTES * k;
     let end = from + size;
-    if text::is_text(&places[from..end], true) {
-        return Held::Text(size);
+    if text::is_text(&cache[from..end], true) {
+        return PlaceText::Text(size);
     }
-    Held::NoText
+    PlaceText::Bad
 }
 
 // What a place holds where the cache is looked at; else a text.
-fn looked_at(look: bool, places: &[u8], lengths: &[u16], place: Place) -> Held
-    requires { ⌜ (place .0 < 2048) × (look ≡ true → (length (now places) ≡ 65536) × (length (now lengths) ≡ 2048)) ⌝ }
-    ensures { λ r. ⌜ r ≡ held-case (holding-when look (cache-of (now (places .entry)) (now (lengths .entry))) (place .0)) ⌝ }
+fn looked_at(look: bool, cache: &[u8], cache_lengths: &[u16], place: Place) -> PlaceText
+    requires { ⌜ (place .0 < 2048) × (look ≡ true → (length (now cache) ≡ 65536) × (length (now «cache_lengths») ≡ 2048)) ⌝ }
+    ensures { λ r. ⌜ r ≡ place-text (holding-when look (cache-of (now (cache .entry)) (now («cache_lengths» .entry))) (place .0)) ⌝ }
 {
     if look {
-        return held_at(places, lengths, place);
+        return held_at(cache, cache_lengths, place);
     }
-    Held::Text(0)
+    PlaceText::Text(0)
 }
 
 // Judges a new reference: 22, 5, 23. `marks` has 2 for a place that an earlier reference fills new, 1 for one named otherwise.
@@ -236,14 +238,14 @@ fn judge_new(
 {
     let k = place.0;
     if marks[k] != 0 {
-        return Judged::Refused(22);
+        return Judged::Refused(refusals::NAMED_AGAIN);
     }
     let end = from + size;
     if !text::is_text(&packet[from..end], utf8) {
-        return Judged::Refused(5);
+        return Judged::Refused(refusals::TEXT);
     }
-    if 32 < stored_length(utf8, packet, from, size) {
-        return Judged::Refused(23);
+    if sizes::PLACE_BYTES < stored_length(utf8, packet, from, size) {
+        return Judged::Refused(refusals::LONG_TEXT);
     }
     marks[k] = 2;
     Judged::Good
@@ -252,22 +254,22 @@ fn judge_new(
 // Judges a cached reference: 22, 21, 14.
 fn judge_cached(
     look: bool,
-    places: &[u8],
-    lengths: &[u16],
+    cache: &[u8],
+    cache_lengths: &[u16],
     place: Place,
     marks: &mut [u8],
 ) -> Judged
-    requires { ⌜ (place .0 < 2048) × (look ≡ true → (length (now places) ≡ 65536) × (length (now lengths) ≡ 2048)) × (length (now marks) ≡ 2048) ⌝ }
-    ensures { λ r. ⌜ JudgesCached (holding-when look (cache-of (now (places .entry)) (now (lengths .entry)))) (place .0) (now (marks .entry)) (now (marks .exit)) r ⌝ }
+    requires { ⌜ (place .0 < 2048) × (look ≡ true → (length (now cache) ≡ 65536) × (length (now «cache_lengths») ≡ 2048)) × (length (now marks) ≡ 2048) ⌝ }
+    ensures { λ r. ⌜ JudgesCached (holding-when look (cache-of (now (cache .entry)) (now («cache_lengths» .entry)))) (place .0) (now (marks .entry)) (now (marks .exit)) r ⌝ }
 {
     let k = place.0;
     if marks[k] == 2 {
-        return Judged::Refused(22);
+        return Judged::Refused(refusals::NAMED_AGAIN);
     }
-    match looked_at(look, places, lengths, place) {
-        Held::Nothing => Judged::Refused(21),
-        Held::NoText => Judged::Refused(14),
-        Held::Text(_) => {
+    match looked_at(look, cache, cache_lengths, place) {
+        PlaceText::Empty => Judged::Refused(refusals::EMPTY_PLACE),
+        PlaceText::Bad => Judged::Refused(refusals::STATE),
+        PlaceText::Text(_) => {
             marks[k] = 1;
             Judged::Good
         }
@@ -282,15 +284,15 @@ fn judge_reference(
     half: usize,
     width: usize,
     at: usize,
-    places: &[u8],
-    lengths: &[u16],
+    cache: &[u8],
+    cache_lengths: &[u16],
     marks: &mut [u8],
 ) -> Step
-    requires { ⌜ (half < 16) × (0 < width) × (width ≤ 2) × (at ≤ length (now packet)) × (look ≡ true → (length (now places) ≡ 65536) × (length (now lengths) ≡ 2048)) × (length (now marks) ≡ 2048) ⌝ }
-    ensures { λ r. ⌜ Steps (coding-of utf8) (holding-when look (cache-of (now (places .entry)) (now (lengths .entry)))) (now (packet .entry)) half width at (now (marks .entry)) (now (marks .exit)) r ⌝ }
+    requires { ⌜ (half < 16) × (0 < width) × (width ≤ 2) × (at ≤ length (now packet)) × (look ≡ true → (length (now cache) ≡ 65536) × (length (now «cache_lengths») ≡ 2048)) × (length (now marks) ≡ 2048) ⌝ }
+    ensures { λ r. ⌜ Steps (coding-of utf8) (holding-when look (cache-of (now (cache .entry)) (now («cache_lengths» .entry)))) (now (packet .entry)) half width at (now (marks .entry)) (now (marks .exit)) r ⌝ }
 {
     match read_reference(packet, half, width, at) {
-        Spelled::Cut => Step::Refused(2),
+        Spelled::Cut => Step::Refused(refusals::CUT),
         Spelled::New { place, from, size } => {
             match judge_new(utf8, packet, place, from, size, marks) {
                 Judged::Refused(number) => Step::Refused(number),
@@ -298,7 +300,7 @@ fn judge_reference(
             }
         }
         Spelled::Cached { place } => {
-            match judge_cached(look, places, lengths, place, marks) {
+            match judge_cached(look, cache, cache_lengths, place, marks) {
                 Judged::Refused(number) => Step::Refused(number),
                 Judged::Good => Step::Next(at + 1),
             }
@@ -315,13 +317,13 @@ fn check_references(
     n: usize,
     width: usize,
     first: usize,
-    places: &[u8],
-    lengths: &[u16],
+    cache: &[u8],
+    cache_lengths: &[u16],
 ) -> References
-    requires { ⌜ (0 < width) × (width ≤ 2) × (n < 256) × (first ≡ at + 1 + flag-bytes n) × (first ≤ length (now packet)) × (look ≡ true → (length (now places) ≡ 65536) × (length (now lengths) ≡ 2048)) ⌝ }
-    ensures { λ r. ⌜ Ends (references (coding-of utf8) (holding-when look (cache-of (now (places .entry)) (now (lengths .entry)))) (flags-of (now (packet .entry)) at n) width [] 0 n (at-offset (now (packet .entry)) first 0)) (now (packet .entry)) r ⌝ }
+    requires { ⌜ (0 < width) × (width ≤ 2) × (n < 256) × (first ≡ at + 1 + flag-bytes n) × (first ≤ length (now packet)) × (look ≡ true → (length (now cache) ≡ 65536) × (length (now «cache_lengths») ≡ 2048)) ⌝ }
+    ensures { λ r. ⌜ Ends (references (coding-of utf8) (holding-when look (cache-of (now (cache .entry)) (now («cache_lengths» .entry)))) (flags-of (now (packet .entry)) at n) width [] 0 n (at-offset (now (packet .entry)) first 0)) (now (packet .entry)) r ⌝ }
 {
-    let mut marks = [0u8; 2048];
+    let mut marks = [0u8; packet_spec::sizes::CACHE_PLACES];
     let mut next = first;
     let mut i = 0;
     while i < n {
@@ -333,8 +335,8 @@ fn check_references(
             half,
             width,
             next,
-            places,
-            lengths,
+            cache,
+            cache_lengths,
             &mut marks,
         ) {
             Step::Refused(number) => {
@@ -358,19 +360,29 @@ pub fn check_header(
     look: bool,
     packet: &[u8],
     at: usize,
-    places: &[u8],
-    lengths: &[u16],
+    cache: &[u8],
+    cache_lengths: &[u16],
 ) -> HeaderAnswer
-    requires { ⌜ (at ≤ length (now packet)) × (look ≡ true → (length (now places) ≡ 65536) × (length (now lengths) ≡ 2048)) ⌝ }
-    ensures { λ r. ⌜ HeaderIs (coding-of utf8) (holding-when look (cache-of (now (places .entry)) (now (lengths .entry)))) (now (packet .entry)) at r ⌝ }
+    requires { ⌜ (at ≤ length (now packet)) × (look ≡ true → (length (now cache) ≡ 65536) × (length (now «cache_lengths») ≡ 2048)) ⌝ }
+    ensures { λ r. ⌜ HeaderIs (coding-of utf8) (holding-when look (cache-of (now (cache .entry)) (now («cache_lengths» .entry)))) (now (packet .entry)) at r ⌝ }
 {
     match open_header(packet, at) {
         Opened::Cut => HeaderAnswer::Refused(Refusal {
-            number: 2,
+            number: refusals::CUT,
             place: 0,
         }),
         Opened::Header { n, width, first } => {
-            match check_references(utf8, look, packet, at, n, width, first, places, lengths) {
+            match check_references(
+                utf8,
+                look,
+                packet,
+                at,
+                n,
+                width,
+                first,
+                cache,
+                cache_lengths,
+            ) {
                 References::Refused(refusal) => HeaderAnswer::Refused(refusal),
                 References::End(payload) => HeaderAnswer::Header {
                     n: n,

@@ -10,8 +10,8 @@ use Rattle.packet_spec.specs.Runs.{Call, All-bytes}
 use Rattle.packet_spec.specs.Demands.{Ran, Demand-2}
 use Rattle.packet_spec.proofs.Demand as definitions
 use Rattle.packet_calls.proofs.take_packet.Reads as taking-call
-use Rattle.packet_calls.proofs.drop_sequence.Reads as dropping-call
-use Rattle.packet_calls.proofs.reset.Reads as resetting-call
+use Rattle.link_state.proofs.drop_sequence.Reads as dropping-call
+use Rattle.link_state.proofs.reset.Reads as resetting-call
 
 -- These are the promises of the calls
 pub promised-take-packet : (κs : Lfts 10) (a : _) (r : _) (s : _) → taking-call.Post κs a r s
@@ -25,14 +25,14 @@ pub promised-take-packet : (κs : Lfts 10) (a : _) (r : _) (s : _) → taking-ca
     (lent-list (s .1 .1 .1 .1 .0 .now) (s .1 .1 .1 .1 .1 .0 .now) (s .1 .1 .1 .1 .1 .1 .0 .now))
     (lent-list (s .1 .1 .1 .1 .1 .1 .1 .0 .now) (s .1 .1 .1 .1 .1 .1 .1 .1 .0 .now) (s .1 .1 .1 .1 .1 .1 .1 .1 .1 .0 .now))
     (r .pending) (s .1 .1 .1 .1 .1 .1 .1 .1 .1 .1 .1 .0 .now))
-promised-take-packet κs a r s p = record { packet-answered = p .0; memory-left = p .1 }
+promised-take-packet κs a r s p = p
 
 pub promised-drop : (κs : Lfts 0) (a : _) (r : _) (s : _) → dropping-call.Post κs a r s → Drop-call (a .0) r
-promised-drop κs a r s p = record { drop-answered = p }
+promised-drop κs a r s p = p
 
 pub promised-reset : (κs : Lfts 2) (a : _) (r : _) (s : _) → resetting-call.Post κs a r s
     → Reset-call (cache-of (a .0 .now) (a .1 .0 .now)) (a .1 .1 .0) r (cache-of (s .0 .now) (s .1 .0 .now))
-promised-reset κs a r s p = record { reset-answered = p .0; cache-left = p .1 }
+promised-reset κs a r s p = p
 
 -- For any run of these calls, whatever memory is lent at first
 pub demand-2 : {m n : Memory} {cs : List Call} → All-bytes cs → Ran m cs n → Demand-2 m cs n

@@ -8,3 +8,7 @@ pub const CACHE_BYTES: usize = 65536;
 pub const CACHE_EMPTY: u16 = 65535;
 
 pub const GATHER_BYTES: usize = 65536;
+// Bytes before the header of a plain packet: 131, the tag; of a fragment: 131, the tag, its two ids.
+pub const PLAIN_PREAMBLE: usize = 2;
+
+pub const FRAGMENT_PREAMBLE: usize = 18;

@@ -11,7 +11,7 @@ flat-done-requires : tie.Need-flat-done-requires
 flat-done-requires c κs = search needs
 
 returns : tie.Need-returns
-returns c = kept-told (c .flat-done .ensures) (c .before .before .drop-sequence .ensures)
+returns c = kept-told (c .flat-done .ensures) (c .before .before .drop-sequence .ensures .drop-answered)
 
 pub drop-by-value-spec : {M : Type 1} → statement M
 drop-by-value-spec = tie.close (tie.spec drop-sequence-requires flat-done-requires returns)

@@ -34,7 +34,7 @@ same-length-7 c = search needs
 
 returns : tie.Need-returns
 unfolding flag
-returns c = (received-told (c .flat-packet .ensures) (c .before .before .before .before .before .before .before .before .before .before .before .before .before .before .before .before .take-packet .ensures .0), c .before .before .before .before .before .before .before .before .before .before .before .before .before .before .before .before .take-packet .ensures .1)
+returns c = (received-told (c .flat-packet .ensures) (c .before .before .before .before .before .before .before .before .before .before .before .before .before .before .before .before .take-packet .ensures .packet-answered), c .before .before .before .before .before .before .before .before .before .before .before .before .before .before .before .before .take-packet .ensures .memory-left)
 
 pub packet-by-value-spec : {M : Type 1} → statement M
 packet-by-value-spec =

@@ -17,7 +17,7 @@ same-length-2 : tie.Need-same-length-2
 same-length-2 c = search needs
 
 returns : tie.Need-returns
-returns c = (kept-told (c .flat-done .ensures) (c .before .before .before .before .before .before .reset .ensures .0), c .before .before .before .before .before .before .reset .ensures .1)
+returns c = (kept-told (c .flat-done .ensures) (c .before .before .before .before .before .before .reset .ensures .reset-answered), c .before .before .before .before .before .before .reset .ensures .cache-left)
 
 pub reset-by-value-spec : {M : Type 1} → statement M
 reset-by-value-spec =

@@ -1,4 +1,4 @@
--- `entries::enter_reference` meets its contract. Assumes nothing.
+-- `cache_entries::enter_reference` meets its contract. Assumes nothing.
 use native.Mathlib.Omega.{arith}
 use borrow.Author.Needs.{needs}
 use Rattle.term_spec.specs.Text.{coding-of}
@@ -39,7 +39,7 @@ add-result-2 c = search needs
 
 returns : tie.Need-returns
 returns c = let a = c .before .before .before .before .before .before .args in
-    enters-cut (coding-of (a .utf8)) (a .packet .now) (a .half) (a .width) (a .at) (cache-of (a .places .now) (a .lengths .now)) _ _ (rw (c .enum-told .given .1) at (c .before .before .read-reference .ensures))
+    enters-cut (coding-of (a .utf8)) (a .packet .now) (a .half) (a .width) (a .at) (cache-of (a .cache .now) (a .cache-lengths .now)) _ _ (rw (c .enum-told .given .1) at (c .before .before .read-reference .ensures))
 
 same-length : tie.Need-same-length
 same-length c = search needs
@@ -51,13 +51,13 @@ returns-2 : tie.Need-returns-2
 returns-2 c = let a = c .before .before .before .before .before .before .before .before .before .before .before .before .before .before .args in
     let v = c .before .before .before .before .before .before .before .before .place .given in
     let e : Spells (a .packet .now) (a .half) (a .width) (a .at) (spelled.New (v .0 .0) (v .0 .1 .0) (v .0 .1 .1 .0)) = rw (v .1) at (c .before .before .before .before .before .before .before .before .before .before .read-reference .ensures) in
-    enters-new (coding-of (a .utf8)) (a .packet .now) (a .half) (a .width) (a .at) (cache-of (a .places .now) (a .lengths .now)) _ (v .0 .0) (v .0 .1 .0) (v .0 .1 .1 .0) e (c .before .before .before .before .enter-text .ensures)
+    enters-new (coding-of (a .utf8)) (a .packet .now) (a .half) (a .width) (a .at) (cache-of (a .cache .now) (a .cache-lengths .now)) _ (v .0 .0) (v .0 .1 .0) (v .0 .1 .1 .0) e (c .before .before .before .before .enter-text .ensures)
 
 returns-3 : tie.Need-returns-3
 returns-3 c = let a = c .before .before .before .before .before .before .before .args in
     let v = c .before .place2 .given in
     let e : Spells (a .packet .now) (a .half) (a .width) (a .at) (spelled.Cached (v .0 .0)) = rw (v .1) at (c .before .before .before .read-reference .ensures) in
-    enters-cached (coding-of (a .utf8)) (a .packet .now) (a .half) (a .width) (a .at) (cache-of (a .places .now) (a .lengths .now)) (v .0 .0) e
+    enters-cached (coding-of (a .utf8)) (a .packet .now) (a .half) (a .width) (a .at) (cache-of (a .cache .now) (a .cache-lengths .now)) (v .0 .0) e
 
 pub enter-reference-spec : {M : Type 1} → statement M
 enter-reference-spec =

@@ -1,4 +1,4 @@
--- `entries::enter_text` meets its contract. Assumes nothing.
+-- `cache_entries::enter_text` meets its contract. Assumes nothing.
 use Prim.Native.Nat.{_*_}
 use native.Mathlib.Omega.{arith}
 use lib.ListN.{take, drop}
@@ -24,15 +24,15 @@ put-text-requires : tie.Need-put-text-requires
 put-text-requires c κs = let a = c .before .before .before .before .before .before .before .before .before .args in
     (c .before .before .before .before .before .before .before .before .before .pre .1, c .before .before .before .before .before .before .before .before .before .pre .2, fits-at (coding-of (a .utf8)) (take (a .size) (drop (a .from) (a .packet .now))) (32 * a .place .0) _ (c .before .before .before .before .before .before .before .before .before .pre .5) (omega arith))
 
-cast-lengths : tie.Need-cast-lengths
-cast-lengths c = let a = c .before .before .before .before .before .before .before .before .before .before .before .before .args in
+cast-cache-lengths : tie.Need-cast-cache-lengths
+cast-cache-lengths c = let a = c .before .before .before .before .before .before .before .before .before .before .before .before .args in
     let m = stored-small (coding-of (a .utf8)) (take (a .size) (drop (a .from) (a .packet .now))) (c .before .before .put-text .result) _ (c .before .before .before .before .before .before .before .before .before .before .before .before .pre .5) (c .before .before .put-text .ensures) in omega arith
 
-mul-lengths : tie.Need-mul-lengths
-mul-lengths c = search needs
+mul-cache-lengths : tie.Need-mul-cache-lengths
+mul-cache-lengths c = search needs
 
-slice-write-lengths : tie.Need-slice-write-lengths
-slice-write-lengths c = search needs
+slice-write-cache-lengths : tie.Need-slice-write-cache-lengths
+slice-write-cache-lengths c = search needs
 
 same-length : tie.Need-same-length
 same-length c = search needs
@@ -42,7 +42,7 @@ same-length-2 c = search needs
 
 returns : tie.Need-returns
 returns c = let a = c .before .before .before .before .before .before .before .before .before .before .before .before .args in
-    text-entered (coding-of (a .utf8)) (take (a .size) (drop (a .from) (a .packet .now))) (a .places .now) (a .lengths .now) _ _ (a .place .0) (c .before .before .put-text .result) (c .before .before .before .before .before .before .before .before .before .before .before .before .pre .0) (c .before .before .before .before .before .before .before .before .before .before .before .before .pre .3) (c .before .before .before .before .before .before .copy .ensures) (c .before .before .put-text .ensures) (c .before .before .before .before .before .before .before .before .before .before .before .before .pre .5)
+    text-entered (coding-of (a .utf8)) (take (a .size) (drop (a .from) (a .packet .now))) (a .cache .now) (a .cache-lengths .now) _ _ (a .place .0) (c .before .before .put-text .result) (c .before .before .before .before .before .before .before .before .before .before .before .before .pre .0) (c .before .before .before .before .before .before .before .before .before .before .before .before .pre .3) (c .before .before .before .before .before .before .copy .ensures) (c .before .before .put-text .ensures) (c .before .before .before .before .before .before .before .before .before .before .before .before .pre .5)
 
 pub enter-text-spec : {M : Type 1} → statement M
 enter-text-spec =
@@ -53,9 +53,9 @@ enter-text-spec =
     copy-requires
     mul-put-text
     put-text-requires
-    cast-lengths
-    mul-lengths
-    slice-write-lengths
+    cast-cache-lengths
+    mul-cache-lengths
+    slice-write-cache-lengths
     same-length
     same-length-2
     returns)

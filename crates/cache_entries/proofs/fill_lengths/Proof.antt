@@ -1,4 +1,4 @@
--- `entries::fill_lengths` meets its contract. Assumes nothing.
+-- `cache_entries::fill_lengths` meets its contract. Assumes nothing.
 use mathlib.Core.List.{List}
 use mathlib.Core.Path.{refl, _≡_, _∙_, ap}
 use Prim.Native.Nat.{ℕ, _-_, _≤_}
@@ -11,19 +11,19 @@ use Rattle.cache_entries.proofs.fill_lengths.Statement.{statement}
 use Rattle.cache_entries.proofs.fill_lengths.Tie as tie
 
 abbrev Inv-loop : tie.InvT-loop
-Inv-loop d₀ value i₀ d i = (i ≤ length d₀) × (d ≡ sets d₀ 0 (replicate (i - 0) value)) × (length d ≡ length d₀)
+Inv-loop lengths₀ value i₀ lengths i = (i ≤ length lengths₀) × (lengths ≡ sets lengths₀ 0 (replicate (i - 0) value)) × (length lengths ≡ length lengths₀)
 
 abbrev μ-loop : tie.MeasureT-loop
-μ-loop d₀ value i₀ d i = length d₀ - i
+μ-loop lengths₀ value i₀ lengths i = length lengths₀ - i
 
 loop-holds : tie.Need-loop-holds Inv-loop μ-loop
-loop-holds c = (omega arith, fill-none (c .args .d .now) 0 (c .args .value), refl)
+loop-holds c = (omega arith, fill-none (c .args .lengths .now) 0 (c .args .value), refl)
 
-mul-d : tie.Need-mul-d Inv-loop μ-loop
-mul-d c = search needs
+mul-lengths : tie.Need-mul-lengths Inv-loop μ-loop
+mul-lengths c = search needs
 
-slice-write-d : tie.Need-slice-write-d Inv-loop μ-loop
-slice-write-d c = search needs
+slice-write-lengths : tie.Need-slice-write-lengths Inv-loop μ-loop
+slice-write-lengths c = search needs
 
 add-i : tie.Need-add-i Inv-loop μ-loop
 add-i c = search needs
@@ -33,7 +33,7 @@ loop-less c = search needs
 
 loop-again : tie.Need-loop-again Inv-loop μ-loop
 loop-again c = let a = c .before .before .args in
-    let l = c .before .loop in (omega arith, ap (λ (x : List ℕ). set x (l .i) (a .value)) (l .inv .1) ∙ fill-more (a .d .now) 0 (l .i) (a .value) (omega arith), simp length-set (l .inv .2))
+    let l = c .before .loop in (omega arith, ap (λ (x : List ℕ). set x (l .i) (a .value)) (l .inv .1) ∙ fill-more (a .lengths .now) 0 (l .i) (a .value) (omega arith), simp length-set (l .inv .2))
 
 same-length : tie.Need-same-length Inv-loop μ-loop
 same-length c = c .before .loop .inv .2
@@ -41,7 +41,7 @@ same-length c = c .before .loop .inv .2
 returns : tie.Need-returns Inv-loop μ-loop
 returns c = let a = c .before .before .args in
     let l = c .before .loop in
-    let e : length (a .d .now) - 0 ≡ length (a .d .now) = omega arith in l .inv .1 ∙ fill-all (a .d .now) 0 (l .i - 0) (a .value) (omega arith) ∙ ap (λ (n : ℕ). replicate n (a .value)) e
+    let e : length (a .lengths .now) - 0 ≡ length (a .lengths .now) = omega arith in l .inv .1 ∙ fill-all (a .lengths .now) 0 (l .i - 0) (a .value) (omega arith) ∙ ap (λ (n : ℕ). replicate n (a .value)) e
 
 pub fill-lengths-spec : {M : Type 1} → statement M
 fill-lengths-spec =
@@ -50,8 +50,8 @@ fill-lengths-spec =
     Inv-loop
     μ-loop
     loop-holds
-    mul-d
-    slice-write-d
+    mul-lengths
+    slice-write-lengths
     add-i
     loop-less
     loop-again

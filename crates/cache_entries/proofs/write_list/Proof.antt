@@ -1,4 +1,4 @@
--- `entries::write_list` meets its contract. Assumes nothing.
+-- `cache_entries::write_list` meets its contract. Assumes nothing.
 use mathlib.Core.Path.{_≡_, sym, _∙_}
 use Prim.Native.Nat.{_*_, _-_, _≤_}
 use native.Mathlib.Omega.{arith}
@@ -15,10 +15,10 @@ use Rattle.cache_entries.proofs.write_list.Statement.{statement}
 use Rattle.cache_entries.proofs.write_list.Tie as tie
 
 abbrev Inv-loop : tie.InvT-loop
-Inv-loop utf8 packet at n width first places lengths list₀ sizes₀ next₀ i₀ list sizes next i = (i ≤ n) × (next ≤ length packet) × (length list ≡ 8160) × (length sizes ≡ 255) × ListWalk (coding-of utf8) (held (cache-of places lengths)) packet at n width first i next list sizes
+Inv-loop utf8 packet at n width first cache cache-lengths list-places₀ list-lengths₀ next₀ i₀ list-places list-lengths next i = (i ≤ n) × (next ≤ length packet) × (length list-places ≡ 8160) × (length list-lengths ≡ 255) × ListWalk (coding-of utf8) (held (cache-of cache cache-lengths)) packet at n width first i next list-places list-lengths
 
 abbrev μ-loop : tie.MeasureT-loop
-μ-loop utf8 packet at n width first places lengths list₀ sizes₀ next₀ i₀ list sizes next i = n - i
+μ-loop utf8 packet at n width first cache cache-lengths list-places₀ list-lengths₀ next₀ i₀ list-places list-lengths next i = n - i
 
 clear-bytes-requires : tie.Need-clear-bytes-requires Inv-loop μ-loop
 clear-bytes-requires c κs = search needs
@@ -28,27 +28,27 @@ fill-lengths-requires c κs = search needs
 
 loop-holds : tie.Need-loop-holds Inv-loop μ-loop
 loop-holds c = let a = c .before .before .before .before .before .before .before .before .before .before .before .before .before .args in
-    (omega arith, c .before .before .before .before .before .before .before .before .before .before .before .before .before .pre .4 .first-inside, search needs, search needs, list-none (coding-of (a .utf8)) (held (cache-of (a .places .now) (a .lengths .now))) (a .packet .now) (a .at) (a .n) (a .width) (a .first) _ _ (a .list .now) (a .sizes .now) (c .before .before .before .before .before .before .before .before .before .before .before .before .before .pre .2) (c .before .before .before .before .before .before .before .before .before .before .before .before .before .pre .3) (c .before .before .before .before .before .before .clear-bytes .ensures) (c .before .before .fill-lengths .ensures))
+    (omega arith, c .before .before .before .before .before .before .before .before .before .before .before .before .before .pre .1 .first-inside, omega (arith, c .before .before .before .before .before .before .before .before .before .before .before .before .before .pre .0 .list-is), omega (arith, c .before .before .before .before .before .before .before .before .before .before .before .before .before .pre .0 .list-lengths-are), list-none (coding-of (a .utf8)) (held (cache-of (a .cache .now) (a .cache-lengths .now))) (a .packet .now) (a .at) (a .n) (a .width) (a .first) _ _ (a .list-places .now) (a .list-lengths .now) (c .before .before .before .before .before .before .before .before .before .before .before .before .before .pre .0 .list-is) (c .before .before .before .before .before .before .before .before .before .before .before .before .before .pre .0 .list-lengths-are) (c .before .before .before .before .before .before .clear-bytes .ensures) (c .before .before .fill-lengths .ensures))
 
 half-of-requires : tie.Need-half-of-requires Inv-loop μ-loop
-half-of-requires c κs = let f = flag-count (c .before .before .before .before .before .before .before .before .before .before .before .before .before .before .before .args .n) (omega arith) in let h = c .before .before .before .before .before .before .before .before .before .before .before .before .before .before .before .pre .4 in (omega arith, omega arith, omega (arith, h .first-is, h .first-inside, f))
+half-of-requires c κs = let f = flag-count (c .before .before .before .before .before .before .before .before .before .before .before .before .before .before .before .args .n) (omega arith) in let h = c .before .before .before .before .before .before .before .before .before .before .before .before .before .before .before .pre .1 in (omega arith, omega arith, omega (arith, h .first-is, h .first-inside, f))
 
 list-reference-requires : tie.Need-list-reference-requires Inv-loop μ-loop
 list-reference-requires c κs = let a = c .before .before .before .before .before .before .before .before .before .before .before .before .before .before .before .before .before .args in
     let l = c .before .before .before .loop in
-    let h = c .before .before .before .before .before .before .before .before .before .before .before .before .before .before .before .before .before .pre .4 in (c .before .half-of .ensures .1, h .width-least, h .width-most, l .inv .1, c .before .before .before .before .before .before .before .before .before .before .before .before .before .before .before .before .before .pre .0, c .before .before .before .before .before .before .before .before .before .before .before .before .before .before .before .before .before .pre .1, omega (arith, h .few), l .inv .2, rw (c .before .half-of .ensures .0) (list-stands (coding-of (a .utf8)) (held (cache-of (a .places .now) (a .lengths .now))) (a .packet .now) (a .at) (a .n) (a .width) (a .first) h (l .i) (l .next) (l .list) (l .sizes) (l .inv .4) (c .before .before .loop-test .taken)))
+    let h = c .before .before .before .before .before .before .before .before .before .before .before .before .before .before .before .before .before .pre .1 in (c .before .half-of .ensures .1, h .width-least, h .width-most, l .inv .1, c .before .before .before .before .before .before .before .before .before .before .before .before .before .before .before .before .before .pre .0 .cache-is, c .before .before .before .before .before .before .before .before .before .before .before .before .before .before .before .before .before .pre .0 .cache-lengths-are, omega (arith, h .few), l .inv .2, rw (c .before .half-of .ensures .0) (list-stands (coding-of (a .utf8)) (held (cache-of (a .cache .now) (a .cache-lengths .now))) (a .packet .now) (a .at) (a .n) (a .width) (a .first) h (l .i) (l .next) (l .list-places) (l .list-lengths) (l .inv .4) (c .before .before .loop-test .taken)))
 
-cast-sizes : tie.Need-cast-sizes Inv-loop μ-loop
-cast-sizes c = let a = c .before .before .before .before .before .before .before .before .before .before .before .before .before .before .before .before .before .before .before .before .before .args in
+cast-list-lengths : tie.Need-cast-list-lengths Inv-loop μ-loop
+cast-list-lengths c = let a = c .before .before .before .before .before .before .before .before .before .before .before .before .before .before .before .before .before .before .before .before .before .args in
     let l = c .before .before .before .before .before .before .before .loop in
-    let e : Lists (coding-of (a .utf8)) (held (cache-of (a .places .now) (a .lengths .now))) (a .packet .now) (half (flags-of (a .packet .now) (a .at) (a .n)) (l .i)) (a .width) (l .next) (32 * l .i) (l .list) _ (c .before .before .before .list-reference .result) = rw (c .before .before .before .before .before .half-of .ensures .0) at (c .before .before .before .list-reference .ensures) in
-    let m = list-inside (coding-of (a .utf8)) (held (cache-of (a .places .now) (a .lengths .now))) (a .packet .now) (a .at) (a .n) (a .width) (a .first) (c .before .before .before .before .before .before .before .before .before .before .before .before .before .before .before .before .before .before .before .before .before .pre .4) (l .i) (l .next) (l .list) (l .sizes) (l .inv .4) (c .before .before .before .before .before .before .loop-test .taken) _ _ _ e in omega (arith, m .1)
+    let e : Lists (coding-of (a .utf8)) (held (cache-of (a .cache .now) (a .cache-lengths .now))) (a .packet .now) (half (flags-of (a .packet .now) (a .at) (a .n)) (l .i)) (a .width) (l .next) (32 * l .i) (l .list-places) _ (c .before .before .before .list-reference .result) = rw (c .before .before .before .before .before .half-of .ensures .0) at (c .before .before .before .list-reference .ensures) in
+    let m = list-inside (coding-of (a .utf8)) (held (cache-of (a .cache .now) (a .cache-lengths .now))) (a .packet .now) (a .at) (a .n) (a .width) (a .first) (c .before .before .before .before .before .before .before .before .before .before .before .before .before .before .before .before .before .before .before .before .before .pre .1) (l .i) (l .next) (l .list-places) (l .list-lengths) (l .inv .4) (c .before .before .before .before .before .before .loop-test .taken) _ _ _ e in omega (arith, m .1)
 
-mul-sizes : tie.Need-mul-sizes Inv-loop μ-loop
-mul-sizes c = let h = c .before .before .before .before .before .before .before .before .before .before .before .before .before .before .before .before .before .before .before .before .before .pre .4 in omega (arith, h .few)
+mul-list-lengths : tie.Need-mul-list-lengths Inv-loop μ-loop
+mul-list-lengths c = let h = c .before .before .before .before .before .before .before .before .before .before .before .before .before .before .before .before .before .before .before .before .before .pre .1 in omega (arith, h .few)
 
-slice-write-sizes : tie.Need-slice-write-sizes Inv-loop μ-loop
-slice-write-sizes c = let h = c .before .before .before .before .before .before .before .before .before .before .before .before .before .before .before .before .before .before .before .before .before .pre .4 in omega (arith, h .few)
+slice-write-list-lengths : tie.Need-slice-write-list-lengths Inv-loop μ-loop
+slice-write-list-lengths c = let h = c .before .before .before .before .before .before .before .before .before .before .before .before .before .before .before .before .before .before .before .before .before .pre .1 in omega (arith, h .few)
 
 add-i : tie.Need-add-i Inv-loop μ-loop
 add-i c = omega arith
@@ -59,24 +59,24 @@ loop-less c = omega arith
 loop-again : tie.Need-loop-again Inv-loop μ-loop
 loop-again c = let a = c .before .before .before .before .before .before .before .before .before .before .before .before .before .before .before .before .before .before .before .before .before .args in
     let l = c .before .before .before .before .before .before .before .loop in
-    let e : Lists (coding-of (a .utf8)) (held (cache-of (a .places .now) (a .lengths .now))) (a .packet .now) (half (flags-of (a .packet .now) (a .at) (a .n)) (l .i)) (a .width) (l .next) (32 * l .i) (l .list) _ (c .before .before .before .list-reference .result) = rw (c .before .before .before .before .before .half-of .ensures .0) at (c .before .before .before .list-reference .ensures) in (
+    let e : Lists (coding-of (a .utf8)) (held (cache-of (a .cache .now) (a .cache-lengths .now))) (a .packet .now) (half (flags-of (a .packet .now) (a .at) (a .n)) (l .i)) (a .width) (l .next) (32 * l .i) (l .list-places) _ (c .before .before .before .list-reference .result) = rw (c .before .before .before .before .before .half-of .ensures .0) at (c .before .before .before .list-reference .ensures) in (
       omega arith,
-      list-inside (coding-of (a .utf8)) (held (cache-of (a .places .now) (a .lengths .now))) (a .packet .now) (a .at) (a .n) (a .width) (a .first) (c .before .before .before .before .before .before .before .before .before .before .before .before .before .before .before .before .before .before .before .before .before .pre .4) (l .i) (l .next) (l .list) (l .sizes) (l .inv .4) (c .before .before .before .before .before .before .loop-test .taken) _ _ _ e .0,
+      list-inside (coding-of (a .utf8)) (held (cache-of (a .cache .now) (a .cache-lengths .now))) (a .packet .now) (a .at) (a .n) (a .width) (a .first) (c .before .before .before .before .before .before .before .before .before .before .before .before .before .before .before .before .before .before .before .before .before .pre .1) (l .i) (l .next) (l .list-places) (l .list-lengths) (l .inv .4) (c .before .before .before .before .before .before .loop-test .taken) _ _ _ e .0,
       search needs,
       simp length-set (l .inv .3),
-      list-more (coding-of (a .utf8)) (held (cache-of (a .places .now) (a .lengths .now))) (a .packet .now) (a .at) (a .n) (a .width) (a .first) (c .before .before .before .before .before .before .before .before .before .before .before .before .before .before .before .before .before .before .before .before .before .pre .4) (l .i) (l .next) (l .list) (l .sizes) (l .inv .4) (c .before .before .before .before .before .before .loop-test .taken) _ _ _ e,
+      list-more (coding-of (a .utf8)) (held (cache-of (a .cache .now) (a .cache-lengths .now))) (a .packet .now) (a .at) (a .n) (a .width) (a .first) (c .before .before .before .before .before .before .before .before .before .before .before .before .before .before .before .before .before .before .before .before .before .pre .1) (l .i) (l .next) (l .list-places) (l .list-lengths) (l .inv .4) (c .before .before .before .before .before .before .loop-test .taken) _ _ _ e,
     )
 
 same-length : tie.Need-same-length Inv-loop μ-loop
-same-length c = c .before .loop .inv .2 ∙ sym (c .before .before .before .before .before .before .before .before .before .before .before .before .before .before .before .pre .2)
+same-length c = c .before .loop .inv .2 ∙ sym (c .before .before .before .before .before .before .before .before .before .before .before .before .before .before .before .pre .0 .list-is)
 
 same-length-2 : tie.Need-same-length-2 Inv-loop μ-loop
-same-length-2 c = c .before .loop .inv .3 ∙ sym (c .before .before .before .before .before .before .before .before .before .before .before .before .before .before .before .pre .3)
+same-length-2 c = c .before .loop .inv .3 ∙ sym (c .before .before .before .before .before .before .before .before .before .before .before .before .before .before .before .pre .0 .list-lengths-are)
 
 returns : tie.Need-returns Inv-loop μ-loop
 returns c = let a = c .before .before .before .before .before .before .before .before .before .before .before .before .before .before .before .args in
     let l = c .before .loop in
-    list-all (coding-of (a .utf8)) (held (cache-of (a .places .now) (a .lengths .now))) (a .packet .now) (a .at) (a .n) (a .width) (a .first) (l .i) (l .next) (l .list) (l .sizes) (l .inv .4) (omega arith) (c .before .before .before .before .before .before .before .before .before .before .before .before .before .before .before .pre .4 .few)
+    list-all (coding-of (a .utf8)) (held (cache-of (a .cache .now) (a .cache-lengths .now))) (a .packet .now) (a .at) (a .n) (a .width) (a .first) (l .i) (l .next) (l .list-places) (l .list-lengths) (l .inv .4) (omega arith) (c .before .before .before .before .before .before .before .before .before .before .before .before .before .before .before .pre .1 .few)
 
 pub write-list-spec : {M : Type 1} → statement M
 write-list-spec =
@@ -89,9 +89,9 @@ write-list-spec =
     loop-holds
     half-of-requires
     list-reference-requires
-    cast-sizes
-    mul-sizes
-    slice-write-sizes
+    cast-list-lengths
+    mul-list-lengths
+    slice-write-list-lengths
     add-i
     loop-less
     loop-again

@@ -1,4 +1,4 @@
--- `headers::judge_cached` meets its contract. Assumes nothing.
+-- `dist_header::judge_cached` meets its contract. Assumes nothing.
 use mathlib.Core.Path.{sym, _∙_}
 use borrow.Author.Needs.{needs}
 use Rattle.packet_spec.specs.Memory.{cache-of}
@@ -11,7 +11,7 @@ slice-read-if1 : tie.Need-slice-read-if1
 slice-read-if1 c = search needs
 
 returns : tie.Need-returns
-returns c = let a = c .before .before .before .before .before .args in cached-again (holding-when (a .look) (cache-of (a .places .now) (a .lengths .now))) (a .place .0) (a .marks .now) (c .before .before .before .before .before .pre .0) (c .if1 .taken)
+returns c = let a = c .before .before .before .before .before .args in cached-again (holding-when (a .look) (cache-of (a .cache .now) (a .cache-lengths .now))) (a .place .0) (a .marks .now) (c .before .before .before .before .before .pre .0) (c .if1 .taken)
 
 looked-at-requires : tie.Need-looked-at-requires
 looked-at-requires c κs = search needs
@@ -29,17 +29,17 @@ slice-write-marks : tie.Need-slice-write-marks
 slice-write-marks c = search needs
 
 returns-2 : tie.Need-returns-2
-returns-2 c = let a = c .before .before .before .before .before .before .before .before .args in cached-empty (holding-when (a .look) (cache-of (a .places .now) (a .lengths .now))) (a .place .0) (a .marks .now) (c .before .before .before .before .before .before .before .before .pre .0) (c .before .before .before .if1 .left) (sym (c .enum-told .given .1) ∙ c .before .before .looked-at .ensures)
+returns-2 c = let a = c .before .before .before .before .before .before .before .before .args in cached-empty (holding-when (a .look) (cache-of (a .cache .now) (a .cache-lengths .now))) (a .place .0) (a .marks .now) (c .before .before .before .before .before .before .before .before .pre .0) (c .before .before .before .if1 .left) (sym (c .enum-told .given .1) ∙ c .before .before .looked-at .ensures)
 
 returns-3 : tie.Need-returns-3
-returns-3 c = let a = c .before .before .before .before .before .before .before .before .args in cached-false (holding-when (a .look) (cache-of (a .places .now) (a .lengths .now))) (a .place .0) (a .marks .now) (c .before .before .before .before .before .before .before .before .pre .0) (c .before .before .before .if1 .left) (sym (c .enum-told2 .given .1) ∙ c .before .before .looked-at .ensures)
+returns-3 c = let a = c .before .before .before .before .before .before .before .before .args in cached-false (holding-when (a .look) (cache-of (a .cache .now) (a .cache-lengths .now))) (a .place .0) (a .marks .now) (c .before .before .before .before .before .before .before .before .pre .0) (c .before .before .before .if1 .left) (sym (c .enum-told2 .given .1) ∙ c .before .before .looked-at .ensures)
 
 same-length : tie.Need-same-length
 same-length c = search needs
 
 returns-4 : tie.Need-returns-4
 returns-4 c = let a = c .before .before .before .before .before .before .before .before .args in
-    cached-good (holding-when (a .look) (cache-of (a .places .now) (a .lengths .now))) (a .place .0) (a .marks .now) (c .before .before .before .before .before .before .before .before .pre .0) (c .before .before .before .if1 .left) _ (sym (c .enum-told3 .given .1) ∙ c .before .before .looked-at .ensures) (c .before .before .before .before .before .before .before .before .pre .2)
+    cached-good (holding-when (a .look) (cache-of (a .cache .now) (a .cache-lengths .now))) (a .place .0) (a .marks .now) (c .before .before .before .before .before .before .before .before .pre .0) (c .before .before .before .if1 .left) _ (sym (c .enum-told3 .given .1) ∙ c .before .before .looked-at .ensures) (c .before .before .before .before .before .before .before .before .pre .2)
 
 pub judge-cached-spec : {M : Type 1} → statement M
 judge-cached-spec =

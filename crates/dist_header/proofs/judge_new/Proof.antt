@@ -1,4 +1,4 @@
--- `headers::judge_new` meets its contract. Assumes nothing.
+-- `dist_header::judge_new` meets its contract. Assumes nothing.
 use lib.ListN.{take, drop}
 use borrow.Author.Tests.{not-true, not-false}
 use borrow.Author.Needs.{needs}

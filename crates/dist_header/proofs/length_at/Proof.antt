@@ -1,4 +1,4 @@
--- `headers::length_at` meets its contract. Assumes nothing.
+-- `dist_header::length_at` meets its contract. Assumes nothing.
 use mathlib.Core.Path.{_≡_, sym, ap, _∙_}
 use Prim.Native.Nat.{ℕ}
 use native.Mathlib.Omega.{arith}

@@ -1,4 +1,4 @@
--- `headers::open_header` meets its contract. Assumes nothing.
+-- `dist_header::open_header` meets its contract. Assumes nothing.
 use mathlib.Core.Path.{sym, _∙_}
 use native.Mathlib.Omega.{arith}
 use borrow.Author.Needs.{needs}

@@ -1,4 +1,4 @@
--- `headers::put_text` meets its contract. Assumes nothing.
+-- `dist_header::put_text` meets its contract. Assumes nothing.
 use mathlib.Core.List.{List}
 use mathlib.Core.Path.{_≡_, ap, _∙_}
 use Prim.Native.Nat.{ℕ}

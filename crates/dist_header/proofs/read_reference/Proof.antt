@@ -1,4 +1,4 @@
--- `headers::read_reference` meets its contract. Assumes nothing.
+-- `dist_header::read_reference` meets its contract. Assumes nothing.
 use native.Mathlib.Omega.{arith}
 use borrow.Author.Needs.{needs}
 use Rattle.dist_header.proofs.Standing.{spells-end, spells-cached, spells-cut-length, spells-cut-text, spells-new}

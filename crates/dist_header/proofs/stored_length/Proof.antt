@@ -1,4 +1,4 @@
--- `headers::stored_length` meets its contract. Assumes nothing.
+-- `dist_header::stored_length` meets its contract. Assumes nothing.
 use native.Mathlib.Omega.{arith}
 use borrow.Author.Needs.{needs}
 use Rattle.dist_header.proofs.Texts.{stored-utf8, stored-latin}

@@ -1,9 +1,10 @@
--- `link::take_packet` meets its contract. Assumes nothing.
+-- `packet_calls::take_packet` meets its contract. Assumes nothing.
 use mathlib.Core.Path.{refl}
 use borrow.Author.Needs.{needs}
 use Rattle.packet_spec.specs.Memory.{none-pending}
-use Rattle.packet_calls.proofs.Naming.{plain-there, start-there, more-there}
-use Rattle.packet_calls.proofs.Whole.{lengths-told, size-done, false-done, opening-done, plain-done, start-done, more-done}
+use Rattle.packet_preamble.proofs.Preambles.{plain-there, start-there, more-there}
+use Rattle.packet_calls.proofs.Whole.{size-done, false-done, opening-done, plain-done, start-done, more-done}
+use Rattle.lent_memory.proofs.Sizes.{lengths-told}
 use Rattle.packet_calls.proofs.take_packet.Statement.{statement}
 use Rattle.packet_calls.proofs.take_packet.Tie as tie
 
@@ -35,7 +36,7 @@ same-length-7 : tie.Need-same-length-7
 same-length-7 c = search needs
 
 returns : tie.Need-returns
-returns c = rw (c .refused .ensures) (size-done _ _ _ (c .before .before .memory-fits .ensures _ _ _) (c .before .if1 .taken))
+returns c = rw (c .refused .ensures) (size-done _ _ _ (c .before .before .memory-fits .ensures .fits-told _ _ _) (c .before .if1 .taken))
 
 refused-requires-2 : tie.Need-refused-requires-2
 refused-requires-2 c κs = search needs
@@ -62,10 +63,10 @@ same-length-14 : tie.Need-same-length-14
 same-length-14 c = search needs
 
 returns-2 : tie.Need-returns-2
-returns-2 c = rw (c .refused2 .ensures) (false-done _ _ _ (c .before .before .before .before .memory-fits .ensures _ _ _) (c .before .before .before .if1 .left) (c .before .if2 .taken))
+returns-2 c = rw (c .refused2 .ensures) (false-done _ _ _ (c .before .before .before .before .memory-fits .ensures .fits-told _ _ _) (c .before .before .before .if1 .left) (c .before .if2 .taken))
 
-open-packet-requires : tie.Need-open-packet-requires
-open-packet-requires c κs = search needs
+read-preamble-requires : tie.Need-read-preamble-requires
+read-preamble-requires c κs = search needs
 
 enum-known-number : tie.Need-enum-known-number
 enum-known-number c = search needs
@@ -77,23 +78,23 @@ enum-told : tie.Need-enum-told
 enum-told c = search needs
 
 take-plain-requires : tie.Need-take-plain-requires
-take-plain-requires c κs = let z = lengths-told _ (c .before .before .before .before .before .before .before .before .before .before .before .memory-fits .ensures 0 0 none-pending) (c .before .before .before .before .before .before .before .before .before .before .if1 .left) in
-    (plain-there _ (rw (c .before .before .before .before .before .enum-told .given .1) at (c .before .before .before .before .before .before .before .open-packet .ensures)), z .places, z .lengths, z .plain-places, z .plain-lengths)
+take-plain-requires c κs = let z = lengths-told _ (c .before .before .before .before .before .before .before .before .before .before .before .memory-fits .ensures .fits-told 0 0 none-pending) (c .before .before .before .before .before .before .before .before .before .before .if1 .left) in
+    (plain-there _ (rw (c .before .before .before .before .before .enum-told .given .1) at (c .before .before .before .before .before .before .before .read-preamble .ensures)), record { cache-is = z .places; cache-lengths-are = z .lengths; list-is = z .plain-places; list-lengths-are = z .plain-lengths })
 
 enum-known-sequence : tie.Need-enum-known-sequence
 enum-known-sequence c = search needs
 
 take-start-requires : tie.Need-take-start-requires
-take-start-requires c κs = let z = lengths-told _ (c .before .before .before .before .before .before .before .before .before .before .before .before .before .memory-fits .ensures 0 0 none-pending) (c .before .before .before .before .before .before .before .before .before .before .before .before .if1 .left) in
-    let t = start-there _ _ _ (rw (c .before .before .before .before .before .before .before .sequence .given .1) at (c .before .before .before .before .before .before .before .before .before .open-packet .ensures)) in
-    (t .0, z .places, z .lengths, z .pending-places, z .pending-lengths, z .gathered, t .1)
+take-start-requires c κs = let z = lengths-told _ (c .before .before .before .before .before .before .before .before .before .before .before .before .before .memory-fits .ensures .fits-told 0 0 none-pending) (c .before .before .before .before .before .before .before .before .before .before .before .before .if1 .left) in
+    let t = start-there _ _ _ (rw (c .before .before .before .before .before .before .before .sequence .given .1) at (c .before .before .before .before .before .before .before .before .before .read-preamble .ensures)) in
+    (t .0, record { cache-is = z .places; cache-lengths-are = z .lengths; list-is = z .pending-places; list-lengths-are = z .pending-lengths }, z .gathered, t .1)
 
 enum-known-sequence-2 : tie.Need-enum-known-sequence-2
 enum-known-sequence-2 c = search needs
 
 take-continuation-requires : tie.Need-take-continuation-requires
-take-continuation-requires c κs = let z = lengths-told _ (c .before .before .before .before .before .before .before .before .memory-fits .ensures 0 0 none-pending) (c .before .before .before .before .before .before .before .if1 .left) in
-    let t = more-there _ _ _ (rw (c .before .before .sequence2 .given .1) at (c .before .before .before .before .open-packet .ensures)) in
+take-continuation-requires c κs = let z = lengths-told _ (c .before .before .before .before .before .before .before .before .memory-fits .ensures .fits-told 0 0 none-pending) (c .before .before .before .before .before .before .before .if1 .left) in
+    let t = more-there _ _ _ (rw (c .before .before .sequence2 .given .1) at (c .before .before .before .before .read-preamble .ensures)) in
     (t .0, z .gathered, t .1, c .before .before .before .before .before .if2 .left)
 
 same-length-15 : tie.Need-same-length-15
@@ -118,7 +119,7 @@ same-length-21 : tie.Need-same-length-21
 same-length-21 c = search needs
 
 returns-3 : tie.Need-returns-3
-returns-3 c = rw (c .refused3 .ensures) (opening-done _ _ _ (c .before .before .before .before .before .before .before .before .memory-fits .ensures _ _ _) (c .before .before .before .before .before .before .before .if1 .left) (c .before .before .before .before .before .if2 .left) _ (rw (c .before .before .number .given .1) at (c .before .before .before .before .open-packet .ensures)))
+returns-3 c = rw (c .refused3 .ensures) (opening-done _ _ _ (c .before .before .before .before .before .before .before .before .memory-fits .ensures .fits-told _ _ _) (c .before .before .before .before .before .before .before .if1 .left) (c .before .before .before .before .before .if2 .left) _ (rw (c .before .before .number .given .1) at (c .before .before .before .before .read-preamble .ensures)))
 
 same-length-22 : tie.Need-same-length-22
 same-length-22 c = search needs
@@ -142,7 +143,7 @@ same-length-28 : tie.Need-same-length-28
 same-length-28 c = search needs
 
 returns-4 : tie.Need-returns-4
-returns-4 c = plain-done _ _ _ (c .before .before .before .before .before .before .before .before .before .before .before .before .before .before .before .before .before .before .before .before .memory-fits .ensures _ _ _) (c .before .before .before .before .before .before .before .before .before .before .before .before .before .before .before .before .before .before .before .if1 .left) (c .before .before .before .before .before .before .before .before .before .before .before .before .before .before .before .before .before .if2 .left) (rw (c .before .before .before .before .before .before .before .before .before .before .before .before .before .before .enum-told .given .1) at (c .before .before .before .before .before .before .before .before .before .before .before .before .before .before .before .before .open-packet .ensures)) _ _ refl (c .before .before .before .before .before .before .before .before .take-plain .ensures _ _ _)
+returns-4 c = plain-done _ _ _ (c .before .before .before .before .before .before .before .before .before .before .before .before .before .before .before .before .before .before .before .before .memory-fits .ensures .fits-told _ _ _) (c .before .before .before .before .before .before .before .before .before .before .before .before .before .before .before .before .before .before .before .if1 .left) (c .before .before .before .before .before .before .before .before .before .before .before .before .before .before .before .before .before .if2 .left) (rw (c .before .before .before .before .before .before .before .before .before .before .before .before .before .before .enum-told .given .1) at (c .before .before .before .before .before .before .before .before .before .before .before .before .before .before .before .before .read-preamble .ensures)) _ _ refl (c .before .before .before .before .before .before .before .before .take-plain .ensures .takes-plain _ _ _)
 
 same-length-29 : tie.Need-same-length-29
 same-length-29 c = search needs
@@ -166,7 +167,7 @@ same-length-35 : tie.Need-same-length-35
 same-length-35 c = search needs
 
 returns-5 : tie.Need-returns-5
-returns-5 c = start-done _ _ _ (c .before .before .before .before .before .before .before .before .before .before .before .before .before .before .before .before .before .before .before .before .before .before .before .before .memory-fits .ensures _ _ _) (c .before .before .before .before .before .before .before .before .before .before .before .before .before .before .before .before .before .before .before .before .before .before .before .if1 .left) (c .before .before .before .before .before .before .before .before .before .before .before .before .before .before .before .before .before .before .before .before .before .if2 .left) _ _ (rw (c .before .before .before .before .before .before .before .before .before .before .before .before .before .before .before .before .before .before .sequence .given .1) at (c .before .before .before .before .before .before .before .before .before .before .before .before .before .before .before .before .before .before .before .before .open-packet .ensures)) _ _ refl (c .before .before .before .before .before .before .before .before .before .before .take-start .ensures _)
+returns-5 c = start-done _ _ _ (c .before .before .before .before .before .before .before .before .before .before .before .before .before .before .before .before .before .before .before .before .before .before .before .before .memory-fits .ensures .fits-told _ _ _) (c .before .before .before .before .before .before .before .before .before .before .before .before .before .before .before .before .before .before .before .before .before .before .before .if1 .left) (c .before .before .before .before .before .before .before .before .before .before .before .before .before .before .before .before .before .before .before .before .before .if2 .left) _ _ (rw (c .before .before .before .before .before .before .before .before .before .before .before .before .before .before .before .before .before .before .sequence .given .1) at (c .before .before .before .before .before .before .before .before .before .before .before .before .before .before .before .before .before .before .before .before .read-preamble .ensures)) _ _ refl (c .before .before .before .before .before .before .before .before .before .before .take-start .ensures .takes-start _)
 
 same-length-36 : tie.Need-same-length-36
 same-length-36 c = search needs
@@ -190,7 +191,7 @@ same-length-42 : tie.Need-same-length-42
 same-length-42 c = search needs
 
 returns-6 : tie.Need-returns-6
-returns-6 c = more-done _ _ _ (c .before .before .before .before .before .before .before .before .before .before .before .memory-fits .ensures _ _ _) (c .before .before .before .before .before .before .before .before .before .before .if1 .left) (c .before .before .before .before .before .before .before .before .if2 .left) _ _ (rw (c .before .before .before .before .before .sequence2 .given .1) at (c .before .before .before .before .before .before .before .open-packet .ensures)) _ _ refl (c .before .before .take-continuation .ensures _ _ _ _)
+returns-6 c = more-done _ _ _ (c .before .before .before .before .before .before .before .before .before .before .before .memory-fits .ensures .fits-told _ _ _) (c .before .before .before .before .before .before .before .before .before .before .if1 .left) (c .before .before .before .before .before .before .before .before .if2 .left) _ _ (rw (c .before .before .before .before .before .sequence2 .given .1) at (c .before .before .before .before .before .before .before .read-preamble .ensures)) _ _ refl (c .before .before .take-continuation .ensures .takes-continuation _ _ _ _)
 
 pub take-packet-spec : {M : Type 1} → statement M
 take-packet-spec =
@@ -198,7 +199,7 @@ take-packet-spec =
     (tie.spec
     memory-fits-requires refused-requires same-length same-length-2 same-length-3 same-length-4 same-length-5 same-length-6 same-length-7 returns
     refused-requires-2 same-length-8 same-length-9 same-length-10 same-length-11 same-length-12 same-length-13 same-length-14 returns-2
-    open-packet-requires enum-known-number refused-requires-3 enum-told take-plain-requires enum-known-sequence take-start-requires enum-known-sequence-2
+    read-preamble-requires enum-known-number refused-requires-3 enum-told take-plain-requires enum-known-sequence take-start-requires enum-known-sequence-2
     take-continuation-requires same-length-15 same-length-16 same-length-17 same-length-18 same-length-19 same-length-20 same-length-21 returns-3
     same-length-22 same-length-23 same-length-24 same-length-25 same-length-26 same-length-27 same-length-28 returns-4
     same-length-29 same-length-30 same-length-31 same-length-32 same-length-33 same-length-34 same-length-35 returns-5
