@@ -5,11 +5,11 @@
  * - A pointer is valid for as many elements as the length behind it says, and aligned for its type: 2 bytes for uint16_t, 8 for
  *   uint64_t and struct ik_pending. It is not null, even where its length is 0.
  * - Memory that a call may write overlaps no other memory lent to that call.
- * - Nobody else (a thread, an interrupt, a device) changes memory that is lent during the call, or reads what the call may write.
- * - The stack has room: at most @STACK bytes for one call, on x86-64; docs/STACK.md has each call.
- * - The code was compiled for x86-64 with SSE registers and the red zone, 128 bytes below the stack pointer. In a kernel, or in an interrupt handler that runs
- *   on the stack of what it interrupts, it is called only where both are the caller's to use.
- * Calls on memory that is lent to none other may run at once.
+ * - Nobody else (a thread, an interrupt, a device) changes lent memory during the call.
+ * - The stack has room: at most 151,352 bytes for one call, on x86-64; docs/STACK.md has each call.
+ * - The archive is x86-64 code that uses SSE registers and the red zone (128 bytes below the stack pointer). In a kernel, or in an
+ *   interrupt handler on the stack of what it interrupts, call it only where both are yours to use.
+ * Calls that share no memory that either may write can run at the same time.
  *
  * Every reply is a struct by value. `refusal` 0 means accepted; else it is the number of the refusal (IK_...), `place` is where, and
  * the other fields are 0. Places are offsets from the message's first byte; in a header, the number of the reference.
