@@ -231,6 +231,8 @@ static void refused_headers(void)
     CHECK(guards_stand());
 }
 
+#define IDS(sequence, fragment) 0, 0, 0, 0, 0, 0, 0, sequence, 0, 0, 0, 0, 0, 0, 0, fragment
+
 static void long_payloads(void)
 {
     uint8_t *packet = calloc(70000, 1);
@@ -239,7 +241,7 @@ static void long_payloads(void)
     plain_is(take(m, 1, packet, 3 + 65536), 3, 65536);
     refused(m, 1, packet, 3 + 65537, 12, 0);
     CHECK(guards_stand());
-    const uint8_t start[] = {131, 69, 0, 0, 0, 0, 0, 0, 0, 9, 0, 0, 0, 0, 0, 0, 0, 2, 0};
+    const uint8_t start[] = {131, 69, IDS(9, 2), 0};
     memcpy(packet, start, sizeof start);
     packet[sizeof start] = 0x11;
     m = ready_memory();
@@ -248,14 +250,21 @@ static void long_payloads(void)
     record_is(m, 9, 1, 65536);
     SAME(*bytes(m, GATHER), 0x11);
     CHECK(all(bytes(m, GATHER) + 1, 65535, 0));
-    refused(m, 1, BYTES(131, 70, 0, 0, 0, 0, 0, 0, 0, 9, 0, 0, 0, 0, 0, 0, 0, 1, 5), 12, 0);
-    pending_is(take(m, 1, BYTES(131, 70, 0, 0, 0, 0, 0, 0, 0, 9, 0, 0, 0, 0, 0, 0, 0, 1)), 0, 65536);
+    refused(m, 1, BYTES(131, 70, IDS(9, 1), 5), 12, 0);
+    pending_is(take(m, 1, BYTES(131, 70, IDS(9, 1))), 0, 65536);
     record_is(m, 0, 0, 0);
+    CHECK(guards_stand());
+    /* after 12 the sequence stays pending, so no other starts; a drop ends it */
+    m = ready_memory();
+    pending_is(take(m, 1, packet, sizeof start + 65536), 1, 65536);
+    refused(m, 1, BYTES(131, 70, IDS(9, 1), 5), 12, 0);
+    refused(m, 1, BYTES(131, 69, IDS(8, 1), 0, 106), 26, 0);
+    SAME(drop(m).refusal, 0);
+    pending_is(take(m, 1, BYTES(131, 69, IDS(8, 1), 0, 106)), 0, 1);
+    SAME(*bytes(m, GATHER), 106);
     CHECK(guards_stand());
     free(packet);
 }
-
-#define IDS(sequence, fragment) 0, 0, 0, 0, 0, 0, 0, sequence, 0, 0, 0, 0, 0, 0, 0, fragment
 
 static void fragments(void)
 {
