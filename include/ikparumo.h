@@ -1,11 +1,19 @@
-/* Ikparumo: Erlang's External Term Format, its atom cache and its fragments, for C.
+/* Ikparumo: Erlang's External Term Format, its atom cache and its fragments, for C99 and C++11.
  *
  * Every call takes whatever bytes and lent memory it is given, stays inside them and ends. It keeps nothing between calls and takes
- * no memory of its own but the stack. The caller owes two things: a pointer is valid (and not null, even where its length is 0) for as
- * many elements as the length behind it says, and lent memory that a call may write overlaps no other memory lent to that call.
+ * no memory of its own but the stack. What the caller owes, and no call can see for itself:
+ * - A pointer is valid for as many elements as the length behind it says, and aligned for its type: 2 bytes for uint16_t, 8 for
+ *   uint64_t and struct ik_pending. It is not null, even where its length is 0.
+ * - Memory that a call may write overlaps no other memory lent to that call.
+ * - Nobody else (a thread, an interrupt, a device) changes lent memory during the call.
+ * - The stack has room: at most 151,360 bytes for one call, on x86-64; docs/STACK.md has each call.
+ * - The archive is x86-64 code that uses SSE registers and the red zone (128 bytes below the stack pointer). In a kernel, or in an
+ *   interrupt handler on the stack of what it interrupts, call it only where both are yours to use.
+ * Calls that share no memory that either may write can run at the same time.
  *
- * Every answer is a struct by value. `refusal` 0 means accepted; else it is the number of the refusal (IK_...), `place` is where, and
- * the other fields are 0. Places are offsets from the message's first byte; in a header, the number of the reference. */
+ * Every reply is a struct by value. `refusal` 0 means accepted; else it is the number of the refusal (IK_...), `place` is where, and
+ * the other fields are 0. Places are offsets from the message's first byte; in a header, the number of the reference.
+ * struct ik_text_reply has no refusal: the mark call on the same input answers it. */
 #ifndef IKPARUMO_H
 #define IKPARUMO_H
 
@@ -94,16 +102,16 @@ static inline uint64_t ik_row_whole(uint64_t word) /* the row of its whole, or I
 static inline uint64_t ik_row_parts(uint64_t word) { return word >> 34 & 0x1fff; }
 static inline uint64_t ik_row_size(uint64_t word) { return word >> 47 & 0x3fff; } /* the next term at this level stands so many rows on */
 
-struct ik_read    { uint64_t refusal, place, terms, rows; };
-struct ik_written { uint64_t refusal, place, terms, length; };
-struct ik_number  { uint64_t refusal, place, kind; int64_t whole; double real; };
-struct ik_text    { uint64_t from, start, length; };
-struct ik_mark    { uint64_t refusal, place, mark; };
-struct ik_pending { uint64_t sequence, due, gathered; }; /* due 0: none pending */
-struct ik_packet  { uint64_t refusal, place, kind, offset, length, due, gathered; };
-struct ik_place   { uint64_t refusal, place, cache_place; };
-struct ik_cached  { uint64_t refusal, place, start, length; };
-struct ik_done    { uint64_t refusal, place; };
+struct ik_read_reply      { uint64_t refusal, place, terms, rows; };
+struct ik_write_reply     { uint64_t refusal, place, terms, length; };
+struct ik_number_reply    { uint64_t refusal, place, kind; int64_t whole; double real; };
+struct ik_text_reply      { uint64_t from, start, length; };
+struct ik_mark_reply      { uint64_t refusal, place, mark; };
+struct ik_pending         { uint64_t sequence, due, gathered; }; /* lent to the packet calls; due 0: none pending */
+struct ik_packet_reply    { uint64_t refusal, place, kind, offset, length, due, gathered; };
+struct ik_reference_reply { uint64_t refusal, place, cache_place; };
+struct ik_place_reply     { uint64_t refusal, place, start, length; };
+struct ik_state_reply     { uint64_t refusal, place; };
 
 /* An atom list is lent as a count n, 8,160 bytes of places and 255 lengths. The count and memory of an accepted packet's list are
  * lent as ik_packet left them; an empty list has n = 0 and the stated sizes all the same. */
@@ -112,84 +120,86 @@ struct ik_done    { uint64_t refusal, place; };
  * Lent: the message, the atom list; the table, which is written: rows, then zeros; all zeros after any refusal.
  * Answers the number of terms and of rows.
  * Refusals in order: 13 (the list), 12, 1 (standalone alone), then in byte order 2 to 9 and 14, then 10. */
-struct ik_read ik_read_standalone(const uint8_t *msg, size_t msg_len, uint8_t n, const uint8_t *places, size_t places_len,
-                                  const uint16_t *lengths, size_t lengths_len, uint64_t *table, size_t table_len);
-struct ik_read ik_read_payload(const uint8_t *msg, size_t msg_len, uint8_t n, const uint8_t *places, size_t places_len,
-                               const uint16_t *lengths, size_t lengths_len, uint64_t *table, size_t table_len);
+struct ik_read_reply ik_read_standalone(const uint8_t *msg, size_t msg_len, uint8_t n, const uint8_t *places, size_t places_len,
+                                        const uint16_t *lengths, size_t lengths_len, uint64_t *table, size_t table_len);
+struct ik_read_reply ik_read_payload(const uint8_t *msg, size_t msg_len, uint8_t n, const uint8_t *places, size_t places_len,
+                                     const uint16_t *lengths, size_t lengths_len, uint64_t *table, size_t table_len);
 
 /* Writes the canonical form of a standalone term, or of each term of a payload as a standalone term, one after the other.
  * Lent: the message, the atom list; the scratch table, all zero after every call; the output, of which the first `length` bytes are
  * written and the rest stays; nothing of it changes where refused.
  * Answers the number of terms and of bytes written.
  * Refusals in order: those of reading with the scratch table as the table, then 11. */
-struct ik_written ik_write_standalone(const uint8_t *msg, size_t msg_len, uint8_t n, const uint8_t *places, size_t places_len,
-                                      const uint16_t *lengths, size_t lengths_len, uint64_t *scratch, size_t scratch_len,
-                                      uint8_t *output, size_t output_len);
-struct ik_written ik_write_payload(const uint8_t *msg, size_t msg_len, uint8_t n, const uint8_t *places, size_t places_len,
-                                   const uint16_t *lengths, size_t lengths_len, uint64_t *scratch, size_t scratch_len,
-                                   uint8_t *output, size_t output_len);
+struct ik_write_reply ik_write_standalone(const uint8_t *msg, size_t msg_len, uint8_t n, const uint8_t *places, size_t places_len,
+                                          const uint16_t *lengths, size_t lengths_len, uint64_t *scratch, size_t scratch_len,
+                                          uint8_t *output, size_t output_len);
+struct ik_write_reply ik_write_payload(const uint8_t *msg, size_t msg_len, uint8_t n, const uint8_t *places, size_t places_len,
+                                       const uint16_t *lengths, size_t lengths_len, uint64_t *scratch, size_t scratch_len,
+                                       uint8_t *output, size_t output_len);
 
 /* The number of a row (they count from 0).
  * Lent: the message, the atom list; nothing is written.
  * Answers kind IK_NUMBER_WHOLE and `whole` for an integer in -2^63 .. 2^63-1, IK_NUMBER_FLOAT and `real` for a float, else
  * IK_NUMBER_NEITHER, also where there is no such row; `whole` and `real` are 0 where not answered.
  * Refusals: those of reading with 8,192 rows. */
-struct ik_number ik_number_standalone(const uint8_t *msg, size_t msg_len, uint8_t n, const uint8_t *places, size_t places_len,
-                                      const uint16_t *lengths, size_t lengths_len, size_t row);
-struct ik_number ik_number_payload(const uint8_t *msg, size_t msg_len, uint8_t n, const uint8_t *places, size_t places_len,
-                                   const uint16_t *lengths, size_t lengths_len, size_t row);
+struct ik_number_reply ik_number_standalone(const uint8_t *msg, size_t msg_len, uint8_t n, const uint8_t *places, size_t places_len,
+                                            const uint16_t *lengths, size_t lengths_len, size_t row);
+struct ik_number_reply ik_number_payload(const uint8_t *msg, size_t msg_len, uint8_t n, const uint8_t *places, size_t places_len,
+                                         const uint16_t *lengths, size_t lengths_len, size_t row);
 
 /* Where the text of the atom stands whose tag is at `offset`.
  * Lent: the message, the atom list; nothing is written.
  * Answers a stretch of the message (IK_FROM_MESSAGE) or of the list's places (IK_FROM_LIST): start and length in bytes; all 0
  * (IK_FROM_NOWHERE) where the mark call would refuse. */
-struct ik_text ik_text_standalone(const uint8_t *msg, size_t msg_len, uint8_t n, const uint8_t *places, size_t places_len,
-                                  const uint16_t *lengths, size_t lengths_len, size_t offset);
-struct ik_text ik_text_payload(const uint8_t *msg, size_t msg_len, uint8_t n, const uint8_t *places, size_t places_len,
-                               const uint16_t *lengths, size_t lengths_len, size_t offset);
+struct ik_text_reply ik_text_standalone(const uint8_t *msg, size_t msg_len, uint8_t n, const uint8_t *places, size_t places_len,
+                                        const uint16_t *lengths, size_t lengths_len, size_t offset);
+struct ik_text_reply ik_text_payload(const uint8_t *msg, size_t msg_len, uint8_t n, const uint8_t *places, size_t places_len,
+                                     const uint16_t *lengths, size_t lengths_len, size_t offset);
 
 /* How the text of the atom is coded whose tag is at `offset`.
  * Lent: the message, the atom list; nothing is written.
  * Answers IK_MARK_LATIN1 or IK_MARK_UTF8.
  * Refusals in order: those of reading with 8,192 rows, then 4 at `offset` where none of the message's atoms' tags stands. */
-struct ik_mark ik_mark_standalone(const uint8_t *msg, size_t msg_len, uint8_t n, const uint8_t *places, size_t places_len,
-                                  const uint16_t *lengths, size_t lengths_len, size_t offset);
-struct ik_mark ik_mark_payload(const uint8_t *msg, size_t msg_len, uint8_t n, const uint8_t *places, size_t places_len,
-                               const uint16_t *lengths, size_t lengths_len, size_t offset);
+struct ik_mark_reply ik_mark_standalone(const uint8_t *msg, size_t msg_len, uint8_t n, const uint8_t *places, size_t places_len,
+                                        const uint16_t *lengths, size_t lengths_len, size_t offset);
+struct ik_mark_reply ik_mark_payload(const uint8_t *msg, size_t msg_len, uint8_t n, const uint8_t *places, size_t places_len,
+                                     const uint16_t *lengths, size_t lengths_len, size_t offset);
 
 /* Takes a packet of the link, without the link's length prefix.
  * utf8: how new texts of this packet's header are coded: 0 Latin-1, anything else UTF-8.
  * Lent: the packet; the cache (65,536 bytes, 2,048 lengths); the atom list for plain packets, the atom list for the pending sequence
  * (a count, 8,160 bytes, 255 lengths each); the pending record; the gather buffer (65,536 bytes). Written: for a plain packet its list
  * and the cache; for a first fragment the other list, the cache, the record and the gather buffer; for a later one the record and the
- * gather buffer; where refused nothing.
+ * gather buffer; where refused nothing. So the next plain packet that is accepted overwrites the plain list, and the next start that is
+ * accepted the pending list and the gather buffer: read a payload before.
  * Answers IK_PACKET_PLAIN with `offset` and `length` of the payload in the packet, to be read with the plain list;
  * IK_PACKET_PENDING with the id now `due` and the bytes `gathered`; IK_PACKET_COMPLETE with the bytes `gathered`: the payload stands
  * in the gather buffer, to be read with the pending list.
  * Refusals in order: 13, 14 on the record, 1, 2, 20, 2 and 24 on the ids, 26 or 25, 24 for the wrong one, 2 on the count and flags,
- * each reference in turn (2, 22, 5, 23, 21, 14), 12. */
-struct ik_packet ik_packet(uint8_t utf8, const uint8_t *packet, size_t packet_len, uint8_t *cache, size_t cache_len,
-                           uint16_t *cache_lengths, size_t cache_lengths_len, uint8_t *plain_n, uint8_t *plain_places,
-                           size_t plain_places_len, uint16_t *plain_lengths, size_t plain_lengths_len, uint8_t *pending_n,
-                           uint8_t *pending_places, size_t pending_places_len, uint16_t *pending_lengths,
-                           size_t pending_lengths_len, struct ik_pending *record, uint8_t *gather, size_t gather_len);
+ * each reference in turn (2, 22, 5, 23, 21, 14), 12. After a refused fragment, 12 among them, the sequence stays pending as it was;
+ * ik_drop or ik_reset ends it. */
+struct ik_packet_reply ik_packet(uint8_t utf8, const uint8_t *packet, size_t packet_len, uint8_t *cache, size_t cache_len,
+                                 uint16_t *cache_lengths, size_t cache_lengths_len, uint8_t *plain_n, uint8_t *plain_places,
+                                 size_t plain_places_len, uint16_t *plain_lengths, size_t plain_lengths_len, uint8_t *pending_n,
+                                 uint8_t *pending_places, size_t pending_places_len, uint16_t *pending_lengths,
+                                 size_t pending_lengths_len, struct ik_pending *pending, uint8_t *gather, size_t gather_len);
 
 /* Drops the pending sequence. Lent: the record, zero afterwards where accepted. Refusals in order: 14, 25. */
-struct ik_done ik_drop(struct ik_pending *record);
+struct ik_state_reply ik_drop(struct ik_pending *pending);
 
 /* Empties the cache and drops the pending sequence, if there is one. It also makes fresh memory ready.
  * Lent: the cache and the record; places and record are zero afterwards and the lengths 65,535. Refusal: 13. */
-struct ik_done ik_reset(uint8_t *cache, size_t cache_len, uint16_t *cache_lengths, size_t cache_lengths_len,
-                        struct ik_pending *record);
+struct ik_state_reply ik_reset(uint8_t *cache, size_t cache_len, uint16_t *cache_lengths, size_t cache_lengths_len,
+                               struct ik_pending *pending);
 
 /* The place of the cache that reference `index` of the packet's header names.
  * Lent: the packet; nothing is written. Refusals in order: 1, 2, 20, 24 for zero, the header's 2, 22, 5, 23, then 6; all at place 0. */
-struct ik_place ik_reference(uint8_t utf8, const uint8_t *packet, size_t packet_len, size_t index);
+struct ik_reference_reply ik_reference(uint8_t utf8, const uint8_t *packet, size_t packet_len, size_t index);
 
 /* The text that a place of the cache holds, as a stretch of the cache's bytes.
  * Lent: the cache; nothing is written. Refusals in order: 13 (also a place over 2,047), 21, 14; all at place 0. */
-struct ik_cached ik_place(const uint8_t *cache, size_t cache_len, const uint16_t *cache_lengths, size_t cache_lengths_len,
-                          size_t place);
+struct ik_place_reply ik_place(const uint8_t *cache, size_t cache_len, const uint16_t *cache_lengths, size_t cache_lengths_len,
+                               size_t place);
 
 #ifdef __cplusplus
 }

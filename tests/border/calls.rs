@@ -9,7 +9,7 @@ pub enum Form {
 
 #[repr(C)]
 #[derive(Clone, Copy, Debug, Default, PartialEq)]
-pub struct Read {
+pub struct ReadReply {
     pub refusal: u64,
     pub place: u64,
     pub terms: u64,
@@ -18,7 +18,7 @@ pub struct Read {
 
 #[repr(C)]
 #[derive(Clone, Copy, Debug, Default, PartialEq)]
-pub struct Written {
+pub struct WriteReply {
     pub refusal: u64,
     pub place: u64,
     pub terms: u64,
@@ -27,7 +27,7 @@ pub struct Written {
 
 #[repr(C)]
 #[derive(Clone, Copy, Debug, Default)]
-pub struct Number {
+pub struct NumberReply {
     pub refusal: u64,
     pub place: u64,
     pub kind: u64,
@@ -36,16 +36,16 @@ pub struct Number {
 }
 
 /// Floats are the same where their 64 bits are.
-impl PartialEq for Number {
-    fn eq(&self, other: &Number) -> bool {
-        let all = |n: &Number| (n.refusal, n.place, n.kind, n.whole, n.real.to_bits());
+impl PartialEq for NumberReply {
+    fn eq(&self, other: &NumberReply) -> bool {
+        let all = |n: &NumberReply| (n.refusal, n.place, n.kind, n.whole, n.real.to_bits());
         all(self) == all(other)
     }
 }
 
 #[repr(C)]
 #[derive(Clone, Copy, Debug, Default, PartialEq)]
-pub struct Text {
+pub struct TextReply {
     pub from: u64,
     pub start: u64,
     pub length: u64,
@@ -53,7 +53,7 @@ pub struct Text {
 
 #[repr(C)]
 #[derive(Clone, Copy, Debug, Default, PartialEq)]
-pub struct Mark {
+pub struct MarkReply {
     pub refusal: u64,
     pub place: u64,
     pub mark: u64,
@@ -69,7 +69,7 @@ pub struct Pending {
 
 #[repr(C)]
 #[derive(Clone, Copy, Debug, Default, PartialEq)]
-pub struct Packet {
+pub struct PacketReply {
     pub refusal: u64,
     pub place: u64,
     pub kind: u64,
@@ -81,7 +81,7 @@ pub struct Packet {
 
 #[repr(C)]
 #[derive(Clone, Copy, Debug, Default, PartialEq)]
-pub struct Place {
+pub struct ReferenceReply {
     pub refusal: u64,
     pub place: u64,
     pub cache_place: u64,
@@ -89,7 +89,7 @@ pub struct Place {
 
 #[repr(C)]
 #[derive(Clone, Copy, Debug, Default, PartialEq)]
-pub struct Cached {
+pub struct PlaceReply {
     pub refusal: u64,
     pub place: u64,
     pub start: u64,
@@ -98,7 +98,7 @@ pub struct Cached {
 
 #[repr(C)]
 #[derive(Clone, Copy, Debug, Default, PartialEq)]
-pub struct Done {
+pub struct StateReply {
     pub refusal: u64,
     pub place: u64,
 }
@@ -139,16 +139,16 @@ macro_rules! on_a_message {
 }
 
 on_a_message! {
-    ik_read_standalone(table: *mut u64, table_len: usize) -> Read;
-    ik_read_payload(table: *mut u64, table_len: usize) -> Read;
-    ik_write_standalone(scratch: *mut u64, scratch_len: usize, output: *mut u8, output_len: usize) -> Written;
-    ik_write_payload(scratch: *mut u64, scratch_len: usize, output: *mut u8, output_len: usize) -> Written;
-    ik_number_standalone(row: usize) -> Number;
-    ik_number_payload(row: usize) -> Number;
-    ik_text_standalone(offset: usize) -> Text;
-    ik_text_payload(offset: usize) -> Text;
-    ik_mark_standalone(offset: usize) -> Mark;
-    ik_mark_payload(offset: usize) -> Mark;
+    ik_read_standalone(table: *mut u64, table_len: usize) -> ReadReply;
+    ik_read_payload(table: *mut u64, table_len: usize) -> ReadReply;
+    ik_write_standalone(scratch: *mut u64, scratch_len: usize, output: *mut u8, output_len: usize) -> WriteReply;
+    ik_write_payload(scratch: *mut u64, scratch_len: usize, output: *mut u8, output_len: usize) -> WriteReply;
+    ik_number_standalone(row: usize) -> NumberReply;
+    ik_number_payload(row: usize) -> NumberReply;
+    ik_text_standalone(offset: usize) -> TextReply;
+    ik_text_payload(offset: usize) -> TextReply;
+    ik_mark_standalone(offset: usize) -> MarkReply;
+    ik_mark_payload(offset: usize) -> MarkReply;
 }
 
 extern "C" {
@@ -170,14 +170,14 @@ extern "C" {
         pending_places_len: usize,
         pending_lengths: *mut u16,
         pending_lengths_len: usize,
-        record: *mut Pending,
+        pending: *mut Pending,
         gather: *mut u8,
         gather_len: usize,
-    ) -> Packet;
-    fn ik_drop(record: *mut Pending) -> Done;
-    fn ik_reset(cache: *mut u8, cache_len: usize, cache_lengths: *mut u16, cache_lengths_len: usize, record: *mut Pending) -> Done;
-    fn ik_reference(utf8: u8, packet: *const u8, packet_len: usize, index: usize) -> Place;
-    fn ik_place(cache: *const u8, cache_len: usize, cache_lengths: *const u16, cache_lengths_len: usize, place: usize) -> Cached;
+    ) -> PacketReply;
+    fn ik_drop(pending: *mut Pending) -> StateReply;
+    fn ik_reset(cache: *mut u8, cache_len: usize, cache_lengths: *mut u16, cache_lengths_len: usize, pending: *mut Pending) -> StateReply;
+    fn ik_reference(utf8: u8, packet: *const u8, packet_len: usize, index: usize) -> ReferenceReply;
+    fn ik_place(cache: *const u8, cache_len: usize, cache_lengths: *const u16, cache_lengths_len: usize, place: usize) -> PlaceReply;
 }
 
 /// One of two calls on terms, with the message, the list and `$more`.
@@ -196,28 +196,28 @@ macro_rules! call {
     }};
 }
 
-pub fn read(form: Form, msg: &[u8], list: &AtomList, table: &mut [u64]) -> Read {
+pub fn read(form: Form, msg: &[u8], list: &AtomList, table: &mut [u64]) -> ReadReply {
     call!(form, ik_read_standalone, ik_read_payload, msg, list, table.as_mut_ptr(), table.len())
 }
 
-pub fn write(form: Form, msg: &[u8], list: &AtomList, scratch: &mut [u64], output: &mut [u8]) -> Written {
+pub fn write(form: Form, msg: &[u8], list: &AtomList, scratch: &mut [u64], output: &mut [u8]) -> WriteReply {
     let (table, rows, bytes, room) = (scratch.as_mut_ptr(), scratch.len(), output.as_mut_ptr(), output.len());
     call!(form, ik_write_standalone, ik_write_payload, msg, list, table, rows, bytes, room)
 }
 
-pub fn number(form: Form, msg: &[u8], list: &AtomList, row: usize) -> Number {
+pub fn number(form: Form, msg: &[u8], list: &AtomList, row: usize) -> NumberReply {
     call!(form, ik_number_standalone, ik_number_payload, msg, list, row)
 }
 
-pub fn text(form: Form, msg: &[u8], list: &AtomList, offset: usize) -> Text {
+pub fn text(form: Form, msg: &[u8], list: &AtomList, offset: usize) -> TextReply {
     call!(form, ik_text_standalone, ik_text_payload, msg, list, offset)
 }
 
-pub fn mark(form: Form, msg: &[u8], list: &AtomList, offset: usize) -> Mark {
+pub fn mark(form: Form, msg: &[u8], list: &AtomList, offset: usize) -> MarkReply {
     call!(form, ik_mark_standalone, ik_mark_payload, msg, list, offset)
 }
 
-pub fn packet(utf8: u8, packet: &[u8], lent: &mut Lent) -> Packet {
+pub fn packet(utf8: u8, packet: &[u8], lent: &mut Lent) -> PacketReply {
     let Lent { cache, cache_lengths, plain, pending, record, gather } = lent;
     // SAFETY: each pointer goes with its slice's length, and what is written is lent by `&mut`.
     unsafe {
@@ -246,22 +246,22 @@ pub fn packet(utf8: u8, packet: &[u8], lent: &mut Lent) -> Packet {
     }
 }
 
-pub fn drop_pending(record: &mut Pending) -> Done {
+pub fn drop_pending(record: &mut Pending) -> StateReply {
     // SAFETY: a record lent by `&mut`.
     unsafe { ik_drop(record) }
 }
 
-pub fn reset(cache: &mut [u8], lengths: &mut [u16], record: &mut Pending) -> Done {
+pub fn reset(cache: &mut [u8], lengths: &mut [u16], record: &mut Pending) -> StateReply {
     // SAFETY: each pointer goes with its slice's length, and what is written is lent by `&mut`.
     unsafe { ik_reset(cache.as_mut_ptr(), cache.len(), lengths.as_mut_ptr(), lengths.len(), record) }
 }
 
-pub fn reference(utf8: u8, packet: &[u8], index: usize) -> Place {
+pub fn reference(utf8: u8, packet: &[u8], index: usize) -> ReferenceReply {
     // SAFETY: the pointer goes with its slice's length.
     unsafe { ik_reference(utf8, packet.as_ptr(), packet.len(), index) }
 }
 
-pub fn place(cache: &[u8], lengths: &[u16], place: usize) -> Cached {
+pub fn place(cache: &[u8], lengths: &[u16], place: usize) -> PlaceReply {
     // SAFETY: each pointer goes with its slice's length.
     unsafe { ik_place(cache.as_ptr(), cache.len(), lengths.as_ptr(), lengths.len(), place) }
 }

@@ -22,9 +22,9 @@ static struct memory lend_memory(uint8_t fill)
     return m;
 }
 
-static struct ik_done reset(struct memory m)
+static struct ik_state_reply reset(struct memory m)
 {
-    struct ik_done a = ik_reset(m.at[CACHE], m.count[CACHE], m.at[CACHE_LENGTHS], m.count[CACHE_LENGTHS], m.at[RECORD]);
+    struct ik_state_reply a = ik_reset(m.at[CACHE], m.count[CACHE], m.at[CACHE_LENGTHS], m.count[CACHE_LENGTHS], m.at[RECORD]);
     reset_met |= bit(a.refusal);
     return a;
 }
@@ -54,9 +54,9 @@ static unsigned differing(struct memory a, struct memory b)
     return bits;
 }
 
-static struct ik_packet take(struct memory m, uint8_t utf8, const uint8_t *packet, size_t size)
+static struct ik_packet_reply take(struct memory m, uint8_t utf8, const uint8_t *packet, size_t size)
 {
-    struct ik_packet a = ik_packet(utf8, packet, size, m.at[CACHE], m.count[CACHE], m.at[CACHE_LENGTHS], m.count[CACHE_LENGTHS],
+    struct ik_packet_reply a = ik_packet(utf8, packet, size, m.at[CACHE], m.count[CACHE], m.at[CACHE_LENGTHS], m.count[CACHE_LENGTHS],
                                    m.at[PLAIN_N], m.at[PLAIN_PLACES], m.count[PLAIN_PLACES], m.at[PLAIN_LENGTHS], m.count[PLAIN_LENGTHS],
                                    m.at[PENDING_N], m.at[PENDING_PLACES], m.count[PENDING_PLACES], m.at[PENDING_LENGTHS], m.count[PENDING_LENGTHS],
                                    m.at[RECORD], m.at[GATHER], m.count[GATHER]);
@@ -64,16 +64,16 @@ static struct ik_packet take(struct memory m, uint8_t utf8, const uint8_t *packe
     return a;
 }
 
-static struct ik_done drop(struct memory m)
+static struct ik_state_reply drop(struct memory m)
 {
-    struct ik_done a = ik_drop(m.at[RECORD]);
+    struct ik_state_reply a = ik_drop(m.at[RECORD]);
     drop_met |= bit(a.refusal);
     return a;
 }
 
-static struct ik_cached text_at(struct memory m, size_t place)
+static struct ik_place_reply text_at(struct memory m, size_t place)
 {
-    struct ik_cached a = ik_place(m.at[CACHE], m.count[CACHE], m.at[CACHE_LENGTHS], m.count[CACHE_LENGTHS], place);
+    struct ik_place_reply a = ik_place(m.at[CACHE], m.count[CACHE], m.at[CACHE_LENGTHS], m.count[CACHE_LENGTHS], place);
     place_met |= bit(a.refusal);
     return a;
 }
@@ -82,7 +82,7 @@ static uint16_t *lengths(struct memory m, int which) { return m.at[which]; }
 static uint8_t *bytes(struct memory m, int which) { return m.at[which]; }
 static struct ik_pending *record(struct memory m) { return m.at[RECORD]; }
 
-static void plain_is(struct ik_packet a, unsigned offset, unsigned length)
+static void plain_is(struct ik_packet_reply a, unsigned offset, unsigned length)
 {
     SAME(a.refusal, 0);
     SAME(a.place, 0);
@@ -93,7 +93,7 @@ static void plain_is(struct ik_packet a, unsigned offset, unsigned length)
     SAME(a.gathered, 0);
 }
 
-static void pending_is(struct ik_packet a, unsigned due, unsigned gathered)
+static void pending_is(struct ik_packet_reply a, unsigned due, unsigned gathered)
 {
     SAME(a.refusal, 0);
     SAME(a.place, 0);
@@ -134,7 +134,7 @@ static void list_is(struct memory m, int n, size_t count, const char *const *tex
 static void refused(struct memory m, uint8_t utf8, const uint8_t *packet, size_t size, unsigned refusal, unsigned place)
 {
     struct memory before = copy_of(m);
-    struct ik_packet a = take(m, utf8, lend_copy(packet, size), size);
+    struct ik_packet_reply a = take(m, utf8, lend_copy(packet, size), size);
     SAME(a.refusal, refusal);
     SAME(a.place, place);
     SAME(a.kind, 0);
@@ -231,6 +231,8 @@ static void refused_headers(void)
     CHECK(guards_stand());
 }
 
+#define IDS(sequence, fragment) 0, 0, 0, 0, 0, 0, 0, sequence, 0, 0, 0, 0, 0, 0, 0, fragment
+
 static void long_payloads(void)
 {
     uint8_t *packet = calloc(70000, 1);
@@ -239,7 +241,7 @@ static void long_payloads(void)
     plain_is(take(m, 1, packet, 3 + 65536), 3, 65536);
     refused(m, 1, packet, 3 + 65537, 12, 0);
     CHECK(guards_stand());
-    const uint8_t start[] = {131, 69, 0, 0, 0, 0, 0, 0, 0, 9, 0, 0, 0, 0, 0, 0, 0, 2, 0};
+    const uint8_t start[] = {131, 69, IDS(9, 2), 0};
     memcpy(packet, start, sizeof start);
     packet[sizeof start] = 0x11;
     m = ready_memory();
@@ -248,14 +250,21 @@ static void long_payloads(void)
     record_is(m, 9, 1, 65536);
     SAME(*bytes(m, GATHER), 0x11);
     CHECK(all(bytes(m, GATHER) + 1, 65535, 0));
-    refused(m, 1, BYTES(131, 70, 0, 0, 0, 0, 0, 0, 0, 9, 0, 0, 0, 0, 0, 0, 0, 1, 5), 12, 0);
-    pending_is(take(m, 1, BYTES(131, 70, 0, 0, 0, 0, 0, 0, 0, 9, 0, 0, 0, 0, 0, 0, 0, 1)), 0, 65536);
+    refused(m, 1, BYTES(131, 70, IDS(9, 1), 5), 12, 0);
+    pending_is(take(m, 1, BYTES(131, 70, IDS(9, 1))), 0, 65536);
     record_is(m, 0, 0, 0);
+    CHECK(guards_stand());
+    /* after 12 the sequence stays pending, so no other starts; a drop ends it */
+    m = ready_memory();
+    pending_is(take(m, 1, packet, sizeof start + 65536), 1, 65536);
+    refused(m, 1, BYTES(131, 70, IDS(9, 1), 5), 12, 0);
+    refused(m, 1, BYTES(131, 69, IDS(8, 1), 0, 106), 26, 0);
+    SAME(drop(m).refusal, 0);
+    pending_is(take(m, 1, BYTES(131, 69, IDS(8, 1), 0, 106)), 0, 1);
+    SAME(*bytes(m, GATHER), 106);
     CHECK(guards_stand());
     free(packet);
 }
-
-#define IDS(sequence, fragment) 0, 0, 0, 0, 0, 0, 0, sequence, 0, 0, 0, 0, 0, 0, 0, fragment
 
 static void fragments(void)
 {
@@ -289,7 +298,7 @@ static void fragments(void)
     list_is(m, PLAIN_N, TEXTS("no"));
     uint8_t output[16];
     uint64_t scratch[3];
-    struct ik_written w = ik_write_payload(m.at[GATHER], 6, *bytes(m, PENDING_N), m.at[PENDING_PLACES], IK_LIST_BYTES, m.at[PENDING_LENGTHS], IK_LIST_PLACES, scratch, 3, output, 16);
+    struct ik_write_reply w = ik_write_payload(m.at[GATHER], 6, *bytes(m, PENDING_N), m.at[PENDING_PLACES], IK_LIST_BYTES, m.at[PENDING_LENGTHS], IK_LIST_PLACES, scratch, 3, output, 16);
     SAME(w.length, 9);
     CHECK(memcmp(output, (const uint8_t[]){131, 104, 2, 119, 2, 'o', 'k', 97, 9}, 9) == 0);
     refused(m, 1, BYTES(131, 70, IDS(7, 1), 97, 9), 25, 0);
@@ -316,12 +325,12 @@ static void wrong_sizes(void)
             record(m)->gathered = 70000; /* 13 comes before 14 */
             refused(m, 1, NULL, 0, 13, 0);
             struct memory before = copy_of(m);
-            struct ik_done a = reset(m);
+            struct ik_state_reply a = reset(m);
             if (i == CACHE || i == CACHE_LENGTHS) {
                 SAME(a.refusal, 13);
                 SAME(a.place, 0);
                 SAME(differing(m, before), 0);
-                struct ik_cached c = text_at(m, 5);
+                struct ik_place_reply c = text_at(m, 5);
                 SAME(c.refusal, 13);
                 SAME(c.place, 0);
                 SAME(c.start, 0);
@@ -338,7 +347,7 @@ static void wrong_sizes(void)
 static void drops_and_resets(void)
 {
     struct memory m = ready_memory();
-    struct ik_done a = drop(m);
+    struct ik_state_reply a = drop(m);
     SAME(a.refusal, 25);
     SAME(a.place, 0);
     record(m)->gathered = 65537, record(m)->due = 4, record(m)->sequence = 8;
@@ -369,7 +378,7 @@ static void drops_and_resets(void)
 
 static void reference_is(uint8_t utf8, const uint8_t *packet, size_t size, size_t index, unsigned refusal, unsigned place)
 {
-    struct ik_place a = ik_reference(utf8, lend_copy(packet, size), size, index);
+    struct ik_reference_reply a = ik_reference(utf8, lend_copy(packet, size), size, index);
     reference_met |= bit(a.refusal);
     SAME(a.refusal, refusal);
     SAME(a.place, 0);
@@ -404,7 +413,7 @@ static void references(void)
 static void cached(struct memory m, size_t place, unsigned refusal, unsigned start, unsigned length)
 {
     struct memory before = copy_of(m);
-    struct ik_cached a = text_at(m, place);
+    struct ik_place_reply a = text_at(m, place);
     SAME(a.refusal, refusal);
     SAME(a.place, 0);
     SAME(a.start, start);

@@ -1,9 +1,9 @@
 /* ik_read_standalone, ik_read_payload, and the accessors of a row. */
 #include "messages.h"
 
-static struct ik_read read_into(enum form form, const uint8_t *bytes, size_t size, struct list l, uint64_t *table, size_t rows)
+static struct ik_read_reply read_into(enum form form, const uint8_t *bytes, size_t size, struct list l, uint64_t *table, size_t rows)
 {
-    struct ik_read a = (form == STANDALONE ? ik_read_standalone : ik_read_payload)(bytes, size, LIST(l), table, rows);
+    struct ik_read_reply a = (form == STANDALONE ? ik_read_standalone : ik_read_payload)(bytes, size, LIST(l), table, rows);
     met[form] |= bit(a.refusal);
     return a;
 }
@@ -13,7 +13,7 @@ static void reads(const struct message *m, enum form form, size_t skip)
 {
     unsigned long before = failed;
     uint64_t *table = lend(8 * 100, 0xa5);
-    struct ik_read a = read_into(form, lend_copy(m->bytes + skip, m->size - skip), m->size - skip, three_texts(), table, 100);
+    struct ik_read_reply a = read_into(form, lend_copy(m->bytes + skip, m->size - skip), m->size - skip, three_texts(), table, 100);
     SAME(a.refusal, m->refusal);
     SAME(a.place, m->refusal ? m->place - skip : 0);
     SAME(a.terms, m->terms);
@@ -40,7 +40,7 @@ struct row { unsigned kind, offset, whole, parts, size; }; /* whole: the row plu
 static void check_rows(enum form form, const uint8_t *bytes, size_t size, const struct row *rows, size_t count)
 {
     uint64_t *table = lend(8 * 32, 0xa5);
-    struct ik_read a = read_into(form, lend_copy(bytes, size), size, three_texts(), table, 32);
+    struct ik_read_reply a = read_into(form, lend_copy(bytes, size), size, three_texts(), table, 32);
     SAME(a.refusal, 0);
     SAME(a.rows, count);
     for (size_t i = 0; i < count; i++) {
@@ -80,7 +80,7 @@ static void rows_of_each_kind(void)
 static void refused_at(enum form form, const uint8_t *bytes, size_t size, struct list l, size_t rows, unsigned refusal, unsigned place)
 {
     uint64_t *table = lend(8 * rows, 0xa5);
-    struct ik_read a = read_into(form, bytes, size, l, table, rows);
+    struct ik_read_reply a = read_into(form, bytes, size, l, table, rows);
     SAME(a.refusal, refusal);
     SAME(a.place, place);
     SAME(a.terms, 0);
@@ -93,7 +93,7 @@ static void limits(void)
 {
     uint8_t *bytes = malloc(70000);
     uint64_t *table;
-    struct ik_read a;
+    struct ik_read_reply a;
     size_t size = nested_tuples(bytes, 64);
     table = lend(8 * 64, 0xa5);
     a = read_into(STANDALONE, lend_copy(bytes, size), size, empty_list(), table, 64);
@@ -156,7 +156,7 @@ static void keys_of_map(unsigned count, unsigned step)
     uint8_t *bytes = malloc(70000);
     size_t size = map_of_integers(bytes, count, step, count - 1);
     uint64_t *table = lend(8 * 8192, 0xa5);
-    struct ik_read a = read_into(STANDALONE, lend_copy(bytes, size), size, empty_list(), table, 8192);
+    struct ik_read_reply a = read_into(STANDALONE, lend_copy(bytes, size), size, empty_list(), table, 8192);
     SAME(a.refusal, 0);
     SAME(a.rows, 1 + 2 * count);
     SAME(ik_row_parts(table[0]), 2 * count);

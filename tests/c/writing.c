@@ -1,9 +1,9 @@
 /* ik_write_standalone, ik_write_payload. */
 #include "messages.h"
 
-static struct ik_written write_to(enum form form, const uint8_t *bytes, size_t size, struct list l, uint64_t *scratch, size_t rows, uint8_t *output, size_t room)
+static struct ik_write_reply write_to(enum form form, const uint8_t *bytes, size_t size, struct list l, uint64_t *scratch, size_t rows, uint8_t *output, size_t room)
 {
-    struct ik_written a = (form == STANDALONE ? ik_write_standalone : ik_write_payload)(bytes, size, LIST(l), scratch, rows, output, room);
+    struct ik_write_reply a = (form == STANDALONE ? ik_write_standalone : ik_write_payload)(bytes, size, LIST(l), scratch, rows, output, room);
     met[form] |= bit(a.refusal);
     return a;
 }
@@ -14,7 +14,7 @@ static void writes(enum form form, const uint8_t *bytes, size_t size, unsigned t
     for (size_t more = 0; more < 2; more++) {
         uint64_t *scratch = lend(8 * (rows + more), 0xa5);
         uint8_t *output = lend(length + 10 * more, 0x5a);
-        struct ik_written a = write_to(form, lend_copy(bytes, size), size, three_texts(), scratch, rows + more, output, length + 10 * more);
+        struct ik_write_reply a = write_to(form, lend_copy(bytes, size), size, three_texts(), scratch, rows + more, output, length + 10 * more);
         SAME(a.refusal, 0);
         SAME(a.place, 0);
         SAME(a.terms, terms);
@@ -26,7 +26,7 @@ static void writes(enum form form, const uint8_t *bytes, size_t size, unsigned t
     }
     uint64_t *scratch = lend(8 * rows, 0xa5);
     uint8_t *output = lend(length - 1, 0x5a);
-    struct ik_written a = write_to(form, lend_copy(bytes, size), size, three_texts(), scratch, rows, output, length - 1);
+    struct ik_write_reply a = write_to(form, lend_copy(bytes, size), size, three_texts(), scratch, rows, output, length - 1);
     SAME(a.refusal, 11);
     SAME(a.place, 0);
     SAME(a.terms, 0);
@@ -71,7 +71,7 @@ static void refused_at(enum form form, const uint8_t *bytes, size_t size, struct
 {
     uint64_t *scratch = lend(8 * rows, 0xa5);
     uint8_t *output = lend(1000, 0x5a);
-    struct ik_written a = write_to(form, bytes, size, l, scratch, rows, output, 1000);
+    struct ik_write_reply a = write_to(form, bytes, size, l, scratch, rows, output, 1000);
     SAME(a.refusal, refusal);
     SAME(a.place, place);
     SAME(a.terms, 0);
@@ -111,7 +111,7 @@ int main(void)
     refused_at(STANDALONE, lend_copy(bytes, 65537), 65537, empty_list(), 10, 12, 0);
     refused_at(PAYLOAD, lend_copy(bytes, 65537), 65537, empty_list(), 10, 12, 0);
     /* 10 comes before 11 */
-    struct ik_written a = write_to(STANDALONE, BYTES(131, 97, 5, 0), three_texts(), lend(8, 0), 1, lend(0, 0), 0);
+    struct ik_write_reply a = write_to(STANDALONE, BYTES(131, 97, 5, 0), three_texts(), lend(8, 0), 1, lend(0, 0), 0);
     SAME(a.refusal, 10);
     SAME(a.place, 3);
     CHECK(guards_stand());

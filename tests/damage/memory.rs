@@ -3,7 +3,7 @@
 use crate::random::Random;
 use crate::tally::{hex, Call, Tally};
 use crate::twin::Twin;
-use border::{Cached, Done, Guarded, Packet, Pending, Place};
+use border::{Guarded, PacketReply, Pending, PlaceReply, ReferenceReply, StateReply};
 use second::packets::{self, Answer, Cache, Index, ListOut, Record};
 use second::Refusal;
 
@@ -34,8 +34,8 @@ fn pending_of(record: &Record) -> Pending {
     Pending { sequence: record.sequence, due: record.due, gathered: record.gathered }
 }
 
-fn done(answer: Result<(), Refusal>) -> Done {
-    answer.map_or_else(|refused| Done { refusal: refused.number.into(), place: refused.place }, |()| Done::default())
+fn done(answer: Result<(), Refusal>) -> StateReply {
+    answer.map_or_else(|refused| StateReply { refusal: refused.number.into(), place: refused.place }, |()| StateReply::default())
 }
 
 impl List {
@@ -145,7 +145,7 @@ impl Memory {
     }
 
     /// A packet taken by both; the answer.
-    pub fn packet(&mut self, utf8: u8, packet: &Twin<u8>, tally: &mut Tally) -> Packet {
+    pub fn packet(&mut self, utf8: u8, packet: &Twin<u8>, tally: &mut Tally) -> PacketReply {
         let before = self.other_record;
         let mut lent = border::Lent {
             cache: self.cache.guarded_mut(),
@@ -200,8 +200,8 @@ impl Memory {
         let got = border::place(self.cache.guarded(), self.cache_lengths.guarded(), place);
         let text = packets::text_of_place(self.cache.other(), self.cache_lengths.other(), packets::Place(place));
         let expected = match text {
-            Ok(text) => Cached { start: 32 * place as u64, length: text.len() as u64, ..Cached::default() },
-            Err(Refusal { number, place }) => Cached { refusal: number.into(), place, ..Cached::default() },
+            Ok(text) => PlaceReply { start: 32 * place as u64, length: text.len() as u64, ..PlaceReply::default() },
+            Err(Refusal { number, place }) => PlaceReply { refusal: number.into(), place, ..PlaceReply::default() },
         };
         tally.met(Call::Place, expected.refusal);
         let held = |cache: &Twin<u8>| hex(cache.other().get(32 * (place & 2_047)..).map_or(&[], |held| &held[..held.len().min(32)]));
@@ -215,20 +215,20 @@ impl Memory {
 pub fn reference(utf8: u8, packet: &Twin<u8>, index: usize, tally: &mut Tally) {
     let got = border::reference(utf8, packet.guarded(), index);
     let expected = match packets::place_of_reference(packet.other(), utf8 != 0, Index(index)) {
-        Ok(place) => Place { cache_place: place.0 as u64, ..Place::default() },
-        Err(Refusal { number, place }) => Place { refusal: number.into(), place, ..Place::default() },
+        Ok(place) => ReferenceReply { cache_place: place.0 as u64, ..ReferenceReply::default() },
+        Err(Refusal { number, place }) => ReferenceReply { refusal: number.into(), place, ..ReferenceReply::default() },
     };
     tally.met(Call::Reference, expected.refusal);
     let told = || format!("index {index}: {got:?}, not {expected:?}; utf8 {utf8} packet {}", hex(packet.other()));
     tally.check(Call::Reference, got == expected && packet.guarded() == packet.other(), told);
 }
 
-fn packet_answer(answer: Result<Answer, Refusal>) -> Packet {
-    let none = Packet::default();
+fn packet_answer(answer: Result<Answer, Refusal>) -> PacketReply {
+    let none = PacketReply::default();
     match answer {
-        Ok(Answer::Plain { offset, length }) => Packet { kind: 1, offset: offset as u64, length: length as u64, ..none },
-        Ok(Answer::Pending { due, gathered }) => Packet { kind: 2, due, gathered, ..none },
-        Ok(Answer::Complete { gathered }) => Packet { kind: 3, gathered, ..none },
-        Err(Refusal { number, place }) => Packet { refusal: number.into(), place, ..none },
+        Ok(Answer::Plain { offset, length }) => PacketReply { kind: 1, offset: offset as u64, length: length as u64, ..none },
+        Ok(Answer::Pending { due, gathered }) => PacketReply { kind: 2, due, gathered, ..none },
+        Ok(Answer::Complete { gathered }) => PacketReply { kind: 3, gathered, ..none },
+        Err(Refusal { number, place }) => PacketReply { refusal: number.into(), place, ..none },
     }
 }

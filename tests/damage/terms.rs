@@ -3,7 +3,7 @@
 use crate::random::Random;
 use crate::tally::{hex, Call, Tally};
 use crate::twin::Twin;
-use border::{Form, Mark, Number, Read, Text, Written};
+use border::{Form, MarkReply, NumberReply, ReadReply, TextReply, WriteReply};
 use second::looks::{self, Stretch};
 use second::terms::Reading;
 use second::text::AtomList;
@@ -148,8 +148,8 @@ fn read(r: &mut Random, input: &Input, rows: usize, room: &mut Room, tally: &mut
     let got = border::read(input.form, input.message.guarded(), &input.list(), room.table.guarded_mut());
     let other = terms::read_into(input.other_form(), input.message.other(), &input.other_list(), room.table.other_mut());
     let expected = match other {
-        Ok((terms, rows)) => Read { terms: terms as u64, rows: rows as u64, ..Read::default() },
-        Err(Refusal { number, place }) => Read { refusal: number.into(), place, ..Read::default() },
+        Ok((terms, rows)) => ReadReply { terms: terms as u64, rows: rows as u64, ..ReadReply::default() },
+        Err(Refusal { number, place }) => ReadReply { refusal: number.into(), place, ..ReadReply::default() },
     };
     tally.met(Call::Read, expected.refusal);
     tally.check(Call::Read, got == expected, || format!("table {rows}: {got:?}, not {expected:?}; {}", input.told()));
@@ -167,8 +167,8 @@ fn write(r: &mut Random, input: &Input, rows: usize, room: &mut Room, tally: &mu
     let got = border::write(input.form, input.message.guarded(), &input.list(), room.table.guarded_mut(), room.output.guarded_mut());
     let other = canon::write_into(form, input.message.other(), &input.other_list(), room.table.other_mut(), room.output.other_mut());
     let expected = match other {
-        Ok(length) => Written { terms: terms_of(input), length: length as u64, ..Written::default() },
-        Err(Refusal { number, place }) => Written { refusal: number.into(), place, ..Written::default() },
+        Ok(length) => WriteReply { terms: terms_of(input), length: length as u64, ..WriteReply::default() },
+        Err(Refusal { number, place }) => WriteReply { refusal: number.into(), place, ..WriteReply::default() },
     };
     tally.met(Call::Write, expected.refusal);
     let told = |what: &str| format!("{what}, scratch {rows} output {length}: {got:?}, {expected:?} expected; {}", input.told());
@@ -197,10 +197,10 @@ fn number(input: &Input, row: usize, tally: &mut Tally) {
     let got = border::number(input.form, input.message.guarded(), &input.list(), row);
     let other = looks::number(input.other_form(), input.message.other(), &input.other_list(), row as u64);
     let expected = match other {
-        Ok(looks::Number::Whole(whole)) => Number { kind: 1, whole, ..Number::default() },
-        Ok(looks::Number::Float(bits)) => Number { kind: 2, real: f64::from_bits(bits), ..Number::default() },
-        Ok(looks::Number::Neither) => Number::default(),
-        Err(Refusal { number, place }) => Number { refusal: number.into(), place, ..Number::default() },
+        Ok(looks::Number::Whole(whole)) => NumberReply { kind: 1, whole, ..NumberReply::default() },
+        Ok(looks::Number::Float(bits)) => NumberReply { kind: 2, real: f64::from_bits(bits), ..NumberReply::default() },
+        Ok(looks::Number::Neither) => NumberReply::default(),
+        Err(Refusal { number, place }) => NumberReply { refusal: number.into(), place, ..NumberReply::default() },
     };
     tally.met(Call::Number, expected.refusal);
     tally.check(Call::Number, got == expected, || format!("row {row}: {got:?}, not {expected:?}; {}", input.told()));
@@ -220,12 +220,12 @@ fn offset_to_ask(r: &mut Random, reading: &Result<Reading, Refusal>, length: usi
 }
 
 /// Where the text of an accepted message's atom stands, the empty one's too (ikparumo.h).
-fn stretch(reading: &Result<Reading, Refusal>, offset: usize) -> Text {
+fn stretch(reading: &Result<Reading, Refusal>, offset: usize) -> TextReply {
     let rows = reading.as_ref().map_or(&[][..], |reading| &reading.rows);
     match rows.iter().find(|row| row.offset == offset && row.text.is_some()).and_then(|row| row.text) {
-        Some((Stretch::Message { start, length }, _)) => Text { from: 1, start: start as u64, length: length as u64 },
-        Some((Stretch::List { start, length }, _)) => Text { from: 2, start: start as u64, length: length as u64 },
-        _ => Text::default(),
+        Some((Stretch::Message { start, length }, _)) => TextReply { from: 1, start: start as u64, length: length as u64 },
+        Some((Stretch::List { start, length }, _)) => TextReply { from: 2, start: start as u64, length: length as u64 },
+        _ => TextReply::default(),
     }
 }
 
@@ -234,9 +234,9 @@ fn text_and_mark(input: &Input, reading: &Result<Reading, Refusal>, offset: usiz
     let (got_text, got) = (border::text(input.form, message, &list, offset), border::mark(input.form, message, &list, offset));
     let other = looks::mark(input.other_form(), input.message.other(), &input.other_list(), offset as u64);
     let expected = match other {
-        Ok(looks::Mark::Latin1) => Mark { mark: 1, ..Mark::default() },
-        Ok(looks::Mark::Utf8) => Mark { mark: 2, ..Mark::default() },
-        Err(Refusal { number, place }) => Mark { refusal: number.into(), place, ..Mark::default() },
+        Ok(looks::Mark::Latin1) => MarkReply { mark: 1, ..MarkReply::default() },
+        Ok(looks::Mark::Utf8) => MarkReply { mark: 2, ..MarkReply::default() },
+        Err(Refusal { number, place }) => MarkReply { refusal: number.into(), place, ..MarkReply::default() },
     };
     tally.met(Call::Mark, expected.refusal);
     tally.check(Call::Mark, got == expected, || format!("offset {offset}: {got:?}, not {expected:?}; {}", input.told()));
@@ -244,8 +244,8 @@ fn text_and_mark(input: &Input, reading: &Result<Reading, Refusal>, offset: usiz
     let other = looks::text(input.other_form(), input.message.other(), &input.other_list(), offset as u64);
     let agrees = match other {
         Stretch::Empty => got_text.length == 0,
-        Stretch::Message { start, length } => got_text == Text { from: 1, start: start as u64, length: length as u64 },
-        Stretch::List { start, length } => got_text == Text { from: 2, start: start as u64, length: length as u64 },
+        Stretch::Message { start, length } => got_text == TextReply { from: 1, start: start as u64, length: length as u64 },
+        Stretch::List { start, length } => got_text == TextReply { from: 2, start: start as u64, length: length as u64 },
     };
     tally.met(Call::Text, if expected.from == 0 { got.refusal } else { 0 });
     let same = agrees && got_text == expected;

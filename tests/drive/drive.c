@@ -313,7 +313,7 @@ static int do_read(void)
     struct question q;
     if (!told(&q, words[3]))
         return 0;
-    struct ik_read a = (q.standalone ? ik_read_standalone : ik_read_payload)(
+    struct ik_read_reply a = (q.standalone ? ik_read_standalone : ik_read_payload)(
         q.msg, q.size, q.l.n, q.l.texts, q.l.texts_len, q.l.lengths, q.l.lengths_len, rows(), parts[TABLE].count);
     free(q.msg);
     if (!refused(a.refusal, a.place))
@@ -361,7 +361,7 @@ static int do_write(void)
     struct question q;
     if (!told(&q, words[3]))
         return 0;
-    struct ik_written a = (q.standalone ? ik_write_standalone : ik_write_payload)(
+    struct ik_write_reply a = (q.standalone ? ik_write_standalone : ik_write_payload)(
         q.msg, q.size, q.l.n, q.l.texts, q.l.texts_len, q.l.lengths, q.l.lengths_len, rows(), parts[TABLE].count, parts[OUTPUT].memory, parts[OUTPUT].count);
     free(q.msg);
     if (!refused(a.refusal, a.place))
@@ -375,7 +375,7 @@ static int do_number(void)
     uint64_t bits;
     if (!asked(&q))
         return 0;
-    struct ik_number a = (q.standalone ? ik_number_standalone : ik_number_payload)(
+    struct ik_number_reply a = (q.standalone ? ik_number_standalone : ik_number_payload)(
         q.msg, q.size, q.l.n, q.l.texts, q.l.texts_len, q.l.lengths, q.l.lengths_len, q.at);
     free(q.msg);
     memcpy(&bits, &a.real, sizeof bits);
@@ -395,7 +395,7 @@ static int do_text(void)
     struct question q;
     if (!asked(&q))
         return 0;
-    struct ik_text a = (q.standalone ? ik_text_standalone : ik_text_payload)(
+    struct ik_text_reply a = (q.standalone ? ik_text_standalone : ik_text_payload)(
         q.msg, q.size, q.l.n, q.l.texts, q.l.texts_len, q.l.lengths, q.l.lengths_len, q.at);
     free(q.msg);
     if (a.from == IK_FROM_NOWHERE || a.length == 0)
@@ -410,7 +410,7 @@ static int do_mark(void)
     struct question q;
     if (!asked(&q))
         return 0;
-    struct ik_mark a = (q.standalone ? ik_mark_standalone : ik_mark_payload)(
+    struct ik_mark_reply a = (q.standalone ? ik_mark_standalone : ik_mark_payload)(
         q.msg, q.size, q.l.n, q.l.texts, q.l.texts_len, q.l.lengths, q.l.lengths_len, q.at);
     free(q.msg);
     if (!refused(a.refusal, a.place))
@@ -427,7 +427,7 @@ static int do_packet(void)
     uint8_t *packet = bytes_of(words[2], &size);
     if (!packet)
         return 0;
-    struct ik_packet a = ik_packet(
+    struct ik_packet_reply a = ik_packet(
         utf8, packet, size, parts[CACHE].memory, parts[CACHE].count, numbers(LENGTHS), parts[LENGTHS].count,
         parts[PLAIN_COUNT].memory, parts[PLAIN_TEXTS].memory, parts[PLAIN_TEXTS].count, numbers(PLAIN_LENGTHS), parts[PLAIN_LENGTHS].count,
         parts[PENDING_COUNT].memory, parts[PENDING_TEXTS].memory, parts[PENDING_TEXTS].count, numbers(PENDING_LENGTHS), parts[PENDING_LENGTHS].count,
@@ -446,7 +446,7 @@ static int do_packet(void)
 
 static int do_drop(void)
 {
-    struct ik_done a = ik_drop(record());
+    struct ik_state_reply a = ik_drop(record());
     if (!refused(a.refusal, a.place))
         printf("ok");
     return 1;
@@ -454,7 +454,7 @@ static int do_drop(void)
 
 static int do_reset(void)
 {
-    struct ik_done a = ik_reset(parts[CACHE].memory, parts[CACHE].count, numbers(LENGTHS), parts[LENGTHS].count, record());
+    struct ik_state_reply a = ik_reset(parts[CACHE].memory, parts[CACHE].count, numbers(LENGTHS), parts[LENGTHS].count, record());
     if (!refused(a.refusal, a.place))
         printf("ok");
     return 1;
@@ -470,7 +470,7 @@ static int do_reference(void)
     uint8_t *packet = bytes_of(words[3], &size);
     if (!packet)
         return 0;
-    struct ik_place a = ik_reference(utf8, packet, size, index);
+    struct ik_reference_reply a = ik_reference(utf8, packet, size, index);
     free(packet);
     if (!refused(a.refusal, a.place))
         printf("place %llu", wide(a.cache_place));
@@ -482,7 +482,7 @@ static int do_place(void)
     uint64_t place;
     if (!number_of(words[1], &place))
         return 0;
-    struct ik_cached a = ik_place(parts[CACHE].memory, parts[CACHE].count, numbers(LENGTHS), parts[LENGTHS].count, place);
+    struct ik_place_reply a = ik_place(parts[CACHE].memory, parts[CACHE].count, numbers(LENGTHS), parts[LENGTHS].count, place);
     if (!refused(a.refusal, a.place)) {
         printf("text ");
         print_hex(parts[CACHE].memory + a.start, a.length);

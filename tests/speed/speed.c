@@ -38,12 +38,12 @@ static _Noreturn void fail(const char *name, size_t i, const char *why, unsigned
 
 /* ---- the work to be measured, one message each */
 
-static struct ik_read read_with(const struct message *m, uint64_t *table, size_t rows)
+static struct ik_read_reply read_with(const struct message *m, uint64_t *table, size_t rows)
 {
     return ik_read_standalone(m->bytes, m->size, 0, places, sizeof places, lengths, IK_LIST_PLACES, table, rows);
 }
 
-static struct ik_written write_with(const struct message *m, uint64_t *table, size_t rows)
+static struct ik_write_reply write_with(const struct message *m, uint64_t *table, size_t rows)
 {
     return ik_write_standalone(m->bytes, m->size, 0, places, sizeof places, lengths, IK_LIST_PLACES, table, rows, output, sizeof output);
 }
@@ -62,16 +62,16 @@ static uint8_t plain_places[IK_LIST_BYTES], pending_places[IK_LIST_BYTES];
 static uint16_t cache_lengths[IK_CACHE_PLACES], plain_lengths[IK_LIST_PLACES], pending_lengths[IK_LIST_PLACES];
 static struct ik_pending record;
 
-static struct ik_packet take_packet(const struct message *m)
+static struct ik_packet_reply take_packet(const struct message *m)
 {
     return ik_packet(1, m->bytes, m->size, cache, sizeof cache, cache_lengths, IK_CACHE_PLACES, &plain_n, plain_places,
                      sizeof plain_places, plain_lengths, IK_LIST_PLACES, &pending_n, pending_places, sizeof pending_places,
                      pending_lengths, IK_LIST_PLACES, &record, gather, sizeof gather);
 }
 
-static struct ik_read read_packet(const struct message *m, uint64_t *table, size_t rows)
+static struct ik_read_reply read_packet(const struct message *m, uint64_t *table, size_t rows)
 {
-    struct ik_packet p = take_packet(m);
+    struct ik_packet_reply p = take_packet(m);
     return ik_read_payload(m->bytes + p.offset, p.length, plain_n, plain_places, sizeof plain_places, plain_lengths, IK_LIST_PLACES,
                            table, rows);
 }
@@ -212,12 +212,12 @@ static void settle_terms(const char *name, const char *written)
     FILE *ours = open_written(written, name, "ours"), *theirs = open_written(written, name, "libei");
     for (size_t i = 0; i < message_count; i++) {
         struct message *m = &messages[i];
-        struct ik_read r = read_with(m, full_table, IK_ROWS_MOST);
+        struct ik_read_reply r = read_with(m, full_table, IK_ROWS_MOST);
         if (r.refusal)
             fail(name, i, "ik_read_standalone refuses it", r.refusal);
         m->rows = r.rows;
         m->table = memory(m->rows * sizeof *m->table);
-        struct ik_written w = write_with(m, m->table, m->rows);
+        struct ik_write_reply w = write_with(m, m->table, m->rows);
         if (w.refusal)
             fail(name, i, "ik_write_standalone refuses it", w.refusal);
         put_written(ours, w.length);
@@ -236,10 +236,10 @@ static void settle_packets(const char *name)
     ik_reset(cache, sizeof cache, cache_lengths, IK_CACHE_PLACES, &record);
     for (size_t i = 0; i < message_count; i++) {
         struct message *m = &messages[i];
-        struct ik_packet p = take_packet(m);
+        struct ik_packet_reply p = take_packet(m);
         if (p.refusal || p.kind != IK_PACKET_PLAIN)
             fail(name, i, "ik_packet refuses it", p.refusal);
-        struct ik_read r = read_packet(m, full_table, IK_ROWS_MOST);
+        struct ik_read_reply r = read_packet(m, full_table, IK_ROWS_MOST);
         if (r.refusal)
             fail(name, i, "ik_read_payload refuses it", r.refusal);
         m->rows = r.rows;

@@ -1,5 +1,5 @@
 /* Measures the stack that each call uses, over the messages that go deepest: on a stack of its own, filled before, it looks how far down
- * bytes were changed. Build: gcc -O2 -Wall -Wextra -I include tests/stack/stack.c LIBRARY -o stack */
+ * bytes were changed. Prints a table for docs/STACK.md; with -v also each call over each message. Built and run by tests/stack/run. */
 #include <stdio.h>
 #include <stdlib.h>
 #include <string.h>
@@ -58,62 +58,64 @@ static size_t used(void (*what)(void))
 static void put(const uint8_t *bytes, size_t count) { memcpy(msg + size, bytes, count), size += count; }
 #define PUT(...) put((const uint8_t[]){__VA_ARGS__}, sizeof((const uint8_t[]){__VA_ARGS__}))
 
-static void tuples(int depth)
+static int wholes; /* that stand around the inmost term: its depth less 1 */
+
+static void tuples(int count)
 {
-    for (int i = 0; i < depth; i++)
+    for (int i = 0; i < count; i++)
         PUT(104, 1);
     PUT(106);
 }
-static void tuples_63(void) { tuples(63); }
-static void lists_63(void)
+static void in_tuples(void) { tuples(wholes); }
+static void in_lists(void)
 {
-    for (int i = 0; i < 63; i++)
+    for (int i = 0; i < wholes; i++)
         PUT(108, 0, 0, 0, 1);
     PUT(107, 0, 0);
-    for (int i = 0; i < 63; i++)
+    for (int i = 0; i < wholes; i++)
         PUT(106);
 }
-static void tails_63(void)
+static void in_tails(void)
 {
-    for (int i = 0; i < 63; i++)
+    for (int i = 0; i < wholes; i++)
         PUT(108, 0, 0, 0, 1, 106, 104, 1);
     PUT(106);
 }
-static void maps_63(void)
+static void in_maps(void)
 {
-    for (int i = 0; i < 63; i++)
+    for (int i = 0; i < wholes; i++)
         PUT(116, 0, 0, 0, 1, 106);
     PUT(106);
 }
-static void keys_63(void)
+static void in_keys(void)
 {
-    for (int i = 0; i < 63; i++)
+    for (int i = 0; i < wholes; i++)
         PUT(116, 0, 0, 0, 1);
     PUT(106);
-    for (int i = 0; i < 63; i++)
+    for (int i = 0; i < wholes; i++)
         PUT(106);
 }
 static void equal_keys(void)
 {
     PUT(116, 0, 0, 0, 2);
-    tuples(62);
+    tuples(wholes - 1);
     PUT(106);
-    tuples(62);
+    tuples(wholes - 1);
     PUT(106);
 }
-static void pid_in(int depth)
+static void pid_in(int count)
 {
-    for (int i = 0; i < depth; i++)
+    for (int i = 0; i < count; i++)
         PUT(104, 1);
     PUT(88, 100, 0, 1, 'n', 0, 0, 0, 1, 0, 0, 0, 2, 0, 0, 0, 3);
 }
-static void pids_62(void) { pid_in(62); }
-static void long_62(void) /* over 1,024 bytes: the reader then has more slots for keys */
+static void pids(void) { pid_in(wholes - 1); }
+static void long_pids(void) /* over 1,024 bytes: the reader then has more slots for keys */
 {
     PUT(104, 2, 109, 0, 0, 4, 0);
     for (int i = 0; i < 1024; i++)
         PUT(0);
-    pid_in(61);
+    pid_in(wholes - 2);
 }
 static void joined(void)
 {
@@ -135,32 +137,57 @@ static void wide(void)
 }
 
 static const struct { const char *name; void (*build)(void); } builds[] = {
-    {"63 tuples", tuples_63}, {"63 lists", lists_63}, {"63 improper tails", tails_63}, {"63 maps by value", maps_63}, {"63 maps by key", keys_63},
-    {"two equal keys", equal_keys}, {"a pid in 62 tuples", pids_62}, {"the same after a long binary", long_62},
-    {"8,191 joined tails", joined}, {"13,000 empty wrappers", wrapped}, {"8,191 parts", wide},
+    {"tuples", in_tuples}, {"lists", in_lists}, {"improper tails", in_tails}, {"maps by value", in_maps}, {"maps by key", in_keys},
+    {"two equal keys", equal_keys}, {"a pid in tuples", pids}, {"the same after a long binary", long_pids},
+    {"8,191 joined tails", joined}, {"13,000 lists of length 0", wrapped}, {"8,191 parts", wide},
 };
-static const struct { const char *name; void (*run)(void); } calls[] = {
-    {"ik_read", read_it}, {"ik_write", write_it}, {"ik_number", number_it}, {"ik_text", text_it}, {"ik_mark", mark_it},
+static const struct { const char *name; void (*run)(void); } on_terms[] = {
+    {"ik_read_*", read_it}, {"ik_write_*", write_it}, {"ik_number_*", number_it}, {"ik_text_*", text_it}, {"ik_mark_*", mark_it},
+}, on_packets[] = {
+    {"ik_packet", packet_it}, {"ik_reference", reference_it}, {"ik_place", place_it}, {"ik_reset", reset_it}, {"ik_drop", drop_it},
 };
+#define EACH(i, array) (size_t i = 0; i < sizeof array / sizeof *array; i++)
+
+static int all;
+static size_t base;
+
+/* The most that this call takes over all messages, with so many levels. */
+static size_t most_of(size_t c, int levels)
+{
+    size_t most = 0;
+    wholes = levels - 1;
+    for EACH(b, builds) {
+        size = 0;
+        PUT(131);
+        builds[b].build();
+        size_t s = used(on_terms[c].run) - base;
+        if (all)
+            printf("  %s, %d levels, %s: %zu (refusal %d)\n", on_terms[c].name, levels, builds[b].name, s, (int)refusal);
+        most = s > most ? s : most;
+    }
+    return most;
+}
+
+static const char *commas(size_t number, char *text)
+{
+    if (number < 1000)
+        sprintf(text, "%zu", number);
+    else
+        sprintf(text, "%zu,%03zu", number / 1000, number % 1000);
+    return text;
+}
 
 int main(int count, char **words)
 {
-    int all = count > 1 && strcmp(words[1], "-v") == 0;
-    size_t base = used(nothing);
-    for (size_t c = 0; c < sizeof calls / sizeof *calls; c++) {
-        size_t most = 0;
-        for (size_t b = 0; b < sizeof builds / sizeof *builds; b++) {
-            size = 0;
-            PUT(131);
-            builds[b].build();
-            size_t s = used(calls[c].run) - base;
-            if (all)
-                printf("  %s, %s: %zu (refusal %d)\n", calls[c].name, builds[b].name, s, (int)refusal);
-            most = s > most ? s : most;
-        }
-        printf("%s %zu\n", calls[c].name, most);
+    char bytes[40], each[40];
+    all = count > 1 && strcmp(words[1], "-v") == 0;
+    base = used(nothing);
+    printf("| call | bytes | of these for each level |\n|---|---|---|\n");
+    for EACH(c, on_terms) {
+        size_t most = most_of(c, 64), fewer = most_of(c, 54);
+        printf("| `%s` | %s | %s |\n", on_terms[c].name, commas(most, bytes), commas((most - fewer) / 10, each));
     }
-    for (size_t i = 0; i < IK_CACHE_PLACES; i++)
+    for EACH(i, cache_lengths)
         cache_lengths[i] = 0;
     size = 0; /* a header of 255 references */
     PUT(131, 68, 255);
@@ -168,10 +195,7 @@ int main(int count, char **words)
         PUT(i < 127 ? 0x88 : 0x08);
     for (int i = 0; i < 255; i++)
         PUT((uint8_t)i, 3, 'a', 'b', 'c');
-    printf("ik_packet %zu\n", used(packet_it) - base);
-    printf("ik_reference %zu\n", used(reference_it) - base);
-    printf("ik_place %zu\n", used(place_it) - base);
-    printf("ik_drop %zu\n", used(drop_it) - base);
-    printf("ik_reset %zu\n", used(reset_it) - base);
+    for EACH(c, on_packets)
+        printf("| `%s` | %s | |\n", on_packets[c].name, commas(used(on_packets[c].run) - base, bytes));
     return 0;
 }

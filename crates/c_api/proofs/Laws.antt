@@ -1,20 +1,43 @@
--- An answer in numbers beside the record, from the answer by value.
-use mathlib.Core.Path.{_≡_, _∙_, ap, ap₂}
+-- A reply, from the promise of the call in Rattle and the reply in numbers.
+use mathlib.Core.Path.{_≡_, refl, subst}
+use mathlib.Core.Bool.{Bool}
+use mathlib.Core.List.{List}
+use Prim.Native.Nat.{ℕ}
+use Rattle.term_spec.specs.AtomList.{AtomList}
+use Rattle.term_spec.specs.Message.{Framing}
+use Rattle.term_spec.specs.Text.{coding-of}
+use Rattle.term_spec.specs.Promises.{Read-call, Write-call}
+use Rattle.term_spec.specs.declared.ReadAnswer.{ReadAnswer}
+use Rattle.term_spec.specs.declared.WriteAnswer.{WriteAnswer}
+use Rattle.packet_spec.specs.Memory.{Cache, Memory}
+use Rattle.packet_spec.specs.Promises.{Packet-call, Drop-call, Reset-call}
 use Rattle.packet_spec.specs.declared.Pending.{Pending}
-use Rattle.packet_spec.specs.declared.Settled.{Settled}
 use Rattle.packet_spec.specs.declared.Taken.{Taken}
-use Rattle.c_api.specs.declared.DoneReply.{DoneReply}
-use Rattle.c_api.specs.declared.PacketReply.{PacketReply}
-use Rattle.c_api.specs.Packets.{flat-done, flat-packet, kept-by, received}
+use Rattle.packet_spec.specs.declared.Settled.{Settled}
+use Rattle.c_replies.specs.Terms.{flat-read, flat-write}
+use Rattle.c_replies.specs.Packets.{flat-packet, flat-state}
+use Rattle.c_replies.specs.declared.ReadReply.{ReadReply}
+use Rattle.c_replies.specs.declared.WriteReply.{WriteReply}
+use Rattle.c_replies.specs.declared.PacketReply.{PacketReply}
+use Rattle.c_replies.specs.declared.StateReply.{StateReply}
+use Rattle.c_api.specs.Promises.{Read-reply, Write-reply, Packet-reply, Drop-reply, Reset-reply}
 
-pub kept-told : {s t : Settled} {reply : DoneReply} → reply ≡ flat-done (s .answer) → s ≡ t → record { answer = reply; pending = s .pending } ≡ kept-by t
-unfolding kept-by
-kept-told e f =
-    ap₂ (λ (a : DoneReply) (p : Pending). record { answer = a; pending = p })
-    (e ∙ ap (λ (x : Settled). flat-done (x .answer)) f) (ap (λ (x : Settled). x .pending) f)
+pub read-replied : {framing : Framing} {list : AtomList} {message table : List ℕ} {answer : ReadAnswer} {reply : ReadReply} {table′ : List ℕ}
+    → Read-call framing list message table answer table′ → reply ≡ flat-read answer → Read-reply framing list message table reply table′
+read-replied {answer = answer} called e = record { answer = answer; called = called; reply-is = e }
 
-pub received-told : {s t : Taken} {reply : PacketReply} → reply ≡ flat-packet (s .answer) → s ≡ t → record { answer = reply; pending = s .pending } ≡ received t
-unfolding received
-received-told e f =
-    ap₂ (λ (a : PacketReply) (p : Pending). record { answer = a; pending = p })
-    (e ∙ ap (λ (x : Taken). flat-packet (x .answer)) f) (ap (λ (x : Taken). x .pending) f)
+pub write-replied : {framing : Framing} {list : AtomList} {message scratch output : List ℕ} {answer : WriteAnswer} {reply : WriteReply} {scratch′ output′ : List ℕ}
+    → Write-call framing list message scratch output answer scratch′ output′ → reply ≡ flat-write answer → Write-reply framing list message scratch output reply scratch′ output′
+write-replied {answer = answer} called e = record { answer = answer; called = called; reply-is = e }
+
+pub packet-replied : {flagged stated : Bool} {packet : List ℕ} {m m′ : Memory} {taken : Taken} {reply : PacketReply} → flagged ≡ stated
+    → Packet-call (coding-of flagged) packet m taken m′ → reply ≡ flat-packet (taken .answer) → Packet-reply (coding-of stated) packet m reply m′
+packet-replied {packet = packet} {m = m} {m′ = m′} {taken = taken} f called e =
+    record { taken = taken; called = subst (λ (b : Bool). Packet-call (coding-of b) packet m taken m′) f called; reply-is = e }
+
+pub drop-replied : {p : Pending} {settled : Settled} {reply : StateReply} → Drop-call p settled → reply ≡ flat-state (settled .answer) → Drop-reply p reply (settled .pending)
+drop-replied {settled = settled} called e = record { settled = settled; called = called; reply-is = e; record-left = refl }
+
+pub reset-replied : {c c′ : Cache} {p : Pending} {settled : Settled} {reply : StateReply}
+    → Reset-call c p settled c′ → reply ≡ flat-state (settled .answer) → Reset-reply c p reply c′ (settled .pending)
+reset-replied {settled = settled} called e = record { settled = settled; called = called; reply-is = e; record-left = refl }

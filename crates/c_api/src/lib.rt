@@ -1,60 +1,29 @@
-// The calls for C: thin functions on numbers and slices, answers as structs by value. No rule of the format stands here.
-use packet_spec::PacketAnswer;
+// The calls for C: thin functions on numbers and slices, replies as structs by value. No rule of the format stands here.
+use c_replies::MarkReply;
+use c_replies::NumberReply;
+use c_replies::PacketReply;
+use c_replies::PlaceReply;
+use c_replies::ReadReply;
+use c_replies::ReferenceReply;
+use c_replies::StateReply;
+use c_replies::TextReply;
+use c_replies::WriteReply;
 use packet_spec::Pending;
 use packet_spec::Place;
-use packet_spec::PlaceAnswer;
 use packet_spec::ReferenceIndex;
-use packet_spec::StateAnswer;
-use packet_spec::TextAnswer;
-use queries::TextAt;
-use term_spec::MarkAnswer;
-use term_spec::NumberAnswer;
-use term_spec::ReadAnswer;
-use term_spec::WriteAnswer;
 ghost use mathlib.Core.Path.{_≡_};
-ghost use lib.ListN.{length};
-ghost use Rattle.term_spec.specs.Answers.{read-answer, write-answer, number-answer, mark-answer};
+ghost use Rattle.term_spec.specs.Answers.{number-answer, mark-answer};
+ghost use Rattle.term_spec.specs.AtomList.{lent-list};
 ghost use Rattle.term_spec.specs.Look.{number-in, text-in};
-ghost use Rattle.term_spec.specs.Message.{standalone, payload, read};
-ghost use Rattle.term_spec.specs.Rows.{table-after};
+ghost use Rattle.term_spec.specs.Message.{standalone, payload};
 ghost use Rattle.term_spec.specs.Text.{coding-of};
-ghost use Rattle.term_spec.specs.Writing.{write, output-after, scratch-after};
 ghost use Rattle.queries.specs.Code.{text-at};
-ghost use Rattle.packet_spec.specs.Answers.{place-answer, text-answer, drop-answer, reset-answer, taken-answer};
-ghost use Rattle.packet_spec.specs.Calls.{after-packet, cache-after-reset};
+ghost use Rattle.packet_spec.specs.Answers.{place-answer, text-answer};
 ghost use Rattle.packet_spec.specs.Look.{place-of-reference, text-of-place};
 ghost use Rattle.packet_spec.specs.Memory.{cache-of, memory-of};
-ghost use Rattle.c_api.specs.Terms.{flat-read, flat-written, flat-number, flat-text, flat-mark};
-ghost use Rattle.c_api.specs.Packets.{flag, flat-place, flat-cached, flat-done, flat-packet, kept-by, received};
-ghost use Rattle.term_spec.specs.AtomList.{lent-list};
-
-// What reading answers: the refusal's number (0: accepted) and place, the number of terms and of rows.
-#[repr(C)]
-pub struct ReadReply {
-    pub refusal: u64,
-    pub place: u64,
-    pub terms: u64,
-    pub rows: u64,
-}
-
-fn flat_read(answer: ReadAnswer) -> ReadReply
-    ensures { λ r. ⌜ r ≡ flat-read answer ⌝ }
-{
-    match answer {
-        ReadAnswer::Terms { terms, rows } => ReadReply {
-            refusal: 0,
-            place: 0,
-            terms: terms as u64,
-            rows: rows as u64,
-        },
-        ReadAnswer::Refused(refusal) => ReadReply {
-            refusal: refusal.number as u64,
-            place: refusal.place as u64,
-            terms: 0,
-            rows: 0,
-        },
-    }
-}
+ghost use Rattle.c_replies.specs.Terms.{flat-number, flat-text, flat-mark};
+ghost use Rattle.c_replies.specs.Packets.{flag, flat-reference, flat-place};
+ghost use Rattle.c_api.specs.Promises.{Read-reply, Write-reply, Packet-reply, Drop-reply, Reset-reply};
 
 // Reads a standalone term into the table.
 #[no_mangle]
@@ -65,10 +34,9 @@ pub extern "C" fn ik_read_standalone(
     lengths: &[u16],
     table: &mut [u64],
 ) -> ReadReply
-    ensures { λ r. ⌜ r ≡ flat-read (read-answer (read standalone (lent-list n (now (places .entry)) (now (lengths .entry))) (length (now (table .entry))) (now (msg .entry)))) ⌝ }
-    ensures { λ _. ⌜ now (table .exit) ≡ table-after (length (now (table .entry))) (read standalone (lent-list n (now (places .entry)) (now (lengths .entry))) (length (now (table .entry))) (now (msg .entry))) ⌝ }
+    ensures { λ r. ⌜ Read-reply standalone (lent-list n (now (places .entry)) (now (lengths .entry))) (now (msg .entry)) (now (table .entry)) r (now (table .exit)) ⌝ }
 {
-    flat_read(reader::read_standalone(msg, n, places, lengths, table))
+    c_replies::flat_read(reader::read_standalone(msg, n, places, lengths, table))
 }
 
 // Reads a payload into the table.
@@ -80,38 +48,9 @@ pub extern "C" fn ik_read_payload(
     lengths: &[u16],
     table: &mut [u64],
 ) -> ReadReply
-    ensures { λ r. ⌜ r ≡ flat-read (read-answer (read payload (lent-list n (now (places .entry)) (now (lengths .entry))) (length (now (table .entry))) (now (msg .entry)))) ⌝ }
-    ensures { λ _. ⌜ now (table .exit) ≡ table-after (length (now (table .entry))) (read payload (lent-list n (now (places .entry)) (now (lengths .entry))) (length (now (table .entry))) (now (msg .entry))) ⌝ }
+    ensures { λ r. ⌜ Read-reply payload (lent-list n (now (places .entry)) (now (lengths .entry))) (now (msg .entry)) (now (table .entry)) r (now (table .exit)) ⌝ }
 {
-    flat_read(reader::read_payload(msg, n, places, lengths, table))
-}
-
-// What writing answers: the number of terms and of bytes written.
-#[repr(C)]
-pub struct WriteReply {
-    pub refusal: u64,
-    pub place: u64,
-    pub terms: u64,
-    pub length: u64,
-}
-
-fn flat_written(answer: WriteAnswer) -> WriteReply
-    ensures { λ r. ⌜ r ≡ flat-written answer ⌝ }
-{
-    match answer {
-        WriteAnswer::Written { terms, length } => WriteReply {
-            refusal: 0,
-            place: 0,
-            terms: terms as u64,
-            length: length as u64,
-        },
-        WriteAnswer::Refused(refusal) => WriteReply {
-            refusal: refusal.number as u64,
-            place: refusal.place as u64,
-            terms: 0,
-            length: 0,
-        },
-    }
+    c_replies::flat_read(reader::read_payload(msg, n, places, lengths, table))
 }
 
 // Writes the canonical form of a standalone term.
@@ -124,11 +63,9 @@ pub extern "C" fn ik_write_standalone(
     scratch: &mut [u64],
     output: &mut [u8],
 ) -> WriteReply
-    ensures { λ r. ⌜ r ≡ flat-written (write-answer (write standalone (lent-list n (now (places .entry)) (now (lengths .entry))) (length (now (scratch .entry))) (length (now (output .entry))) (now (msg .entry)))) ⌝ }
-    ensures { λ _. ⌜ now (scratch .exit) ≡ scratch-after (length (now (scratch .entry))) ⌝ }
-    ensures { λ _. ⌜ now (output .exit) ≡ output-after (now (output .entry)) (write standalone (lent-list n (now (places .entry)) (now (lengths .entry))) (length (now (scratch .entry))) (length (now (output .entry))) (now (msg .entry))) ⌝ }
+    ensures { λ r. ⌜ Write-reply standalone (lent-list n (now (places .entry)) (now (lengths .entry))) (now (msg .entry)) (now (scratch .entry)) (now (output .entry)) r (now (scratch .exit)) (now (output .exit)) ⌝ }
 {
-    flat_written(writer::write_standalone(msg, n, places, lengths, scratch, output))
+    c_replies::flat_write(writer::write_standalone(msg, n, places, lengths, scratch, output))
 }
 
 // Writes the canonical form of each term of a payload.
@@ -141,120 +78,9 @@ pub extern "C" fn ik_write_payload(
     scratch: &mut [u64],
     output: &mut [u8],
 ) -> WriteReply
-    ensures { λ r. ⌜ r ≡ flat-written (write-answer (write payload (lent-list n (now (places .entry)) (now (lengths .entry))) (length (now (scratch .entry))) (length (now (output .entry))) (now (msg .entry)))) ⌝ }
-    ensures { λ _. ⌜ now (scratch .exit) ≡ scratch-after (length (now (scratch .entry))) ⌝ }
-    ensures { λ _. ⌜ now (output .exit) ≡ output-after (now (output .entry)) (write payload (lent-list n (now (places .entry)) (now (lengths .entry))) (length (now (scratch .entry))) (length (now (output .entry))) (now (msg .entry))) ⌝ }
+    ensures { λ r. ⌜ Write-reply payload (lent-list n (now (places .entry)) (now (lengths .entry))) (now (msg .entry)) (now (scratch .entry)) (now (output .entry)) r (now (scratch .exit)) (now (output .exit)) ⌝ }
 {
-    flat_written(writer::write_payload(msg, n, places, lengths, scratch, output))
-}
-
-// A row's number. Kind 0, neither; 1, whole; 2, float: a number that is not answered is 0.
-#[repr(C)]
-pub struct NumberReply {
-    pub refusal: u64,
-    pub place: u64,
-    pub kind: u64,
-    pub whole: i64,
-    pub real: f64,
-}
-
-// Where an atom's text stands. From 0, nowhere; 1, the message; 2, the places of the atom list.
-#[repr(C)]
-pub struct TextReply {
-    pub from: u64,
-    pub start: u64,
-    pub length: u64,
-}
-
-// An atom's mark: 1 Latin-1, 2 UTF-8.
-#[repr(C)]
-pub struct MarkReply {
-    pub refusal: u64,
-    pub place: u64,
-    pub mark: u64,
-}
-
-fn flat_number(answer: NumberAnswer) -> NumberReply
-    ensures { λ r. ⌜ r ≡ flat-number answer ⌝ }
-{
-    match answer {
-        NumberAnswer::Whole(whole) => NumberReply {
-            refusal: 0,
-            place: 0,
-            kind: 1,
-            whole: whole,
-            real: 0.0,
-        },
-        NumberAnswer::Float(real) => NumberReply {
-            refusal: 0,
-            place: 0,
-            kind: 2,
-            whole: 0,
-            real: real,
-        },
-        NumberAnswer::Neither => NumberReply {
-            refusal: 0,
-            place: 0,
-            kind: 0,
-            whole: 0,
-            real: 0.0,
-        },
-        NumberAnswer::Refused(refusal) => NumberReply {
-            refusal: refusal.number as u64,
-            place: refusal.place as u64,
-            kind: 0,
-            whole: 0,
-            real: 0.0,
-        },
-    }
-}
-
-fn flat_text(answer: TextAt) -> TextReply
-    ensures { λ r. ⌜ r ≡ flat-text answer ⌝ }
-{
-    match answer {
-        TextAt::Message {
-            start,
-            length,
-            latin1,
-        } => TextReply {
-            from: 1,
-            start: start as u64,
-            length: length as u64,
-        },
-        TextAt::List { start, length } => TextReply {
-            from: 2,
-            start: start as u64,
-            length: length as u64,
-        },
-        TextAt::Refused(refusal) => TextReply {
-            from: 0,
-            start: 0,
-            length: 0,
-        },
-    }
-}
-
-fn flat_mark(answer: MarkAnswer) -> MarkReply
-    ensures { λ r. ⌜ r ≡ flat-mark answer ⌝ }
-{
-    match answer {
-        MarkAnswer::Latin1 => MarkReply {
-            refusal: 0,
-            place: 0,
-            mark: 1,
-        },
-        MarkAnswer::Utf8 => MarkReply {
-            refusal: 0,
-            place: 0,
-            mark: 2,
-        },
-        MarkAnswer::Refused(refusal) => MarkReply {
-            refusal: refusal.number as u64,
-            place: refusal.place as u64,
-            mark: 0,
-        },
-    }
+    c_replies::flat_write(writer::write_payload(msg, n, places, lengths, scratch, output))
 }
 
 // The number of a row of a standalone term.
@@ -268,7 +94,7 @@ pub extern "C" fn ik_number_standalone(
 ) -> NumberReply
     ensures { λ r. ⌜ r ≡ flat-number (number-answer (number-in standalone (lent-list n (now (places .entry)) (now (lengths .entry))) (now (msg .entry)) row)) ⌝ }
 {
-    flat_number(queries::number_standalone(msg, n, places, lengths, row))
+    c_replies::flat_number(queries::number_standalone(msg, n, places, lengths, row))
 }
 
 // Where the text stands of the atom whose tag is at this offset of a standalone term.
@@ -278,11 +104,11 @@ pub extern "C" fn ik_text_standalone(
     n: u8,
     places: &[u8],
     lengths: &[u16],
-    at: usize,
+    offset: usize,
 ) -> TextReply
-    ensures { λ r. ⌜ r ≡ flat-text (text-at (text-in standalone (lent-list n (now (places .entry)) (now (lengths .entry))) (now (msg .entry)) at)) ⌝ }
+    ensures { λ r. ⌜ r ≡ flat-text (text-at (text-in standalone (lent-list n (now (places .entry)) (now (lengths .entry))) (now (msg .entry)) offset)) ⌝ }
 {
-    flat_text(queries::locate_standalone(msg, n, places, lengths, at))
+    c_replies::flat_text(queries::locate_standalone(msg, n, places, lengths, offset))
 }
 
 // The mark of the atom whose tag is at this offset of a standalone term.
@@ -292,11 +118,11 @@ pub extern "C" fn ik_mark_standalone(
     n: u8,
     places: &[u8],
     lengths: &[u16],
-    at: usize,
+    offset: usize,
 ) -> MarkReply
-    ensures { λ r. ⌜ r ≡ flat-mark (mark-answer (text-in standalone (lent-list n (now (places .entry)) (now (lengths .entry))) (now (msg .entry)) at)) ⌝ }
+    ensures { λ r. ⌜ r ≡ flat-mark (mark-answer (text-in standalone (lent-list n (now (places .entry)) (now (lengths .entry))) (now (msg .entry)) offset)) ⌝ }
 {
-    flat_mark(queries::mark_standalone(msg, n, places, lengths, at))
+    c_replies::flat_mark(queries::mark_standalone(msg, n, places, lengths, offset))
 }
 
 // The number of a row of a payload.
@@ -310,7 +136,7 @@ pub extern "C" fn ik_number_payload(
 ) -> NumberReply
     ensures { λ r. ⌜ r ≡ flat-number (number-answer (number-in payload (lent-list n (now (places .entry)) (now (lengths .entry))) (now (msg .entry)) row)) ⌝ }
 {
-    flat_number(queries::number_payload(msg, n, places, lengths, row))
+    c_replies::flat_number(queries::number_payload(msg, n, places, lengths, row))
 }
 
 // Where the text stands of the atom whose tag is at this offset of a payload.
@@ -320,11 +146,11 @@ pub extern "C" fn ik_text_payload(
     n: u8,
     places: &[u8],
     lengths: &[u16],
-    at: usize,
+    offset: usize,
 ) -> TextReply
-    ensures { λ r. ⌜ r ≡ flat-text (text-at (text-in payload (lent-list n (now (places .entry)) (now (lengths .entry))) (now (msg .entry)) at)) ⌝ }
+    ensures { λ r. ⌜ r ≡ flat-text (text-at (text-in payload (lent-list n (now (places .entry)) (now (lengths .entry))) (now (msg .entry)) offset)) ⌝ }
 {
-    flat_text(queries::locate_payload(msg, n, places, lengths, at))
+    c_replies::flat_text(queries::locate_payload(msg, n, places, lengths, offset))
 }
 
 // The mark of the atom whose tag is at this offset of a payload.
@@ -334,52 +160,36 @@ pub extern "C" fn ik_mark_payload(
     n: u8,
     places: &[u8],
     lengths: &[u16],
-    at: usize,
+    offset: usize,
 ) -> MarkReply
-    ensures { λ r. ⌜ r ≡ flat-mark (mark-answer (text-in payload (lent-list n (now (places .entry)) (now (lengths .entry))) (now (msg .entry)) at)) ⌝ }
+    ensures { λ r. ⌜ r ≡ flat-mark (mark-answer (text-in payload (lent-list n (now (places .entry)) (now (lengths .entry))) (now (msg .entry)) offset)) ⌝ }
 {
-    flat_mark(queries::mark_payload(msg, n, places, lengths, at))
-}
-// The place of the cache that a reference names.
-#[repr(C)]
-pub struct PlaceReply {
-    pub refusal: u64,
-    pub place: u64,
-    pub named: u64,
+    c_replies::flat_mark(queries::mark_payload(msg, n, places, lengths, offset))
 }
 
-// The text that a place holds: its start and length in the places of the cache.
-#[repr(C)]
-pub struct CachedReply {
-    pub refusal: u64,
-    pub place: u64,
-    pub start: u64,
-    pub length: u64,
+// The place of the cache that reference `index` of the packet's header names.
+#[no_mangle]
+pub extern "C" fn ik_reference(utf8: u8, packet: &[u8], index: usize) -> ReferenceReply
+    ensures { λ r. ⌜ r ≡ flat-reference (place-answer (place-of-reference (coding-of (flag utf8)) (now (packet .entry)) index)) ⌝ }
+{
+    c_replies::flat_reference(cache_lookup::place_of_reference(
+        c_replies::agreed(utf8),
+        packet,
+        ReferenceIndex(index),
+    ))
 }
 
-// What a drop or a reset answers.
-#[repr(C)]
-pub struct DoneReply {
-    pub refusal: u64,
-    pub place: u64,
-}
-
-// What taking a packet answers. Kind 1, plain: the payload's offset and length in the packet; 2, pending: the id now due, the bytes gathered;
-// 3, complete: the bytes gathered.
-#[repr(C)]
-pub struct PacketReply {
-    pub refusal: u64,
-    pub place: u64,
-    pub kind: u64,
-    pub offset: u64,
-    pub length: u64,
-    pub due: u64,
-    pub gathered: u64,
+// The text that a place of the cache holds.
+#[no_mangle]
+pub extern "C" fn ik_place(cache: &[u8], cache_lengths: &[u16], place: usize) -> PlaceReply
+    ensures { λ r. ⌜ r ≡ flat-place (text-answer place (text-of-place (cache-of (now (cache .entry)) (now («cache_lengths» .entry))) place)) ⌝ }
+{
+    c_replies::flat_place(cache_lookup::text_of_place(cache, cache_lengths, Place(place)))
 }
 
 // What a drop or a reset answers, and the record as it is then.
 pub struct Kept {
-    pub answer: DoneReply,
+    pub answer: StateReply,
     pub pending: Pending,
 }
 
@@ -389,124 +199,14 @@ pub struct Received {
     pub pending: Pending,
 }
 
-fn flat_place(answer: PlaceAnswer) -> PlaceReply
-    ensures { λ r. ⌜ r ≡ flat-place answer ⌝ }
-{
-    match answer {
-        PlaceAnswer::Place(place) => PlaceReply {
-            refusal: 0,
-            place: 0,
-            named: place.0 as u64,
-        },
-        PlaceAnswer::Refused(refusal) => PlaceReply {
-            refusal: refusal.number as u64,
-            place: refusal.place as u64,
-            named: 0,
-        },
-    }
-}
-
-fn flat_cached(answer: TextAnswer) -> CachedReply
-    ensures { λ r. ⌜ r ≡ flat-cached answer ⌝ }
-{
-    match answer {
-        TextAnswer::Text { offset, length } => CachedReply {
-            refusal: 0,
-            place: 0,
-            start: offset as u64,
-            length: length as u64,
-        },
-        TextAnswer::Refused(refusal) => CachedReply {
-            refusal: refusal.number as u64,
-            place: refusal.place as u64,
-            start: 0,
-            length: 0,
-        },
-    }
-}
-
-fn flat_done(answer: StateAnswer) -> DoneReply
-    ensures { λ r. ⌜ r ≡ flat-done answer ⌝ }
-{
-    match answer {
-        StateAnswer::Done => DoneReply {
-            refusal: 0,
-            place: 0,
-        },
-        StateAnswer::Refused(refusal) => DoneReply {
-            refusal: refusal.number as u64,
-            place: refusal.place as u64,
-        },
-    }
-}
-
-fn flat_packet(answer: PacketAnswer) -> PacketReply
-    ensures { λ r. ⌜ r ≡ flat-packet answer ⌝ }
-{
-    match answer {
-        PacketAnswer::Plain { offset, length } => PacketReply {
-            refusal: 0,
-            place: 0,
-            kind: 1,
-            offset: offset as u64,
-            length: length as u64,
-            due: 0,
-            gathered: 0,
-        },
-        PacketAnswer::Pending { due, gathered } => PacketReply {
-            refusal: 0,
-            place: 0,
-            kind: 2,
-            offset: 0,
-            length: 0,
-            due: due,
-            gathered: gathered,
-        },
-        PacketAnswer::Complete { gathered } => PacketReply {
-            refusal: 0,
-            place: 0,
-            kind: 3,
-            offset: 0,
-            length: 0,
-            due: 0,
-            gathered: gathered,
-        },
-        PacketAnswer::Refused(refusal) => PacketReply {
-            refusal: refusal.number as u64,
-            place: refusal.place as u64,
-            kind: 0,
-            offset: 0,
-            length: 0,
-            due: 0,
-            gathered: 0,
-        },
-    }
-}
-
-// The place of the cache that reference `index` of the packet's header names.
-#[no_mangle]
-pub extern "C" fn ik_reference(utf8: u8, packet: &[u8], index: usize) -> PlaceReply
-    ensures { λ r. ⌜ r ≡ flat-place (place-answer (place-of-reference (coding-of (flag utf8)) (now (packet .entry)) index)) ⌝ }
-{
-    flat_place(cache_lookup::place_of_reference(utf8 != 0, packet, ReferenceIndex(index)))
-}
-
-// The text that a place of the cache holds.
-#[no_mangle]
-pub extern "C" fn ik_place(places: &[u8], lengths: &[u16], place: usize) -> CachedReply
-    ensures { λ r. ⌜ r ≡ flat-cached (text-answer place (text-of-place (cache-of (now (places .entry)) (now (lengths .entry))) place)) ⌝ }
-{
-    flat_cached(cache_lookup::text_of_place(places, lengths, Place(place)))
-}
-
 // A drop, by value.
 pub fn drop_by_value(pending: Pending) -> Kept
-    ensures { λ r. ⌜ r ≡ kept-by (drop-answer pending) ⌝ }
+    ensures { λ r. ⌜ Drop-reply pending (r .answer) (r .pending) ⌝ }
 {
     let settled = link_state::drop_sequence(pending);
     let answer = settled.answer;
     let then = settled.pending;
-    let reply = flat_done(answer);
+    let reply = c_replies::flat_state(answer);
     Kept {
         answer: reply,
         pending: then,
@@ -514,13 +214,13 @@ pub fn drop_by_value(pending: Pending) -> Kept
 }
 
 // A reset, the record by value.
-pub fn reset_by_value(places: &mut [u8], lengths: &mut [u16], pending: Pending) -> Kept
-    ensures { λ r. ⌜ (r ≡ kept-by (reset-answer (cache-of (now (places .entry)) (now (lengths .entry))) pending)) × (cache-of (now (places .exit)) (now (lengths .exit)) ≡ cache-after-reset (cache-of (now (places .entry)) (now (lengths .entry)))) ⌝ }
+pub fn reset_by_value(cache: &mut [u8], cache_lengths: &mut [u16], pending: Pending) -> Kept
+    ensures { λ r. ⌜ Reset-reply (cache-of (now (cache .entry)) (now («cache_lengths» .entry))) pending (r .answer) (cache-of (now (cache .exit)) (now («cache_lengths» .exit))) (r .pending) ⌝ }
 {
-    let settled = link_state::reset(places, lengths, pending);
+    let settled = link_state::reset(cache, cache_lengths, pending);
     let answer = settled.answer;
     let then = settled.pending;
-    let reply = flat_done(answer);
+    let reply = c_replies::flat_state(answer);
     Kept {
         answer: reply,
         pending: then,
@@ -531,37 +231,41 @@ pub fn reset_by_value(places: &mut [u8], lengths: &mut [u16], pending: Pending) 
 pub fn packet_by_value(
     utf8: u8,
     packet: &[u8],
-    places: &mut [u8],
-    lengths: &mut [u16],
-    n: &mut u8,
-    texts: &mut [u8],
-    sizes: &mut [u16],
-    count: &mut u8,
-    kept: &mut [u8],
-    extents: &mut [u16],
+    cache: &mut [u8],
+    cache_lengths: &mut [u16],
+    plain_n: &mut u8,
+    plain_places: &mut [u8],
+    plain_lengths: &mut [u16],
+    pending_n: &mut u8,
+    pending_places: &mut [u8],
+    pending_lengths: &mut [u16],
     pending: Pending,
     gather: &mut [u8],
 ) -> Received
-    ensures { λ r. ⌜ (r ≡ received (taken-answer (coding-of (flag utf8)) (memory-of (cache-of (now (places .entry)) (now (lengths .entry))) (lent-list (now (n .entry)) (now (texts .entry)) (now (sizes .entry))) (lent-list (now (count .entry)) (now (kept .entry)) (now (extents .entry))) pending (now (gather .entry))) (now (packet .entry))))
-        × (memory-of (cache-of (now (places .exit)) (now (lengths .exit))) (lent-list (now (n .exit)) (now (texts .exit)) (now (sizes .exit))) (lent-list (now (count .exit)) (now (kept .exit)) (now (extents .exit))) (r .pending) (now (gather .exit)) ≡ after-packet (coding-of (flag utf8)) (memory-of (cache-of (now (places .entry)) (now (lengths .entry))) (lent-list (now (n .entry)) (now (texts .entry)) (now (sizes .entry))) (lent-list (now (count .entry)) (now (kept .entry)) (now (extents .entry))) pending (now (gather .entry))) (now (packet .entry))) ⌝ }
+    ensures { λ r. ⌜ Packet-reply (coding-of (flag utf8)) (now (packet .entry))
+        (memory-of (cache-of (now (cache .entry)) (now («cache_lengths» .entry))) (lent-list (now («plain_n» .entry)) (now («plain_places» .entry)) (now («plain_lengths» .entry)))
+        (lent-list (now («pending_n» .entry)) (now («pending_places» .entry)) (now («pending_lengths» .entry))) pending (now (gather .entry)))
+        (r .answer)
+        (memory-of (cache-of (now (cache .exit)) (now («cache_lengths» .exit))) (lent-list (now («plain_n» .exit)) (now («plain_places» .exit)) (now («plain_lengths» .exit)))
+        (lent-list (now («pending_n» .exit)) (now («pending_places» .exit)) (now («pending_lengths» .exit))) (r .pending) (now (gather .exit))) ⌝ }
 {
     let taken = packet_calls::take_packet(
-        utf8 != 0,
+        c_replies::agreed(utf8),
         packet,
-        places,
-        lengths,
-        n,
-        texts,
-        sizes,
-        count,
-        kept,
-        extents,
+        cache,
+        cache_lengths,
+        plain_n,
+        plain_places,
+        plain_lengths,
+        pending_n,
+        pending_places,
+        pending_lengths,
         pending,
         gather,
     );
     let answer = taken.answer;
     let then = taken.pending;
-    let reply = flat_packet(answer);
+    let reply = c_replies::flat_packet(answer);
     Received {
         answer: reply,
         pending: then,
@@ -570,21 +274,25 @@ pub fn packet_by_value(
 
 // Drops the pending sequence of the record lent.
 #[no_mangle]
-pub extern "C" fn ik_drop(p: &mut Pending) -> DoneReply
-    ensures { λ r. ⌜ (r ≡ kept-by (drop-answer (now (p .entry))) .answer) × (now (p .exit) ≡ kept-by (drop-answer (now (p .entry))) .pending) ⌝ }
+pub extern "C" fn ik_drop(pending: &mut Pending) -> StateReply
+    ensures { λ r. ⌜ Drop-reply (now (pending .entry)) r (now (pending .exit)) ⌝ }
 {
-    let d = drop_by_value(*p);
-    *p = d.pending;
+    let d = drop_by_value(*pending);
+    *pending = d.pending;
     d.answer
 }
 
 // Empties the cache and drops the pending sequence of the record lent, if there is one.
 #[no_mangle]
-pub extern "C" fn ik_reset(places: &mut [u8], lengths: &mut [u16], p: &mut Pending) -> DoneReply
-    ensures { λ r. ⌜ (r ≡ kept-by (reset-answer (cache-of (now (places .entry)) (now (lengths .entry))) (now (p .entry))) .answer) × (now (p .exit) ≡ kept-by (reset-answer (cache-of (now (places .entry)) (now (lengths .entry))) (now (p .entry))) .pending) × (cache-of (now (places .exit)) (now (lengths .exit)) ≡ cache-after-reset (cache-of (now (places .entry)) (now (lengths .entry)))) ⌝ }
+pub extern "C" fn ik_reset(
+    cache: &mut [u8],
+    cache_lengths: &mut [u16],
+    pending: &mut Pending,
+) -> StateReply
+    ensures { λ r. ⌜ Reset-reply (cache-of (now (cache .entry)) (now («cache_lengths» .entry))) (now (pending .entry)) r (cache-of (now (cache .exit)) (now («cache_lengths» .exit))) (now (pending .exit)) ⌝ }
 {
-    let d = reset_by_value(places, lengths, *p);
-    *p = d.pending;
+    let d = reset_by_value(cache, cache_lengths, *pending);
+    *pending = d.pending;
     d.answer
 }
 
@@ -593,34 +301,38 @@ pub extern "C" fn ik_reset(places: &mut [u8], lengths: &mut [u16], p: &mut Pendi
 pub extern "C" fn ik_packet(
     utf8: u8,
     packet: &[u8],
-    places: &mut [u8],
-    lengths: &mut [u16],
-    n: &mut u8,
-    texts: &mut [u8],
-    sizes: &mut [u16],
-    count: &mut u8,
-    kept: &mut [u8],
-    extents: &mut [u16],
-    p: &mut Pending,
+    cache: &mut [u8],
+    cache_lengths: &mut [u16],
+    plain_n: &mut u8,
+    plain_places: &mut [u8],
+    plain_lengths: &mut [u16],
+    pending_n: &mut u8,
+    pending_places: &mut [u8],
+    pending_lengths: &mut [u16],
+    pending: &mut Pending,
     gather: &mut [u8],
 ) -> PacketReply
-    ensures { λ r. ⌜ (r ≡ received (taken-answer (coding-of (flag utf8)) (memory-of (cache-of (now (places .entry)) (now (lengths .entry))) (lent-list (now (n .entry)) (now (texts .entry)) (now (sizes .entry))) (lent-list (now (count .entry)) (now (kept .entry)) (now (extents .entry))) (now (p .entry)) (now (gather .entry))) (now (packet .entry))) .answer)
-        × (memory-of (cache-of (now (places .exit)) (now (lengths .exit))) (lent-list (now (n .exit)) (now (texts .exit)) (now (sizes .exit))) (lent-list (now (count .exit)) (now (kept .exit)) (now (extents .exit))) (now (p .exit)) (now (gather .exit)) ≡ after-packet (coding-of (flag utf8)) (memory-of (cache-of (now (places .entry)) (now (lengths .entry))) (lent-list (now (n .entry)) (now (texts .entry)) (now (sizes .entry))) (lent-list (now (count .entry)) (now (kept .entry)) (now (extents .entry))) (now (p .entry)) (now (gather .entry))) (now (packet .entry))) ⌝ }
+    ensures { λ r. ⌜ Packet-reply (coding-of (flag utf8)) (now (packet .entry))
+        (memory-of (cache-of (now (cache .entry)) (now («cache_lengths» .entry))) (lent-list (now («plain_n» .entry)) (now («plain_places» .entry)) (now («plain_lengths» .entry)))
+        (lent-list (now («pending_n» .entry)) (now («pending_places» .entry)) (now («pending_lengths» .entry))) (now (pending .entry)) (now (gather .entry)))
+        r
+        (memory-of (cache-of (now (cache .exit)) (now («cache_lengths» .exit))) (lent-list (now («plain_n» .exit)) (now («plain_places» .exit)) (now («plain_lengths» .exit)))
+        (lent-list (now («pending_n» .exit)) (now («pending_places» .exit)) (now («pending_lengths» .exit))) (now (pending .exit)) (now (gather .exit))) ⌝ }
 {
     let d = packet_by_value(
         utf8,
         packet,
-        places,
-        lengths,
-        n,
-        texts,
-        sizes,
-        count,
-        kept,
-        extents,
-        *p,
+        cache,
+        cache_lengths,
+        plain_n,
+        plain_places,
+        plain_lengths,
+        pending_n,
+        pending_places,
+        pending_lengths,
+        *pending,
         gather,
     );
-    *p = d.pending;
+    *pending = d.pending;
     d.answer
 }

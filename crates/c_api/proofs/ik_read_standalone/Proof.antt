@@ -1,7 +1,6 @@
--- `firmware::ik_read_standalone` meets its contract. Assumes nothing.
-use mathlib.Core.Path.{ap, _∙_}
+-- `c_api::ik_read_standalone` meets its contract. Assumes nothing.
 use borrow.Author.Needs.{needs}
-use Rattle.c_api.specs.Terms.{flat-read}
+use Rattle.c_api.proofs.Laws.{read-replied}
 use Rattle.c_api.proofs.ik_read_standalone.Statement.{statement}
 use Rattle.c_api.proofs.ik_read_standalone.Tie as tie
 
@@ -15,7 +14,7 @@ same-length : tie.Need-same-length
 same-length c = search needs
 
 returns : tie.Need-returns
-returns c = (c .flat-read .ensures ∙ ap flat-read (c .before .before .before .read-standalone .ensures .read-answered), c .before .before .before .read-standalone .ensures .table-left)
+returns c = read-replied (c .before .before .before .read-standalone .ensures) (c .flat-read .ensures)
 
 pub ik-read-standalone-spec : {M : Type 1} → statement M
 ik-read-standalone-spec =

@@ -1,19 +1,28 @@
--- `firmware::ik_reference` meets its contract. Assumes nothing.
+-- `c_api::ik_reference` meets its contract. Assumes nothing.
 use mathlib.Core.Path.{ap, _∙_}
-use Rattle.c_api.specs.Packets.{flag, flat-place}
+use mathlib.Core.Bool.{Bool}
+use Rattle.term_spec.specs.Text.{coding-of}
+use Rattle.packet_spec.specs.Answers.{place-answer}
+use Rattle.packet_spec.specs.Look.{place-of-reference}
+use Rattle.c_replies.specs.Packets.{flat-reference}
 use borrow.Author.Needs.{needs}
 use Rattle.c_api.proofs.ik_reference.Statement.{statement}
 use Rattle.c_api.proofs.ik_reference.Tie as tie
 
+agreed-requires : tie.Need-agreed-requires
+agreed-requires c κs = search needs
+
 place-of-reference-requires : tie.Need-place-of-reference-requires
 place-of-reference-requires c κs = search needs
 
-flat-place-requires : tie.Need-flat-place-requires
-flat-place-requires c κs = search needs
+flat-reference-requires : tie.Need-flat-reference-requires
+flat-reference-requires c κs = search needs
 
 returns : tie.Need-returns
-unfolding flag
-returns c = c .flat-place .ensures ∙ ap flat-place (c .before .place-of-reference .ensures)
+returns c =
+    c .flat-reference .ensures
+    ∙ ap flat-reference
+    (c .before .place-of-reference .ensures ∙ ap (λ (b : Bool). place-answer (place-of-reference (coding-of b) (c .before .before .before .before .args .packet .now) (c .before .before .before .before .args .index))) (c .before .before .agreed .ensures))
 
 pub ik-reference-spec : {M : Type 1} → statement M
-ik-reference-spec = tie.close (tie.spec place-of-reference-requires flat-place-requires returns)
+ik-reference-spec = tie.close (tie.spec agreed-requires place-of-reference-requires flat-reference-requires returns)

@@ -1,9 +1,11 @@
--- `firmware::packet_by_value` meets its contract. Assumes nothing.
-use Rattle.c_api.proofs.Laws.{received-told}
-use Rattle.c_api.specs.Packets.{flag}
+-- `c_api::packet_by_value` meets its contract. Assumes nothing.
+use Rattle.c_api.proofs.Laws.{packet-replied}
 use borrow.Author.Needs.{needs}
 use Rattle.c_api.proofs.packet_by_value.Statement.{statement}
 use Rattle.c_api.proofs.packet_by_value.Tie as tie
+
+agreed-requires : tie.Need-agreed-requires
+agreed-requires c κs = search needs
 
 take-packet-requires : tie.Need-take-packet-requires
 take-packet-requires c κs = search needs
@@ -33,11 +35,12 @@ same-length-7 : tie.Need-same-length-7
 same-length-7 c = search needs
 
 returns : tie.Need-returns
-unfolding flag
-returns c = (received-told (c .flat-packet .ensures) (c .before .before .before .before .before .before .before .before .before .before .before .before .before .before .before .before .take-packet .ensures .packet-answered), c .before .before .before .before .before .before .before .before .before .before .before .before .before .before .before .before .take-packet .ensures .memory-left)
+returns c =
+    let e = c .before .before .before .before .before .before .before .before .before .before .before .before .before .before .before .before .take-packet .ensures in
+    packet-replied (c .before .before .before .before .before .before .before .before .before .before .before .before .before .before .before .before .before .before .before .before .before .before .before .before .before .before .agreed .ensures) e (c .flat-packet .ensures)
 
 pub packet-by-value-spec : {M : Type 1} → statement M
 packet-by-value-spec =
     tie.close
     (tie.spec
-    take-packet-requires flat-packet-requires same-length same-length-2 same-length-3 same-length-4 same-length-5 same-length-6 same-length-7 returns)
+    agreed-requires take-packet-requires flat-packet-requires same-length same-length-2 same-length-3 same-length-4 same-length-5 same-length-6 same-length-7 returns)

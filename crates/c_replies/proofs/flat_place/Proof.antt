@@ -1,9 +1,9 @@
--- `firmware::flat_place` meets its contract. Assumes nothing.
+-- `c_replies::flat_place` meets its contract. Assumes nothing.
 use mathlib.Core.Path.{sym, ap}
 use borrow.Author.Needs.{needs}
-use Rattle.c_api.specs.Packets.{flat-place}
-use Rattle.c_api.proofs.flat_place.Statement.{statement}
-use Rattle.c_api.proofs.flat_place.Tie as tie
+use Rattle.c_replies.specs.Packets.{flat-place}
+use Rattle.c_replies.proofs.flat_place.Statement.{statement}
+use Rattle.c_replies.proofs.flat_place.Tie as tie
 
 enum-known-answer : tie.Need-enum-known-answer
 enum-known-answer c = search needs
@@ -11,8 +11,8 @@ enum-known-answer c = search needs
 enum-known-answer-2 : tie.Need-enum-known-answer-2
 enum-known-answer-2 c = search needs
 
-cast-t6 : tie.Need-cast-t6
-cast-t6 c = search needs
+cast-t8 : tie.Need-cast-t8
+cast-t8 c = search needs
 
 returns : tie.Need-returns
 unfolding flat-place
@@ -24,4 +24,4 @@ returns-2 c = sym (ap flat-place (c .before .before .answer2 .given .1))
 
 pub flat-place-spec : {M : Type 1} → statement M
 flat-place-spec =
-    tie.close (tie.spec enum-known-answer enum-known-answer-2 cast-t6 returns returns-2)
+    tie.close (tie.spec enum-known-answer enum-known-answer-2 cast-t8 returns returns-2)

@@ -11,19 +11,19 @@ use Rattle.term_spec.specs.declared.MarkAnswer.{MarkAnswer}
 use Rattle.term_spec.specs.declared.MarkAnswer.the-variants as marks
 use Rattle.queries.specs.declared.TextAt.{TextAt}
 use Rattle.queries.specs.declared.TextAt.the-variants as texts
-use Rattle.c_api.specs.declared.ReadReply.{ReadReply}
-use Rattle.c_api.specs.declared.WriteReply.{WriteReply}
-use Rattle.c_api.specs.declared.NumberReply.{NumberReply}
-use Rattle.c_api.specs.declared.TextReply.{TextReply}
-use Rattle.c_api.specs.declared.MarkReply.{MarkReply}
+use Rattle.c_replies.specs.declared.ReadReply.{ReadReply}
+use Rattle.c_replies.specs.declared.WriteReply.{WriteReply}
+use Rattle.c_replies.specs.declared.NumberReply.{NumberReply}
+use Rattle.c_replies.specs.declared.TextReply.{TextReply}
+use Rattle.c_replies.specs.declared.MarkReply.{MarkReply}
 
 unfoldable pub flat-read : ReadAnswer → ReadReply
 flat-read (reads.Terms terms rows) = record { refusal = 0; place = 0; terms = terms; rows = rows }
 flat-read (reads.Refused r) = record { refusal = r .number; place = r .place; terms = 0; rows = 0 }
 
-unfoldable pub flat-written : WriteAnswer → WriteReply
-flat-written (writes.Written terms size) = record { refusal = 0; place = 0; terms = terms; length = size }
-flat-written (writes.Refused r) = record { refusal = r .number; place = r .place; terms = 0; length = 0 }
+unfoldable pub flat-write : WriteAnswer → WriteReply
+flat-write (writes.Written terms size) = record { refusal = 0; place = 0; terms = terms; length = size }
+flat-write (writes.Refused r) = record { refusal = r .number; place = r .place; terms = 0; length = 0 }
 
 -- kind 1 whole, 2 float, 0 neither
 unfoldable pub flat-number : NumberAnswer → NumberReply

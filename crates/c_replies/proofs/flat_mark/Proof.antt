@@ -1,9 +1,9 @@
--- `firmware::flat_mark` meets its contract. Assumes nothing.
+-- `c_replies::flat_mark` meets its contract. Assumes nothing.
 use mathlib.Core.Path.{sym, ap}
 use borrow.Author.Needs.{needs}
-use Rattle.c_api.specs.Terms.{flat-mark}
-use Rattle.c_api.proofs.flat_mark.Statement.{statement}
-use Rattle.c_api.proofs.flat_mark.Tie as tie
+use Rattle.c_replies.specs.Terms.{flat-mark}
+use Rattle.c_replies.proofs.flat_mark.Statement.{statement}
+use Rattle.c_replies.proofs.flat_mark.Tie as tie
 
 enum-told : tie.Need-enum-told
 enum-told c = search needs

@@ -1,13 +1,13 @@
--- `firmware::flat_number` meets its contract. Assumes nothing.
+-- `c_replies::flat_number` meets its contract. Assumes nothing.
 use mathlib.Core.Path.{sym, ap, _∙_}
 use lib.IntN.{ℤ}
 use mir.Syntax.{w64}
 use mir.ValLaws.{toZ-ofZ}
 use Rattle.term_spec.specs.declared.NumberAnswer.the-variants.{Whole}
 use borrow.Author.Needs.{needs}
-use Rattle.c_api.specs.Terms.{flat-number}
-use Rattle.c_api.proofs.flat_number.Statement.{statement}
-use Rattle.c_api.proofs.flat_number.Tie as tie
+use Rattle.c_replies.specs.Terms.{flat-number}
+use Rattle.c_replies.proofs.flat_number.Statement.{statement}
+use Rattle.c_replies.proofs.flat_number.Tie as tie
 
 enum-known-answer : tie.Need-enum-known-answer
 enum-known-answer c = search needs

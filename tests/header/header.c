@@ -1,0 +1,98 @@
+/* The header as C99 and as C++11: this file is built as both, without a warning. Every struct is named, in C++ without `struct`, every call
+ * has the type stated here, every struct the size of its fields, and one call of each shape is made. */
+#include "ikparumo.h"
+#include "ikparumo.h"
+#include <stdio.h>
+
+#ifdef __cplusplus
+typedef ik_read_reply read_reply;
+typedef ik_write_reply write_reply;
+typedef ik_number_reply number_reply;
+typedef ik_text_reply text_reply;
+typedef ik_mark_reply mark_reply;
+typedef ik_packet_reply packet_reply;
+typedef ik_reference_reply reference_reply;
+typedef ik_place_reply place_reply;
+typedef ik_state_reply state_reply;
+typedef ik_pending pending_record;
+#else
+typedef struct ik_read_reply read_reply;
+typedef struct ik_write_reply write_reply;
+typedef struct ik_number_reply number_reply;
+typedef struct ik_text_reply text_reply;
+typedef struct ik_mark_reply mark_reply;
+typedef struct ik_packet_reply packet_reply;
+typedef struct ik_reference_reply reference_reply;
+typedef struct ik_place_reply place_reply;
+typedef struct ik_state_reply state_reply;
+typedef struct ik_pending pending_record;
+#endif
+
+#define MESSAGE const uint8_t *, size_t, uint8_t, const uint8_t *, size_t, const uint16_t *, size_t
+static read_reply (*const reads[])(MESSAGE, uint64_t *, size_t) = {ik_read_standalone, ik_read_payload};
+static write_reply (*const writes[])(MESSAGE, uint64_t *, size_t, uint8_t *, size_t) = {ik_write_standalone, ik_write_payload};
+static number_reply (*const numbers[])(MESSAGE, size_t) = {ik_number_standalone, ik_number_payload};
+static text_reply (*const texts[])(MESSAGE, size_t) = {ik_text_standalone, ik_text_payload};
+static mark_reply (*const marks[])(MESSAGE, size_t) = {ik_mark_standalone, ik_mark_payload};
+static packet_reply (*const packet)(uint8_t, const uint8_t *, size_t, uint8_t *, size_t, uint16_t *, size_t, uint8_t *, uint8_t *, size_t, uint16_t *, size_t,
+                                    uint8_t *, uint8_t *, size_t, uint16_t *, size_t, pending_record *, uint8_t *, size_t) = ik_packet;
+static reference_reply (*const reference)(uint8_t, const uint8_t *, size_t, size_t) = ik_reference;
+static place_reply (*const place)(const uint8_t *, size_t, const uint16_t *, size_t, size_t) = ik_place;
+static state_reply (*const reset)(uint8_t *, size_t, uint16_t *, size_t, pending_record *) = ik_reset;
+static state_reply (*const drop)(pending_record *) = ik_drop;
+
+static unsigned passed, failed;
+static void check(int holds, const char *what)
+{
+    if (holds) {
+        passed++;
+        return;
+    }
+    failed++;
+    printf("FAILED %s\n", what);
+}
+#define CHECK(holds) check(holds, #holds)
+
+static uint8_t n, places[IK_LIST_BYTES], cache[IK_CACHE_BYTES], gather[IK_GATHER_BYTES], output[8];
+static uint16_t lengths[IK_LIST_PLACES], cache_lengths[IK_CACHE_PLACES];
+static uint64_t table[4];
+static uint8_t more_n, more[IK_LIST_BYTES];
+static uint16_t more_lengths[IK_LIST_PLACES];
+static pending_record record;
+#define EMPTY_LIST 0, places, sizeof places, lengths, IK_LIST_PLACES
+
+/* The atom a, as a standalone term and, from its second byte on, as a payload. */
+static const uint8_t atom[] = {131, 119, 1, 97};
+static void on_the_atom(size_t i)
+{
+    const uint8_t *bytes = atom + i;
+    size_t size = sizeof atom - i;
+    CHECK(reads[i](bytes, size, EMPTY_LIST, table, 4).rows == 1);
+    CHECK(ik_row_kind(table[0]) == IK_KIND_ATOM && ik_row_offset(table[0]) == 1 - i && ik_row_whole(table[0]) == IK_NO_WHOLE);
+    CHECK(writes[i](bytes, size, EMPTY_LIST, table, 4, output, sizeof output).length == 4);
+    CHECK(numbers[i](bytes, size, EMPTY_LIST, 0).kind == IK_NUMBER_NEITHER);
+    CHECK(texts[i](bytes, size, EMPTY_LIST, 1 - i).from == IK_FROM_MESSAGE);
+    CHECK(marks[i](bytes, size, EMPTY_LIST, 1 - i).mark == IK_MARK_UTF8);
+}
+
+int main(void)
+{
+    static const uint8_t header[] = {131, 68, 1, 0x08, 7, 1, 97, 82, 0};
+    CHECK(sizeof(read_reply) == 32 && sizeof(write_reply) == 32 && sizeof(number_reply) == 40 && sizeof(text_reply) == 24);
+    CHECK(sizeof(mark_reply) == 24 && sizeof(packet_reply) == 56 && sizeof(reference_reply) == 24 && sizeof(place_reply) == 32);
+    CHECK(sizeof(state_reply) == 16 && sizeof(pending_record) == 24);
+    on_the_atom(0);
+    on_the_atom(1);
+    CHECK(reset(cache, sizeof cache, cache_lengths, IK_CACHE_PLACES, &record).refusal == IK_ACCEPTED);
+    CHECK(packet(1, header, sizeof header, cache, sizeof cache, cache_lengths, IK_CACHE_PLACES, &n, places, sizeof places, lengths, IK_LIST_PLACES,
+                 &more_n, more, sizeof more, more_lengths, IK_LIST_PLACES, &record, gather, sizeof gather).kind == IK_PACKET_PLAIN);
+    CHECK(reference(1, header, sizeof header, 0).cache_place == 7);
+    CHECK(place(cache, sizeof cache, cache_lengths, IK_CACHE_PLACES, 7).start == 7 * IK_PLACE_BYTES);
+    CHECK(drop(&record).refusal == IK_SEQUENCE);
+#ifdef __cplusplus
+    printf("header as C++11: %u passed, %u failed\n", passed, failed);
+#else
+    printf("header as C99: %u passed, %u failed\n", passed, failed);
+#endif
+    return failed != 0;
+}
