@@ -40,7 +40,8 @@ fn list_reference(
     i: usize,
     list_places: &mut [u8],
 ) -> Stored
-    requires { ⌜ (half < 16) × (0 < width) × (width ≤ 2) × (at ≤ length (now packet)) × (length (now cache) ≡ 65536) × (length (now «cache_lengths») ≡ 2048) × (i < 255) × (length (now «list_places») ≡ 8160) × Stands (coding-of utf8) (held (cache-of (now cache) (now «cache_lengths»))) (now packet) half width at ⌝ }
+    requires { ⌜ (half < 16) × (0 < width) × (width ≤ 2) × (at ≤ length (now packet)) × (length (now cache) ≡ 65536) × (length (now «cache_lengths») ≡ 2048) × (i < 255) × (length (now «list_places») ≡ 8160)
+        × Stands (coding-of utf8) (held (cache-of (now cache) (now «cache_lengths»))) (now packet) half width at ⌝ }
     ensures { λ r. ⌜ Lists (coding-of utf8) (held (cache-of (now (cache .entry)) (now («cache_lengths» .entry)))) (now (packet .entry)) half width at (32 * i) (now («list_places» .entry)) (now («list_places» .exit)) r ⌝ }
 {
     match dist_header::read_reference(packet, half, width, at) {

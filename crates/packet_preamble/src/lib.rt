@@ -1,5 +1,4 @@
 // What stands before the header of a packet: 131, the tag, and the two ids of a fragment.
-ghost use mathlib.Core.Path.{_≡_};
 ghost use Prim.Native.Nat.{_≤_};
 ghost use lib.ListN.{length};
 ghost use Rattle.packet_preamble.specs.Code.{IdsAre, PreambleIs};
