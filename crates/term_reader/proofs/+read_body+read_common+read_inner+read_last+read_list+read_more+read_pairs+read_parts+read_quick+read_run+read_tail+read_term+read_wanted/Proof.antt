@@ -499,10 +499,10 @@ read-pairs-returns-2 : (t : ℕ) → read-pairs-lts.Need-returns-2 (read-pairs-c
 read-pairs-returns-2 t c =
     let i = c .before .before .before .before .before .before .before .before .before .before .before .before .before .before .before .before .before .loop in
     let e : i .more ≡ 0 → ⊥ = omega (arith, c .before .before .before .before .before .before .before .before .before .before .before .before .before .before .before .before .loop-test .taken) in
-    record { rows-stored = λ place. key-twice _ _ _ _ _ _ _ _ _ _ _ _ _ _ _ (i .inv .2) e _ _ (run-one _ _ _ _ _ _ _ _ _ _ (c .before .before .before .before .before .before .before .before .before .before .before .before .before .read-run .ensures .rows-stored)) _ (i .inv .0) _ _ (c .before .before .before .before .before .before .before .next .given .1) (keys-told _ _ _ _ _ _ (i .inv .0 .sized) (omega (arith, c .before .before .before .before .before .before .before .before .before .before .before .before .before .before .before .before .before .before .before .before .before .before .before .fits .n)) (λ j. omega (arith, c .before .before .before .before .before .before .before .before .before .before .before .before .before .before .before .before .before .before .before .before .before .before .shared-slice-known .given j))) _ _ (c .before .before .before .before .before .before .before .before .before .before .before .before .before .read-run .ensures .keys-kept) (c .before .before .before .contains-or-insert .ensures .1 .0) place _ (c .if1 .taken); keys-kept = keeps-trans (keeps-trans (c .before .before .before .before .before .before .before .before .before .before .before .before .before .before .before .before .before .loop .inv .3) (c .before .before .before .before .before .before .before .before .before .before .before .before .before .read-run .ensures .keys-kept)) (c .before .before .before .contains-or-insert .ensures .0) }
+    record { rows-stored = λ place. key-twice _ _ _ _ _ _ _ _ _ _ _ _ _ _ _ (i .inv .2) e _ _ (run-one _ _ _ _ _ _ _ _ _ _ (c .before .before .before .before .before .before .before .before .before .before .before .before .before .read-run .ensures .rows-stored)) _ (i .inv .0) _ _ (c .before .before .before .before .before .before .before .next .given .1) (keys-told _ _ _ _ _ _ (i .inv .0 .sized) (omega (arith, c .before .before .before .before .before .before .before .before .before .before .before .before .before .before .before .before .before .before .before .before .before .before .before .fits .n)) (λ j. omega (arith, c .before .before .before .before .before .before .before .before .before .before .before .before .before .before .before .before .before .before .before .before .before .before .shared-slice-known .given j))) _ _ (c .before .before .before .before .before .before .before .before .before .before .before .before .before .read-run .ensures .keys-kept) (c .before .before .before .contains-or-insert .ensures .judged) place _ (c .if1 .taken); keys-kept = keeps-trans (keeps-trans (c .before .before .before .before .before .before .before .before .before .before .before .before .before .before .before .before .before .loop .inv .3) (c .before .before .before .before .before .before .before .before .before .before .before .before .before .read-run .ensures .keys-kept)) (c .before .before .before .contains-or-insert .ensures .slots-kept) }
 
 read-pairs-read-run-requires-2 : (t : ℕ) → read-pairs-lts.Need-read-run-requires-2 (read-pairs-calls t) (read-pairs-at t) read-pairs.Post read-pairs-Inv-loop read-pairs-μ-loop
-read-pairs-read-run-requires-2 t c κs = (omega (arith, c .before .before .before .before .before .before .before .before .before .before .before .before .before .before .before .before .before .before .before .before .before .before .before .before .before .pre .0), (room-after _ _ _ _ _ _ _ _ _ _ _ _ _ _ _ (c .before .before .before .before .before .before .before .before .before .before .before .before .before .before .before .before .before .before .before .loop .inv .0) (run-one _ _ _ _ _ _ _ _ _ _ (c .before .before .before .before .before .before .before .before .before .before .before .before .before .before .before .read-run .ensures .rows-stored)) (c .before .before .before .before .before .before .before .before .before .next .given .1) (c .before .before .before .before .before .before .before .before .before .before .before .before .before .before .before .read-run .kept .1 .1 .1 .1 .0), omega (arith, c .before .before .before .before .before .before .before .before .before .before .before .before .before .before .before .before .before .before .before .before .before .before .before .before .before .pre .1 .1, c .before .before .before .before .before .before .before .before .before .before .before .before .before .before .before .before .before .before .before .loop .inv .3 .as-many, c .before .before .before .before .before .before .before .before .before .before .before .before .before .before .before .read-run .ensures .keys-kept .as-many, c .before .before .before .before .before .contains-or-insert .ensures .0 .as-many)))
+read-pairs-read-run-requires-2 t c κs = (omega (arith, c .before .before .before .before .before .before .before .before .before .before .before .before .before .before .before .before .before .before .before .before .before .before .before .before .before .pre .0), (room-after _ _ _ _ _ _ _ _ _ _ _ _ _ _ _ (c .before .before .before .before .before .before .before .before .before .before .before .before .before .before .before .before .before .before .before .loop .inv .0) (run-one _ _ _ _ _ _ _ _ _ _ (c .before .before .before .before .before .before .before .before .before .before .before .before .before .before .before .read-run .ensures .rows-stored)) (c .before .before .before .before .before .before .before .before .before .next .given .1) (c .before .before .before .before .before .before .before .before .before .before .before .before .before .before .before .read-run .kept .1 .1 .1 .1 .0), omega (arith, c .before .before .before .before .before .before .before .before .before .before .before .before .before .before .before .before .before .before .before .before .before .before .before .before .before .pre .1 .1, c .before .before .before .before .before .before .before .before .before .before .before .before .before .before .before .before .before .before .before .loop .inv .3 .as-many, c .before .before .before .before .before .before .before .before .before .before .before .before .before .before .before .read-run .ensures .keys-kept .as-many, c .before .before .before .before .before .contains-or-insert .ensures .slots-kept .as-many)))
 
 read-pairs-enum-known-number-2 : (t : ℕ) → read-pairs-lts.Need-enum-known-number-2 (read-pairs-calls t) (read-pairs-at t) read-pairs.Post read-pairs-Inv-loop read-pairs-μ-loop
 read-pairs-enum-known-number-2 t c = search needs
@@ -517,7 +517,7 @@ read-pairs-returns-3 : (t : ℕ) → read-pairs-lts.Need-returns-3 (read-pairs-c
 read-pairs-returns-3 t c =
     let i = c .before .before .before .before .before .before .before .before .before .before .before .before .before .before .before .before .before .before .before .before .before .before .before .before .before .before .before .loop in
     let e : i .more ≡ 0 → ⊥ = omega (arith, c .before .before .before .before .before .before .before .before .before .before .before .before .before .before .before .before .before .before .before .before .before .before .before .before .before .before .loop-test .taken) in
-    record { rows-stored = λ place. value-refused _ _ _ _ _ _ _ _ _ _ _ _ _ _ _ (i .inv .2) e _ _ (run-one _ _ _ _ _ _ _ _ _ _ (c .before .before .before .before .before .before .before .before .before .before .before .before .before .before .before .before .before .before .before .before .before .before .before .read-run .ensures .rows-stored)) _ (i .inv .0) _ _ (c .before .before .before .before .before .before .before .before .before .before .before .before .before .before .before .before .before .next .given .1) (keys-told _ _ _ _ _ _ (i .inv .0 .sized) (omega (arith, c .before .before .before .before .before .before .before .before .before .before .before .before .before .before .before .before .before .before .before .before .before .before .before .before .before .before .before .before .before .before .before .before .before .fits .n)) (λ j. omega (arith, c .before .before .before .before .before .before .before .before .before .before .before .before .before .before .before .before .before .before .before .before .before .before .before .before .before .before .before .before .before .before .before .before .shared-slice-known .given j))) _ _ (c .before .before .before .before .before .before .before .before .before .before .before .before .before .before .before .before .before .before .before .before .before .before .before .read-run .ensures .keys-kept) (c .before .before .before .before .before .before .before .before .before .before .before .before .before .contains-or-insert .ensures .1 .0) (c .before .before .before .before .before .before .before .before .before .before .if1 .left) _ _ (run-one _ _ _ _ _ _ _ _ _ _ (c .before .before .before .before .before .before .before .read-run2 .ensures .rows-stored)) _ _ place _ (c .before .number2 .given .1); keys-kept = keeps-trans (keeps-trans (keeps-trans (c .before .before .before .before .before .before .before .before .before .before .before .before .before .before .before .before .before .before .before .before .before .before .before .before .before .before .before .loop .inv .3) (c .before .before .before .before .before .before .before .before .before .before .before .before .before .before .before .before .before .before .before .before .before .before .before .read-run .ensures .keys-kept)) (c .before .before .before .before .before .before .before .before .before .before .before .before .before .contains-or-insert .ensures .0)) (c .before .before .before .before .before .before .before .read-run2 .ensures .keys-kept) }
+    record { rows-stored = λ place. value-refused _ _ _ _ _ _ _ _ _ _ _ _ _ _ _ (i .inv .2) e _ _ (run-one _ _ _ _ _ _ _ _ _ _ (c .before .before .before .before .before .before .before .before .before .before .before .before .before .before .before .before .before .before .before .before .before .before .before .read-run .ensures .rows-stored)) _ (i .inv .0) _ _ (c .before .before .before .before .before .before .before .before .before .before .before .before .before .before .before .before .before .next .given .1) (keys-told _ _ _ _ _ _ (i .inv .0 .sized) (omega (arith, c .before .before .before .before .before .before .before .before .before .before .before .before .before .before .before .before .before .before .before .before .before .before .before .before .before .before .before .before .before .before .before .before .before .fits .n)) (λ j. omega (arith, c .before .before .before .before .before .before .before .before .before .before .before .before .before .before .before .before .before .before .before .before .before .before .before .before .before .before .before .before .before .before .before .before .shared-slice-known .given j))) _ _ (c .before .before .before .before .before .before .before .before .before .before .before .before .before .before .before .before .before .before .before .before .before .before .before .read-run .ensures .keys-kept) (c .before .before .before .before .before .before .before .before .before .before .before .before .before .contains-or-insert .ensures .judged) (c .before .before .before .before .before .before .before .before .before .before .if1 .left) _ _ (run-one _ _ _ _ _ _ _ _ _ _ (c .before .before .before .before .before .before .before .read-run2 .ensures .rows-stored)) _ _ place _ (c .before .number2 .given .1); keys-kept = keeps-trans (keeps-trans (keeps-trans (c .before .before .before .before .before .before .before .before .before .before .before .before .before .before .before .before .before .before .before .before .before .before .before .before .before .before .before .loop .inv .3) (c .before .before .before .before .before .before .before .before .before .before .before .before .before .before .before .before .before .before .before .before .before .before .before .read-run .ensures .keys-kept)) (c .before .before .before .before .before .before .before .before .before .before .before .before .before .contains-or-insert .ensures .slots-kept)) (c .before .before .before .before .before .before .before .read-run2 .ensures .keys-kept) }
 
 read-pairs-enum-known-next-2 : (t : ℕ) → read-pairs-lts.Need-enum-known-next-2 (read-pairs-calls t) (read-pairs-at t) read-pairs.Post read-pairs-Inv-loop read-pairs-μ-loop
 read-pairs-enum-known-next-2 t c = search needs
@@ -532,7 +532,7 @@ read-pairs-loop-again : (t : ℕ) → read-pairs-lts.Need-loop-again (read-pairs
 read-pairs-loop-again t c =
     let i = c .before .before .before .before .before .before .before .before .before .before .before .before .before .before .before .before .before .before .before .before .before .before .before .before .before .before .before .loop in
     let e : i .more ≡ 0 → ⊥ = omega (arith, c .before .before .before .before .before .before .before .before .before .before .before .before .before .before .before .before .before .before .before .before .before .before .before .before .before .before .loop-test .taken) in
-    (room-after _ _ _ _ _ _ _ _ _ _ _ _ _ _ _ (room-after _ _ _ _ _ _ _ _ _ _ _ _ _ _ _ (i .inv .0) (run-one _ _ _ _ _ _ _ _ _ _ (c .before .before .before .before .before .before .before .before .before .before .before .before .before .before .before .before .before .before .before .before .before .before .before .read-run .ensures .rows-stored)) (c .before .before .before .before .before .before .before .before .before .before .before .before .before .before .before .before .before .next .given .1) (c .before .before .before .before .before .before .before .before .before .before .before .before .before .before .before .before .before .before .before .before .before .before .before .read-run .kept .1 .1 .1 .1 .0)) (run-one _ _ _ _ _ _ _ _ _ _ (c .before .before .before .before .before .before .before .read-run2 .ensures .rows-stored)) (c .before .next2 .given .1) (c .before .before .before .before .before .before .before .read-run2 .kept .1 .1 .1 .1 .0), c .before .before .before .before .before .before .before .read-run2 .kept .1 .1 .1 .1 .0 ∙ c .before .before .before .before .before .before .before .before .before .before .before .before .before .before .before .before .before .before .before .before .before .before .before .read-run .kept .1 .1 .1 .1 .0 ∙ i .inv .1, entered-more _ _ _ _ _ _ _ _ _ _ _ _ _ _ _ (i .inv .2) e _ _ (run-one _ _ _ _ _ _ _ _ _ _ (c .before .before .before .before .before .before .before .before .before .before .before .before .before .before .before .before .before .before .before .before .before .before .before .read-run .ensures .rows-stored)) _ (i .inv .0) _ _ (c .before .before .before .before .before .before .before .before .before .before .before .before .before .before .before .before .before .next .given .1) (keys-told _ _ _ _ _ _ (i .inv .0 .sized) (omega (arith, c .before .before .before .before .before .before .before .before .before .before .before .before .before .before .before .before .before .before .before .before .before .before .before .before .before .before .before .before .before .before .before .before .before .fits .n)) (λ j. omega (arith, c .before .before .before .before .before .before .before .before .before .before .before .before .before .before .before .before .before .before .before .before .before .before .before .before .before .before .before .before .before .before .before .before .shared-slice-known .given j))) _ _ (c .before .before .before .before .before .before .before .before .before .before .before .before .before .before .before .before .before .before .before .before .before .before .before .read-run .ensures .keys-kept) (c .before .before .before .before .before .before .before .before .before .before .before .before .before .contains-or-insert .ensures .1 .0) (c .before .before .before .before .before .before .before .before .before .before .if1 .left) _ _ (run-one _ _ _ _ _ _ _ _ _ _ (c .before .before .before .before .before .before .before .read-run2 .ensures .rows-stored)) _ _ (c .before .next2 .given .1) _ _ (c .before .before .before .before .before .before .before .before .before .before .before .before .before .contains-or-insert .ensures .0) (c .before .before .before .before .before .before .before .read-run2 .ensures .keys-kept) (c .before .before .before .before .before .before .before .before .before .before .before .before .before .contains-or-insert .ensures .1 .1), keeps-trans (keeps-trans (keeps-trans (c .before .before .before .before .before .before .before .before .before .before .before .before .before .before .before .before .before .before .before .before .before .before .before .before .before .before .before .loop .inv .3) (c .before .before .before .before .before .before .before .before .before .before .before .before .before .before .before .before .before .before .before .before .before .before .before .read-run .ensures .keys-kept)) (c .before .before .before .before .before .before .before .before .before .before .before .before .before .contains-or-insert .ensures .0)) (c .before .before .before .before .before .before .before .read-run2 .ensures .keys-kept))
+    (room-after _ _ _ _ _ _ _ _ _ _ _ _ _ _ _ (room-after _ _ _ _ _ _ _ _ _ _ _ _ _ _ _ (i .inv .0) (run-one _ _ _ _ _ _ _ _ _ _ (c .before .before .before .before .before .before .before .before .before .before .before .before .before .before .before .before .before .before .before .before .before .before .before .read-run .ensures .rows-stored)) (c .before .before .before .before .before .before .before .before .before .before .before .before .before .before .before .before .before .next .given .1) (c .before .before .before .before .before .before .before .before .before .before .before .before .before .before .before .before .before .before .before .before .before .before .before .read-run .kept .1 .1 .1 .1 .0)) (run-one _ _ _ _ _ _ _ _ _ _ (c .before .before .before .before .before .before .before .read-run2 .ensures .rows-stored)) (c .before .next2 .given .1) (c .before .before .before .before .before .before .before .read-run2 .kept .1 .1 .1 .1 .0), c .before .before .before .before .before .before .before .read-run2 .kept .1 .1 .1 .1 .0 ∙ c .before .before .before .before .before .before .before .before .before .before .before .before .before .before .before .before .before .before .before .before .before .before .before .read-run .kept .1 .1 .1 .1 .0 ∙ i .inv .1, entered-more _ _ _ _ _ _ _ _ _ _ _ _ _ _ _ (i .inv .2) e _ _ (run-one _ _ _ _ _ _ _ _ _ _ (c .before .before .before .before .before .before .before .before .before .before .before .before .before .before .before .before .before .before .before .before .before .before .before .read-run .ensures .rows-stored)) _ (i .inv .0) _ _ (c .before .before .before .before .before .before .before .before .before .before .before .before .before .before .before .before .before .next .given .1) (keys-told _ _ _ _ _ _ (i .inv .0 .sized) (omega (arith, c .before .before .before .before .before .before .before .before .before .before .before .before .before .before .before .before .before .before .before .before .before .before .before .before .before .before .before .before .before .before .before .before .before .fits .n)) (λ j. omega (arith, c .before .before .before .before .before .before .before .before .before .before .before .before .before .before .before .before .before .before .before .before .before .before .before .before .before .before .before .before .before .before .before .before .shared-slice-known .given j))) _ _ (c .before .before .before .before .before .before .before .before .before .before .before .before .before .before .before .before .before .before .before .before .before .before .before .read-run .ensures .keys-kept) (c .before .before .before .before .before .before .before .before .before .before .before .before .before .contains-or-insert .ensures .judged) (c .before .before .before .before .before .before .before .before .before .before .if1 .left) _ _ (run-one _ _ _ _ _ _ _ _ _ _ (c .before .before .before .before .before .before .before .read-run2 .ensures .rows-stored)) _ _ (c .before .next2 .given .1) _ _ (c .before .before .before .before .before .before .before .before .before .before .before .before .before .contains-or-insert .ensures .slots-kept) (c .before .before .before .before .before .before .before .read-run2 .ensures .keys-kept) (c .before .before .before .before .before .before .before .before .before .before .before .before .before .contains-or-insert .ensures .inserted), keeps-trans (keeps-trans (keeps-trans (c .before .before .before .before .before .before .before .before .before .before .before .before .before .before .before .before .before .before .before .before .before .before .before .before .before .before .before .loop .inv .3) (c .before .before .before .before .before .before .before .before .before .before .before .before .before .before .before .before .before .before .before .before .before .before .before .read-run .ensures .keys-kept)) (c .before .before .before .before .before .before .before .before .before .before .before .before .before .contains-or-insert .ensures .slots-kept)) (c .before .before .before .before .before .before .before .read-run2 .ensures .keys-kept))
 
 read-pairs-mul-t41 : (t : ℕ) → read-pairs-lts.Need-mul-t41 (read-pairs-calls t) (read-pairs-at t) read-pairs.Post read-pairs-Inv-loop read-pairs-μ-loop
 read-pairs-mul-t41 t c =
