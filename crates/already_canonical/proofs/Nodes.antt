@@ -1,4 +1,4 @@
--- Pids and references whose fields stand in the message as they are written, around their node. Assumes nothing.
+-- Pids and references whose fields stand in the message as they are written, around their node.
 use mathlib.Core.Path.{_≡_, refl, sym, _∙_, ap, ap₂, subst}
 use mathlib.Core.Bool.{false}
 use mathlib.Core.List.{List, _∷_, _++_}

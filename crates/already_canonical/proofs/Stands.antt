@@ -1,4 +1,4 @@
--- Terms whose bytes stand in the message as they are written. Assumes nothing.
+-- Terms whose bytes stand in the message as they are written.
 use mathlib.Core.Path.{_≡_, refl, sym, _∙_, ap, ap₂}
 use mathlib.Core.Bool.{Bool, true, false, cond}
 use mathlib.Core.List.{List, [], _∷_, _++_, append-nil}

@@ -1,4 +1,4 @@
--- The parts of a line, stored one after the other. Assumes nothing.
+-- The parts of a line, stored one after the other.
 use mathlib.Core.Path.{_≡_, refl, sym, ap, _∙_, subst}
 use mathlib.Core.Bool.{Bool, true, false}
 use mathlib.Core.List.{List, [], _∷_, _++_}

@@ -17,7 +17,7 @@ ghost use Rattle.term_spec.specs.AtomList.{lent-list};
 ghost use Rattle.term_spec.specs.Look.{number-in, text-in};
 ghost use Rattle.term_spec.specs.Message.{standalone, payload};
 ghost use Rattle.term_spec.specs.Text.{coding-of};
-ghost use Rattle.queries.specs.Code.{text-at};
+ghost use Rattle.queries.specs.Promises.{text-at};
 ghost use Rattle.packet_spec.specs.Answers.{place-answer, text-answer};
 ghost use Rattle.packet_spec.specs.Look.{place-of-reference, text-of-place};
 ghost use Rattle.packet_spec.specs.Memory.{cache-of, memory-of};

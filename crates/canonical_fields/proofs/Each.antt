@@ -1,4 +1,4 @@
--- What holds of every content that a kind may have, for a property of contents. Assumes nothing.
+-- What holds of every content that a kind may have, for a property of contents.
 use mathlib.Core.Path.{_≡_, refl}
 use mathlib.Core.Bool.{Bool, true, false, cond}
 use mathlib.Core.List.{List}

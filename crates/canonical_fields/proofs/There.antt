@@ -1,4 +1,4 @@
--- Contents that are there. Assumes nothing.
+-- Contents that are there.
 use mathlib.Core.Path.{_≡_, refl, sym, _∙_, ap}
 use mathlib.Core.Bool.{false}
 use mathlib.Core.List.{List}

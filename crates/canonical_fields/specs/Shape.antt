@@ -1,4 +1,5 @@
 -- The canonical form of a term that is written part by part: bytes before its parts, and bytes after them.
+-- About the code alone, proved against the definitions of term_spec: nothing here has to be believed.
 use mathlib.Core.Bool.{cond}
 use mathlib.Core.List.{List, [], _∷_, _++_}
 use mathlib.Core.Option.{Option, none}

@@ -1,4 +1,4 @@
--- Terms that are characters. Assumes nothing.
+-- Terms that are characters.
 use mathlib.Core.Path.{_≡_, refl, sym, _∙_, ap}
 use mathlib.Core.Bool.{Bool, true, false, cond}
 use mathlib.Core.List.{List, [], _∷_}

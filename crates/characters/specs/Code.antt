@@ -1,4 +1,5 @@
 -- A character as a number.
+-- About the code alone, proved against the definitions of term_spec: nothing here has to be believed.
 use mathlib.Core.Option.{Option, none, some}
 use Prim.Native.Nat.{ℕ, _-_}
 

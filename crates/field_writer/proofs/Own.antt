@@ -1,4 +1,4 @@
--- A term's own bytes by its layouts, what has nothing after its parts, and lists. Assumes nothing.
+-- A term's own bytes by its layouts, what has nothing after its parts, and lists.
 use mathlib.Core.Path.{_≡_, refl, sym, _∙_, ap, ap₂}
 use mathlib.Core.Bool.{Bool, true, false, cond}
 use mathlib.Core.List.{List, [], _∷_}

@@ -1,4 +1,5 @@
 -- What the code of fragments answers and leaves, in terms of the definitions of packets.
+-- About the code alone, proved against the definitions of packet_spec: nothing here has to be believed.
 use mathlib.Core.Path.{_≡_}
 use mathlib.Core.List.{List}
 use Prim.Native.Nat.{ℕ}

@@ -1,4 +1,5 @@
 -- What the code answers and leaves of a packet with a header, in terms of the definitions of packets.
+-- About the code alone, proved against the definitions of packet_spec: nothing here has to be believed.
 use mathlib.Core.Path.{_≡_}
 use mathlib.Core.List.{List}
 use Prim.Native.Nat.{ℕ, _+_, _≤_}

@@ -1,4 +1,5 @@
 -- The bytes that a layout says: numbers in their widths, then a body.
+-- About the code alone, proved against the definitions of term_spec: nothing here has to be believed.
 use mathlib.Core.Path.{_≡_}
 use mathlib.Core.List.{List, [], _++_}
 use Prim.Native.Nat.{ℕ, _+_, _≤_}

@@ -6,19 +6,11 @@ use Prim.Native.Nat.{ℕ}
 use lib.Dec.{eqb}
 use lib.ListN.{length}
 use borrow.Author.Tests.{eq-eqb, ne-eqb}
-use Rattle.term_spec.specs.AtomList.{of-size, lent-list}
+use Rattle.term_spec.specs.AtomList.{of-size}
 use Rattle.term_spec.proofs.Tests.{sizes-of, refuted, confirmed}
 use Rattle.packet_spec.specs.Memory.{Memory, cache-of, cache-of-size, memory-of-size}
 use Rattle.packet_spec.proofs.Cache.{sized}
 use Rattle.packet_spec.proofs.SizesKept.{all-sized}
-
-pub list-not : (places lengths : List ℕ) → (length places ≡ 8160 → ⊥) → (n : ℕ) → false ≡ of-size (lent-list n places lengths)
-unfolding of-size
-list-not places lengths e n = rw (ne-eqb (length places) 8160 e)
-
-pub list-if : (places lengths : List ℕ) → length places ≡ 8160 → (n : ℕ) → eqb (length lengths) 255 ≡ of-size (lent-list n places lengths)
-unfolding of-size
-list-if places lengths e n = rw (eq-eqb (length places) 8160 e)
 
 pub cache-not : (cache lengths : List ℕ) → (length cache ≡ 65536 → ⊥) → false ≡ cache-of-size (cache-of cache lengths)
 unfolding cache-of-size

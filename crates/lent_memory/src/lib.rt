@@ -1,7 +1,5 @@
 // Whether memory lent to the packet calls is of its stated size.
 ghost use mathlib.Core.Path.{_≡_};
-ghost use Prim.Native.Nat.{ℕ};
-ghost use Rattle.term_spec.specs.AtomList.{of-size, lent-list};
 ghost use Rattle.packet_spec.specs.Memory.{cache-of, cache-of-size};
 ghost use Rattle.lent_memory.specs.Code.{Fits};
 use packet_spec::sizes;
@@ -14,16 +12,6 @@ pub fn cache_fits(cache: &[u8], cache_lengths: &[u16]) -> bool
         return false;
     }
     cache_lengths.len() == sizes::CACHE_PLACES
-}
-
-// Whether an atom list is of its stated size.
-fn list_fits(list_places: &[u8], list_lengths: &[u16]) -> bool
-    ensures { λ r. ⌜ ((n : ℕ) → r ≡ of-size (lent-list n (now («list_places» .entry)) (now («list_lengths» .entry)))) ⌝ }
-{
-    if list_places.len() != term_spec::sizes::LIST_BYTES {
-        return false;
-    }
-    list_lengths.len() == term_spec::sizes::LIST_PLACES
 }
 
 // Whether all lent memory is of its stated size.
@@ -42,10 +30,10 @@ pub fn memory_fits(
     if !cache_fits(cache, cache_lengths) {
         return false;
     }
-    if !list_fits(plain_places, plain_lengths) {
+    if !atom_list::list_fits(plain_places, plain_lengths) {
         return false;
     }
-    if !list_fits(pending_places, pending_lengths) {
+    if !atom_list::list_fits(pending_places, pending_lengths) {
         return false;
     }
     gather.len() == sizes::GATHER_BYTES

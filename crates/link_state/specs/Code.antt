@@ -1,4 +1,5 @@
 -- What the calls on a link's state answer: refused, with the record as it was, or done, with the record zero.
+-- About the code alone, proved against the definitions of packet_spec: nothing here has to be believed.
 use Prim.Native.Nat.{ℕ}
 use Rattle.packet_spec.specs.declared.Pending.{Pending}
 use Rattle.packet_spec.specs.declared.Settled.{Settled}

@@ -15,7 +15,7 @@ use Rattle.term_spec.proofs.Backed.{Backed, Backeds}
 use Rattle.term_spec.proofs.Message.{Accepted-message}
 use Rattle.term_spec.proofs.Words.{small-rows, table-rows}
 use Rattle.row_fields.proofs.Read.{label-inside}
-use Rattle.map_keys.proofs.Held.{Held-rows}
+use Rattle.map_keys.proofs.InTable.{Rows-in-table}
 
 -- ---- every node stands below the message's end
 
@@ -33,7 +33,7 @@ module _ (message : List ℕ) (cap : ℕ) (atoms : Atoms) where
 -- ---- an accepted message
 
 pub held-rows : (list : AtomList) (lent : ℕ) (message : List ℕ) (ts : Terms) → Accepted-message list lent message ts
-    → Held-rows message (min 8192 lent) (atoms-of list) (table-after lent (good ts)) option.none 0 ts
+    → Rows-in-table message (min 8192 lent) (atoms-of list) (table-after lent (good ts)) option.none 0 ts
 unfolding whole-code
 held-rows list lent message ts a =
     let few : sizes ts ≤ min 8192 lent = a .known .few in

@@ -18,7 +18,7 @@ use Rattle.map_keys.specs.KeySet.{Contains, Keeps, hash-row-words, term-
 use Rattle.map_keys.proofs.Compare.{Known-tree, Known-rows, first-known, others-known, tree-size, pair-sizes}
 use Rattle.map_keys.proofs.Slots.{contains-as, contains-kept}
 use Rattle.map_keys.proofs.Hashes.{hash-here}
-use Rattle.map_keys.proofs.Held.{Held-rows, held-left, held-right}
+use Rattle.map_keys.proofs.InTable.{Rows-in-table, held-left, held-right}
 
 -- the set contains the keys of these pairs, from the row `row` on; their hashes start from the row `first`
 pub data Contains-keys (m places lengths : List ℕ) (whole : Option ℕ) (first : ℕ) : ℕ → Terms → List ℕ → Type 0 where
@@ -66,8 +66,8 @@ module _ (m places lengths S : List ℕ) (whole : Option ℕ) (first : ℕ) wher
 
 -- the rows of pairs, and of one more term, stand in the table
 module _ (m places lengths : List ℕ) (cap : ℕ) (atoms : Atoms) {S : List ℕ} {whole : Option ℕ} {first : ℕ} (us : Terms) (u : Located)
-    (h : Held-rows m cap atoms S whole first (us ▹▹ (u ▹ empty))) where
-  known-small : (n : ℕ) (ts : Terms) → Held-rows m cap atoms S whole n ts → Known-rows Small-row S whole n ts
+    (h : Rows-in-table m cap atoms S whole first (us ▹▹ (u ▹ empty))) where
+  known-small : (n : ℕ) (ts : Terms) → Rows-in-table m cap atoms S whole n ts → Known-rows Small-row S whole n ts
   known-small n ts g = record { stand = g .stand; all-known = g .all-small }
 
   pub hash-held : term-hash m places lengths S first (first + sizes us) ≡ hash-row-words m places lengths first (row-words (tree-rows whole (first + sizes us) u))

@@ -2,6 +2,6 @@ pub mod Compare
 pub mod Steps
 pub mod Slots
 pub mod Hashes
-pub mod Held
+pub mod InTable
 pub mod KeySet
 pub mod Accepted

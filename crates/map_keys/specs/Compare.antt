@@ -1,4 +1,5 @@
 -- Terms compared by their rows, said of the table's words alone, with the tests of the code in their order.
+-- About the code alone, proved against the definitions of term_spec: nothing here has to be believed.
 use mathlib.Core.Bool.{Bool, true, false, cond}
 use mathlib.Core.List.{List}
 use Prim.Native.Nat.{ℕ, zero, suc, _+_, _-_}

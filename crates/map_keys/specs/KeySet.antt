@@ -1,4 +1,5 @@
 -- The hash set of keys: each is inserted in the first empty slot from its hash on. A slot is 0 (empty) or the row of a key plus 1.
+-- About the code alone, proved against the definitions of term_spec: nothing here has to be believed.
 use mathlib.Core.Path.{_≡_}
 use mathlib.Core.Bool.{Bool, false}
 use mathlib.Core.List.{List, [], _∷_}

@@ -1,4 +1,4 @@
--- From reading to the answers of the calls, in both framings. Assumes nothing.
+-- From reading to the answers of the calls, in both framings.
 use mathlib.Core.Path.{_≡_, refl, sym, ap, ap₂, _∙_, subst}
 use mathlib.Core.Bool.{Bool, true, false, cond}
 use mathlib.Core.List.{List}
@@ -21,7 +21,8 @@ use Rattle.term_spec.specs.declared.NumberAnswer.{NumberAnswer}
 use Rattle.term_spec.specs.declared.MarkAnswer.{MarkAnswer}
 use Rattle.term_spec.proofs.Message.{accepted-message, allowed-valid}
 use Rattle.queries.specs.declared.TextAt.{TextAt}
-use Rattle.queries.specs.Code.{numbered, is-latin1, stretch-at, text-at, located, mark-at, Inside, bytes-at}
+use Rattle.queries.specs.Code.{numbered, located, mark-at, bytes-at}
+use Rattle.queries.specs.Promises.{is-latin1, stretch-at, text-at, Inside}
 use Rattle.queries.specs.Promises.{Locate-call}
 use Rattle.queries.proofs.Numbers.{float-exact}
 use Rattle.queries.proofs.Rows.{bits-answered, numbers-are, texts-are}

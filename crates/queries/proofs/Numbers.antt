@@ -1,4 +1,4 @@
--- The number of a content is that of the label that it says. Assumes nothing.
+-- The number of a content is that of the label that it says.
 use mathlib.Core.Path.{_≡_, refl, ap}
 use mathlib.Core.Bool.{Bool, true, false, not, cond}
 use mathlib.Core.List.{List}

@@ -1,4 +1,4 @@
--- What the calls find in the table of an accepted message is what its rows say. Assumes nothing.
+-- What the calls find in the table of an accepted message is what its rows say.
 use mathlib.Core.Path.{_≡_, refl, sym, ap, ap₂, _∙_, subst}
 use mathlib.Core.Bool.{Bool, true, false, _||_, cond}
 use mathlib.Core.List.{List, [], _∷_}
@@ -30,11 +30,12 @@ use Rattle.row_fields.specs.declared.Content.{Content}
 use Rattle.row_fields.specs.Found.{content-of}
 use Rattle.row_fields.proofs.Says.{Lent, Says}
 use Rattle.row_fields.proofs.Again.{content-says}
-use Rattle.map_keys.proofs.Held.{Held-rows, Backed-row, backed-rows}
+use Rattle.map_keys.proofs.InTable.{Rows-in-table, Backed-row, backed-rows}
 use Rattle.map_keys.proofs.Accepted.{held-rows}
 use Rattle.queries.specs.declared.TextAt.{TextAt}
 use Rattle.queries.specs.declared.TextAt.the-variants as texts
-use Rattle.queries.specs.Code.{content-number, numbered, atom-row, atom-among, text-at, text-said, located, Inside}
+use Rattle.queries.specs.Code.{content-number, numbered, atom-row, atom-among, text-said, located}
+use Rattle.queries.specs.Promises.{text-at, Inside}
 use Rattle.queries.proofs.Numbers.{content-is, float-label}
 use Rattle.queries.proofs.Texts.{atom-tag, content-stands, said-inside}
 
@@ -187,7 +188,7 @@ module _ (list : AtomList) (m : List ℕ) (ts : Terms) (few : list .n ≤ 255) (
   abbrev T : List ℕ
   T = table-after 8192 (good ts)
 
-  held : Held-rows m (min 8192 8192) (atoms-of list) T option.none 0 ts
+  held : Rows-in-table m (min 8192 8192) (atoms-of list) T option.none 0 ts
   held = held-rows list 8192 m ts a
 
   all-backed : Each-row (Backed-row m (min 8192 8192) (atoms-of list)) all

@@ -1,4 +1,4 @@
--- Signed numbers, and the bits of a float. Assumes nothing.
+-- Signed numbers, and the bits of a float.
 use mathlib.Core.Path.{_≡_, refl, sym, ap, _∙_, subst}
 use mathlib.Core.Bool.{Bool, not}
 use Prim.Native.Nat.{ℕ, zero, suc, _%_, _<_, _≤_, _^_}

@@ -1,4 +1,4 @@
--- Where the text of an atom stands: what is found again of the atom says what `text-of` says. Assumes nothing.
+-- Where the text of an atom stands: what is found again of the atom says what `text-of` says.
 use mathlib.Core.Path.{_≡_, refl, sym, ap, ap₂, _∙_}
 use mathlib.Core.Bool.{Bool, true, false, _&&_, _||_, cond}
 use mathlib.Core.List.{List, [], _∷_}
@@ -30,7 +30,8 @@ use Rattle.row_fields.specs.Meaning.{bare, label-of}
 use Rattle.row_fields.proofs.Says.{Sound}
 use Rattle.row_fields.proofs.Read.{All-rows, row-of, position-is, head-here}
 use Rattle.queries.specs.declared.TextAt.the-variants as texts
-use Rattle.queries.specs.Code.{is-latin1, stretch-at, text-said, Inside}
+use Rattle.queries.specs.Code.{text-said}
+use Rattle.queries.specs.Promises.{is-latin1, stretch-at, Inside}
 
 -- ---- an atom's label stands at an atom's tag
 

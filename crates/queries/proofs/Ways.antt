@@ -1,4 +1,4 @@
--- One law for each way through the functions. Assumes nothing.
+-- One law for each way through the functions.
 use mathlib.Core.Path.{_≡_, refl, ap}
 use mathlib.Core.Bool.{Bool, true, false}
 use mathlib.Core.List.{List, [], _∷_}
@@ -24,7 +24,8 @@ use Rattle.row_fields.specs.declared.Content.the-variants.{Nothing, Whole, Big,
 use Rattle.row_fields.specs.Found.{content-of}
 use Rattle.queries.specs.declared.TextAt.{TextAt}
 use Rattle.queries.specs.declared.TextAt.the-variants as texts
-use Rattle.queries.specs.Code.{signed-number, float-number, content-number, numbered, atom-row, atom-among, text-said, located, Inside, bytes-at}
+use Rattle.queries.specs.Code.{signed-number, float-number, content-number, numbered, atom-row, atom-among, text-said, located, bytes-at}
+use Rattle.queries.specs.Promises.{Inside}
 
 -- ---- numbers
 

@@ -1,4 +1,5 @@
 -- What the calls find, said of the table's words and the message's bytes alone, with the tests of the code in their order.
+-- About the code alone, proved against the definitions of term_spec: nothing here has to be believed.
 use mathlib.Core.Bool.{Bool, true, false, cond}
 use mathlib.Core.List.{List, []}
 use Prim.Native.Nat.{ℕ, zero, suc, _+_, _-_, _%_, _≤_}
@@ -83,29 +84,11 @@ located m places lengths T (reads.Terms terms rows) at =
     cond (atom-among T rows 0 at) (text-said at (content-of m places lengths 3 at)) (no-atom at)
 located m places lengths T (reads.Refused refusal) at = texts.Refused refusal
 
--- where an answered text stands
-unfoldable pub is-latin1 : Coding → Bool
-is-latin1 latin-1 = true
-is-latin1 utf-8 = false
-
-unfoldable pub stretch-at : Stretch → Coding → TextAt
-stretch-at (of-message start n) coding = texts.Message start n (is-latin1 coding)
-stretch-at (of-list start n) coding = texts.List start n
-
-unfoldable pub text-at : Answer (Stretch × Coding) → TextAt
-text-at (good t) = stretch-at (t .0) (t .1)
-text-at (refused n p) = texts.Refused (record { number = n; place = p })
-
 -- its mark, and its bytes
 unfoldable pub mark-at : TextAt → MarkAnswer
 mark-at (texts.Message start n latin1) = cond latin1 marks.Latin1 marks.Utf8
 mark-at (texts.List start n) = marks.Utf8
 mark-at (texts.Refused refusal) = marks.Refused refusal
-
-unfoldable pub Inside : List ℕ → List ℕ → TextAt → Type 0
-Inside m places (texts.Message start n latin1) = start + n ≤ length m
-Inside m places (texts.List start n) = start + n ≤ length places
-Inside m places (texts.Refused refusal) = Unit {0}
 
 unfoldable pub bytes-at : List ℕ → List ℕ → TextAt → List ℕ
 bytes-at m places (texts.Message start n latin1) = take n (drop start m)

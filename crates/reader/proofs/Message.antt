@@ -1,4 +1,4 @@
--- Messages: one law for each way through `standalone_terms`, `payload_terms` and the public calls. Assumes nothing.
+-- Messages: one law for each way through `standalone_terms`, `payload_terms` and the public calls.
 use mathlib.Core.Path.{_≡_, refl, sym, ap, ap₂, _∙_}
 use mathlib.Core.Bool.{Bool, true, false}
 use mathlib.Core.List.{List, [], _∷_, _++_, append-nil}

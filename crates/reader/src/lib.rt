@@ -197,7 +197,7 @@ fn long_terms(
 fn first_refusal(msg: &[u8], places: &[u8], lengths: &[u16]) -> u8
     ensures { λ r. ⌜ ((n : ℕ) → r ≡ first-refusal (lent-list n (now (places .entry)) (now (lengths .entry))) (now (msg .entry))) ⌝ }
 {
-    if !term_head::list_fits(places, lengths) {
+    if !atom_list::list_fits(places, lengths) {
         return refusals::SIZE;
     }
     if sizes::MESSAGE_MOST < msg.len() {

@@ -1,4 +1,4 @@
--- Two contents that are found of nodes are the same exactly where they say the same label. Assumes nothing.
+-- Two contents that are found of nodes are the same exactly where they say the same label.
 use mathlib.Core.Path.{_≡_, refl, sym, _∙_, ap, ap₂, subst}
 use mathlib.Core.Logic.{_⊎_, inl, inr}
 use mathlib.Core.Bool.{Bool, true, false, cond}

@@ -1,4 +1,4 @@
--- Hashes of contents: one law for each way through the functions that make them, and that contents that say the same have the same. Assumes nothing.
+-- Hashes of contents: one law for each way through the functions that make them, and that contents that say the same have the same.
 use mathlib.Core.Path.{_≡_, refl, sym, _∙_, ap, ap₂, subst}
 use mathlib.Core.Bool.{Bool, true, false, cond}
 use mathlib.Core.List.{List, [], _∷_, _++_, append-nil}

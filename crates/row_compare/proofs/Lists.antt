@@ -1,4 +1,4 @@
--- The comparison of lists, of parts of them, and of characters with bytes. Assumes nothing.
+-- The comparison of lists, of parts of them, and of characters with bytes.
 use mathlib.Core.Path.{_≡_, refl, sym, _∙_, ap, ap₂}
 use mathlib.Core.Bool.{Bool, true, false, cond}
 use mathlib.Core.List.{List, [], _∷_, _++_}

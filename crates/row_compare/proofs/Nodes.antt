@@ -1,4 +1,4 @@
--- What is found again of two nodes of one kind is compared: the same exactly where their labels are equal. Assumes nothing.
+-- What is found again of two nodes of one kind is compared: the same exactly where their labels are equal.
 use mathlib.Core.Path.{_≡_, refl, sym, _∙_, ap}
 use mathlib.Core.Bool.{Bool, true, false, cond}
 use mathlib.Core.List.{List}

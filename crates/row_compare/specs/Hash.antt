@@ -1,4 +1,5 @@
 -- A number of 32 bits for a content, over what it says, not over how it is encoded: contents that say the same have the same.
+-- About the code alone, proved against the definitions of term_spec: nothing here has to be believed.
 use mathlib.Core.Bool.{Bool, false, cond}
 use mathlib.Core.List.{List, [], _∷_}
 use Prim.Native.Nat.{ℕ, _+_, _*_, _-_, _/_, _%_}

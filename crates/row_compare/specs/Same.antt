@@ -1,4 +1,5 @@
 -- Whether two contents say the same label, with the tests of the code in their order.
+-- About the code alone, proved against the definitions of term_spec: nothing here has to be believed.
 use mathlib.Core.Path.{_≡_}
 use mathlib.Core.Bool.{Bool, true, false, not, cond}
 use mathlib.Core.List.{List, [], _∷_, _++_}

@@ -1,4 +1,4 @@
--- A row's own fields, found again in the message, are those that were read there. Assumes nothing.
+-- A row's own fields, found again in the message, are those that were read there.
 use mathlib.Core.Path.{_≡_, refl, sym, _∙_, ap}
 use mathlib.Core.Bool.{false}
 use mathlib.Core.List.{List}

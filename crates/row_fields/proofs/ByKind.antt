@@ -1,4 +1,4 @@
--- What is found of a row by its kind, one law for each. Assumes nothing.
+-- What is found of a row by its kind, one law for each.
 use mathlib.Core.Path.{_≡_, sym, ap}
 use mathlib.Core.List.{List}
 use Prim.Native.Nat.{ℕ}

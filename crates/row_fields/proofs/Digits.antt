@@ -1,4 +1,4 @@
--- Digits least first: high zeros are left out, and the rest summed from the highest down. Assumes nothing.
+-- Digits least first: high zeros are left out, and the rest summed from the highest down.
 use mathlib.Core.Bool.{cond}
 use mathlib.Core.Path.{_≡_, _∙_}
 use mathlib.Core.List.{List}

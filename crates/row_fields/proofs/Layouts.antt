@@ -1,4 +1,4 @@
--- Each layout of the tag table, read at an offset of the message: what is found again of the row says the label that was read. Assumes nothing.
+-- Each layout of the tag table, read at an offset of the message: what is found again of the row says the label that was read.
 use mathlib.Core.Path.{_≡_, refl, sym, _∙_, ap, ap₂, subst}
 use mathlib.Core.Logic.{inl, inr}
 use mathlib.Core.Bool.{Bool, true, false, _&&_, _||_, cond}

@@ -1,4 +1,4 @@
--- What the steps of reading find at an offset of the message, if they find anything. Assumes nothing.
+-- What the steps of reading find at an offset of the message, if they find anything.
 use mathlib.Core.Path.{_≡_, refl, sym, _∙_, ap, subst}
 use mathlib.Core.Bool.{Bool, true, false}
 use mathlib.Core.List.{List, [], _∷_}

@@ -1,4 +1,4 @@
--- What is found again of a node that the message backs says the node's label. Assumes nothing.
+-- What is found again of a node that the message backs says the node's label.
 use mathlib.Core.Path.{_≡_, refl, sym, _∙_, ap, subst}
 use mathlib.Core.Bool.{Bool, true, false, cond}
 use mathlib.Core.List.{List}

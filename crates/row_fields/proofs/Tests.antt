@@ -1,4 +1,4 @@
--- The ways through a definition that follows the code's tests: one law for each test and its outcome. Assumes nothing.
+-- The ways through a definition that follows the code's tests: one law for each test and its outcome.
 use mathlib.Core.Path.{_≡_, refl, sym, _∙_, ap, ap₂}
 use mathlib.Core.Bool.{Bool, true, false, cond}
 use Prim.Native.Nat.{ℕ, _+_, _-_, _≤_, _<_}

@@ -1,4 +1,4 @@
--- What is found where the fields are there, one law for each layout and each tag. Assumes nothing.
+-- What is found where the fields are there, one law for each layout and each tag.
 use mathlib.Core.Path.{_≡_, refl, sym, _∙_, ap, ap₂}
 use mathlib.Core.Bool.{Bool, true, false, cond}
 use mathlib.Core.List.{List}

@@ -1,4 +1,4 @@
--- Numbers in bytes: how large they are, that equal ones have equal bytes, and what high zero digits are worth. Assumes nothing.
+-- Numbers in bytes: how large they are, that equal ones have equal bytes, and what high zero digits are worth.
 use mathlib.Core.Path.{_≡_, refl, sym, _∙_, ap, ap₂}
 use mathlib.Core.Bool.{Bool, true, false, cond}
 use mathlib.Core.List.{List, [], _∷_, _++_}

@@ -1,5 +1,6 @@
 -- The own fields of the term whose tag stands at an offset of the message, as they are found again: total, with the tests of the code in their order.
 -- The message was read before, so nothing is judged again: fields that are not there are Nothing.
+-- About the code alone, proved against the definitions of term_spec: nothing here has to be believed.
 use mathlib.Core.Bool.{Bool, true, false, cond}
 use mathlib.Core.List.{List}
 use Prim.Native.Nat.{ℕ, zero, suc, _+_, _*_, _-_}

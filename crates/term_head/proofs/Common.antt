@@ -1,4 +1,4 @@
--- What a word that is not 0 tells of the term whose head it is: for the reader of terms. Assumes nothing.
+-- What a word that is not 0 tells of the term whose head it is: for the reader of terms.
 use mathlib.Core.Path.{_≡_, refl, ap, _∙_}
 use mathlib.Core.Bool.{Bool, true, false}
 use mathlib.Core.List.{List, [], _∷_}

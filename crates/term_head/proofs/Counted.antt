@@ -1,4 +1,4 @@
--- A count, then that many bytes: the fields of all forms that have them, by their end. Assumes nothing.
+-- A count, then that many bytes: the fields of all forms that have them, by their end.
 use mathlib.Core.Path.{_≡_, refl}
 use mathlib.Core.List.{List}
 use Prim.Native.Nat.{ℕ, _+_, _-_, _≤_, _<_}

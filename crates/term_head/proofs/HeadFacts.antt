@@ -1,4 +1,4 @@
--- What is known of a head that was read: where it ends, and what parts it wants. Assumes nothing.
+-- What is known of a head that was read: where it ends, and what parts it wants.
 use mathlib.Core.Path.{_≡_, refl, sym, ap, ap₂, _∙_}
 use mathlib.Core.Bool.{Bool, true, false, _&&_, _||_}
 use mathlib.Core.List.{List, [], _∷_}

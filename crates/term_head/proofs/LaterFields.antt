@@ -1,4 +1,4 @@
--- What the later fields say, from the tests that the code makes. Assumes nothing.
+-- What the later fields say, from the tests that the code makes.
 use mathlib.Core.Path.{_≡_, refl, sym, ap, _∙_}
 use mathlib.Core.Bool.{Bool, true, false, not, _&&_, _||_}
 use mathlib.Core.List.{List, [], _∷_}

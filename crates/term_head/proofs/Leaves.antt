@@ -1,4 +1,4 @@
--- What the fields before the first part say, from the tests that the code makes. Assumes nothing.
+-- What the fields before the first part say, from the tests that the code makes.
 use mathlib.Core.Path.{_≡_, refl, sym, ap, ap₂, _∙_}
 use mathlib.Core.Bool.{Bool, true, false, _&&_, _||_}
 use mathlib.Core.List.{List}

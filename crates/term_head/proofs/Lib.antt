@@ -8,4 +8,3 @@ mod Openings
 pub mod OpeningFacts
 mod Words
 pub mod Common
-mod Sizes

@@ -1,4 +1,4 @@
--- What is known of an opening that the code found: for the reader of terms. Assumes nothing.
+-- What is known of an opening that the code found: for the reader of terms.
 use mathlib.Core.Path.{_≡_, refl, sym, ap, _∙_}
 use mathlib.Core.Bool.{Bool, true, false, _&&_, _||_}
 use mathlib.Core.List.{List, [], _∷_}

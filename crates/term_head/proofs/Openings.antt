@@ -1,4 +1,4 @@
--- A term's opening, from the 108s of length 0 that the code skips. Assumes nothing.
+-- A term's opening, from the 108s of length 0 that the code skips.
 use mathlib.Core.Path.{_≡_, refl, sym, ap, _∙_}
 use mathlib.Core.Bool.{Bool, true, false, _&&_}
 use mathlib.Core.List.{List, [], _∷_}

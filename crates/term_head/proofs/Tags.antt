@@ -1,4 +1,4 @@
--- The tag table, from the tag that the code finds. Assumes nothing.
+-- The tag table, from the tag that the code finds.
 use mathlib.Core.Path.{_≡_, refl, sym, ap, _∙_}
 use mathlib.Core.Bool.{Bool, true, false, _||_}
 use mathlib.Core.List.{List, [], _∷_}

@@ -1,4 +1,4 @@
--- What the fields of atoms say, from the tests that the code makes. Assumes nothing.
+-- What the fields of atoms say, from the tests that the code makes.
 use mathlib.Core.Path.{_≡_, sym, ap}
 use mathlib.Core.Bool.{Bool, true, false}
 use mathlib.Core.List.{List}

@@ -1,4 +1,4 @@
--- The head of a common term in one word: what the code makes of it, and what is told of the term by a word that is not 0. Assumes nothing.
+-- The head of a common term in one word: what the code makes of it, and what is told of the term by a word that is not 0.
 use mathlib.Core.Path.{_≡_, refl}
 use Prim.Native.Nat.{ℕ, _+_, _*_, _≤_, _<_}
 use native.Mathlib.Omega.{arith}

@@ -1,4 +1,5 @@
 -- The head of a common term in one word, which is handed about faster than a head: its kind, the offset past it, the number of its parts.
+-- About the code alone, proved against the definitions of term_spec: nothing here has to be believed.
 use mathlib.Core.Path.{_≡_}
 use mathlib.Core.Bool.{Bool, true, false}
 use mathlib.Core.List.{[]}

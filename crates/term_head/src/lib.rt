@@ -112,16 +112,6 @@ pub enum Step {
     Refused { number: u8, place: usize },
 }
 
-// Whether an atom list is of its stated size.
-pub fn list_fits(places: &[u8], lengths: &[u16]) -> bool
-    ensures { λ r. ⌜ ((n : ℕ) → r ≡ of-size (lent-list n (now (places .entry)) (now (lengths .entry)))) ⌝ }
-{
-    if places.len() != sizes::LIST_BYTES {
-        return false;
-    }
-    lengths.len() == sizes::LIST_PLACES
-}
-
 // The offset past the bytes that are counted in `width` bytes after the tag at `at`, with `between` bytes before them; 0 where the message ends before it.
 fn past_counted(msg: &[u8], at: usize, width: usize, between: usize) -> usize
     requires { ⌜ (at < length (now msg)) × Width width × (between ≤ 1) ⌝ }

@@ -1,4 +1,4 @@
--- A term after its head: one law for each way through `read_term`, `read_body`, `read_inner` and `read_parts`. Assumes nothing.
+-- A term after its head: one law for each way through `read_term`, `read_body`, `read_inner` and `read_parts`.
 use mathlib.Core.Path.{_≡_, sym, ap, ap₂, _∙_}
 use mathlib.Core.List.{List, []}
 use mathlib.Core.Option.{some}

@@ -1,4 +1,4 @@
--- The characters of a 107, and their rows. Assumes nothing.
+-- The characters of a 107, and their rows.
 use mathlib.Core.Path.{_≡_, refl, sym, ap, ap₂, _∙_}
 use mathlib.Core.List.{List, [], _∷_, _++_}
 use Prim.Native.Nat.{ℕ, zero, suc, _+_, _-_, _≤_, _<_}

@@ -1,4 +1,4 @@
--- Keys and their values: one law for each way through `read_pairs`. Assumes nothing.
+-- Keys and their values: one law for each way through `read_pairs`.
 use mathlib.Core.Path.{_≡_, refl, sym, ap, _∙_, subst}
 use mathlib.Core.Bool.{Bool, true, false, not}
 use mathlib.Core.List.{List, [], _∷_, append-nil}
@@ -26,7 +26,7 @@ use Rattle.term_head.specs.Code.{wanted-of}
 use Rattle.map_keys.specs.Compare.{among-rows}
 use Rattle.map_keys.specs.KeySet.{Contains, Keeps, term-hash, Contains-before}
 use Rattle.map_keys.proofs.Compare.{Keys-of, no-keys, one-more-key}
-use Rattle.map_keys.proofs.Held.{Held-rows, last-among}
+use Rattle.map_keys.proofs.InTable.{Rows-in-table, last-among}
 use Rattle.map_keys.proofs.Slots.{keeps-trans, contains-as, contains-kept}
 use Rattle.map_keys.proofs.KeySet.{Contains-keys, no-key, keys-kept, keys-more, contains-before, hash-held}
 use Rattle.term_reader.specs.declared.Step.{Step}
@@ -41,7 +41,7 @@ use Rattle.term_reader.proofs.Runs.{after-same, after-after, after-done
 -- a key past pairs is compared with each key of theirs
 abbrev pub Told : List ℕ → ℕ → Atoms → List ℕ → List ℕ → ℕ → Type 0
 Told m cap atoms places lengths first =
-    (S : List ℕ) (us : Terms) (u : Located) (ks : List Term) → Keys-of us ks → Held-rows m cap atoms S (whole-of first) first (us ▹▹ (u ▹ empty))
+    (S : List ℕ) (us : Terms) (u : Located) (ks : List Term) → Keys-of us ks → Rows-in-table m cap atoms S (whole-of first) first (us ▹▹ (u ▹ empty))
     → among-rows m places lengths S first (first + sizes us) ≡ among (meaning u) ks
 
 pub keys-told : (n : ℕ) (places lengths m : List ℕ) (cap first : ℕ) → of-size (lent-list n places lengths) ≡ true → n < 256 → ((i : ℕ) → getD m i 0 < 256)
@@ -160,7 +160,7 @@ module _ (atoms : Atoms) (cap deep : ℕ) (m places lengths : List ℕ) (start f
         unfolding Each-node
         placed-key = each-nodes-join (Placed 65536) (i .ts) (key .x ▹ empty) (i .placed) (key .from, tt)
 
-        held : Held-rows m cap atoms T′ (whole-of first) first (i .ts ▹▹ (key .x ▹ empty))
+        held : Rows-in-table m cap atoms T′ (whole-of first) first (i .ts ▹▹ (key .x ▹ empty))
         held =
             let us : Terms = i .ts ▹▹ (key .x ▹ empty) in
             let ws : List ℕ = row-words (rows (whole-of first) first us) in

@@ -1,4 +1,4 @@
--- What a reader that answers `Got` has found, and what one that refuses has. Assumes nothing.
+-- What a reader that answers `Got` has found, and what one that refuses has.
 use mathlib.Core.Path.{_≡_, sym, ap, ap₂, _∙_}
 use mathlib.Core.List.{List}
 use Prim.Native.Nat.{ℕ, suc, _+_, _≤_}

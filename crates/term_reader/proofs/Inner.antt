@@ -1,4 +1,4 @@
--- The parts of a term: one law for each way through `read_inner`, `read_parts`, `read_list`, `read_tail` and `read_last`. Assumes nothing.
+-- The parts of a term: one law for each way through `read_inner`, `read_parts`, `read_list`, `read_tail` and `read_last`.
 use mathlib.Core.Path.{_≡_, refl, sym, ap, ap₂, _∙_}
 use mathlib.Core.List.{List, [], _∷_, append-nil}
 use Prim.Native.Nat.{ℕ, _+_, _-_, _≤_, _<_}

@@ -1,4 +1,4 @@
--- What the code's opening says of the definition's. Assumes nothing.
+-- What the code's opening says of the definition's.
 use mathlib.Core.Path.{_≡_, refl, sym, ap, ap₂, _∙_, subst}
 use mathlib.Core.List.{List, [], _∷_}
 use Prim.Native.Nat.{ℕ, _+_, _≤_, _<_}

@@ -1,4 +1,4 @@
--- A common term by the word of its head: one law for each way through `read_quick` and `read_common`, and for a leaf in `read_run`. Assumes nothing.
+-- A common term by the word of its head: one law for each way through `read_quick` and `read_common`, and for a leaf in `read_run`.
 use mathlib.Core.Path.{_≡_, refl, sym, ap, _∙_}
 use mathlib.Core.List.{List, []}
 use Prim.Native.Nat.{ℕ, _+_, _-_, _/_, _%_, _≤_, _<_}

@@ -1,4 +1,4 @@
--- Terms in turn: one law for each way through `read_run` and `read_wanted`. Assumes nothing.
+-- Terms in turn: one law for each way through `read_run` and `read_wanted`.
 use mathlib.Core.Path.{_≡_, refl, sym, ap, ap₂, _∙_}
 use mathlib.Core.List.{List, [], _∷_, _++_, append-nil}
 use Prim.Native.Nat.{ℕ, zero, suc, _+_, _-_, _≤_, min}

@@ -1,3 +1,3 @@
-pub mod Held
+pub mod InTable
 pub mod Strings
 pub mod Terms

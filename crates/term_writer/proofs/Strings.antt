@@ -25,9 +25,9 @@ use Rattle.layout.specs.Layout.{Put}
 use Rattle.canonical_fields.specs.Shape.{some-small}
 use Rattle.canonical_fields.specs.Sound.{label-in, Sound-word}
 use Rattle.characters.specs.Code.{character-code}
-use Rattle.term_writer.specs.Held.{Held, Held-run, as-string, is-some}
+use Rattle.term_writer.specs.InTable.{Term-in-table, Run-in-table, as-string, is-some}
 use Rattle.term_writer.specs.Code.{string-term, Some-term, Some-run, Some-small, Small-told}
-use Rattle.term_writer.proofs.Held.{run-first, run-others, held-parts, held-writable, held-below, held-kind, held-count, held-label, held-sound, kind-list, tag-kind}
+use Rattle.term_writer.proofs.InTable.{run-first, run-others, held-parts, held-writable, held-below, held-kind, held-count, held-label, held-sound, kind-list, tag-kind}
 
 -- ---- small labels
 
@@ -96,18 +96,18 @@ module _ (m places lengths T : List ℕ) where
     pub parts : Terms
     pub others : Terms
     pub is : ts ≡ node label parts ▹ others
-    pub held : Held m places lengths T row (node label parts)
-    pub held-others : Held-run m places lengths T (row + suc (sizes parts)) others
+    pub held : Term-in-table m places lengths T row (node label parts)
+    pub held-others : Run-in-table m places lengths T (row + suc (sizes parts)) others
 
   pub record Small-left (row n : ℕ) (ts : Terms) (i : ℕ) : Type 0 where
     pub rest : Terms
-    pub rest-held : Held-run m places lengths T (row + i) rest
+    pub rest-held : Run-in-table m places lengths T (row + i) rest
     pub rest-count : count rest ≡ n - i
     pub same : is-some (all-small (meanings ts)) ≡ is-some (all-small (meanings rest))
 
   pub record Characters-left (row n at : ℕ) (cs O out : List ℕ) (i : ℕ) : Type 0 where
     pub rest : Terms
-    pub rest-held : Held-run m places lengths T (row + i) rest
+    pub rest-held : Run-in-table m places lengths T (row + i) rest
     pub rest-count : count rest ≡ n - i
     pub left : List ℕ
     pub are : all-small (meanings rest) ≡ some left
@@ -129,7 +129,7 @@ none-left Forest.empty k ds c z e = cc
 none-left (t ▹ us) k ds c z e = absurd (omega arith)
 
 module _ {m places lengths T : List ℕ} where
-  pub front : (row : ℕ) (ts : Terms) → Held-run m places lengths T row ts → 0 < count ts → Front m places lengths T row ts
+  pub front : (row : ℕ) (ts : Terms) → Run-in-table m places lengths T row ts → 0 < count ts → Front m places lengths T row ts
   front row Forest.empty h p = absurd (omega arith)
   front row (node l us ▹ ts) h p = record { label = l; parts = us; others = ts; is = refl; held = run-first h; held-others = run-others h }
 
@@ -145,14 +145,14 @@ module _ {m places lengths T : List ℕ} where
 
   -- what is left of a run in a loop
   pub small-rest : {row n i : ℕ} → Some-run m places lengths T row n
-      → ((ts : Terms) → Held-run m places lengths T row ts → count ts ≡ n → Small-left m places lengths T row n ts i) → Some-run m places lengths T (row + i) (n - i)
+      → ((ts : Terms) → Run-in-table m places lengths T row ts → count ts ≡ n → Small-left m places lengths T row n ts i) → Some-run m places lengths T (row + i) (n - i)
   small-rest r inv = let s = inv (r .terms) (r .held) (r .counted) in record { terms = s .rest; held = s .rest-held; counted = s .rest-count }
 
   code-held : {row : ℕ} {ts : Terms} (f : Front m places lengths T row ts) → character-code (small (label-in m places lengths (getD T row 0))) ≡ character-code (small (f .label .0))
   code-held f = ap (λ (l : Label). character-code (small l)) (held-label (f .held))
 
   -- a small integer has one row
-  next-held : (row i : ℕ) {ts : Terms} (f : Front m places lengths T (row + i) ts) (x : ℕ) → small (f .label .0) ≡ some x → Held-run m places lengths T (row + (i + 1)) (f .others)
+  next-held : (row i : ℕ) {ts : Terms} (f : Front m places lengths T (row + i) ts) (x : ℕ) → small (f .label .0) ≡ some x → Run-in-table m places lengths T (row + (i + 1)) (f .others)
   next-held row i f x e =
       let leaf : f .parts ≡ Forest.empty = no-forest (f .parts) (small-leaf (f .label .0) (meanings (f .parts)) x e (held-writable (f .held) .fits)) in
       let z : sizes (f .parts) ≡ 0 = ap sizes leaf in
@@ -161,7 +161,7 @@ module _ {m places lengths T : List ℕ} where
 
   -- ---- whether all of a run are small
 
-  pub small-start : (row n : ℕ) (ts : Terms) → Held-run m places lengths T row ts → count ts ≡ n → Small-left m places lengths T row n ts 0
+  pub small-start : (row n : ℕ) (ts : Terms) → Run-in-table m places lengths T row ts → count ts ≡ n → Small-left m places lengths T row n ts 0
   small-start row n ts h c =
       let e : row ≡ row + 0 = omega arith in
       record { rest = ts; rest-held = rw (← e) h; rest-count = omega arith; same = refl }
@@ -213,7 +213,7 @@ put-inverse (some x) none ds e = let no-way : _≡_ {A = ℕ} 0 1 = cc in absurd
 put-inverse (some x) (some es) ds e = record { first = x; others = es; first-is = refl; others-are = refl; joined = cc }
 
 module _ {m places lengths T : List ℕ} where
-  pub characters-start : (row n at : ℕ) (ts : Terms) (cs O : List ℕ) → Held-run m places lengths T row ts → count ts ≡ n → all-small (meanings ts) ≡ some cs
+  pub characters-start : (row n at : ℕ) (ts : Terms) (cs O : List ℕ) → Run-in-table m places lengths T row ts → count ts ≡ n → all-small (meanings ts) ≡ some cs
       → Characters-left m places lengths T row n at cs O O 0
   characters-start row n at ts cs O h c e =
       let f : row ≡ row + 0 = omega arith in
@@ -221,7 +221,7 @@ module _ {m places lengths T : List ℕ} where
       record { rest = ts; rest-held = rw (← f) h; rest-count = omega arith; left = cs; are = e; stored = ap (λ (k : ℕ). sets O k cs) g }
 
   module _ {row n at i : ℕ} {O out : List ℕ} (a : Some-small m places lengths T row n)
-      (inv : (ts : Terms) (cs : List ℕ) → Held-run m places lengths T row ts → count ts ≡ n → all-small (meanings ts) ≡ some cs
+      (inv : (ts : Terms) (cs : List ℕ) → Run-in-table m places lengths T row ts → count ts ≡ n → all-small (meanings ts) ≡ some cs
       → Characters-left m places lengths T row n at cs O out i) where
     pub characters-here : Characters-left m places lengths T row n at (a .characters) O out i
     characters-here = inv (a .small-terms) (a .characters) (a .small-held) (a .small-counted) (a .are-small)
@@ -330,18 +330,18 @@ none-told none e = refl
 none-told (some cs) e = let no-way : _≡_ {A = ℕ} 0 1 = cc in absurd (omega arith)
 
 module _ {m places lengths T : List ℕ} {row : ℕ} where
-  pub other-kind : (k : ℕ) → k ≡ kind-in (getD T row 0) → (k ≡ 5 → ⊥) → (t : Located) → Held m places lengths T row t → false ≡ string-term t
+  pub other-kind : (k : ℕ) → k ≡ kind-in (getD T row 0) → (k ≡ 5 → ⊥) → (t : Located) → Term-in-table m places lengths T row t → false ≡ string-term t
   unfolding string-term is-some
   other-kind k e n (node l ts) h =
       sym (ap (λ (o : Option (List ℕ)). is-some o) (as-other (l .0) (meanings ts) (λ f. n (e ∙ held-kind h ∙ held-writable h .at-tag (kind-list (l .0) f)))))
 
-  pub no-elements : (n : ℕ) → n ≡ parts-in (getD T row 0) → n ≡ 0 → (t : Located) → Held m places lengths T row t → false ≡ string-term t
+  pub no-elements : (n : ℕ) → n ≡ parts-in (getD T row 0) → n ≡ 0 → (t : Located) → Term-in-table m places lengths T row t → false ≡ string-term t
   unfolding string-term is-some
   no-elements n e z (node l ts) h =
       sym (ap (λ (o : Option (List ℕ)). is-some o) (as-empty (l .0) (meanings ts) (count-meanings ts ∙ sym (held-count h) ∙ sym e ∙ z)))
 
   pub elements-told : (k n : ℕ) (r : Bool) → k ≡ kind-in (getD T row 0) → k ≡ 5 → n ≡ parts-in (getD T row 0) → (n ≡ 0 → ⊥)
-      → Small-told m places lengths T (row + 1) n r → (t : Located) → Held m places lengths T row t → r ≡ string-term t
+      → Small-told m places lengths T (row + 1) n r → (t : Located) → Term-in-table m places lengths T row t → r ≡ string-term t
   unfolding string-term
   elements-told k n r e five f any told (node l ts) h =
       let c : count ts ≡ n = sym (held-count h) ∙ sym f in
@@ -350,7 +350,7 @@ module _ {m places lengths T : List ℕ} {row : ℕ} where
       (as-list (l .0) (meanings ts) (tag-kind (l .0) (l .1) 5 (omega arith) (sym (held-kind h) ∙ sym e ∙ five))
       ∙ small-some (count (meanings ts)) (all-small (meanings ts)) (λ z. any (sym c ∙ sym (count-meanings ts) ∙ z))))
 
-  term-node : (t : Located) → Held m places lengths T row t → (l : Label × Place) × (ts : Terms) × Held m places lengths T row (node l ts)
+  term-node : (t : Located) → Term-in-table m places lengths T row t → (l : Label × Place) × (ts : Terms) × Term-in-table m places lengths T row (node l ts)
   term-node (node l ts) h = (l, ts, h)
 
   pub term-below : Some-term m places lengths T row → row < length T

@@ -24,9 +24,9 @@ use Rattle.layout.proofs.Puts.{put-then, put-same, put-length}
 use Rattle.canonical_fields.specs.Shape.{before, after}
 use Rattle.canonical_fields.specs.Sound.{label-in, before-in, after-in}
 use Rattle.canonical_fields.proofs.Shape.{canonical-parts, canonical-string}
-use Rattle.term_writer.specs.Held.{Held, Held-run, as-string}
+use Rattle.term_writer.specs.InTable.{Term-in-table, Run-in-table, as-string}
 use Rattle.term_writer.specs.Code.{string-term, Some-term, Some-run, Some-small, String-told, String-put, Run-length, Run-put, Term-length, Term-put, Run-fits, Term-fits}
-use Rattle.term_writer.proofs.Held.{held-parts, held-writable, held-count, held-size, held-label}
+use Rattle.term_writer.proofs.InTable.{held-parts, held-writable, held-count, held-size, held-label}
 use Rattle.term_writer.proofs.Strings.{front, run-front, as-list, as-inverse, small-is, some-told, none-told, count-meanings, no-elements}
 
 -- ---- a string
@@ -50,19 +50,19 @@ pub record Strung (l : Label × Place) (ts : Terms) : Type 0 where
 record Parts-fit (m places lengths T : List ℕ) (row room at : ℕ) : Type 0 where
   label : Label × Place
   parts : Terms
-  held : Held m places lengths T row (node label parts)
+  held : Term-in-table m places lengths T row (node label parts)
   fits : at
       + (length (before-in m places lengths (getD T row 0)) + (length (canonicals (meanings parts)) + length (after-in m places lengths (getD T row 0))))
       ≤ room
 
 module _ {m places lengths T : List ℕ} {row : ℕ} where
-  few-parts : {l : Label × Place} {ts : Terms} → Held m places lengths T row (node l ts) → count ts + 1 ≤ 8192
+  few-parts : {l : Label × Place} {ts : Terms} → Term-in-table m places lengths T row (node l ts) → count ts + 1 ≤ 8192
   few-parts {l} {ts} h =
       let c : count ts ≤ sizes ts = count-le-sizes ts in
       let f : row + suc (sizes ts) ≤ 8192 = h .few in
       omega arith
 
-  pub strung : {l : Label × Place} {ts : Terms} → Held m places lengths T row (node l ts) → string-term (node l ts) ≡ true → Strung l ts
+  pub strung : {l : Label × Place} {ts : Terms} → Term-in-table m places lengths T row (node l ts) → string-term (node l ts) ≡ true → Strung l ts
   unfolding string-term
   strung {l} {ts} h e =
       let o = some-told (as-string (l .0) (meanings ts)) e in
@@ -78,7 +78,7 @@ module _ {m places lengths T : List ℕ} {row : ℕ} where
       }
 
   -- of one that is written part by part
-  pub unstrung : {l : Label × Place} {ts : Terms} → Held m places lengths T row (node l ts) → string-term (node l ts) ≡ false
+  pub unstrung : {l : Label × Place} {ts : Terms} → Term-in-table m places lengths T row (node l ts) → string-term (node l ts) ≡ false
       → canonical (node (l .0) (meanings ts))
       ≡ before-in m places lengths (getD T row 0) ++ (canonicals (meanings ts) ++ after-in m places lengths (getD T row 0))
   unfolding string-term kind-of
@@ -90,14 +90,14 @@ module _ {m places lengths T : List ℕ} {row : ℕ} where
       canonical-parts (l .0) (meanings ts) (held-writable h .fits) (λ f. sym (as-list (l .0) (meanings ts) (ap kind-of f)) ∙ no)
       ∙ ap₂ (λ (y : Label) (k : ℕ). before y k ++ (canonicals (meanings ts) ++ after y k)) x n
 
-  unstrung-length : {l : Label × Place} {ts : Terms} → Held m places lengths T row (node l ts) → string-term (node l ts) ≡ false
+  unstrung-length : {l : Label × Place} {ts : Terms} → Term-in-table m places lengths T row (node l ts) → string-term (node l ts) ≡ false
       → length (canonical (node (l .0) (meanings ts)))
       ≡ length (before-in m places lengths (getD T row 0)) + (length (canonicals (meanings ts)) + length (after-in m places lengths (getD T row 0)))
   unstrung-length h e = rw (unstrung h e) (simp length-append)
 
   -- ---- lengths
 
-  pub string-length : (n : ℕ) → n ≡ parts-in (getD T row 0) → (t : Located) → Held m places lengths T row t → string-term t ≡ true
+  pub string-length : (n : ℕ) → n ≡ parts-in (getD T row 0) → (t : Located) → Term-in-table m places lengths T row t → string-term t ≡ true
       → (n + 3 ≡ length (canonical (meaning t))) × (n + 3 ≤ 524288 * size t)
   string-length n e (node l ts) h s =
       let g = strung h s in
@@ -114,7 +114,7 @@ module _ {m places lengths T : List ℕ} {row : ℕ} where
   pub parts-length : (n own inner : ℕ) → n ≡ parts-in (getD T row 0)
       → own ≡ length (before-in m places lengths (getD T row 0)) + length (after-in m places lengths (getD T row 0)) → own ≤ 262192
       → Run-length m places lengths T (row + 1) canonicals n inner
-      → (t : Located) → Held m places lengths T row t → string-term t ≡ false
+      → (t : Located) → Term-in-table m places lengths T row t → string-term t ≡ false
       → (own + inner ≡ length (canonical (meaning t))) × (own + inner ≤ 524288 * size t)
   parts-length n own inner e o b r (node l ts) h s =
       let c : count ts ≡ n = sym (held-count h) ∙ sym e in
@@ -122,7 +122,7 @@ module _ {m places lengths T : List ℕ} {row : ℕ} where
       let d = unstrung-length h s in
       (omega arith, omega arith)
 
-  pub few-rows : (t : Located) → Held m places lengths T row t → size t ≤ 8192
+  pub few-rows : (t : Located) → Term-in-table m places lengths T row t → size t ≤ 8192
   few-rows t h = let f : row + size t ≤ 8192 = h .few in omega arith
 
   pub fits-some : {one : Term → List ℕ} {room at : ℕ} → Term-fits m places lengths T row one room at → Some-term m places lengths T row
@@ -134,13 +134,13 @@ module _ {m places lengths T : List ℕ} {row : ℕ} where
       → Put O at (before-in m places lengths (getD T row 0)) first P
       → Run-put m places lengths T (row + 1) canonicals n P first end Q
       → Put Q end (after-in m places lengths (getD T row 0)) r R
-      → (t : Located) → Held m places lengths T row t → string-term t ≡ false → Put O at (canonical (meaning t)) r R
+      → (t : Located) → Term-in-table m places lengths T row t → string-term t ≡ false → Put O at (canonical (meaning t)) r R
   parts-put e p q a (node l ts) h s =
       let c = sym (held-count h) ∙ sym e in
       put-same (sym (unstrung h s)) (put-then p (put-then (q ts (held-parts h) c) a))
 
   pub string-written : {O P : List ℕ} {at r n : ℕ} → n ≡ parts-in (getD T row 0) → String-put m places lengths T (row + 1) n O at r P
-      → (t : Located) → Held m places lengths T row t → string-term t ≡ true → Put O at (canonical (meaning t)) r P
+      → (t : Located) → Term-in-table m places lengths T row t → string-term t ≡ true → Put O at (canonical (meaning t)) r P
   string-written {n = n} e p (node l ts) h s =
       let g = strung h s in
       let c : count ts ≡ n = sym (held-count h) ∙ sym e in
@@ -150,7 +150,7 @@ module _ {m places lengths T : List ℕ} {row : ℕ} where
       → String-told m places lengths T row b → b ≡ true → Some-small m places lengths T (row + 1) n × (at + (n + 3) ≤ room) × (n < 65536)
   string-needs {n} {room} {at} e a told y = go (a .fit-term) (a .fit-held) (sym (told (a .fit-term) (a .fit-held)) ∙ y) (a .fit-room)
     where
-      go : (t : Located) → Held m places lengths T row t → string-term t ≡ true → at + length (canonical (meaning t)) ≤ room
+      go : (t : Located) → Term-in-table m places lengths T row t → string-term t ≡ true → at + length (canonical (meaning t)) ≤ room
           → Some-small m places lengths T (row + 1) n × (at + (n + 3) ≤ room) × (n < 65536)
       go (node l ts) h s fit =
           let g = strung h s in
@@ -163,7 +163,7 @@ module _ {m places lengths T : List ℕ} {row : ℕ} where
     parts-fit : Parts-fit m places lengths T row room at
     parts-fit = go (a .fit-term) (a .fit-held) (sym (told (a .fit-term) (a .fit-held)) ∙ y) (a .fit-room)
       where
-        go : (t : Located) → Held m places lengths T row t → string-term t ≡ false → at + length (canonical (meaning t)) ≤ room → Parts-fit m places lengths T row room at
+        go : (t : Located) → Term-in-table m places lengths T row t → string-term t ≡ false → at + length (canonical (meaning t)) ≤ room → Parts-fit m places lengths T row room at
         go (node l ts) h s fit = let d = unstrung-length h s in record { label = l; parts = ts; held = h; fits = omega arith }
 
     pub before-room : at + length (before-in m places lengths (getD T row 0)) ≤ room
@@ -204,7 +204,7 @@ nothing-there = refl
 module _ (m places lengths T : List ℕ) where
   pub record Length-left (ts : Terms) (next left sum : ℕ) : Type 0 where
     pub rest : Terms
-    pub rest-held : Held-run m places lengths T next rest
+    pub rest-held : Run-in-table m places lengths T next rest
     pub rest-count : count rest ≡ left
     pub total : length (canonicals (meanings ts)) ≡ sum + length (canonicals (meanings rest))
     pub bound : sum + 524288 * sizes rest ≤ 524288 * sizes ts
@@ -213,13 +213,13 @@ module _ (m places lengths T : List ℕ) where
   module _ (all : Forest Label → List ℕ) where
     pub record Put-left (O : List ℕ) (at : ℕ) (ts : Terms) (next left : ℕ) (out : List ℕ) (end : ℕ) : Type 0 where
       pub rest : Terms
-      pub rest-held : Held-run m places lengths T next rest
+      pub rest-held : Run-in-table m places lengths T next rest
       pub rest-count : count rest ≡ left
       pub past : end + length (all (meanings rest)) ≡ at + length (all (meanings ts))
       pub stored : sets out end (all (meanings rest)) ≡ sets O at (all (meanings ts))
 
 module _ {m places lengths T : List ℕ} where
-  pub length-start : (n row : ℕ) (ts : Terms) → Held-run m places lengths T row ts → count ts ≡ n → Length-left m places lengths T ts row n 0
+  pub length-start : (n row : ℕ) (ts : Terms) → Run-in-table m places lengths T row ts → count ts ≡ n → Length-left m places lengths T ts row n 0
   length-start n row ts h c = record { rest = ts; rest-held = h; rest-count = c; total = omega arith; bound = omega arith }
 
   pub length-step : {ts : Terms} {next left sum : ℕ} (s r : ℕ) → Length-left m places lengths T ts next left sum → 0 < left → s ≡ size-in (getD T next 0)
@@ -260,7 +260,7 @@ module _ {m places lengths T : List ℕ} where
       (omega arith, omega arith)
 
   module _ {row n next left sum : ℕ} (a : Some-run m places lengths T row n)
-      (inv : (ts : Terms) → Held-run m places lengths T row ts → count ts ≡ n → Length-left m places lengths T ts next left sum) where
+      (inv : (ts : Terms) → Run-in-table m places lengths T row ts → count ts ≡ n → Length-left m places lengths T ts next left sum) where
     length-here : Length-left m places lengths T (a .terms) next left sum
     length-here = inv (a .terms) (a .held) (a .counted)
 
@@ -281,7 +281,7 @@ module _ {m places lengths T : List ℕ} where
 
   -- what is left of a run that is written
   module _ {all : Forest Label → List ℕ} {O out : List ℕ} {row n room at next left end : ℕ} (a : Run-fits m places lengths T row all n room at)
-      (inv : (ts : Terms) → Held-run m places lengths T row ts → count ts ≡ n → Put-left m places lengths T all O at ts next left out end) where
+      (inv : (ts : Terms) → Run-in-table m places lengths T row ts → count ts ≡ n → Put-left m places lengths T all O at ts next left out end) where
     pub put-here : Put-left m places lengths T all O at (a .fit-terms) next left out end
     put-here = inv (a .fit-terms) (a .fit-run) (a .fit-count)
 
@@ -290,7 +290,7 @@ module _ {m places lengths T : List ℕ} where
 
 module _ {m places lengths T : List ℕ} (one : Term → List ℕ) (all : Forest Label → List ℕ)
     (nil : all Forest.empty ≡ []) (cons : (t : Term) (ts : Forest Label) → all (t ▹ ts) ≡ one t ++ all ts) where
-  pub put-start : (O : List ℕ) (at n row : ℕ) (ts : Terms) → Held-run m places lengths T row ts → count ts ≡ n → Put-left m places lengths T all O at ts row n O at
+  pub put-start : (O : List ℕ) (at n row : ℕ) (ts : Terms) → Run-in-table m places lengths T row ts → count ts ≡ n → Put-left m places lengths T all O at ts row n O at
   put-start O at n row ts h c = record { rest = ts; rest-held = h; rest-count = c; past = refl; stored = refl }
 
   pub put-step : {O out next-out : List ℕ} {at next left end : ℕ} {ts : Terms} (s r : ℕ) → Put-left m places lengths T all O at ts next left out end → 0 < left
@@ -329,7 +329,7 @@ module _ {m places lengths T : List ℕ} (one : Term → List ℕ) (all : Forest
       record { past = omega arith; stored = sym (ap (λ (x : List ℕ). sets out end x) e) ∙ g .stored }
 
   pub put-fits : {O out : List ℕ} {row n at next left end : ℕ} → (a : Run-fits m places lengths T row all n (length O) at)
-      → ((ts : Terms) → Held-run m places lengths T row ts → count ts ≡ n → Put-left m places lengths T all O at ts next left out end)
+      → ((ts : Terms) → Run-in-table m places lengths T row ts → count ts ≡ n → Put-left m places lengths T all O at ts next left out end)
       → 0 < left → length out ≡ length O → Term-fits m places lengths T next one (length out) end
   unfolding put-here put-rest
   put-fits {O} {out} {next = next} {left = left} {end = end} a inv p e =
@@ -355,7 +355,7 @@ canonicals-more t ts = refl
 -- ---- no parts
 
 module _ {m places lengths T : List ℕ} {row : ℕ} {n : ℕ} (e : n ≡ parts-in (getD T row 0)) (z : n ≡ 0) where
-  leaf-bytes : (t : Located) → Held m places lengths T row t → before-in m places lengths (getD T row 0) ++ after-in m places lengths (getD T row 0) ≡ canonical (meaning t)
+  leaf-bytes : (t : Located) → Term-in-table m places lengths T row t → before-in m places lengths (getD T row 0) ++ after-in m places lengths (getD T row 0) ≡ canonical (meaning t)
   leaf-bytes (node l ts) h =
       let c : count ts ≡ n = sym (held-count h) ∙ sym e in
       let none : canonicals (meanings ts) ≡ [] = ap (λ (x : Terms). canonicals (meanings x)) (no-terms ts n c (omega arith)) ∙ canonicals-none in
@@ -364,7 +364,7 @@ module _ {m places lengths T : List ℕ} {row : ℕ} {n : ℕ} (e : n ≡ parts-
       ∙ ap (λ (y : List ℕ). before-in m places lengths (getD T row 0) ++ (y ++ after-in m places lengths (getD T row 0))) none)
 
   pub leaf-length : (own : ℕ) → own ≡ length (before-in m places lengths (getD T row 0)) + length (after-in m places lengths (getD T row 0)) → own ≤ 262192
-      → (t : Located) → Held m places lengths T row t → (own ≡ length (canonical (meaning t))) × (own ≤ 524288 * size t)
+      → (t : Located) → Term-in-table m places lengths T row t → (own ≡ length (canonical (meaning t))) × (own ≤ 524288 * size t)
   leaf-length own o b (node l ts) h =
       let w : ℕ = getD T row 0 in
       let f = length-append (before-in m places lengths w) (after-in m places lengths w) in
@@ -376,5 +376,5 @@ module _ {m places lengths T : List ℕ} {row : ℕ} {n : ℕ} (e : n ≡ parts-
   leaf-room a = rw (leaf-bytes (a .fit-term) (a .fit-held)) (a .fit-room)
 
   pub leaf-put : {O P : List ℕ} {at r : ℕ} → Put O at (before-in m places lengths (getD T row 0) ++ after-in m places lengths (getD T row 0)) r P
-      → (t : Located) → Held m places lengths T row t → Put O at (canonical (meaning t)) r P
+      → (t : Located) → Term-in-table m places lengths T row t → Put O at (canonical (meaning t)) r P
   leaf-put p t h = put-same (leaf-bytes t h) p

@@ -1,4 +1,4 @@
--- Whether a text was found, in the coding asked for. Assumes nothing.
+-- Whether a text was found, in the coding asked for.
 use mathlib.Core.Path.{_≡_, refl}
 use mathlib.Core.Bool.{Bool, true, false}
 use mathlib.Core.List.{List}

@@ -1,4 +1,5 @@
 -- What the code answers for a text: the number of its characters, or the offset at which it fails; or whether it is one.
+-- About the code alone, proved against the definitions of term_spec: nothing here has to be believed.
 use mathlib.Core.Bool.{Bool, true, false}
 use lib.ListN.{length}
 use Rattle.term_spec.specs.Text as text

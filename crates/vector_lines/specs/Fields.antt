@@ -1,4 +1,5 @@
 -- What a line asks, and what the first bytes of a case say.
+-- About the program that runs the vectors alone.
 use mathlib.Core.Bool.{Bool, true, false, cond}
 use mathlib.Core.List.{List}
 use Prim.Native.Nat.{ℕ}

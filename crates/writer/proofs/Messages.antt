@@ -29,7 +29,7 @@ use Rattle.term_spec.proofs.Demand.{written-good}
 use Rattle.octets.proofs.Numbers.{bytes-one}
 use Rattle.layout.specs.Layout.{Put}
 use Rattle.layout.proofs.Puts.{put-then}
-use Rattle.term_writer.specs.Held.{Held-run}
+use Rattle.term_writer.specs.InTable.{Run-in-table}
 use Rattle.term_writer.specs.Code.{Term-put, Term-fits, Run-put, Run-fits, Run-length, Some-run}
 use Rattle.writer.specs.Code.{Rows-written}
 use Rattle.term_writer.proofs.Strings.{count-meanings}
@@ -82,7 +82,7 @@ front-stored : (O bs : List ℕ) → take 0 O ++ bs ++ drop (0 + length bs) O �
 front-stored O bs = let e : 0 + length bs ≡ length bs = omega arith in rw e
 
 module _ {m places lengths T : List ℕ} where
-  rows-length : {n inner : ℕ} → Run-length m places lengths T 0 canonicals n inner → (ts : Terms) → Held-run m places lengths T 0 ts → count ts ≡ n
+  rows-length : {n inner : ℕ} → Run-length m places lengths T 0 canonicals n inner → (ts : Terms) → Run-in-table m places lengths T 0 ts → count ts ≡ n
       → n + inner ≡ length (standalones (meanings ts))
   rows-length {n} {inner} w ts h c =
       let i = w ts h c .0 in
@@ -146,10 +146,10 @@ module _ (framing : Framing) (atoms : AtomList) (S m : List ℕ) (few : atoms .n
     terms-are : (ts : Terms) × (answer ≡ good ts) × (count ts ≡ k)
     terms-are = terms-read answer r k rows e f
 
-    terms-held : Held-run m (atoms .places) (atoms .lengths) T 0 (terms-are .0)
+    terms-held : Run-in-table m (atoms .places) (atoms .lengths) T 0 (terms-are .0)
     terms-held =
         let x : T ≡ table-after (length S) (good (terms-are .0)) = t ∙ ap (λ (o : Answer Terms). table-after (length S) o) (terms-are .1) in
-        subst (λ (X : List ℕ). Held-run m (atoms .places) (atoms .lengths) X 0 (terms-are .0)) (sym x)
+        subst (λ (X : List ℕ). Run-in-table m (atoms .places) (atoms .lengths) X 0 (terms-are .0)) (sym x)
         (read-held framing atoms (length S) m few u (terms-are .0) (terms-are .1))
 
     pub message-run : Some-run m (atoms .places) (atoms .lengths) T 0 k

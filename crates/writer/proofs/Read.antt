@@ -35,7 +35,7 @@ use Rattle.octets.specs.Parts.{stretch}
 use Rattle.layout.specs.Layout.{Inside}
 use Rattle.layout.proofs.Bodies.{length-bits}
 use Rattle.canonical_fields.specs.Sound.{Spelt, Sound, listed-in}
-use Rattle.term_writer.specs.Held.{Writable, Held-run}
+use Rattle.term_writer.specs.InTable.{Writable, Run-in-table}
 
 -- ---- every node is found again
 
@@ -138,7 +138,7 @@ places-few atoms e = go (eqb (length (atoms .places)) 8160) refl e
 
 -- the rows of an accepted message's terms stand in the table, and each can be written
 pub read-held : (framing : Framing) (atoms : AtomList) (lent : ℕ) (m : List ℕ) → atoms .n ≤ 255 → Under 256 m → (ts : Terms) → read framing atoms lent m ≡ good ts
-    → Held-run m (atoms .places) (atoms .lengths) (table-after lent (good ts)) 0 ts
+    → Run-in-table m (atoms .places) (atoms .lengths) (table-after lent (good ts)) 0 ts
 unfolding whole-code
 read-held framing atoms lent m n u ts e =
     let a : Accepted-message atoms lent m ts = accepted-message framing atoms lent m u ts e in

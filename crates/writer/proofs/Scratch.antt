@@ -1,4 +1,4 @@
--- The scratch table: past the rows of a message that was read all is zero, so it is cleared by clearing these rows. Assumes nothing.
+-- The scratch table: past the rows of a message that was read all is zero, so it is cleared by clearing these rows.
 use mathlib.Core.Path.{_≡_, sym, _∙_, ap, ap₂, subst}
 use mathlib.Core.List.{List, _++_}
 use Prim.Native.Nat.{ℕ, _+_, _-_, _≤_}

@@ -1,4 +1,4 @@
--- `already_canonical::as_it_stands` meets its contract. By the kind. Assumes nothing.
+-- `as_it_stands` meets its contract. By the kind.
 use Rattle.already_canonical.proofs.Stands.{sound-in, stands-in, tagged-70, tagged-106, tagged-113, counted-104, counted-116, bodied-109, bodied-119}
 use native.Mathlib.Omega.{arith}
 use borrow.Author.Needs.{needs}

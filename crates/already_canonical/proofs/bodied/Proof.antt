@@ -1,4 +1,4 @@
--- `already_canonical::bodied` meets its contract. A tag, a length, and so many bytes. Assumes nothing.
+-- `bodied` meets its contract. A tag, a length, and so many bytes.
 use mathlib.Core.Path.{ap₂}
 use Prim.Native.Nat.{ℕ, _+_}
 use Rattle.already_canonical.proofs.Stands.{positive}

@@ -1,4 +1,4 @@
--- `already_canonical::counted` meets its contract. A tag, then a number. Assumes nothing.
+-- `counted` meets its contract. A tag, then a number.
 use mathlib.Core.Path.{sym, _∙_}
 use Rattle.already_canonical.proofs.Stands.{positive}
 use native.Mathlib.Omega.{arith}

@@ -1,4 +1,4 @@
--- `already_canonical::integer_stands` meets its contract. A 97, and a 98 that is no smaller integer. Assumes nothing.
+-- `integer_stands` meets its contract. A 97, and a 98 that is no smaller integer.
 use Rattle.already_canonical.proofs.Stands.{positive, stands-97, stands-98}
 use native.Mathlib.Omega.{arith}
 use borrow.Author.Needs.{needs}

@@ -1,4 +1,4 @@
--- `already_canonical::list_stands` meets its contract. A 106. Assumes nothing.
+-- `list_stands` meets its contract. A 106.
 use native.Mathlib.Omega.{arith}
 use borrow.Author.Needs.{needs}
 use Rattle.already_canonical.proofs.list_stands.Statement.{statement}

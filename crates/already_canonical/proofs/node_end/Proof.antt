@@ -1,4 +1,4 @@
--- `already_canonical::node_end` meets its contract. A 119 ends after its text, an 82 after its index. Assumes nothing.
+-- `node_end` meets its contract. A 119 ends after its text, an 82 after its index.
 use Rattle.already_canonical.proofs.Stands.{positive}
 use Rattle.already_canonical.proofs.Nodes.{node-82, node-119}
 use native.Mathlib.Omega.{arith}

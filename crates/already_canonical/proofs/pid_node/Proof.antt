@@ -1,4 +1,4 @@
--- `already_canonical::pid_node` meets its contract. An 88. Assumes nothing.
+-- `pid_node` meets its contract. An 88.
 use Rattle.already_canonical.proofs.Stands.{positive}
 use Rattle.already_canonical.proofs.Nodes.{around-88}
 use native.Mathlib.Omega.{arith}

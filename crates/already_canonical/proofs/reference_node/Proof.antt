@@ -1,4 +1,4 @@
--- `already_canonical::reference_node` meets its contract. A 90. Assumes nothing.
+-- `reference_node` meets its contract. A 90.
 use Rattle.already_canonical.proofs.Stands.{positive}
 use Rattle.already_canonical.proofs.Nodes.{around-90}
 use native.Mathlib.Omega.{arith}

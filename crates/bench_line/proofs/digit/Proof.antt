@@ -1,4 +1,4 @@
--- `bench_line::digit` meets its contract. Assumes nothing.
+-- `digit` meets its contract.
 use mathlib.Core.Bool.{true, false}
 use mathlib.Core.Path.{_≡_}
 use lib.Dec.{ltb}

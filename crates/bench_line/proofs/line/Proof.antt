@@ -1,4 +1,4 @@
--- `bench_line::line` meets its contract. Assumes nothing.
+-- `line` meets its contract.
 use mathlib.Core.Path.{refl}
 use Prim.Native.Nat.{ℕ}
 use lib.ListN.{length-replicate}

@@ -1,4 +1,4 @@
--- `bench_line::put_answer` meets its contract. The bytes that the answer counts are those in the output. Assumes nothing.
+-- `put_answer` meets its contract. The bytes that the answer counts are those in the output.
 use mathlib.Core.Path.{_≡_, sym, _∙_}
 use Prim.Native.Nat.{_+_, _*_, _≤_}
 use native.Mathlib.Omega.{arith}

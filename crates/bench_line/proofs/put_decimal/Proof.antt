@@ -1,5 +1,5 @@
 use mathlib.Core.Path.{_≡_}
--- `bench_line::put_decimal` meets its contract. Assumes nothing.
+-- `put_decimal` meets its contract.
 use Prim.Native.Nat.{_+_, _≤_}
 use lib.ListN.{length, take}
 use native.Mathlib.Omega.{arith}

@@ -1,4 +1,4 @@
--- `bench_line::put_hex` meets its contract. The first i bytes are stored. Assumes nothing.
+-- `put_hex` meets its contract. The first i bytes are stored.
 use mathlib.Core.Path.{_≡_, refl}
 use Prim.Native.Nat.{_+_, _-_, _*_, _≤_}
 use native.Mathlib.Omega.{arith}

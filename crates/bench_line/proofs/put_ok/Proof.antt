@@ -1,4 +1,4 @@
--- `bench_line::put_ok` meets its contract. Assumes nothing.
+-- `put_ok` meets its contract.
 use native.Mathlib.Omega.{arith}
 use Rattle.bench_line.proofs.Laws.{ok-put}
 use borrow.Author.Needs.{needs}

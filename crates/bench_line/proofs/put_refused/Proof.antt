@@ -1,4 +1,4 @@
--- `bench_line::put_refused` meets its contract. Assumes nothing.
+-- `put_refused` meets its contract.
 use native.Mathlib.Omega.{arith}
 use Rattle.bench_line.proofs.Laws.{refused-put}
 use borrow.Author.Needs.{needs}

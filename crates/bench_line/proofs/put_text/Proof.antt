@@ -1,4 +1,4 @@
--- `bench_line::put_text` meets its contract. Assumes nothing.
+-- `put_text` meets its contract.
 use Rattle.bench_line.proofs.Laws.{text-put}
 use borrow.Author.Needs.{needs}
 use Rattle.bench_line.proofs.put_text.Statement.{statement}

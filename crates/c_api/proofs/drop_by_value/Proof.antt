@@ -1,4 +1,4 @@
--- `c_api::drop_by_value` meets its contract. Assumes nothing.
+-- `drop_by_value` meets its contract.
 use Rattle.c_api.proofs.Laws.{drop-replied}
 use borrow.Author.Needs.{needs}
 use Rattle.c_api.proofs.drop_by_value.Statement.{statement}

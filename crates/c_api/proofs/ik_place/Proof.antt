@@ -1,4 +1,4 @@
--- `c_api::ik_place` meets its contract. Assumes nothing.
+-- `ik_place` meets its contract.
 use mathlib.Core.Path.{ap, _∙_}
 use Rattle.c_replies.specs.Packets.{flat-place}
 use borrow.Author.Needs.{needs}

@@ -1,4 +1,4 @@
--- `c_api::ik_read_payload` meets its contract. Assumes nothing.
+-- `ik_read_payload` meets its contract.
 use borrow.Author.Needs.{needs}
 use Rattle.c_api.proofs.Laws.{read-replied}
 use Rattle.c_api.proofs.ik_read_payload.Statement.{statement}

@@ -1,4 +1,4 @@
--- `c_api::ik_reference` meets its contract. Assumes nothing.
+-- `ik_reference` meets its contract.
 use mathlib.Core.Path.{ap, _∙_}
 use mathlib.Core.Bool.{Bool}
 use Rattle.term_spec.specs.Text.{coding-of}

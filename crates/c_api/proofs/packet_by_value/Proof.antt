@@ -1,4 +1,4 @@
--- `c_api::packet_by_value` meets its contract. Assumes nothing.
+-- `packet_by_value` meets its contract.
 use Rattle.c_api.proofs.Laws.{packet-replied}
 use borrow.Author.Needs.{needs}
 use Rattle.c_api.proofs.packet_by_value.Statement.{statement}

@@ -1,4 +1,4 @@
--- `c_api::reset_by_value` meets its contract. Assumes nothing.
+-- `reset_by_value` meets its contract.
 use Rattle.c_api.proofs.Laws.{reset-replied}
 use borrow.Author.Needs.{needs}
 use Rattle.c_api.proofs.reset_by_value.Statement.{statement}

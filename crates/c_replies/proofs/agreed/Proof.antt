@@ -1,4 +1,4 @@
--- `c_replies::agreed` meets its contract. Assumes nothing.
+-- `agreed` meets its contract.
 use mathlib.Core.Path.{refl}
 use Rattle.c_replies.specs.Packets.{flag}
 use Rattle.c_replies.proofs.agreed.Statement.{statement}

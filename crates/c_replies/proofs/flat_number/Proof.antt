@@ -1,4 +1,4 @@
--- `c_replies::flat_number` meets its contract. Assumes nothing.
+-- `flat_number` meets its contract.
 use mathlib.Core.Path.{sym, ap, _∙_}
 use lib.IntN.{ℤ}
 use mir.Syntax.{w64}

@@ -1,4 +1,4 @@
--- `cache_entries::enter_reference` meets its contract. Assumes nothing.
+-- `enter_reference` meets its contract.
 use native.Mathlib.Omega.{arith}
 use borrow.Author.Needs.{needs}
 use Rattle.term_spec.specs.Text.{coding-of}

@@ -1,4 +1,4 @@
--- `cache_entries::enter_text` meets its contract. Assumes nothing.
+-- `enter_text` meets its contract.
 use Prim.Native.Nat.{_*_}
 use native.Mathlib.Omega.{arith}
 use lib.ListN.{take, drop}

@@ -1,4 +1,4 @@
--- `cache_entries::fill_lengths` meets its contract. Assumes nothing.
+-- `fill_lengths` meets its contract.
 use mathlib.Core.List.{List}
 use mathlib.Core.Path.{refl, _≡_, _∙_, ap}
 use Prim.Native.Nat.{ℕ, _-_, _≤_}

@@ -1,4 +1,4 @@
--- `cache_entries::list_reference` meets its contract. Assumes nothing.
+-- `list_reference` meets its contract.
 use Prim.Native.Nat.{_*_}
 use native.Mathlib.Omega.{arith}
 use borrow.Author.Needs.{needs}

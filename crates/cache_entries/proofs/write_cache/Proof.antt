@@ -1,4 +1,4 @@
--- `cache_entries::write_cache` meets its contract. Assumes nothing.
+-- `write_cache` meets its contract.
 use mathlib.Core.Path.{_≡_, sym, _∙_}
 use Prim.Native.Nat.{_-_, _≤_}
 use native.Mathlib.Omega.{arith}

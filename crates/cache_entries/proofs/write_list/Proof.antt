@@ -1,4 +1,4 @@
--- `cache_entries::write_list` meets its contract. Assumes nothing.
+-- `write_list` meets its contract.
 use mathlib.Core.Path.{_≡_, sym, _∙_}
 use Prim.Native.Nat.{_*_, _-_, _≤_}
 use native.Mathlib.Omega.{arith}

@@ -1,4 +1,4 @@
--- `cache_lookup::named_place` meets its contract. Assumes nothing.
+-- `named_place` meets its contract.
 use mathlib.Core.Path.{_≡_}
 use mathlib.Core.List.{[], _∷_}
 use mathlib.Core.Bool.{false}

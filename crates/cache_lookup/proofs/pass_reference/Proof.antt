@@ -1,4 +1,4 @@
--- `cache_lookup::pass_reference` meets its contract. Assumes nothing.
+-- `pass_reference` meets its contract.
 use native.Mathlib.Omega.{arith}
 use borrow.Author.Needs.{needs}
 use Rattle.dist_header.proofs.Walk.{new-inside}

@@ -1,4 +1,4 @@
--- `cache_lookup::place_in` meets its contract. Assumes nothing.
+-- `place_in` meets its contract.
 use mathlib.Core.Path.{_≡_, sym}
 use Prim.Native.Nat.{_-_, _≤_}
 use native.Mathlib.Omega.{arith}

@@ -1,4 +1,4 @@
--- `cache_lookup::place_of_reference` meets its contract. Assumes nothing.
+-- `place_of_reference` meets its contract.
 use mathlib.Core.Path.{ap, _∙_}
 use borrow.Author.Needs.{needs}
 use Rattle.term_spec.specs.Text.{coding-of}

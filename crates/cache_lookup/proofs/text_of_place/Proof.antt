@@ -1,4 +1,4 @@
--- `cache_lookup::text_of_place` meets its contract. Assumes nothing.
+-- `text_of_place` meets its contract.
 use mathlib.Core.Path.{sym, _∙_}
 use borrow.Author.Needs.{needs}
 use Rattle.lent_memory.proofs.Sizes.{cache-lent}

@@ -1,4 +1,4 @@
--- `canonical_fields::bare_lead` meets its contract. By the kind. Assumes nothing.
+-- `bare_lead` meets its contract. By the kind.
 use Rattle.canonical_fields.specs.Shape.{before}
 use Rattle.row_fields.specs.Meaning.{bare}
 use Rattle.term_spec.specs.Numbers.{in-bytes}

@@ -1,4 +1,4 @@
--- `canonical_fields::bare_trail` meets its contract. Only lists have an end. Assumes nothing.
+-- `bare_trail` meets its contract. Only lists have an end.
 use Rattle.canonical_fields.specs.Shape.{after}
 use Rattle.row_fields.specs.Meaning.{bare}
 use Rattle.term_spec.specs.Term.{Label}

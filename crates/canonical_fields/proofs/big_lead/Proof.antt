@@ -1,4 +1,4 @@
--- `canonical_fields::big_lead` meets its contract. More than 8 digits, the highest not zero, are a bignum with these digits: `big-lays`. Assumes nothing.
+-- `big_lead` meets its contract. More than 8 digits, the highest not zero, are a bignum with these digits: `big-lays`.
 use Rattle.layout.proofs.Bodies.{length-stretch}
 use Rattle.canonical_fields.proofs.Leads.{big-lays, big-110, big-111}
 use native.Mathlib.Omega.{arith}

@@ -1,4 +1,4 @@
--- `canonical_fields::bits_lead` meets its contract. By `bits-lay`. Assumes nothing.
+-- `bits_lead` meets its contract. By `bits-lay`.
 use Rattle.canonical_fields.proofs.Leads.{bits-lay}
 use borrow.Author.Needs.{needs}
 use Rattle.canonical_fields.proofs.bits_lead.Statement.{statement}

@@ -1,4 +1,4 @@
--- `canonical_fields::content` meets its contract. Kind and offset are those of the word. Assumes nothing.
+-- `content` meets its contract. Kind and offset are those of the word.
 use Rattle.row_fields.specs.Found.{content-of}
 use Prim.Native.Nat.{ℕ}
 use mathlib.Core.Path.{ap₂, _∙_}

@@ -1,4 +1,4 @@
--- `canonical_fields::digits_lead` meets its contract. By `digits-lays`: at most 8 digits are a 110. Assumes nothing.
+-- `digits_lead` meets its contract. By `digits-lays`: at most 8 digits are a 110.
 use Rattle.canonical_fields.proofs.Leads.{digits-lays}
 use borrow.Author.Needs.{needs}
 use Rattle.canonical_fields.proofs.digits_lead.Statement.{statement}

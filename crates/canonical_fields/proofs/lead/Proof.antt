@@ -1,4 +1,4 @@
--- `canonical_fields::lead` meets its contract. By the content: each case says the label that the content says. Assumes nothing.
+-- `lead` meets its contract. By the content: each case says the label that the content says.
 use Rattle.canonical_fields.specs.Shape.{before}
 use Rattle.row_fields.specs.Meaning.{label-of}
 use Rattle.term_spec.specs.Canonical.{integer-bytes}

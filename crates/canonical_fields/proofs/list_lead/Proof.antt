@@ -1,4 +1,4 @@
--- `canonical_fields::list_lead` meets its contract. 106 for none, else 108. Assumes nothing.
+-- `list_lead` meets its contract. 106 for none, else 108.
 use Rattle.term_spec.specs.Numbers.{in-bytes}
 use Rattle.canonical_fields.proofs.Leads.{only-tagged, list-106, list-108}
 use borrow.Author.Needs.{needs}

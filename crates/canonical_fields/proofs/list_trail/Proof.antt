@@ -1,4 +1,4 @@
--- `canonical_fields::list_trail` meets its contract. 106 after the elements, if there are any. Assumes nothing.
+-- `list_trail` meets its contract. 106 after the elements, if there are any.
 use Rattle.term_spec.specs.Numbers.{in-bytes}
 use Rattle.canonical_fields.proofs.Leads.{says, only-tagged, list-over, list-closed}
 use borrow.Author.Needs.{needs}

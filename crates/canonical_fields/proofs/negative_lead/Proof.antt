@@ -1,4 +1,4 @@
--- `canonical_fields::negative_lead` meets its contract. The canonical form's tests are the code's. Assumes nothing.
+-- `negative_lead` meets its contract. The canonical form's tests are the code's.
 use Rattle.canonical_fields.proofs.Leads.{only-tagged, says, negative-98, negative-big}
 use borrow.Author.Needs.{needs}
 use Rattle.canonical_fields.proofs.negative_lead.Statement.{statement}

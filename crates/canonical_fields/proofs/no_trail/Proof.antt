@@ -1,4 +1,4 @@
--- `canonical_fields::no_trail` meets its contract. No number and no body are no bytes. Assumes nothing.
+-- `no_trail` meets its contract. No number and no body are no bytes.
 use Rattle.term_spec.specs.Numbers.{in-bytes}
 use Rattle.canonical_fields.proofs.Leads.{numbers-lay}
 use native.Mathlib.Omega.{arith}

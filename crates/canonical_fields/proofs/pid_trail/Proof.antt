@@ -1,4 +1,4 @@
--- `canonical_fields::pid_trail` meets its contract. Three numbers. Assumes nothing.
+-- `pid_trail` meets its contract. Three numbers.
 use Rattle.canonical_fields.specs.Shape.{after}
 use Rattle.canonical_fields.proofs.Leads.{numbers-lay}
 use native.Mathlib.Omega.{arith}

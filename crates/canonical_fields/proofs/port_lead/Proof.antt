@@ -1,4 +1,4 @@
--- `canonical_fields::port_lead` meets its contract. 89 for an ID under 2^28, else 120. Assumes nothing.
+-- `port_lead` meets its contract. 89 for an ID under 2^28, else 120.
 use Rattle.term_spec.specs.Numbers.{in-bytes}
 use Rattle.canonical_fields.proofs.Leads.{only-tagged, port-89, port-120}
 use borrow.Author.Needs.{needs}

@@ -1,4 +1,4 @@
--- `canonical_fields::port_trail` meets its contract. An ID of 4 or 8 bytes, and Creation. Assumes nothing.
+-- `port_trail` meets its contract. An ID of 4 or 8 bytes, and Creation.
 use Rattle.term_spec.specs.Numbers.{in-bytes}
 use Prim.Native.Nat.{ℕ}
 use mathlib.Core.List.{List, _++_, append-nil}

@@ -1,4 +1,4 @@
--- `canonical_fields::positive_lead` meets its contract. The canonical form's tests are the code's. Assumes nothing.
+-- `positive_lead` meets its contract. The canonical form's tests are the code's.
 use Rattle.canonical_fields.proofs.Leads.{only-tagged, says, positive-97, positive-98, positive-big}
 use borrow.Author.Needs.{needs}
 use Rattle.canonical_fields.proofs.positive_lead.Statement.{statement}

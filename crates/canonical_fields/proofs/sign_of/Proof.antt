@@ -1,4 +1,4 @@
--- `canonical_fields::sign_of` meets its contract. By the two cases. Assumes nothing.
+-- `sign_of` meets its contract. By the two cases.
 use Rattle.canonical_fields.proofs.Leads.{sign-true, sign-false}
 use mathlib.Core.Path.{sym}
 use Rattle.canonical_fields.proofs.sign_of.Statement.{statement}

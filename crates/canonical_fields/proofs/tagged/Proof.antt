@@ -1,4 +1,4 @@
--- `canonical_fields::tagged` meets its contract. By `tagged-lays`. Assumes nothing.
+-- `tagged` meets its contract. By `tagged-lays`.
 use Rattle.canonical_fields.proofs.Leads.{tagged-lays}
 use borrow.Author.Needs.{needs}
 use Rattle.canonical_fields.proofs.tagged.Statement.{statement}

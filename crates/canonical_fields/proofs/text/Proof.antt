@@ -1,4 +1,4 @@
--- `canonical_fields::text` meets its contract. Latin-1 is spelt in UTF-8; a text in UTF-8 is its own spelling. Assumes nothing.
+-- `text` meets its contract. Latin-1 is spelt in UTF-8; a text in UTF-8 is its own spelling.
 use Rattle.canonical_fields.proofs.Leads.{latin1-there, part-there, part-length, latin1-lays, utf8-lays}
 use borrow.Author.Needs.{needs}
 use Rattle.canonical_fields.proofs.text.Statement.{statement}

@@ -1,4 +1,4 @@
--- `canonical_fields::text_lead` meets its contract. 119 up to 255 bytes, else 118. Assumes nothing.
+-- `text_lead` meets its contract. 119 up to 255 bytes, else 118.
 use Rattle.canonical_fields.proofs.Leads.{says, atom-119, atom-118}
 use borrow.Author.Needs.{needs}
 use Rattle.canonical_fields.proofs.text_lead.Statement.{statement}

@@ -1,4 +1,4 @@
--- `canonical_fields::trail` meets its contract. By the content: each case says the label that the content says. Assumes nothing.
+-- `trail` meets its contract. By the content: each case says the label that the content says.
 use Rattle.canonical_fields.specs.Shape.{after}
 use Rattle.row_fields.specs.Meaning.{label-of}
 use Rattle.canonical_fields.proofs.Leads.{trail-by, no-trail, sound-words}

@@ -1,4 +1,4 @@
--- `canonical_fields::tuple_lead` meets its contract. 104 up to 255 elements, else 105. Assumes nothing.
+-- `tuple_lead` meets its contract. 104 up to 255 elements, else 105.
 use Rattle.canonical_fields.proofs.Leads.{only-tagged, tuple-104, tuple-105}
 use borrow.Author.Needs.{needs}
 use Rattle.canonical_fields.proofs.tuple_lead.Statement.{statement}

@@ -1,4 +1,4 @@
--- `canonical_fields::words_trail` meets its contract. Words stand as they are in the message: `words-lay`. Assumes nothing.
+-- `words_trail` meets its contract. Words stand as they are in the message: `words-lay`.
 use Rattle.canonical_fields.proofs.Leads.{words-lay}
 use borrow.Author.Needs.{needs}
 use Rattle.canonical_fields.proofs.words_trail.Statement.{statement}

@@ -1,4 +1,4 @@
--- `characters::character` meets its contract. By sign and size. Assumes nothing.
+-- `character` meets its contract. By sign and size.
 use Rattle.characters.proofs.Characters.{not-small, large, is-small}
 use native.Mathlib.Omega.{arith}
 use Rattle.characters.proofs.character.Statement.{statement}

@@ -1,4 +1,4 @@
--- `characters::character_at` meets its contract. What is read straight is the character; no other kind than an integer is one; the rest by its content. Assumes nothing.
+-- `character_at` meets its contract. What is read straight is the character; no other kind than an integer is one; the rest by its content.
 use native.Mathlib.Omega.{arith}
 use borrow.Author.Tests.{not-true}
 use Rattle.characters.proofs.Characters.{character-by, no-character}

@@ -1,4 +1,4 @@
--- `characters::character_found` meets its contract. By the content: only an integer 0 to 255 is a character. Assumes nothing.
+-- `character_found` meets its contract. By the content: only an integer 0 to 255 is a character.
 use mathlib.Core.Path.{sym, _∙_, subst}
 use native.Mathlib.Omega.{arith}
 use Rattle.term_spec.specs.Rows.{kind-in}

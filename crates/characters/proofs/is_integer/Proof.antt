@@ -1,4 +1,4 @@
--- `characters::is_integer` meets its contract. The kinds of integers are left out one by one. Assumes nothing.
+-- `is_integer` meets its contract. The kinds of integers are left out one by one.
 use Prim.Native.Nat.{ℕ}
 use mathlib.Core.Path.{_≡_}
 use native.Mathlib.Omega.{arith}

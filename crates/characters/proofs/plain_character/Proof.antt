@@ -1,4 +1,4 @@
--- `characters::plain_character` meets its contract. A character has its own byte, a 97 the next. Assumes nothing.
+-- `plain_character` meets its contract. A character has its own byte, a 97 the next.
 use mathlib.Core.Path.{sym, _∙_}
 use native.Mathlib.Omega.{arith}
 use Rattle.characters.proofs.Characters.{character-14, character-97}

@@ -1,4 +1,4 @@
--- `dist_header::check_header` meets its contract. Assumes nothing.
+-- `check_header` meets its contract.
 use borrow.Author.Needs.{needs}
 use Rattle.term_spec.specs.Text.{coding-of}
 use Rattle.packet_spec.specs.Memory.{cache-of}

@@ -1,4 +1,4 @@
--- `dist_header::check_references` meets its contract. Assumes nothing.
+-- `check_references` meets its contract.
 use mathlib.Core.List.{[]}
 use mathlib.Core.Path.{_≡_}
 use Prim.Native.Nat.{ℕ, _-_, _≤_}

@@ -1,4 +1,4 @@
--- `dist_header::held_at` meets its contract. Assumes nothing.
+-- `held_at` meets its contract.
 use native.Mathlib.Omega.{arith}
 use borrow.Author.Needs.{needs}
 use Rattle.dist_header.proofs.Texts.{held-nothing, held-long, held-good, held-bad}

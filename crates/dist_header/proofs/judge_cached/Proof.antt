@@ -1,4 +1,4 @@
--- `dist_header::judge_cached` meets its contract. Assumes nothing.
+-- `judge_cached` meets its contract.
 use mathlib.Core.Path.{sym, _∙_}
 use borrow.Author.Needs.{needs}
 use Rattle.packet_spec.specs.Memory.{cache-of}

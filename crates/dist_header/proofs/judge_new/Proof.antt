@@ -1,4 +1,4 @@
--- `dist_header::judge_new` meets its contract. Assumes nothing.
+-- `judge_new` meets its contract.
 use lib.ListN.{take, drop}
 use borrow.Author.Tests.{not-true, not-false}
 use borrow.Author.Needs.{needs}

@@ -1,4 +1,4 @@
--- `dist_header::judge_reference` meets its contract. Assumes nothing.
+-- `judge_reference` meets its contract.
 use native.Mathlib.Omega.{arith}
 use borrow.Author.Needs.{needs}
 use Rattle.term_spec.specs.Text.{coding-of}

@@ -1,4 +1,4 @@
--- `dist_header::length_at` meets its contract. Assumes nothing.
+-- `length_at` meets its contract.
 use mathlib.Core.Path.{_≡_, sym, ap, _∙_}
 use Prim.Native.Nat.{ℕ}
 use native.Mathlib.Omega.{arith}

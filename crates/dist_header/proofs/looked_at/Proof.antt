@@ -1,4 +1,4 @@
--- `dist_header::looked_at` meets its contract. Assumes nothing.
+-- `looked_at` meets its contract.
 use Rattle.packet_spec.specs.Memory.{cache-of}
 use Rattle.dist_header.proofs.Texts.{looked, unlooked}
 use Rattle.dist_header.proofs.looked_at.Statement.{statement}

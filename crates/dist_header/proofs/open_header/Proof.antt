@@ -1,4 +1,4 @@
--- `dist_header::open_header` meets its contract. Assumes nothing.
+-- `open_header` meets its contract.
 use mathlib.Core.Path.{sym, _∙_}
 use native.Mathlib.Omega.{arith}
 use borrow.Author.Needs.{needs}

@@ -1,4 +1,4 @@
--- `dist_header::put_text` meets its contract. Assumes nothing.
+-- `put_text` meets its contract.
 use mathlib.Core.List.{List}
 use mathlib.Core.Path.{_≡_, ap, _∙_}
 use Prim.Native.Nat.{ℕ}

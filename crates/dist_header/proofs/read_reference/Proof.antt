@@ -1,4 +1,4 @@
--- `dist_header::read_reference` meets its contract. Assumes nothing.
+-- `read_reference` meets its contract.
 use native.Mathlib.Omega.{arith}
 use borrow.Author.Needs.{needs}
 use Rattle.dist_header.proofs.Standing.{spells-end, spells-cached, spells-cut-length, spells-cut-text, spells-new}

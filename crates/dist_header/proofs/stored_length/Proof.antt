@@ -1,4 +1,4 @@
--- `dist_header::stored_length` meets its contract. Assumes nothing.
+-- `stored_length` meets its contract.
 use native.Mathlib.Omega.{arith}
 use borrow.Author.Needs.{needs}
 use Rattle.dist_header.proofs.Texts.{stored-utf8, stored-latin}

@@ -1,4 +1,4 @@
--- `field_writer::found_length` meets its contract. The two layouts' lengths. Assumes nothing.
+-- `found_length` meets its contract. The two layouts' lengths.
 use Rattle.field_writer.proofs.Own.{word-sound, word-parts, lead-is, trail-is, lay-length}
 use native.Mathlib.Omega.{arith}
 use borrow.Author.Needs.{needs}

@@ -1,4 +1,4 @@
--- `field_writer::has_trail` meets its contract. The kinds with something after the parts are left out one by one. Assumes nothing.
+-- `has_trail` meets its contract. The kinds with something after the parts are left out one by one.
 use Prim.Native.Nat.{ℕ}
 use mathlib.Core.Path.{_≡_}
 use native.Mathlib.Omega.{arith}

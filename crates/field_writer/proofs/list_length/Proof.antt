@@ -1,4 +1,4 @@
--- `field_writer::list_length` meets its contract. A 106, or a 108 and the 106 that ends it. Assumes nothing.
+-- `list_length` meets its contract. A 106, or a 108 and the 106 that ends it.
 use native.Mathlib.Omega.{arith}
 use Rattle.field_writer.proofs.Own.{list-length-0, list-length-more}
 use Rattle.field_writer.proofs.list_length.Statement.{statement}

@@ -1,4 +1,4 @@
--- `field_writer::own_length` meets its contract. Bytes that stand as they are written are counted as they are, a list by its elements. Assumes nothing.
+-- `own_length` meets its contract. Bytes that stand as they are written are counted as they are, a list by its elements.
 use native.Mathlib.Omega.{arith}
 use lib.ListN.{length}
 use Prim.Native.Nat.{ℕ, _+_}

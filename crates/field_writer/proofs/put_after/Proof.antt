@@ -1,4 +1,4 @@
--- `field_writer::put_after` meets its contract. A list ends in a 106; nothing is written for a kind that has nothing there; fields that stand as they are written are copied. Assumes nothing.
+-- `put_after` meets its contract. A list ends in a 106; nothing is written for a kind that has nothing there; fields that stand as they are written are copied.
 use borrow.Author.Tests.{not-true}
 use Rattle.layout.proofs.Puts.{put-same}
 use native.Mathlib.Omega.{arith}

@@ -1,4 +1,4 @@
--- `field_writer::put_before` meets its contract. Bytes that stand as they are written are copied; a list is written by its number of elements. Assumes nothing.
+-- `put_before` meets its contract. Bytes that stand as they are written are copied; a list is written by its number of elements.
 use Rattle.layout.proofs.Puts.{put-same}
 use Rattle.already_canonical.proofs.Nodes.{first-room, first-put}
 use Rattle.already_canonical.proofs.Stands.{stands-inside, stands-room, stands-put}

@@ -1,4 +1,4 @@
--- `field_writer::put_lead` meets its contract. The layout of what stands before the parts. Assumes nothing.
+-- `put_lead` meets its contract. The layout of what stands before the parts.
 use Rattle.field_writer.proofs.Own.{word-sound, word-parts, lead-is, lay-room, lay-put}
 use borrow.Author.Needs.{needs}
 use Rattle.field_writer.proofs.put_lead.Statement.{statement}

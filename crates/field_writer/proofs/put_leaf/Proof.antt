@@ -1,6 +1,6 @@
--- `field_writer::put_leaf` meets its contract. Bytes that stand as they are written are copied. Assumes nothing.
+-- `put_leaf` meets its contract. Bytes that stand as they are written are copied.
 use Rattle.canonical_fields.specs.Sound.{before-in, after-in}
--- `field_writer::put_leaf` meets its contract. Bytes that stand as they are written are copied. Assumes nothing.
+-- `put_leaf` meets its contract. Bytes that stand as they are written are copied.
 use Rattle.layout.proofs.Puts.{put-then, room-first, room-next}
 use Rattle.already_canonical.proofs.Stands.{stands-inside, whole-room, stands-whole}
 use borrow.Author.Needs.{needs}

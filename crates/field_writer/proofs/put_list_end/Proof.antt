@@ -1,4 +1,4 @@
--- `field_writer::put_list_end` meets its contract. A 106 after elements. Assumes nothing.
+-- `put_list_end` meets its contract. A 106 after elements.
 use native.Mathlib.Omega.{arith}
 use Rattle.layout.proofs.Puts.{put-same, put-none}
 use Rattle.canonical_fields.proofs.Leads.{list-over, list-closed}

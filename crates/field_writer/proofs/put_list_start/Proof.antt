@@ -1,4 +1,4 @@
--- `field_writer::put_list_start` meets its contract. A 106, or a 108 and the number of elements. Assumes nothing.
+-- `put_list_start` meets its contract. A 106, or a 108 and the number of elements.
 use native.Mathlib.Omega.{arith}
 use Rattle.canonical_fields.proofs.Leads.{list-106}
 use Rattle.field_writer.proofs.Own.{byte-put, list-put, list-room, empty-room}

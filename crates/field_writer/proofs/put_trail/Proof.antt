@@ -1,4 +1,4 @@
--- `field_writer::put_trail` meets its contract. The layout of what stands after the parts. Assumes nothing.
+-- `put_trail` meets its contract. The layout of what stands after the parts.
 use Rattle.field_writer.proofs.Own.{word-sound, trail-is, lay-room, lay-put}
 use borrow.Author.Needs.{needs}
 use Rattle.field_writer.proofs.put_trail.Statement.{statement}

@@ -1,4 +1,4 @@
--- `fragments::settle` meets its contract. Assumes nothing.
+-- `settle` meets its contract.
 use borrow.Author.Needs.{needs}
 use Rattle.fragments.proofs.Taking.{settled-last, settled-more}
 use Rattle.fragments.proofs.settle.Statement.{statement}

@@ -1,4 +1,4 @@
--- `fragments::take_continuation` meets its contract. Assumes nothing.
+-- `take_continuation` meets its contract.
 use borrow.Author.Needs.{needs}
 use Rattle.fragments.proofs.Continuations.{more-none, more-other, more-wrong, more-long, more-good}
 use Rattle.fragments.proofs.take_continuation.Statement.{statement}

@@ -1,4 +1,4 @@
--- `headed_packets::take_header` meets its contract. Assumes nothing.
+-- `take_header` meets its contract.
 use native.Mathlib.Omega.{arith}
 use borrow.Author.Needs.{needs}
 use Rattle.headed_packets.proofs.Headers.{told-inside, told-good, heads-refused, heads-long, heads-good}

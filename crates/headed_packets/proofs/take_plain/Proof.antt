@@ -1,4 +1,4 @@
--- `headed_packets::take_plain` meets its contract. Assumes nothing.
+-- `take_plain` meets its contract.
 use borrow.Author.Needs.{needs}
 use Rattle.headed_packets.proofs.Rests.{plain-refused, plain-good}
 use Rattle.headed_packets.proofs.take_plain.Statement.{statement}

@@ -1,4 +1,4 @@
--- `headed_packets::take_start` meets its contract. Assumes nothing.
+-- `take_start` meets its contract.
 use native.Mathlib.Omega.{arith}
 use borrow.Author.Needs.{needs}
 use Rattle.term_spec.specs.Text.{coding-of}

@@ -1,4 +1,4 @@
--- `layout::body_length` meets its contract. Case by case, the length of the body's bytes. Assumes nothing.
+-- `body_length` meets its contract. Case by case, the length of the body's bytes.
 use Rattle.layout.proofs.Bodies.{part-inside, latin1-inside, bits-inside, body-empty, body-part, body-latin1, body-digits, body-bits, length-stretch, length-bits}
 use lib.ListN.{length}
 use native.Mathlib.Omega.{arith}

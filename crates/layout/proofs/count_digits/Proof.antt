@@ -1,4 +1,4 @@
--- `layout::count_digits` meets its contract. Digits counted and digits left come to all of them. Assumes nothing.
+-- `count_digits` meets its contract. Digits counted and digits left come to all of them.
 use Rattle.layout.proofs.Puts.{one-digit-less}
 use Rattle.layout.proofs.Digits.{few-digits, digits-none}
 use Rattle.term_spec.specs.Numbers.{digits}

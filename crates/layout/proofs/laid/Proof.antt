@@ -1,4 +1,4 @@
--- `layout::laid` meets its contract. The layout is made of its arguments. Assumes nothing.
+-- `laid` meets its contract. The layout is made of its arguments.
 use mathlib.Core.Path.{refl}
 use Rattle.layout.specs.Layout.{laid-of}
 use Rattle.layout.proofs.laid.Statement.{statement}

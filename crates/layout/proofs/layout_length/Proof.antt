@@ -1,4 +1,4 @@
--- `layout::layout_length` meets its contract. Widths and body add up: `length-layout`. Assumes nothing.
+-- `layout_length` meets its contract. Widths and body add up: `length-layout`.
 use Rattle.layout.proofs.Bodies.{length-layout}
 use native.Mathlib.Omega.{arith}
 use borrow.Author.Needs.{needs}

@@ -1,4 +1,4 @@
--- `layout::put_bits` meets its contract. All but the last byte are copied, the last one is stored with its low bits zero: `put-last`. Assumes nothing.
+-- `put_bits` meets its contract. All but the last byte are copied, the last one is stored with its low bits zero: `put-last`.
 use Rattle.layout.proofs.Bodies.{put-last}
 use borrow.Author.Needs.{needs}
 use Rattle.layout.proofs.put_bits.Statement.{statement}

@@ -1,4 +1,4 @@
--- `layout::put_body` meets its contract. Case by case, the body's bytes are stored. Assumes nothing.
+-- `put_body` meets its contract. Case by case, the body's bytes are stored.
 use Rattle.layout.proofs.Bodies.{part-needs, latin1-needs, bits-needs, body-empty, body-part, body-latin1, body-digits, body-bits}
 use Rattle.layout.proofs.Puts.{put-same, put-none}
 use mathlib.Core.Bool.{true, false}

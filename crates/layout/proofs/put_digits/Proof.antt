@@ -1,4 +1,4 @@
--- `layout::put_digits` meets its contract. What is left to store comes to the whole, by `digit-first`. Assumes nothing.
+-- `put_digits` meets its contract. What is left to store comes to the whole, by `digit-first`.
 use Rattle.layout.proofs.Puts.{one-digit-less, digit-first}
 use Rattle.layout.proofs.Digits.{digits-none}
 use Rattle.term_spec.specs.Numbers.{digits}

@@ -1,4 +1,4 @@
--- `layout::put_layout` meets its contract. Three numbers and the body, one after the other: `put-layout`. Assumes nothing.
+-- `put_layout` meets its contract. Three numbers and the body, one after the other: `put-layout`.
 use Rattle.layout.proofs.Bodies.{length-layout, put-layout}
 use Rattle.layout.proofs.Puts.{put-length}
 use Rattle.term_spec.proofs.Numbers.{length-in-bytes}

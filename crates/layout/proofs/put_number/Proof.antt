@@ -1,4 +1,4 @@
--- `layout::put_number` meets its contract. The loop stores bytes from the last one on; what is left to store comes to the whole, by `number-last`. Assumes nothing.
+-- `put_number` meets its contract. The loop stores bytes from the last one on; what is left to store comes to the whole, by `number-last`.
 use Rattle.layout.proofs.Puts.{number-last}
 use Rattle.term_spec.proofs.Numbers.{length-in-bytes}
 use Rattle.term_spec.specs.Numbers.{in-bytes}

@@ -1,4 +1,4 @@
--- `layout::put_part` meets its contract. The copy stores the stretch. Assumes nothing.
+-- `put_part` meets its contract. The copy stores the stretch.
 use Rattle.layout.proofs.Bodies.{length-stretch}
 use native.Mathlib.Omega.{arith}
 use borrow.Author.Needs.{needs}

@@ -1,4 +1,4 @@
--- `lent_memory::cache_fits` meets its contract. Assumes nothing.
+-- `cache_fits` meets its contract.
 use Rattle.lent_memory.proofs.Sizes.{cache-not, cache-if}
 use Rattle.lent_memory.proofs.cache_fits.Statement.{statement}
 use Rattle.lent_memory.proofs.cache_fits.Tie as tie

@@ -1,4 +1,4 @@
--- `lent_memory::memory_fits` meets its contract. Assumes nothing.
+-- `memory_fits` meets its contract.
 use borrow.Author.Needs.{needs}
 use Rattle.lent_memory.proofs.Sizes.{cache-fails, plain-fails, pending-fails, gather-if}
 use Rattle.lent_memory.proofs.memory_fits.Statement.{statement}

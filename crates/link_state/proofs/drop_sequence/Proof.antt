@@ -1,4 +1,4 @@
--- `link_state::drop_sequence` meets its contract. Assumes nothing.
+-- `drop_sequence` meets its contract.
 use Rattle.link_state.proofs.States.{drop-false, drop-none, drop-done}
 use borrow.Author.Needs.{needs}
 use Rattle.link_state.proofs.drop_sequence.Statement.{statement}

@@ -1,4 +1,4 @@
--- `link_state::reset` meets its contract. Assumes nothing.
+-- `reset` meets its contract.
 use Rattle.packet_spec.specs.Memory.{cache-of}
 use Rattle.link_state.proofs.States.{reset-refused, reset-done}
 use borrow.Author.Needs.{needs}

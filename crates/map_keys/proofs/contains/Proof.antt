@@ -1,4 +1,4 @@
--- `map_keys::contains` meets its contract: a key that is absent is new.
+-- `contains` meets its contract: a key that is absent is new.
 use borrow.Author.Tests.{not-true}
 use Rattle.map_keys.proofs.Hashes.{absent-none}
 use borrow.Author.Needs.{needs}

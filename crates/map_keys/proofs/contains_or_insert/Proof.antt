@@ -1,4 +1,4 @@
--- `map_keys::contains_or_insert` meets its contract.
+-- `contains_or_insert` meets its contract.
 use mathlib.Core.Path.{sym, _∙_}
 use Rattle.term_spec.proofs.Tests.{never}
 use Rattle.map_keys.proofs.Slots.{keeps-refl, contains-as}

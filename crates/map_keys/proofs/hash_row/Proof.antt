@@ -1,4 +1,4 @@
--- `map_keys::hash_row` meets its contract.
+-- `hash_row` meets its contract.
 use native.Mathlib.Omega.{arith}
 use Rattle.map_keys.proofs.Hashes.{kind-small, row-mixed}
 use borrow.Author.Needs.{needs}

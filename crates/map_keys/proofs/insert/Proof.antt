@@ -1,4 +1,4 @@
--- `map_keys::insert` meets its contract. The slots passed are occupied; the measure is the number of slots left.
+-- `insert` meets its contract. The slots passed are occupied; the measure is the number of slots left.
 use mathlib.Core.Path.{_≡_, refl, ap}
 use Prim.Native.Nat.{_-_}
 use native.Mathlib.Omega.{arith}

@@ -1,4 +1,4 @@
--- `map_keys::key_among` meets its contract. From the row reached the walk finds what it finds from the first; the measure is the rows below the key.
+-- `key_among` meets its contract. From the row reached the walk finds what it finds from the first; the measure is the rows below the key.
 use Prim.Native.Nat.{_-_, _<_}
 use native.Mathlib.Omega.{arith}
 use lib.ListN.{length}

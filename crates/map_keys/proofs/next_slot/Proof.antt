@@ -1,4 +1,4 @@
--- `map_keys::next_slot` meets its contract: one law for each answer.
+-- `next_slot` meets its contract: one law for each answer.
 use native.Mathlib.Omega.{arith}
 use Rattle.map_keys.proofs.Slots.{wraps, goes-on}
 use borrow.Author.Needs.{needs}

@@ -1,4 +1,4 @@
--- `map_keys::pair_size` meets its contract.
+-- `pair_size` meets its contract.
 use native.Mathlib.Omega.{arith}
 use borrow.Author.Needs.{needs}
 use Rattle.map_keys.proofs.Steps.{pair-is}

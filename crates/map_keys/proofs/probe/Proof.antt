@@ -1,4 +1,4 @@
--- `map_keys::probe` meets its contract. No row in the slots passed means the same as the key; the measure is the number of slots left.
+-- `probe` meets its contract. No row in the slots passed means the same as the key; the measure is the number of slots left.
 use mathlib.Core.Path.{sym}
 use Prim.Native.Nat.{_-_}
 use native.Mathlib.Omega.{arith}

@@ -1,4 +1,4 @@
--- `map_keys::row_at` meets its contract: past the end a list has its default.
+-- `row_at` meets its contract: past the end a list has its default.
 use mathlib.Core.Path.{sym}
 use lib.ListN.{List·getD-eq-default}
 use borrow.Author.Needs.{needs}

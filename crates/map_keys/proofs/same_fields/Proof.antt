@@ -1,4 +1,4 @@
--- `map_keys::same_fields` meets its contract.
+-- `same_fields` meets its contract.
 use borrow.Author.Needs.{needs}
 use Rattle.map_keys.proofs.Steps.{fields-found}
 use Rattle.map_keys.proofs.same_fields.Statement.{statement}

@@ -1,4 +1,4 @@
--- `map_keys::same_row` meets its contract: one law for each answer.
+-- `same_row` meets its contract: one law for each answer.
 use borrow.Author.Needs.{needs}
 use Rattle.map_keys.proofs.Steps.{kinds-differ, parts-differ, fields-decide}
 use Rattle.map_keys.proofs.same_row.Statement.{statement}

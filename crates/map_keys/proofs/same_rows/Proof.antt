@@ -1,4 +1,4 @@
--- `map_keys::same_rows` meets its contract. The rows that are left find what all of them find; the measure is their number.
+-- `same_rows` meets its contract. The rows that are left find what all of them find; the measure is their number.
 use mathlib.Core.Path.{_≡_}
 use Prim.Native.Nat.{_+_, _-_, _≤_}
 use native.Mathlib.Omega.{arith}

@@ -1,4 +1,4 @@
--- `map_keys::same_terms` meets its contract: one law for each answer.
+-- `same_terms` meets its contract: one law for each answer.
 use borrow.Author.Needs.{needs}
 use Rattle.map_keys.proofs.Steps.{past-first, past-second, sizes-differ, sizes-same}
 use Rattle.map_keys.proofs.same_terms.Statement.{statement}

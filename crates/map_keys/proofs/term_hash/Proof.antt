@@ -1,4 +1,4 @@
--- `map_keys::term_hash` meets its contract. The rows that are left give what all of them give; the measure is their number.
+-- `term_hash` meets its contract. The rows that are left give what all of them give; the measure is their number.
 use mathlib.Core.Path.{_≡_}
 use Prim.Native.Nat.{_+_, _-_, _≤_, _<_}
 use native.Mathlib.Omega.{arith}

@@ -1,4 +1,4 @@
--- `map_keys::term_kind` meets its contract.
+-- `term_kind` meets its contract.
 use Rattle.map_keys.proofs.Steps.{kind-character, kind-plain}
 use Rattle.map_keys.proofs.term_kind.Statement.{statement}
 use Rattle.map_keys.proofs.term_kind.Tie as tie

@@ -1,4 +1,4 @@
--- `packet_calls::take_packet` meets its contract. Assumes nothing.
+-- `take_packet` meets its contract.
 use mathlib.Core.Path.{refl}
 use borrow.Author.Needs.{needs}
 use Rattle.packet_spec.specs.Memory.{none-pending}

@@ -1,4 +1,4 @@
--- `packet_preamble::read_ids` meets its contract. Assumes nothing.
+-- `read_ids` meets its contract.
 use borrow.Author.Needs.{needs}
 use Rattle.packet_preamble.proofs.Preambles.{ids-cut, ids-zero, ids-found}
 use Rattle.packet_preamble.proofs.read_ids.Statement.{statement}

@@ -1,4 +1,4 @@
--- `packet_preamble::read_preamble` meets its contract. Assumes nothing.
+-- `read_preamble` meets its contract.
 use native.Mathlib.Omega.{arith}
 use borrow.Author.Needs.{needs}
 use Rattle.packet_preamble.proofs.Preambles.{preamble-empty, preamble-wrong, preamble-short, preamble-plain, preamble-start-refused, preamble-start, preamble-more-refused, preamble-more, preamble-other}

@@ -1,4 +1,4 @@
--- `queries::atom_among` meets its contract.
+-- `atom_among` meets its contract.
 use mathlib.Core.Path.{_≡_}
 use Prim.Native.Nat.{_-_, _≤_}
 use native.Mathlib.Omega.{arith}

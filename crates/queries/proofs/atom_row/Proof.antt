@@ -1,4 +1,4 @@
--- `queries::atom_row` meets its contract.
+-- `atom_row` meets its contract.
 use borrow.Author.Needs.{needs}
 use Rattle.queries.proofs.Ways.{other-kind, atom-kind}
 use Rattle.queries.proofs.atom_row.Statement.{statement}

@@ -1,4 +1,4 @@
--- `queries::below_zero` meets its contract.
+-- `below_zero` meets its contract.
 use mathlib.Core.Path.{sym, _∙_, ap, subst}
 use lib.IntN.{ℤ, negsuc}
 use mir.Syntax.{w64}

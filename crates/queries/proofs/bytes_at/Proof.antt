@@ -1,4 +1,4 @@
--- `queries::bytes_at` meets its contract.
+-- `bytes_at` meets its contract.
 use native.Mathlib.Omega.{arith}
 use borrow.Author.Needs.{needs}
 use Rattle.queries.proofs.Ways.{inside-message, inside-list, part-message, part-list, no-part}

@@ -1,4 +1,4 @@
--- `queries::content_number` meets its contract.
+-- `content_number` meets its contract.
 use mathlib.Core.Path.{sym, ap, _∙_}
 use borrow.Author.Needs.{needs}
 use Rattle.term_spec.specs.Answers.{number-case}

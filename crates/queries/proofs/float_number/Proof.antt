@@ -1,4 +1,4 @@
--- `queries::float_number` meets its contract.
+-- `float_number` meets its contract.
 use Rattle.queries.proofs.Signed.{no-nan}
 use Rattle.queries.proofs.Ways.{float-finite, float-other}
 use Rattle.queries.proofs.float_number.Statement.{statement}

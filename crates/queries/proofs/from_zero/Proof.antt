@@ -1,4 +1,4 @@
--- `queries::from_zero` meets its contract.
+-- `from_zero` meets its contract.
 use mir.Syntax.{w64}
 use mir.ValLaws.{toZ-pos}
 use borrow.Author.Needs.{needs}

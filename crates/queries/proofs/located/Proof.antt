@@ -1,4 +1,4 @@
--- `queries::located` meets its contract.
+-- `located` meets its contract.
 use borrow.Author.Tests.{not-true, not-false}
 use borrow.Author.Needs.{needs}
 use Rattle.queries.proofs.Ways.{no-atom, atom-here, located-refused}

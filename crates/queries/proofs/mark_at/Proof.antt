@@ -1,4 +1,4 @@
--- `queries::mark_at` meets its contract.
+-- `mark_at` meets its contract.
 use mathlib.Core.Bool.{Bool, cond}
 use mathlib.Core.Path.{sym, ap, _∙_}
 use borrow.Author.Needs.{needs}

@@ -1,4 +1,4 @@
--- `queries::mark_payload` meets its contract.
+-- `mark_payload` meets its contract.
 use borrow.Author.Needs.{needs}
 use Rattle.term_spec.specs.Message.{payload}
 use Rattle.queries.proofs.Calls.{mark-told}

@@ -1,4 +1,4 @@
--- `queries::mark_standalone` meets its contract.
+-- `mark_standalone` meets its contract.
 use borrow.Author.Needs.{needs}
 use Rattle.term_spec.specs.Message.{standalone}
 use Rattle.queries.proofs.Calls.{mark-told}

@@ -1,4 +1,4 @@
--- `queries::number_payload` meets its contract.
+-- `number_payload` meets its contract.
 use mathlib.Core.Path.{refl}
 use native.Mathlib.Omega.{arith}
 use borrow.Author.Needs.{needs}

@@ -1,4 +1,4 @@
--- `queries::number_standalone` meets its contract.
+-- `number_standalone` meets its contract.
 use mathlib.Core.Path.{refl}
 use native.Mathlib.Omega.{arith}
 use borrow.Author.Needs.{needs}

@@ -1,4 +1,4 @@
--- `queries::numbered` meets its contract.
+-- `numbered` meets its contract.
 use borrow.Author.Needs.{needs}
 use Rattle.queries.proofs.Ways.{row-past, row-here, row-refused}
 use Rattle.queries.proofs.numbered.Statement.{statement}

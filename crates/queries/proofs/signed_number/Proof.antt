@@ -1,4 +1,4 @@
--- `queries::signed_number` meets its contract.
+-- `signed_number` meets its contract.
 use mathlib.Core.Path.{_∙_}
 use mir.ValLaws.{toZ-ofZ}
 use mir.Syntax.{w64}

@@ -1,4 +1,4 @@
--- `queries::text_payload` meets its contract.
+-- `text_payload` meets its contract.
 use borrow.Author.Needs.{needs}
 use Rattle.queries.proofs.Calls.{bytes-told}
 use Rattle.queries.proofs.text_payload.Statement.{statement}

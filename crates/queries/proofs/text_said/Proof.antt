@@ -1,4 +1,4 @@
--- `queries::text_said` meets its contract.
+-- `text_said` meets its contract.
 use mathlib.Core.Path.{sym, ap, _∙_}
 use borrow.Author.Needs.{needs}
 use Rattle.queries.specs.Code.{text-said}

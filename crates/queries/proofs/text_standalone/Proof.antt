@@ -1,4 +1,4 @@
--- `queries::text_standalone` meets its contract.
+-- `text_standalone` meets its contract.
 use borrow.Author.Needs.{needs}
 use Rattle.queries.proofs.Calls.{bytes-told}
 use Rattle.queries.proofs.text_standalone.Statement.{statement}

@@ -1,4 +1,4 @@
--- `reader::first_refusal` meets its contract. Assumes nothing.
+-- `first_refusal` meets its contract.
 use Rattle.reader.proofs.Message.{first-size, first-long, first-none}
 use Rattle.term_spec.proofs.Tests.{refuted, confirmed}
 use Rattle.term_spec.specs.AtomList.{lent-list}

@@ -1,4 +1,4 @@
--- `reader::framed_terms` meets its contract. Assumes nothing.
+-- `framed_terms` meets its contract.
 use Rattle.reader.proofs.Message.{framed-standalone, framed-payload}
 use borrow.Author.Needs.{needs}
 use Rattle.reader.proofs.framed_terms.Statement.{statement}

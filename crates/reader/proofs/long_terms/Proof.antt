@@ -1,4 +1,4 @@
--- `reader::long_terms` meets its contract. Assumes nothing.
+-- `long_terms` meets its contract.
 use native.Mathlib.Omega.{arith}
 use borrow.Author.Needs.{needs}
 use Rattle.reader.proofs.long_terms.Statement.{statement}

@@ -1,4 +1,4 @@
--- `reader::payload_terms` meets its contract. Assumes nothing.
+-- `payload_terms` meets its contract.
 use Rattle.reader.proofs.Message.{payload-one, payload-refused, payload-over, payload-second-refused, payload-two}
 use Rattle.term_reader.proofs.Runs.{room-after}
 use native.Mathlib.Omega.{arith}

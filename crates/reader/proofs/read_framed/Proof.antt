@@ -1,4 +1,4 @@
--- `reader::read_framed` meets its contract. Assumes nothing.
+-- `read_framed` meets its contract.
 use Rattle.reader.proofs.Message.{refused-first, read-settled, room-first}
 use borrow.Author.Needs.{needs}
 use Rattle.reader.proofs.read_framed.Statement.{statement}

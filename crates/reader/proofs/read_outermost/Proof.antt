@@ -1,4 +1,4 @@
--- `reader::read_outermost` meets its contract. Assumes nothing.
+-- `read_outermost` meets its contract.
 use Rattle.term_head.specs.Code.{wanted-of}
 use Rattle.term_reader.proofs.Runs.{run-one}
 use borrow.Author.Needs.{needs}

@@ -1,4 +1,4 @@
--- `reader::settle` meets its contract. Assumes nothing.
+-- `settle` meets its contract.
 use Rattle.reader.proofs.Message.{settled-terms, settled-refused}
 use mathlib.Core.Path.{sym}
 use borrow.Author.Needs.{needs}

@@ -1,4 +1,4 @@
--- `reader::short_terms` meets its contract. Assumes nothing.
+-- `short_terms` meets its contract.
 use native.Mathlib.Omega.{arith}
 use borrow.Author.Needs.{needs}
 use Rattle.reader.proofs.short_terms.Statement.{statement}

@@ -1,4 +1,4 @@
--- `reader::standalone_terms` meets its contract. Assumes nothing.
+-- `standalone_terms` meets its contract.
 use Rattle.reader.proofs.Message.{standalone-empty, standalone-other, standalone-refused, standalone-over, standalone-one}
 use Rattle.term_reader.proofs.Bodies.{room-at}
 use native.Mathlib.Omega.{arith}

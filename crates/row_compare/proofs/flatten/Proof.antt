@@ -1,4 +1,4 @@
--- `row_compare::flatten` meets its contract. Assumes nothing.
+-- `flatten` meets its contract.
 use mathlib.Core.Path.{sym, _∙_, ap}
 use borrow.Author.Needs.{needs}
 use Rattle.row_compare.specs.Same.{flat-of}

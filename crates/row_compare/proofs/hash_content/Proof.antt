@@ -1,4 +1,4 @@
--- `row_compare::hash_content` meets its contract. Assumes nothing.
+-- `hash_content` meets its contract.
 use Rattle.row_compare.proofs.Hashes.{content-mixed}
 use borrow.Author.Needs.{needs}
 use Rattle.row_compare.proofs.hash_content.Statement.{statement}

@@ -1,4 +1,4 @@
--- `row_compare::hash_flat` meets its contract. Assumes nothing.
+-- `hash_flat` meets its contract.
 use Rattle.row_compare.proofs.Hashes.{flat-mixed}
 use borrow.Author.Needs.{needs}
 use Rattle.row_compare.proofs.hash_flat.Statement.{statement}

@@ -1,4 +1,4 @@
--- `row_compare::hash_part` meets its contract: one law for each answer. Assumes nothing.
+-- `hash_part` meets its contract: one law for each answer.
 use borrow.Author.Tests.{not-true, not-false}
 use Rattle.row_compare.proofs.Hashes.{part-missing, part-there}
 use borrow.Author.Needs.{needs}

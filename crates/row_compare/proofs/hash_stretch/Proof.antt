@@ -1,4 +1,4 @@
--- `row_compare::hash_stretch` meets its contract: one law for each answer. Assumes nothing.
+-- `hash_stretch` meets its contract: one law for each answer.
 use Rattle.row_compare.proofs.Hashes.{stretch-plain, stretch-listed, stretch-own}
 use borrow.Author.Needs.{needs}
 use Rattle.row_compare.proofs.hash_stretch.Statement.{statement}

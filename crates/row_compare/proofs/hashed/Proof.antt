@@ -1,4 +1,4 @@
--- `row_compare::hashed` meets its contract: one law for each answer. Assumes nothing.
+-- `hashed` meets its contract: one law for each answer.
 use mathlib.Core.Path.{refl}
 use native.Mathlib.Omega.{arith}
 use Rattle.row_compare.proofs.Hashes.{hashed-digits, hashed-bytes, hashed-bits, hashed-beyond, hashed-words, hashed-none}

@@ -1,4 +1,4 @@
--- `row_compare::inside` meets its contract. Assumes nothing.
+-- `inside` meets its contract.
 use mathlib.Core.Path.{_≡_, sym, _∙_}
 use Prim.Native.Nat.{ℕ, _+_}
 use native.Mathlib.Omega.{arith}

@@ -1,4 +1,4 @@
--- `row_compare::mix` meets its contract. Assumes nothing.
+-- `mix` meets its contract.
 use mathlib.Core.Path.{refl}
 use native.Mathlib.Omega.{arith}
 use Rattle.row_compare.specs.Hash.{mix}

@@ -1,4 +1,4 @@
--- `row_compare::mix_byte` meets its contract: one law for each answer. Assumes nothing.
+-- `mix_byte` meets its contract: one law for each answer.
 use borrow.Author.Tests.{not-true, not-false}
 use Rattle.row_compare.proofs.Hashes.{byte-plain, byte-low, byte-high}
 use borrow.Author.Needs.{needs}

@@ -1,4 +1,4 @@
--- `row_compare::mix_bytes` meets its contract. The bytes that are left give what all of them give; the measure is their number. Assumes nothing.
+-- `mix_bytes` meets its contract. The bytes that are left give what all of them give; the measure is their number.
 use mathlib.Core.Path.{_≡_}
 use Prim.Native.Nat.{_-_, _≤_, _<_}
 use native.Mathlib.Omega.{arith}

@@ -1,4 +1,4 @@
--- `row_compare::numbers_of` meets its contract. Assumes nothing.
+-- `numbers_of` meets its contract.
 use mathlib.Core.Path.{refl}
 use Rattle.row_compare.specs.Same.{numbers-of}
 use Rattle.row_compare.proofs.numbers_of.Statement.{statement}

@@ -1,4 +1,4 @@
--- `row_compare::same_atoms` meets its contract. Assumes nothing.
+-- `same_atoms` meets its contract.
 use mathlib.Core.Bool.{Bool}
 use mathlib.Core.Path.{sym, _∙_, ap₂}
 use borrow.Author.Needs.{needs}

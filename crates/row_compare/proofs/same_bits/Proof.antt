@@ -1,4 +1,4 @@
--- `row_compare::same_bits` meets its contract. Assumes nothing.
+-- `same_bits` meets its contract.
 use mathlib.Core.Path.{refl}
 use native.Mathlib.Omega.{arith}
 use borrow.Author.Tests.{not-true, not-false}

@@ -1,4 +1,4 @@
--- `row_compare::same_content` meets its contract. Assumes nothing.
+-- `same_content` meets its contract.
 use mathlib.Core.Path.{_∙_, ap₂}
 use borrow.Author.Needs.{needs}
 use Rattle.row_compare.specs.Same.{same-flat, same-contents}

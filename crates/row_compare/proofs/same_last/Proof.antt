@@ -1,4 +1,4 @@
--- `row_compare::same_last` meets its contract. Assumes nothing.
+-- `same_last` meets its contract.
 use mathlib.Core.Path.{refl, ap₂}
 use lib.Dec.{eqb}
 use borrow.Author.Tests.{not-true, not-false}

@@ -1,4 +1,4 @@
--- `row_compare::same_sign` meets its contract. Assumes nothing.
+-- `same_sign` meets its contract.
 use mathlib.Core.Bool.{Bool}
 use mathlib.Core.Path.{sym, ap}
 use Rattle.row_compare.specs.Same.{same-bool}

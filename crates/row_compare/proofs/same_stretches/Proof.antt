@@ -1,4 +1,4 @@
--- `row_compare::same_stretches` meets its contract. Assumes nothing.
+-- `same_stretches` meets its contract.
 use mathlib.Core.Path.{sym, _∙_, ap}
 use Prim.Native.Nat.{ℕ}
 use borrow.Author.Tests.{ne-eqb}

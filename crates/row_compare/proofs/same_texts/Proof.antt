@@ -1,4 +1,4 @@
--- `row_compare::same_texts` meets its contract. Assumes nothing.
+-- `same_texts` meets its contract.
 use borrow.Author.Needs.{needs}
 use Rattle.row_compare.specs.Same.{same-texts}
 use Rattle.row_compare.proofs.same_texts.Statement.{statement}

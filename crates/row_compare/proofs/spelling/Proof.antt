@@ -1,4 +1,4 @@
--- `row_compare::spelling` meets its contract. Assumes nothing.
+-- `spelling` meets its contract.
 use borrow.Author.Needs.{needs}
 use Rattle.row_compare.proofs.Lists.{spelling-end, spelling-low, spelling-not-low, spelling-short, spelling-not-first, spelling-not-second, spelling-high}
 use Rattle.row_compare.proofs.spelling.Statement.{statement}

@@ -1,4 +1,4 @@
--- `row_compare::stretch_of` meets its contract. Assumes nothing.
+-- `stretch_of` meets its contract.
 use mathlib.Core.Path.{refl}
 use Rattle.row_compare.specs.Same.{stretch-of}
 use Rattle.row_compare.proofs.stretch_of.Statement.{statement}

@@ -1,4 +1,4 @@
--- `row_compare::text_of` meets its contract. Assumes nothing.
+-- `text_of` meets its contract.
 use mathlib.Core.Path.{refl}
 use Rattle.row_compare.specs.Same.{text-of}
 use Rattle.row_compare.proofs.text_of.Statement.{statement}

@@ -1,4 +1,4 @@
--- `row_fields::atom` meets its contract. Assumes nothing.
+-- `atom` meets its contract.
 use mathlib.Core.Path.{refl, _∙_, ap}
 use Prim.Native.Nat.{ℕ}
 use lib.Dec.{ltb}

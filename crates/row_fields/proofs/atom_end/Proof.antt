@@ -1,4 +1,4 @@
--- `row_fields::atom_end` meets its contract. Assumes nothing.
+-- `atom_end` meets its contract.
 use mathlib.Core.Path.{refl, _∙_, ap}
 use Prim.Native.Nat.{ℕ}
 use native.Mathlib.Omega.{arith}

@@ -1,4 +1,4 @@
--- `row_fields::big` meets its contract. Assumes nothing.
+-- `big` meets its contract.
 use mathlib.Core.Path.{refl, _∙_, ap, ap₂}
 use Prim.Native.Nat.{ℕ, _+_}
 use lib.Dec.{ltb}

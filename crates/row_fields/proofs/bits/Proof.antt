@@ -1,4 +1,4 @@
--- `row_fields::bits` meets its contract. Assumes nothing.
+-- `bits` meets its contract.
 use mathlib.Core.Path.{refl, _∙_, ap₂}
 use Prim.Native.Nat.{ℕ, _+_}
 use borrow.Author.Needs.{needs}

@@ -1,4 +1,4 @@
--- `row_fields::byte` meets its contract. Assumes nothing.
+-- `byte` meets its contract.
 use mathlib.Core.Path.{refl}
 use borrow.Author.Needs.{needs}
 use Rattle.row_fields.specs.Found.{byte-found}

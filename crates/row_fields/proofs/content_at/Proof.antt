@@ -1,4 +1,4 @@
--- `row_fields::content_at` meets its contract. Assumes nothing.
+-- `content_at` meets its contract.
 use mathlib.Core.Path.{refl, _∙_}
 use borrow.Author.Needs.{needs}
 use Rattle.row_fields.specs.Found.{content-of}

@@ -1,4 +1,4 @@
--- `row_fields::counted` meets its contract. Assumes nothing.
+-- `counted` meets its contract.
 use mathlib.Core.Path.{refl, _∙_, ap₂}
 use Prim.Native.Nat.{ℕ}
 use borrow.Author.Needs.{needs}

@@ -1,4 +1,4 @@
--- `row_fields::integer` meets its contract. Assumes nothing.
+-- `integer` meets its contract.
 use mathlib.Core.Path.{sym, _∙_, ap}
 use borrow.Author.Tests.{ne-eqb}
 use borrow.Author.Needs.{needs}

@@ -1,4 +1,4 @@
--- `row_fields::listed` meets its contract. Assumes nothing.
+-- `listed` meets its contract.
 use mathlib.Core.Path.{refl, _∙_, ap}
 use borrow.Author.Needs.{needs}
 use Rattle.row_fields.specs.Found.{place-found, listed-found}

@@ -1,4 +1,4 @@
--- `row_fields::little` meets its contract. Assumes nothing.
+-- `little` meets its contract.
 use native.Mathlib.Omega.{arith}
 use borrow.Author.Needs.{needs}
 use Rattle.row_fields.proofs.Digits.{Summed, summed-none, summed-more, summed-room, summed-all}

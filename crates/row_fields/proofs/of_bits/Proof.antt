@@ -1,4 +1,4 @@
--- `row_fields::of_bits` meets its contract. Assumes nothing.
+-- `of_bits` meets its contract.
 use mathlib.Core.Path.{refl}
 use Rattle.row_fields.specs.Found.{bits-of}
 use Rattle.row_fields.proofs.Tests.{equal, unequal}

@@ -1,4 +1,4 @@
--- `row_fields::of_digits` meets its contract. Assumes nothing.
+-- `of_digits` meets its contract.
 use mathlib.Core.Path.{refl, _∙_, ap}
 use borrow.Author.Needs.{needs}
 use Rattle.row_fields.specs.Found.{whole-of, stripped-found}

@@ -1,4 +1,4 @@
--- `row_fields::pid` meets its contract. Assumes nothing.
+-- `pid` meets its contract.
 use mathlib.Core.Path.{refl, _∙_, ap₂}
 use Prim.Native.Nat.{ℕ}
 use borrow.Author.Needs.{needs}

@@ -1,4 +1,4 @@
--- `row_fields::pid_from` meets its contract. Assumes nothing.
+-- `pid_from` meets its contract.
 use mathlib.Core.Path.{refl}
 use borrow.Author.Needs.{needs}
 use Rattle.row_fields.specs.Found.{pid-found}

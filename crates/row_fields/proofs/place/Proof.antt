@@ -1,4 +1,4 @@
--- `row_fields::place` meets its contract. Assumes nothing.
+-- `place` meets its contract.
 use mathlib.Core.Path.{refl}
 use borrow.Author.Needs.{needs}
 use Rattle.row_fields.specs.Found.{place-found}

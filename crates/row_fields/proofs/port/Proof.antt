@@ -1,4 +1,4 @@
--- `row_fields::port` meets its contract. Assumes nothing.
+-- `port` meets its contract.
 use mathlib.Core.Path.{refl, _∙_, ap}
 use borrow.Author.Needs.{needs}
 use Rattle.row_fields.specs.Found.{port-found, ports-found}

@@ -1,4 +1,4 @@
--- `row_fields::reference` meets its contract. Assumes nothing.
+-- `reference` meets its contract.
 use mathlib.Core.Path.{refl, _∙_, ap}
 use borrow.Author.Needs.{needs}
 use Rattle.row_fields.specs.Found.{word-found, references-found}

@@ -1,4 +1,4 @@
--- `row_fields::signed` meets its contract. Assumes nothing.
+-- `signed` meets its contract.
 use mathlib.Core.Path.{refl, _∙_, ap}
 use borrow.Author.Needs.{needs}
 use Rattle.row_fields.specs.Found.{signed-whole, signed-found}

@@ -1,4 +1,4 @@
--- `row_fields::signed_of` meets its contract. Assumes nothing.
+-- `signed_of` meets its contract.
 use mathlib.Core.Path.{refl}
 use borrow.Author.Needs.{needs}
 use Rattle.row_fields.specs.Found.{signed-whole}

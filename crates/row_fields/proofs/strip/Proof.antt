@@ -1,4 +1,4 @@
--- `row_fields::strip` meets its contract. Assumes nothing.
+-- `strip` meets its contract.
 use mathlib.Core.Path.{_≡_, refl, sym, _∙_}
 use Prim.Native.Nat.{_≤_}
 use native.Mathlib.Omega.{arith}

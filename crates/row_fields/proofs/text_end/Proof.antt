@@ -1,4 +1,4 @@
--- `row_fields::text_end` meets its contract. Assumes nothing.
+-- `text_end` meets its contract.
 use mathlib.Core.Path.{refl}
 use native.Mathlib.Omega.{arith}
 use borrow.Author.Needs.{needs}

@@ -1,4 +1,4 @@
--- `row_fields::whole` meets its contract. Assumes nothing.
+-- `whole` meets its contract.
 use mathlib.Core.Path.{refl}
 use Rattle.row_fields.specs.Found.{whole-of}
 use Rattle.row_fields.proofs.Tests.{equal, unequal}

@@ -1,4 +1,4 @@
--- `row_fields::width_of` meets its contract. Assumes nothing.
+-- `width_of` meets its contract.
 use mathlib.Core.Path.{refl, sym, ap}
 use native.Mathlib.Omega.{arith}
 use borrow.Author.Tests.{ne-eqb}

@@ -1,4 +1,4 @@
--- `term_head::atom` meets its contract. Assumes nothing.
+-- `atom` meets its contract.
 use Rattle.term_spec.proofs.Tests.{refuted, confirmed}
 use Rattle.term_head.proofs.Texts.{atom-cut, atom-bad, atom-there}
 use Rattle.term_head.proofs.Counted.{counted-near}

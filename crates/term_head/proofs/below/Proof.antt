@@ -1,4 +1,4 @@
--- `term_head::below` meets its contract. The loop's invariant: the bytes so far give a number below the limit. Assumes nothing.
+-- `below` meets its contract. The loop's invariant: the bytes so far give a number below the limit.
 use Rattle.term_spec.specs.Numbers.{big-endian}
 use lib.ListN.{take, drop}
 use Prim.Native.Nat.{_-_, _≤_, _<_}

@@ -1,4 +1,4 @@
--- `term_head::big` meets its contract. Assumes nothing.
+-- `big` meets its contract.
 use Rattle.term_head.proofs.Leaves.{big-cut, big-sign, big-there}
 use Rattle.term_head.proofs.Counted.{counted-near}
 use native.Mathlib.Omega.{arith}

@@ -1,4 +1,4 @@
--- `term_head::binary` meets its contract. Assumes nothing.
+-- `binary` meets its contract.
 use Rattle.term_head.proofs.Leaves.{binary-cut, binary-there}
 use native.Mathlib.Omega.{arith}
 use borrow.Author.Needs.{needs}

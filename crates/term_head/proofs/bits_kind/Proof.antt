@@ -1,4 +1,4 @@
--- `term_head::bits_kind` meets its contract. Assumes nothing.
+-- `bits_kind` meets its contract.
 use Rattle.term_head.proofs.Leaves.{bits-none, bits-over-none, bits-few, bits-many, bits-all, bits-part}
 use Rattle.term_head.proofs.bits_kind.Statement.{statement}
 use Rattle.term_head.proofs.bits_kind.Tie as tie

@@ -1,4 +1,4 @@
--- `term_head::bitstring` meets its contract. Assumes nothing.
+-- `bitstring` meets its contract.
 use Rattle.term_head.proofs.Leaves.{bits-cut, bits-broken, bits-there}
 use Rattle.term_head.proofs.Counted.{counted-near}
 use native.Mathlib.Omega.{arith}

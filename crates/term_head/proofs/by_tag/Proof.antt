@@ -1,4 +1,4 @@
--- `term_head::by_tag` meets its contract. At each tag of the table, its layout. Assumes nothing.
+-- `by_tag` meets its contract. At each tag of the table, its layout.
 use Rattle.term_head.specs.Code.{fields-of}
 use Rattle.term_spec.specs.Head.{forms, form-in, fields, atom-cache-ref, atom-ext, big-ext, binary-ext, bit-binary-ext, export-ext, integer-ext, list-ext, map-ext, new-float-ext, new-reference-ext, nil-ext, pid-ext, port-ext, reference-ext, small-integer-ext, string-ext, tuple-ext}
 use Rattle.term_spec.specs.Text.{latin-1, utf-8, coding-of}

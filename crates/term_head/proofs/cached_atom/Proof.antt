@@ -1,4 +1,4 @@
--- `term_head::cached_atom` meets its contract. The index, then the length, then the text. Assumes nothing.
+-- `cached_atom` meets its contract. The index, then the length, then the text.
 use Rattle.term_spec.proofs.Tests.{sizes-of, refuted, confirmed}
 use Rattle.term_head.proofs.Texts.{cached-short, cached-past, cached-long, cached-bad, cached-there}
 use native.Mathlib.Omega.{arith}

@@ -1,4 +1,4 @@
--- `term_head::common_word` meets its contract. Assumes nothing.
+-- `common_word` meets its contract.
 use mathlib.Core.Path.{refl, ap, _∙_}
 use Rattle.term_spec.specs.Head.{forms, form-in, atom-cache-ref, atom-ext, list-ext, map-ext, tuple-ext}
 use Rattle.term_spec.specs.Text.{latin-1, utf-8, coding-of}

@@ -1,4 +1,4 @@
--- `term_head::creation_fits` meets its contract. Assumes nothing.
+-- `creation_fits` meets its contract.
 use Rattle.term_head.proofs.LaterFields.{creation-any, creation-one}
 use native.Mathlib.Omega.{arith}
 use borrow.Author.Needs.{needs}

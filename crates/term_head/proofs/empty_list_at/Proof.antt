@@ -1,4 +1,4 @@
--- `term_head::empty_list_at` meets its contract. Assumes nothing.
+-- `empty_list_at` meets its contract.
 use Rattle.term_head.proofs.Openings.{empty-short, empty-other, empty-count}
 use borrow.Author.Needs.{needs}
 use Rattle.term_head.proofs.empty_list_at.Statement.{statement}

@@ -1,4 +1,4 @@
--- `term_head::fit` meets its contract. Assumes nothing.
+-- `fit` meets its contract.
 use native.Mathlib.Omega.{arith}
 use Rattle.term_head.proofs.Words.{fit-kind, fit-next, fit-count, fit-all}
 use borrow.Author.Needs.{needs}

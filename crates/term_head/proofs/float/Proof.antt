@@ -1,4 +1,4 @@
--- `term_head::float` meets its contract. The bits, then the exponent. Assumes nothing.
+-- `float` meets its contract. The bits, then the exponent.
 use Rattle.term_head.proofs.Leaves.{float-short, float-odd, float-there}
 use native.Mathlib.Omega.{arith}
 use borrow.Author.Needs.{needs}

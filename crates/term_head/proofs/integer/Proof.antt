@@ -1,4 +1,4 @@
--- `term_head::integer` meets its contract. The number is there, or it ends. Assumes nothing.
+-- `integer` meets its contract. The number is there, or it ends.
 use Rattle.term_head.proofs.Leaves.{integer-short, integer-there}
 use native.Mathlib.Omega.{arith}
 use borrow.Author.Needs.{needs}

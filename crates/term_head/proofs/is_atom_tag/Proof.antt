@@ -1,4 +1,4 @@
--- `term_head::is_atom_tag` meets its contract. Assumes nothing.
+-- `is_atom_tag` meets its contract.
 use mathlib.Core.Path.{refl}
 use Rattle.term_head.proofs.Tags.{atom-tag, no-atom-tag}
 use Rattle.term_head.proofs.is_atom_tag.Statement.{statement}

@@ -1,4 +1,4 @@
--- `term_head::leaf_word` meets its contract. Assumes nothing.
+-- `leaf_word` meets its contract.
 use mathlib.Core.Path.{refl, ap, _∙_}
 use lib.IntN.{pos}
 use Rattle.term_spec.specs.Head.{forms, form-in, fields, atom-ext, big-ext, binary-ext, bit-binary-ext, integer-ext, new-float-ext, nil-ext, small-integer-ext}

@@ -1,4 +1,4 @@
--- `term_head::list` meets its contract. Assumes nothing.
+-- `list` meets its contract.
 use Rattle.term_head.proofs.Leaves.{list-short, list-there}
 use native.Mathlib.Omega.{arith}
 use borrow.Author.Needs.{needs}

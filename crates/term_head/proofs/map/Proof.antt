@@ -1,4 +1,4 @@
--- `term_head::map` meets its contract. Assumes nothing.
+-- `map` meets its contract.
 use Rattle.term_head.proofs.Leaves.{map-short, map-there}
 use native.Mathlib.Omega.{arith}
 use borrow.Author.Needs.{needs}

@@ -1,4 +1,4 @@
--- `term_head::may_stand` meets its contract. Assumes nothing.
+-- `may_stand` meets its contract.
 use Rattle.term_head.specs.Code.{allowed}
 use Rattle.term_head.specs.declared.Wanted.{Wanted}
 use Rattle.term_head.proofs.Tags.{arity-tag}

@@ -1,4 +1,4 @@
--- `term_head::old_reference_fields` meets its contract. Assumes nothing.
+-- `old_reference_fields` meets its contract.
 use Rattle.term_spec.proofs.Tests.{refuted, confirmed}
 use Rattle.term_head.proofs.LaterFields.{old-short, old-words, old-creation, old-there}
 use native.Mathlib.Omega.{arith}

@@ -1,4 +1,4 @@
--- `term_head::opened` meets its contract. Assumes nothing.
+-- `opened` meets its contract.
 use Rattle.term_head.specs.Code.{opened-at}
 use mathlib.Core.Path.{sym, ap}
 use borrow.Author.Needs.{needs}

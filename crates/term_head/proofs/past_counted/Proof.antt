@@ -1,4 +1,4 @@
--- `term_head::past_counted` meets its contract. Assumes nothing.
+-- `past_counted` meets its contract.
 use Rattle.term_head.specs.Code.{cut-before, cut-inside, all-there}
 use native.Mathlib.Omega.{arith}
 use borrow.Author.Needs.{needs}

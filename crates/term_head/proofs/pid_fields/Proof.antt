@@ -1,4 +1,4 @@
--- `term_head::pid_fields` meets its contract. Assumes nothing.
+-- `pid_fields` meets its contract.
 use Rattle.term_spec.proofs.Tests.{refuted, confirmed}
 use Rattle.term_head.proofs.LaterFields.{pid-short, pid-cut, pid-id, pid-serial, pid-creation, pid-there}
 use native.Mathlib.Omega.{arith}

@@ -1,4 +1,4 @@
--- `term_head::port_fields` meets its contract. Assumes nothing.
+-- `port_fields` meets its contract.
 use Rattle.term_spec.proofs.Tests.{refuted, confirmed}
 use Rattle.term_head.proofs.LaterFields.{port-short, port-cut, port-id, port-creation, port-there}
 use native.Mathlib.Omega.{arith}

@@ -1,4 +1,4 @@
--- `term_head::port_id_fits` meets its contract. Assumes nothing.
+-- `port_id_fits` meets its contract.
 use borrow.Author.Tests.{eq-eqb, ne-eqb}
 use mathlib.Core.Path.{_∙_}
 use borrow.Author.Needs.{needs}

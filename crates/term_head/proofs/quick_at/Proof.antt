@@ -1,4 +1,4 @@
--- `term_head::quick_at` meets its contract. Assumes nothing.
+-- `quick_at` meets its contract.
 use mathlib.Core.Path.{refl, ap, _∙_}
 use native.Mathlib.Omega.{arith}
 use Rattle.term_spec.proofs.Tests.{confirmed}

@@ -1,4 +1,4 @@
--- `term_head::read_head` meets its contract. No tag, a tag that may not stand, or its fields. Assumes nothing.
+-- `read_head` meets its contract. No tag, a tag that may not stand, or its fields.
 use Rattle.term_spec.proofs.Tests.{refuted, confirmed}
 use Rattle.term_head.proofs.Tags.{head-past, head-barred, head-known}
 use native.Mathlib.Omega.{arith}

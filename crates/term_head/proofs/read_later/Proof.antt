@@ -1,4 +1,4 @@
--- `term_head::read_later` meets its contract. Each kind of later fields has its own function. Assumes nothing.
+-- `read_later` meets its contract. Each kind of later fields has its own function.
 use Rattle.term_head.specs.Code.{later-fields}
 use Rattle.term_head.proofs.LaterFields.{by-later, settled}
 use mathlib.Core.Path.{sym, ap, _∙_}

@@ -1,4 +1,4 @@
--- `term_head::read_opening` meets its contract. No 108 of length 0 is left where the head is read. Assumes nothing.
+-- `read_opening` meets its contract. No 108 of length 0 is left where the head is read.
 use Rattle.term_head.specs.Code.{allowed}
 use Rattle.term_head.specs.declared.Wanted.the-variants.{Atom, Arity}
 use mathlib.Core.Path.{refl}

@@ -1,4 +1,4 @@
--- `term_head::reference` meets its contract. Assumes nothing.
+-- `reference` meets its contract.
 use Rattle.term_head.proofs.Leaves.{reference-short, reference-none, reference-many, reference-there}
 use native.Mathlib.Omega.{arith}
 use borrow.Author.Needs.{needs}

@@ -1,4 +1,4 @@
--- `term_head::reference_fields` meets its contract. Assumes nothing.
+-- `reference_fields` meets its contract.
 use Rattle.term_spec.proofs.Tests.{refuted, confirmed}
 use Rattle.term_head.proofs.LaterFields.{reference-short, reference-cut, reference-creation, reference-words, reference-there}
 use native.Mathlib.Omega.{arith}

@@ -1,4 +1,4 @@
--- `term_head::skip_empty` meets its contract. The loop's invariant: every 108 of length 0 so far is passed. Assumes nothing.
+-- `skip_empty` meets its contract. The loop's invariant: every 108 of length 0 so far is passed.
 use lib.ListN.{length}
 use Prim.Native.Nat.{_≤_, _-_}
 use Rattle.term_head.proofs.Openings.{Passed, passed-none, passed-more, empty-inside}

@@ -1,4 +1,4 @@
--- `term_head::string` meets its contract. Assumes nothing.
+-- `string` meets its contract.
 use Rattle.term_head.proofs.Leaves.{string-cut, string-there}
 use Rattle.term_head.proofs.Counted.{counted-near}
 use native.Mathlib.Omega.{arith}

@@ -1,4 +1,4 @@
--- `term_head::tuple` meets its contract. Assumes nothing.
+-- `tuple` meets its contract.
 use Rattle.term_head.proofs.Leaves.{tuple-short, tuple-there}
 use native.Mathlib.Omega.{arith}
 use borrow.Author.Needs.{needs}

@@ -1,4 +1,4 @@
--- `term_head::word_of` meets its contract. Assumes nothing.
+-- `word_of` meets its contract.
 use mathlib.Core.Path.{sym, ap, _∙_}
 use Rattle.term_head.specs.Quick.{quick-word}
 use Rattle.term_head.proofs.Words.{parts-wanted, parts-word, characters-some, characters-none, elements-none, elements-some, pairs-none, pairs-some}

@@ -1,4 +1,4 @@
--- `term_head::word_of_parts` meets its contract. Assumes nothing.
+-- `word_of_parts` meets its contract.
 use mathlib.Core.Path.{sym, ap, _∙_}
 use mathlib.Core.List.{[], _∷_}
 use types.Run.{miss}

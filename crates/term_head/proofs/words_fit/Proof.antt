@@ -1,4 +1,4 @@
--- `term_head::words_fit` meets its contract. Assumes nothing.
+-- `words_fit` meets its contract.
 use Rattle.term_head.proofs.LaterFields.{words-none, words-any, words-first}
 use native.Mathlib.Omega.{arith}
 use mathlib.Core.Path.{_∙_}

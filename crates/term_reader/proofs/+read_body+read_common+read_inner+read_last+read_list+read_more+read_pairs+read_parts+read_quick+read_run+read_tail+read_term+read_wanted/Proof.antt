@@ -1,4 +1,4 @@
--- The functions of the reader that call each other meet their contracts: each level of depth counts 8, and a function that calls another at its own level counts more. Assumes nothing.
+-- The functions of the reader that call each other meet their contracts: each level of depth counts 8, and a function that calls another at its own level counts more.
 use Rattle.term_reader.proofs.Entries.{Entered, entered-none, entries-many, entries-end, key-refused, key-twice, value-refused, entered-more, keys-told, term-inside}
 use Rattle.term_reader.proofs.Inner.{opens-near, opens-place, opens-span, inner-refused, inner-parts, inner-characters, inner-elements, inner-pairs, parts-first, parts-second, parts-later-refused, parts-got, run-many, list-first, list-then, Tailed, tailed-none, tailed-refused, tailed-last, tailed-run-refused, tailed-further, tailed-more, last-characters, last-refused, last-got}
 use Rattle.term_reader.proofs.Bodies.{term-refused, term-opened, body-deep, body-full, body-refused, body-got, body-small, parts-past, room-inside, room-at}

@@ -1,4 +1,4 @@
--- `term_reader::is_leaf` meets its contract. Assumes nothing.
+-- `is_leaf` meets its contract.
 use mathlib.Core.Bool.{false≢true}
 use borrow.Author.Needs.{needs}
 use Rattle.term_reader.proofs.is_leaf.Statement.{statement}

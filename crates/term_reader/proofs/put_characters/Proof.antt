@@ -1,4 +1,4 @@
--- `term_reader::put_characters` meets its contract. The loop has stored the rows of the first i characters. Assumes nothing.
+-- `put_characters` meets its contract. The loop has stored the rows of the first i characters.
 use Rattle.term_reader.proofs.Characters.{Put, put-none, put-more, put-all}
 use native.Mathlib.Omega.{arith}
 use Prim.Native.Nat.{_-_, _≤_}

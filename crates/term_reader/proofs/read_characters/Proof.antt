@@ -1,4 +1,4 @@
--- `term_reader::read_characters` meets its contract. Assumes nothing.
+-- `read_characters` meets its contract.
 use Rattle.term_reader.proofs.Characters.{characters-none, characters-deep, characters-full, characters-got}
 use native.Mathlib.Omega.{arith}
 use mathlib.Core.Path.{refl}

@@ -1,7 +1,7 @@
--- `term_writer::length_run` and `term_writer::length_term` meet their contracts. The measure is the rows from a term on, to the table's end. In the loop, the sum and what the terms left have come to the whole. Assumes nothing.
+-- `length_run` and `length_term` meet their contracts. The measure is the rows from a term on, to the table's end. In the loop, the sum and what the terms left have come to the whole.
 use Rattle.term_writer.proofs.Terms.{Length-left, length-start, length-step, length-end, length-rest, length-room, left-term, left-size, few-rows, string-length, parts-length, leaf-length}
 use Rattle.term_writer.proofs.Strings.{run-below, term-below, term-sound, parts-run}
-use Rattle.term_writer.specs.Held.{Held-run}
+use Rattle.term_writer.specs.InTable.{Run-in-table}
 use Rattle.term_spec.specs.Message.{Terms}
 use Rattle.term_spec.specs.Tree.{count}
 use lib.ListN.{length}
@@ -54,7 +54,7 @@ length-term-calls t = (parts-in-reads.Asked, parts-in-reads.Learnt, own-length-r
 
 abbrev length-run-Inv-loop : length-run-lts.InvT-loop
 length-run-Inv-loop msg places lengths table row n next₀ left₀ sum₀ next left sum =
-    (row ≤ next) × ((ts : Terms) → Held-run msg places lengths table row ts → count ts ≡ n → Length-left msg places lengths table ts next left sum)
+    (row ≤ next) × ((ts : Terms) → Run-in-table msg places lengths table row ts → count ts ≡ n → Length-left msg places lengths table ts next left sum)
 
 abbrev length-run-μ-loop : length-run-lts.MeasureT-loop
 length-run-μ-loop msg places lengths table row n next₀ left₀ sum₀ next left sum = left

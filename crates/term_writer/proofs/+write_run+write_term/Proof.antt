@@ -1,7 +1,7 @@
--- `term_writer::write_run` and `term_writer::write_term` meet their contracts. The measure is the rows from a term on, to the table's end. In the loop, what is left to store comes to the whole. Assumes nothing.
+-- `write_run` and `write_term` meet their contracts. The measure is the rows from a term on, to the table's end. In the loop, what is left to store comes to the whole.
 use Rattle.term_writer.proofs.Terms.{Put-left, put-start, put-step, put-end, put-fits, put-rest, canonicals-none, canonicals-more, left-size, string-needs, string-written, parts-put, leaf-room, leaf-put, before-room, run-room, after-room, fits-some}
 use Rattle.term_writer.proofs.Strings.{run-below, term-below, term-sound}
-use Rattle.term_writer.specs.Held.{Held-run}
+use Rattle.term_writer.specs.InTable.{Run-in-table}
 use Rattle.term_spec.specs.Canonical.{canonical, canonicals}
 use Rattle.term_spec.specs.Message.{Terms}
 use Rattle.term_spec.specs.Tree.{count}
@@ -58,7 +58,7 @@ write-term-calls t = (parts-in-reads.Asked, parts-in-reads.Learnt, put-leaf-read
 abbrev write-run-Inv-loop : write-run-lts.InvT-loop
 write-run-Inv-loop msg places lengths table row n out₀ at next₀ left₀ end₀ out next left end =
     (row ≤ next) × (length out ≡ length out₀)
-    × ((ts : Terms) → Held-run msg places lengths table row ts → count ts ≡ n → Put-left msg places lengths table canonicals out₀ at ts next left out end)
+    × ((ts : Terms) → Run-in-table msg places lengths table row ts → count ts ≡ n → Put-left msg places lengths table canonicals out₀ at ts next left out end)
 
 abbrev write-run-μ-loop : write-run-lts.MeasureT-loop
 write-run-μ-loop msg places lengths table row n out₀ at next₀ left₀ end₀ out next left end = left

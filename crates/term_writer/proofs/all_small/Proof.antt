@@ -1,6 +1,6 @@
--- `term_writer::all_small` meets its contract. The loop goes on while each term is small, and a small term has one row: `small-step`. Assumes nothing.
+-- `all_small` meets its contract. The loop goes on while each term is small, and a small term has one row: `small-step`.
 use Rattle.term_writer.proofs.Strings.{Small-left, small-start, small-step, small-stop, small-end, small-rest, run-below, run-sound}
-use Rattle.term_writer.specs.Held.{Held-run}
+use Rattle.term_writer.specs.InTable.{Run-in-table}
 use Rattle.term_spec.specs.Message.{Terms}
 use Rattle.term_spec.specs.Tree.{count}
 use Prim.Native.Nat.{_-_, _≤_}
@@ -10,7 +10,7 @@ use Rattle.term_writer.proofs.all_small.Statement.{statement}
 use Rattle.term_writer.proofs.all_small.Tie as tie
 
 abbrev Inv-loop : tie.InvT-loop
-Inv-loop msg places lengths table row n i₀ i = (i ≤ n) × ((ts : Terms) → Held-run msg places lengths table row ts → count ts ≡ n → Small-left msg places lengths table row n ts i)
+Inv-loop msg places lengths table row n i₀ i = (i ≤ n) × ((ts : Terms) → Run-in-table msg places lengths table row ts → count ts ≡ n → Small-left msg places lengths table row n ts i)
 
 abbrev μ-loop : tie.MeasureT-loop
 μ-loop msg places lengths table row n i₀ i = n - i

@@ -1,4 +1,4 @@
--- `term_writer::is_string` meets its contract. A list with elements that are all small. Assumes nothing.
+-- `is_string` meets its contract. A list with elements that are all small.
 use Rattle.term_writer.proofs.Strings.{other-kind, no-elements, elements-told, term-below, parts-run}
 use borrow.Author.Needs.{needs}
 use Rattle.term_writer.proofs.is_string.Statement.{statement}

@@ -1,6 +1,6 @@
--- `term_writer::put_characters` meets its contract. What is left to store comes to all characters, by `characters-step`. Assumes nothing.
+-- `put_characters` meets its contract. What is left to store comes to all characters, by `characters-step`.
 use Rattle.term_writer.proofs.Strings.{Characters-left, characters-start, characters-step, characters-end, character-small, characters-here, characters-rest, run-below, run-sound}
-use Rattle.term_writer.specs.Held.{Held-run}
+use Rattle.term_writer.specs.InTable.{Run-in-table}
 use Rattle.term_spec.specs.Canonical.{all-small}
 use Rattle.term_spec.specs.Message.{Terms, meanings}
 use Rattle.term_spec.specs.Tree.{count}
@@ -14,7 +14,7 @@ use Rattle.term_writer.proofs.put_characters.Statement.{statement}
 use Rattle.term_writer.proofs.put_characters.Tie as tie
 
 abbrev Inv-loop : tie.InvT-loop
-Inv-loop msg places lengths table row n out₀ at i₀ out i = (i ≤ n) × (length out ≡ length out₀) × ((ts : Terms) (cs : List ℕ) → Held-run msg places lengths table row ts → count ts ≡ n → all-small (meanings ts) ≡ some cs → Characters-left msg places lengths table row n at cs out₀ out i)
+Inv-loop msg places lengths table row n out₀ at i₀ out i = (i ≤ n) × (length out ≡ length out₀) × ((ts : Terms) (cs : List ℕ) → Run-in-table msg places lengths table row ts → count ts ≡ n → all-small (meanings ts) ≡ some cs → Characters-left msg places lengths table row n at cs out₀ out i)
 
 abbrev μ-loop : tie.MeasureT-loop
 μ-loop msg places lengths table row n out₀ at i₀ out i = n - i

@@ -1,4 +1,4 @@
--- `term_writer::put_string` meets its contract. The head, then the characters. Assumes nothing.
+-- `put_string` meets its contract. The head, then the characters.
 use Rattle.term_writer.proofs.Terms.{string-put}
 use borrow.Author.Needs.{needs}
 use Rattle.term_writer.proofs.put_string.Statement.{statement}

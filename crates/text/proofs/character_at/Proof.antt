@@ -1,4 +1,4 @@
--- `text::character_at` meets its contract. A byte that is past some lines of the table is in the next, or past it too. Assumes nothing.
+-- `character_at` meets its contract. A byte that is past some lines of the table is in the next, or past it too.
 use mathlib.Core.Path.{refl}
 use native.Mathlib.Omega.{arith}
 use Prim.Native.Nat.{ℕ}

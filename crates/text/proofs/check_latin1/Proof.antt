@@ -1,4 +1,4 @@
--- `text::check_latin1` meets its contract. The test is the definition's. Assumes nothing.
+-- `check_latin1` meets its contract. The test is the definition's.
 use borrow.Author.Tests.{lt-leb, le-leb}
 use Rattle.term_spec.specs.Text.{check}
 use Rattle.text.specs.Shown.{shown}

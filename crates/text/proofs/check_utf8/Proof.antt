@@ -1,4 +1,4 @@
--- `text::check_utf8` meets its contract. The loop's invariant: as many characters as counted stand before the offset. Assumes nothing.
+-- `check_utf8` meets its contract. The loop's invariant: as many characters as counted stand before the offset.
 use Prim.Native.Nat.{_-_, _≤_}
 use native.Mathlib.Omega.{arith}
 use lib.ListN.{length}

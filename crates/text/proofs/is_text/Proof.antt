@@ -1,4 +1,4 @@
--- `text::is_text` meets its contract. Assumes nothing.
+-- `is_text` meets its contract.
 use borrow.Author.Needs.{needs}
 use Rattle.text.proofs.Valid.{coding-utf8, coding-latin1}
 use Rattle.text.proofs.is_text.Statement.{statement}

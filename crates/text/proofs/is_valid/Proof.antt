@@ -1,4 +1,4 @@
--- `text::is_valid` meets its contract. Assumes nothing.
+-- `is_valid` meets its contract.
 use mathlib.Core.Path.{sym, _∙_}
 use borrow.Author.Needs.{needs}
 use Rattle.text.proofs.Valid.{says-valid, says-invalid}

@@ -1,4 +1,4 @@
--- `text::put_character` meets its contract. One store, or two. Assumes nothing.
+-- `put_character` meets its contract. One store, or two.
 use native.Mathlib.Omega.{arith}
 use lib.ListN.{length-set}
 use borrow.Author.Needs.{needs}

@@ -1,4 +1,4 @@
--- `text::put_latin1` meets its contract. The loop has written the first i characters. Assumes nothing.
+-- `put_latin1` meets its contract. The loop has written the first i characters.
 use mathlib.Core.Path.{_≡_, _∙_, ap}
 use Prim.Native.Nat.{ℕ, _+_, _-_, _≤_}
 use native.Mathlib.Omega.{arith}

@@ -1,4 +1,4 @@
--- `text::tail` meets its contract. The loop's invariant: whatever the bytes still due come to, the whole comes to. Assumes nothing.
+-- `tail` meets its contract. The loop's invariant: whatever the bytes still due come to, the whole comes to.
 use mathlib.Core.Path.{sym, _∙_}
 use Prim.Native.Nat.{_+_, _<_, _≤_}
 use native.Mathlib.Omega.{arith}

@@ -1,4 +1,4 @@
--- `text::utf8_length` meets its contract. The loop has counted the bytes of the first i characters. Assumes nothing.
+-- `utf8_length` meets its contract. The loop has counted the bytes of the first i characters.
 use mathlib.Core.Path.{_≡_, _∙_, ap}
 use Prim.Native.Nat.{ℕ, _-_, _*_, _≤_}
 use native.Mathlib.Omega.{arith}

@@ -1,4 +1,4 @@
--- `text::width` meets its contract. A byte under 0x80 is one byte, any other two. Assumes nothing.
+-- `width` meets its contract. A byte under 0x80 is one byte, any other two.
 use native.Mathlib.Omega.{arith}
 use Rattle.text.proofs.Latin1.{length-low, length-high}
 use Rattle.text.proofs.width.Statement.{statement}

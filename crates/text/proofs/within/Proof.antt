@@ -1,4 +1,4 @@
--- `text::within` meets its contract. The tests are those of `holds`, in its order. Assumes nothing.
+-- `within` meets its contract. The tests are those of `holds`, in its order.
 use borrow.Author.Tests.{lt-leb, le-leb}
 use Rattle.term_spec.specs.Text.{holds}
 use Rattle.text.proofs.within.Statement.{statement}

@@ -1,4 +1,4 @@
--- `vector_lines::decimal` meets its contract. The number stays under 2,000,000. Assumes nothing.
+-- `decimal` meets its contract. The number stays under 2,000,000.
 use Prim.Native.Nat.{_-_, _<_, _≤_}
 use borrow.Author.Needs.{needs}
 use lib.ListN.{length}

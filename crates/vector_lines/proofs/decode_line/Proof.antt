@@ -1,4 +1,4 @@
--- `vector_lines::decode_line` meets its contract. What is put stays inside dst; each word ends past its start. Assumes nothing.
+-- `decode_line` meets its contract. What is put stays inside dst; each word ends past its start.
 use Prim.Native.Nat.{_-_, _≤_}
 use mathlib.Core.Path.{_≡_}
 use native.Mathlib.Omega.{arith}

@@ -1,4 +1,4 @@
--- `vector_lines::fill_list` meets its contract. Each place takes at most 258 bytes of the case. Assumes nothing.
+-- `fill_list` meets its contract. Each place takes at most 258 bytes of the case.
 use Prim.Native.Nat.{_+_, _-_, _*_, _≤_}
 use mathlib.Core.Path.{_≡_}
 use borrow.Author.Needs.{needs}

@@ -1,4 +1,4 @@
--- `vector_lines::index_of` meets its contract. The index lies between `from` and the length. Assumes nothing.
+-- `index_of` meets its contract. The index lies between `from` and the length.
 use Prim.Native.Nat.{_-_, _≤_}
 use native.Mathlib.Omega.{arith}
 use borrow.Author.Needs.{needs}

@@ -1,4 +1,4 @@
--- `vector_lines::inside` meets its contract. The answer is no more than there is. Assumes nothing.
+-- `inside` meets its contract. The answer is no more than there is.
 use native.Mathlib.Omega.{arith}
 use Rattle.io.proofs.Counting.{counts}
 use Rattle.vector_lines.proofs.inside.Statement.{statement}

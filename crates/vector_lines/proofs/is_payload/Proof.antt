@@ -1,4 +1,4 @@
--- `vector_lines::is_payload` meets its contract. Assumes nothing.
+-- `is_payload` meets its contract.
 use mathlib.Core.Path.{_≡_, sym, _∙_, ap}
 use mathlib.Core.Bool.{false}
 use Prim.Native.Nat.{ℕ}

@@ -1,4 +1,4 @@
--- `vector_lines::list_count` meets its contract. Assumes nothing.
+-- `list_count` meets its contract.
 use mathlib.Core.Path.{sym}
 use native.Mathlib.Omega.{arith}
 use lib.ListN.{List·getD-eq-default}

@@ -1,4 +1,4 @@
--- `vector_lines::number1` meets its contract. Assumes nothing.
+-- `number1` meets its contract.
 use mathlib.Core.Path.{sym}
 use native.Mathlib.Omega.{arith}
 use lib.ListN.{List·getD-eq-default}

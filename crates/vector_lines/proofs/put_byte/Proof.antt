@@ -1,4 +1,4 @@
--- `vector_lines::put_byte` meets its contract. The byte put lies inside dst. Assumes nothing.
+-- `put_byte` meets its contract. The byte put lies inside dst.
 use native.Mathlib.Omega.{arith}
 use borrow.Author.Needs.{needs}
 use lib.ListN.{length-set}

@@ -1,4 +1,4 @@
--- `vector_lines::put_part` meets its contract. Both indexes are tested. Assumes nothing.
+-- `put_part` meets its contract. Both indexes are tested.
 use Prim.Native.Nat.{_-_, _≤_}
 use mathlib.Core.Path.{_≡_}
 use borrow.Author.Needs.{needs}

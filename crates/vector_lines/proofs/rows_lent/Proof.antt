@@ -1,4 +1,4 @@
--- `vector_lines::rows_lent` meets its contract. The answer is no more than there is. Assumes nothing.
+-- `rows_lent` meets its contract. The answer is no more than there is.
 use native.Mathlib.Omega.{arith}
 use borrow.Author.Needs.{needs}
 use Rattle.io.proofs.Counting.{counts}

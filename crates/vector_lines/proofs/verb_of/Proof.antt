@@ -1,4 +1,4 @@
--- `vector_lines::verb_of` meets its contract. Assumes nothing.
+-- `verb_of` meets its contract.
 use mathlib.Core.Path.{sym, ap}
 use native.Mathlib.Omega.{arith}
 use lib.ListN.{List·getD-eq-default}

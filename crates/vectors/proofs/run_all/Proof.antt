@@ -1,4 +1,4 @@
--- `vectors::run_all` meets its contract. Each line ends past its start. Assumes nothing.
+-- `run_all` meets its contract. Each line ends past its start.
 use Prim.Native.Nat.{_+_, _-_, _≤_}
 use borrow.Author.Needs.{needs}
 use lib.ListN.{length}

@@ -1,4 +1,4 @@
--- `writer::clear_rows` meets its contract. The loop has cleared the words up to i. Assumes nothing.
+-- `clear_rows` meets its contract. The loop has cleared the words up to i.
 use Prim.Native.Nat.{_-_, _≤_}
 use native.Mathlib.Omega.{arith}
 use Rattle.octets.proofs.Cleared.{ClearedTo, cleared-none, cleared-more}

@@ -1,4 +1,4 @@
--- `writer::put_standalone` meets its contract. 131, then the term. Assumes nothing.
+-- `put_standalone` meets its contract. 131, then the term.
 use Rattle.writer.proofs.Messages.{standalone-room, standalone-rest, standalone-put}
 use native.Mathlib.Omega.{arith}
 use borrow.Author.Needs.{needs}

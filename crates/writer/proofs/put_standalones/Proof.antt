@@ -1,8 +1,8 @@
--- `writer::put_standalones` meets its contract. What is left to store comes to the whole, as in a run of parts. Assumes nothing.
+-- `put_standalones` meets its contract. What is left to store comes to the whole, as in a run of parts.
 use Rattle.writer.proofs.Messages.{standalones-none, standalones-more}
 use Rattle.term_writer.proofs.Terms.{Put-left, put-start, put-step, put-end, put-fits, put-rest, left-size}
 use Rattle.term_writer.proofs.Strings.{run-below}
-use Rattle.term_writer.specs.Held.{Held-run}
+use Rattle.term_writer.specs.InTable.{Run-in-table}
 use Rattle.term_spec.specs.Canonical.{canonical-standalone, standalones}
 use Rattle.term_spec.specs.Message.{Terms}
 use Rattle.term_spec.specs.Tree.{count}
@@ -16,7 +16,7 @@ use Rattle.writer.proofs.put_standalones.Tie as tie
 abbrev Inv-loop : tie.InvT-loop
 Inv-loop msg places lengths table n out₀ next₀ left₀ end₀ out next left end =
     (length out ≡ length out₀)
-    × ((ts : Terms) → Held-run msg places lengths table 0 ts → count ts ≡ n → Put-left msg places lengths table standalones out₀ 0 ts next left out end)
+    × ((ts : Terms) → Run-in-table msg places lengths table 0 ts → count ts ≡ n → Put-left msg places lengths table standalones out₀ 0 ts next left out end)
 
 abbrev μ-loop : tie.MeasureT-loop
 μ-loop msg places lengths table n out₀ next₀ left₀ end₀ out next left end = left

@@ -1,4 +1,4 @@
--- `writer::write_rows` meets its contract. Measured, and then refused or written. Assumes nothing.
+-- `write_rows` meets its contract. Measured, and then refused or written.
 use Rattle.writer.proofs.Messages.{rows-room, rows-short, rows-fit, rows-put}
 use native.Mathlib.Omega.{arith}
 use borrow.Author.Needs.{needs}

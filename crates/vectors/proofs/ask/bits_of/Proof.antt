@@ -1,4 +1,4 @@
--- `vectors::ask::bits_of` meets its contract. What equals itself is not `nan`. Assumes nothing.
+-- `bits_of` meets its contract. What equals itself is not `nan`.
 use mathlib.Core.Path.{_≡_}
 use mathlib.Core.Bool.{true, not, false≢true}
 use borrow.Author.Needs.{needs}

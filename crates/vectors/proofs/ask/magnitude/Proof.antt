@@ -1,4 +1,4 @@
--- `vectors::ask::magnitude` meets its contract. Each step to the magnitude of an `i64`, the least one's too, is defined. Assumes nothing.
+-- `magnitude` meets its contract. Each step to the magnitude of an `i64`, the least one's too, is defined.
 use borrow.Author.Needs.{needs}
 use lib.Dec.{lit≤}
 use mir.Syntax.{w64}

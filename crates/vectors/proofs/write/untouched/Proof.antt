@@ -1,4 +1,4 @@
--- `vectors::write::untouched` meets its contract. It ends: the index rises. Assumes nothing.
+-- `untouched` meets its contract. It ends: the index rises.
 use Prim.Native.Nat.{_-_, _≤_}
 use borrow.Author.Needs.{needs}
 use lib.ListN.{length}

@@ -15,7 +15,7 @@ use Rattle.term_spec.proofs.Rows.{count-le-sizes, count-relabels}
 use Rattle.term_spec.proofs.Words.{Between, kind-at-range, Small-row, Word-of, row-of, first-here, others-here, parts-here, node-packed, node-below}
 use Rattle.row_fields.specs.Found.{content-of}
 use Rattle.canonical_fields.specs.Sound.{content-in, label-in, Sound-word}
-use Rattle.term_writer.specs.Held.{Writable, Held, Held-run}
+use Rattle.term_writer.specs.InTable.{Writable, Term-in-table, Run-in-table}
 
 -- ---- kinds and labels
 
@@ -65,21 +65,21 @@ improper-parts l ts e f = go ts ((rw e at f) .1)
 
 module _ {m places lengths T : List ℕ} where
   -- a run's first term, the others; a term's parts
-  pub run-first : {row : ℕ} {t : Located} {ts : Terms} → Held-run m places lengths T row (t ▹ ts) → Held m places lengths T row t
+  pub run-first : {row : ℕ} {t : Located} {ts : Terms} → Run-in-table m places lengths T row (t ▹ ts) → Term-in-table m places lengths T row t
   unfolding Each-node
   run-first {row} {t} {ts} h =
       let f : row + (size t + sizes ts) ≤ 8192 = h .run-few in
       record { whole = h .run-whole; above = h .run-above; stands = first-here (h .run-stands); few = omega arith; nodes = h .run-nodes .0 }
 
-  pub run-others : {row : ℕ} {t : Located} {ts : Terms} → Held-run m places lengths T row (t ▹ ts) → Held-run m places lengths T (row + size t) ts
+  pub run-others : {row : ℕ} {t : Located} {ts : Terms} → Run-in-table m places lengths T row (t ▹ ts) → Run-in-table m places lengths T (row + size t) ts
   unfolding Each-node
   run-others {row} {t} {ts} h =
       let f : row + (size t + sizes ts) ≤ 8192 = h .run-few in
       let a : whole-code (h .run-whole) ≤ row = h .run-above in
       record { run-whole = h .run-whole; run-above = omega arith; run-stands = others-here (h .run-stands); run-few = omega arith; run-nodes = h .run-nodes .1 }
 
-  module _ {row : ℕ} {l : Label × Place} {ts : Terms} (h : Held m places lengths T row (node l ts)) where
-    pub held-parts : Held-run m places lengths T (row + 1) ts
+  module _ {row : ℕ} {l : Label × Place} {ts : Terms} (h : Term-in-table m places lengths T row (node l ts)) where
+    pub held-parts : Run-in-table m places lengths T (row + 1) ts
     unfolding Each-node whole-code
     held-parts =
         let f : row + suc (sizes ts) ≤ 8192 = h .few in

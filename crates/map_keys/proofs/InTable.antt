@@ -53,12 +53,12 @@ module _ (message : List ℕ) (cap : ℕ) (atoms : Atoms) where
   term-kind-of l (character-at p) h = sym (ap kind-of (h .1))
 
   -- the rows of a term, of terms, stand in the table from row n on and are small, and the message backs them
-  pub record Held (T : List ℕ) (whole : Option ℕ) (n : ℕ) (t : Located) : Type 0 where
+  pub record Term-in-table (T : List ℕ) (whole : Option ℕ) (n : ℕ) (t : Located) : Type 0 where
     pub stands : Tree-here T whole n t
     pub small : Each-row Small-row (tree-rows whole n t)
     pub backed : Backed message cap atoms t
 
-  pub record Held-rows (T : List ℕ) (whole : Option ℕ) (n : ℕ) (ts : Terms) : Type 0 where
+  pub record Rows-in-table (T : List ℕ) (whole : Option ℕ) (n : ℕ) (ts : Terms) : Type 0 where
     pub stand : Rows-here T whole n ts
     pub all-small : Each-row Small-row (rows whole n ts)
     pub all-backed : Backeds message cap atoms ts
@@ -72,17 +72,17 @@ module _ (message : List ℕ) (cap : ℕ) (atoms : Atoms) where
   backed-right (t ▹ ts) us b = backed-right ts us (b .1)
 
   -- a run of terms after another
-  module _ {T : List ℕ} {whole : Option ℕ} {n : ℕ} (ts us : Terms) (h : Held-rows T whole n (ts ▹▹ us)) where
+  module _ {T : List ℕ} {whole : Option ℕ} {n : ℕ} (ts us : Terms) (h : Rows-in-table T whole n (ts ▹▹ us)) where
     small-both : Each-row Small-row (rows whole n ts) × Each-row Small-row (rows whole (n + sizes ts) us)
     small-both = each-row-split Small-row (rows whole n ts) (rows whole (n + sizes ts) us) (rw rows-join at (h .all-small))
 
-    pub held-left : Held-rows T whole n ts
+    pub held-left : Rows-in-table T whole n ts
     held-left = record { stand = left-here ts us (h .stand); all-small = small-both .0; all-backed = backed-left ts us (h .all-backed) }
 
-    pub held-right : Held-rows T whole (n + sizes ts) us
+    pub held-right : Rows-in-table T whole (n + sizes ts) us
     held-right = record { stand = right-here ts us (h .stand); all-small = small-both .1; all-backed = backed-right ts us (h .all-backed) }
 
-  pub held-first : {T : List ℕ} {whole : Option ℕ} {n : ℕ} (t : Located) (ts : Terms) → Held-rows T whole n (t ▹ ts) → Held T whole n t
+  pub held-first : {T : List ℕ} {whole : Option ℕ} {n : ℕ} (t : Located) (ts : Terms) → Rows-in-table T whole n (t ▹ ts) → Term-in-table T whole n t
   unfolding rows
   held-first {T} {whole} {n} t ts h =
       record {
@@ -119,28 +119,28 @@ module _ (list : AtomList) (message : List ℕ) (lent : Lent list message) (cap 
           (and-then (eqb i j) _ (numbers-agree i j) (λ e. and-then (eqb n n′) c (numbers-agree n n′) (λ _. g e)))
 
   module _ (T : List ℕ) where
-    known-tree : {whole : Option ℕ} {n : ℕ} (t : Located) → Held message cap atoms T whole n t → Known-tree Known T whole n t
+    known-tree : {whole : Option ℕ} {n : ℕ} (t : Located) → Term-in-table message cap atoms T whole n t → Known-tree Known T whole n t
     known-tree {whole} {n} t h =
         record { stands = h .stands; known = each-row-both Small-row (Backed-row message cap atoms) (tree-rows whole n t) (h .small) (backed-tree-rows message cap atoms whole n t (h .backed)) }
 
-    known-rows : {whole : Option ℕ} {n : ℕ} (ts : Terms) → Held-rows message cap atoms T whole n ts → Known-rows Known T whole n ts
+    known-rows : {whole : Option ℕ} {n : ℕ} (ts : Terms) → Rows-in-table message cap atoms T whole n ts → Known-rows Known T whole n ts
     known-rows {whole} {n} ts h =
         record { stand = h .stand; all-known = each-row-both Small-row (Backed-row message cap atoms) (rows whole n ts) (h .all-small) (backed-rows message cap atoms whole n ts (h .all-backed)) }
 
     -- two terms compare as their meanings do
-    pub same-terms-same : {whole whole′ : Option ℕ} {a b : ℕ} (t u : Located) → Held message cap atoms T whole a t → Held message cap atoms T whole′ b u
+    pub same-terms-same : {whole whole′ : Option ℕ} {a b : ℕ} (t u : Located) → Term-in-table message cap atoms T whole a t → Term-in-table message cap atoms T whole′ b u
         → same-terms-raw message (list .places) (list .lengths) T a b ≡ same (meaning t) (meaning u)
     same-terms-same {whole} {whole′} {a} {b} t u h g =
         same-from-same (same-row message (list .places) (list .lengths)) Known (λ r k. k .0) row-agrees T whole whole′ a b t u (known-tree t h) (known-tree u g)
 
     -- a term right past pairs is compared with each of their keys
     pub among-rows-among : {whole whole′ : Option ℕ} {first key : ℕ} (ts : Terms) (u : Located) {ks : List Term} → Keys-of ts ks → key ≡ first + sizes ts
-        → Held-rows message cap atoms T whole first ts → Held message cap atoms T whole′ key u → among-rows message (list .places) (list .lengths) T first key ≡ among (meaning u) ks
+        → Rows-in-table message cap atoms T whole first ts → Term-in-table message cap atoms T whole′ key u → among-rows message (list .places) (list .lengths) T first key ≡ among (meaning u) ks
     among-rows-among {whole} {whole′} {first} {key} ts u p e h g =
         among-from-among (same-row message (list .places) (list .lengths)) Known (λ r k. k .0) row-agrees T whole whole′ key u (known-tree u g) first p e (known-rows ts h)
 
     -- the same of the last of terms, after pairs
-    pub last-among : {whole : Option ℕ} {first : ℕ} (ts : Terms) (u : Located) {ks : List Term} → Keys-of ts ks → Held-rows message cap atoms T whole first (ts ▹▹ (u ▹ empty))
+    pub last-among : {whole : Option ℕ} {first : ℕ} (ts : Terms) (u : Located) {ks : List Term} → Keys-of ts ks → Rows-in-table message cap atoms T whole first (ts ▹▹ (u ▹ empty))
         → among-rows message (list .places) (list .lengths) T first (first + sizes ts) ≡ among (meaning u) ks
     last-among ts u p h =
         among-rows-among ts u p refl (held-left message cap atoms ts (u ▹ empty) h) (held-first message cap atoms u empty (held-right message cap atoms ts (u ▹ empty) h))

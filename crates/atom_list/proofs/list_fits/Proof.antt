@@ -1,7 +1,7 @@
--- `term_head::list_fits` meets its contract. Assumes nothing.
-use Rattle.term_head.proofs.Sizes.{fits-not, fits-if}
-use Rattle.term_head.proofs.list_fits.Statement.{statement}
-use Rattle.term_head.proofs.list_fits.Tie as tie
+-- `list_fits` meets its contract.
+use Rattle.atom_list.proofs.ListSize.{fits-not, fits-if}
+use Rattle.atom_list.proofs.list_fits.Statement.{statement}
+use Rattle.atom_list.proofs.list_fits.Tie as tie
 
 returns : tie.Need-returns
 returns c = let a = c .before .args in fits-not (a .places .now) (a .lengths .now) (c .if1 .taken)

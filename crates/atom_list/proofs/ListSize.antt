@@ -1,4 +1,4 @@
--- The size of an atom list, from the tests that the code makes. Assumes nothing.
+-- The size of an atom list, from the tests that the code makes.
 use mathlib.Core.Path.{_≡_}
 use mathlib.Core.Bool.{false}
 use mathlib.Core.List.{List}

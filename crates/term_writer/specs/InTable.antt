@@ -1,4 +1,5 @@
 -- Terms whose rows stand in a table, and whose fields are found again in the message.
+-- About the code alone, proved against the definitions of term_spec: nothing here has to be believed.
 use mathlib.Core.Path.{_≡_}
 use mathlib.Core.Bool.{Bool, true, false}
 use mathlib.Core.List.{List}
@@ -28,14 +29,14 @@ module _ (m places lengths : List ℕ) where
 
   module _ (T : List ℕ) (row : ℕ) where
     -- the rows of a term, of terms one after the other, stand from `row` on
-    pub record Held (t : Located) : Type 0 where
+    pub record Term-in-table (t : Located) : Type 0 where
       pub whole : Option ℕ
       pub above : whole-code whole ≤ row
       pub stands : Tree-here T whole row t
       pub few : row + size t ≤ 8192
       pub nodes : Each-node Writable t
 
-    pub record Held-run (ts : Terms) : Type 0 where
+    pub record Run-in-table (ts : Terms) : Type 0 where
       pub run-whole : Option ℕ
       pub run-above : whole-code run-whole ≤ row
       pub run-stands : Rows-here T run-whole row ts
