@@ -9,6 +9,7 @@ ghost use Rattle.io.specs.Counts.{Counts};
 ghost use Rattle.vector_lines.specs.Fields.{verb, payload-form};
 use term_spec::ReadAnswer;
 use term_spec::Refusal;
+use term_spec::sizes;
 
 pub enum Verb {
     Read,
@@ -457,12 +458,12 @@ pub fn list_count(case: &[u8]) -> u8
 
 fn places_size(form: usize) -> usize {
     if form == 83 {
-        return 8159;
+        return sizes::LIST_BYTES - 1;
     }
     if form == 80 {
-        return 8159;
+        return sizes::LIST_BYTES - 1;
     }
-    8160
+    sizes::LIST_BYTES
 }
 
 // How many bytes of the atom list's places are lent.
@@ -479,7 +480,7 @@ fn lengths_size(form: usize) -> usize {
     if form == 113 {
         return 256;
     }
-    255
+    sizes::LIST_PLACES
 }
 
 // How many of the atom list's lengths are lent.
