@@ -2,8 +2,8 @@
  *
  * Every call takes whatever bytes and lent memory it is given, stays inside them and ends. It keeps nothing between calls and takes
  * no memory of its own but the stack. What the caller owes, and no call can see for itself:
- * - A pointer is valid for as many elements as the length behind it says, and aligned for its type: 2 bytes for uint16_t, 8 for
- *   uint64_t and struct ik_pending. It is not null, even where its length is 0.
+ * - A pointer is valid for as many elements as the length behind it says, for one where no length stands behind it, and aligned for
+ *   its type: 2 bytes for uint16_t, 8 for uint64_t and struct ik_pending. It is not null, even where its length is 0.
  * - Memory that a call may write overlaps no other memory lent to that call.
  * - Nobody else (a thread, an interrupt, a device) changes lent memory during the call.
  * - The stack has room: at most 151,360 bytes for one call, on x86-64; docs/STACK.md has each call.

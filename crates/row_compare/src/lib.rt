@@ -356,7 +356,7 @@ pub fn same_content(msg: &[u8], places: &[u8], a: Content, b: Content) -> bool
     same_flat(msg, places, flatten(a), flatten(b))
 }
 
-// A hash is below 2^32; the factor is that of a common random number generator.
+// A hash is below 2^32; how the factor was chosen is in docs/DECISIONS.md.
 const HASH_SIZE: u64 = 4294967296;
 
 const HASH_FACTOR: u64 = 22695477;

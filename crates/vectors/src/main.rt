@@ -58,7 +58,7 @@ fn run_all(src: &[u8]) {
     }
 }
 
-// Room for all of standard input. A function of its own, since in `main` an array this long is too deep for the checker.
+// Room for all of standard input.
 fn empty_book() -> [u8; 1000000] {
     [0u8; 1000000]
 }
