@@ -22,7 +22,7 @@ use Rattle.packet_spec.specs.Places.{Same}
 use Rattle.packet_spec.specs.Gathering.{So-far, none-begun, gathered-by, gathered-after, gathered-after-all, Has}
 use Rattle.packet_spec.specs.Demands.{Ran, ended, packet-then, drop-then, reset-then, Completed, Gathered, Demand-2}
 use Rattle.packet_spec.proofs.Runs.{run-holds, run-frame, run-listed}
-use Rattle.packet_spec.proofs.Gathered.{call-gathers, run-gathers, none-yet, told-gathered}
+use Rattle.packet_spec.proofs.Gathered.{call-gathers, run-gathers, none-yet, own-continuation, told-gathered}
 use Rattle.packet_spec.proofs.Gathered as gathering
 
 -- what a drop and a reset leave, by their promises
@@ -87,6 +87,7 @@ run-gathered {m} {n} {cs} u r e =
     let has : Has n g = subst (λ (x : Memory). Has x g) (sym (ran-is r)) (run-gathers cs m (none-begun m) u (none-yet m e)) in
     record {
       so-far = has;
+      next-continuation = λ agreed packet q f bs v j. own-continuation agreed n packet g has q f bs v j;
       next-answer = λ agreed packet r m′ v w. answer-is n g has agreed packet r m′ v w ∙ ap packet-answer (told-gathered agreed n packet g v has);
       completes = λ agreed packet r m′ v w k c. next-completed n g has agreed packet r m′ v w k c;
     }
