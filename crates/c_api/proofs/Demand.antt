@@ -1,13 +1,30 @@
--- The promises of the calls for C that read and write, as relations: what holds after any call, with any arguments a, reply r and lent slices s after it.
--- Each gives a Read-call or a Write-call, as demand 3 (crate writer, proofs/Demand) has them, with an answer that is the reply in numbers.
+-- The promises of the calls for C, as relations: what holds after any call, with any arguments a, reply r and lent memory s after it.
+-- Those that read and write give a Read-call or a Write-call, as demand 3 (crate writer, proofs/Demand) has them, with an answer that is the reply in numbers;
+-- those on packets a call of a run, as demand 2 (crate packet_spec, proofs/Demand) has it.
+use mathlib.Core.Path.{_≡_, refl, subst}
+use mathlib.Core.List.{List, _∷_}
+use Prim.Native.Nat.{ℕ}
 use contract.Lifetimes.{Lfts}
+use contract.Monad.{fact}
+use borrow.Fn.World.{World}
 use Rattle.term_spec.specs.AtomList.{lent-list}
 use Rattle.term_spec.specs.Message.{standalone, payload}
-use Rattle.c_api.specs.Promises.{Read-reply, Write-reply}
+use Rattle.term_spec.specs.Text.{Coding, coding-of}
+use Rattle.packet_spec.specs.declared.Pending.{Pending}
+use Rattle.packet_spec.specs.Memory.{Cache, Memory, cache-of, memory-of}
+use Rattle.packet_spec.specs.Runs.{Call, taking, dropping, resetting, with-state}
+use Rattle.packet_spec.specs.Demands.{Ran, packet-then, drop-then, reset-then}
+use Rattle.c_replies.specs.declared.PacketReply.{PacketReply}
+use Rattle.c_replies.specs.declared.StateReply.{StateReply}
+use Rattle.c_replies.specs.Packets.{flag}
+use Rattle.c_api.specs.Promises.{Read-reply, Write-reply, Packet-reply, Drop-reply, Reset-reply}
 use Rattle.c_api.proofs.ik_read_standalone.Reads as read-standalone
 use Rattle.c_api.proofs.ik_read_payload.Reads as read-payload
 use Rattle.c_api.proofs.ik_write_standalone.Reads as write-standalone
 use Rattle.c_api.proofs.ik_write_payload.Reads as write-payload
+use Rattle.c_api.proofs.ik_packet as packet-call
+use Rattle.c_api.proofs.ik_drop as drop-call
+use Rattle.c_api.proofs.ik_reset as reset-call
 
 pub promised-ik-read-standalone : (κs : Lfts 4) (a : _) (r : _) (s : _) → read-standalone.Post κs a r s
     → Read-reply standalone (lent-list (a .1 .0) (a .1 .1 .0 .now) (a .1 .1 .1 .0 .now)) (a .0 .now) (a .1 .1 .1 .1 .0 .now) r (s .1 .1 .1 .1 .0 .now)
@@ -26,3 +43,42 @@ pub promised-ik-write-payload : (κs : Lfts 5) (a : _) (r : _) (s : _) → write
     → Write-reply payload (lent-list (a .1 .0) (a .1 .1 .0 .now) (a .1 .1 .1 .0 .now)) (a .0 .now) (a .1 .1 .1 .1 .0 .now) (a .1 .1 .1 .1 .1 .0 .now) r
     (s .1 .1 .1 .1 .0 .now) (s .1 .1 .1 .1 .1 .0 .now)
 promised-ik-write-payload κs a r s p = p
+
+-- The three that lend the record by `&mut`: rt makes no `Reads` for these, so their `ensures` is named itself. At any model w it is the fact that the relation holds
+pub promised-ik-packet : (w : World) (κs : Lfts 11) (a : _) (r : _) (s : _)
+    → packet-call.clauses (w .𝓤) (w .H) (w .𝓖 .A) (w .𝓜 .mem) (w .𝓡 .run) κs a .ensures tt r s
+    ≡ fact (w .𝓤) (Packet-reply (coding-of (flag (a .0))) (a .1 .0 .now)
+    (memory-of (cache-of (a .1 .1 .0 .now) (a .1 .1 .1 .0 .now))
+    (lent-list (a .1 .1 .1 .1 .0 .now) (a .1 .1 .1 .1 .1 .0 .now) (a .1 .1 .1 .1 .1 .1 .0 .now))
+    (lent-list (a .1 .1 .1 .1 .1 .1 .1 .0 .now) (a .1 .1 .1 .1 .1 .1 .1 .1 .0 .now) (a .1 .1 .1 .1 .1 .1 .1 .1 .1 .0 .now))
+    (a .1 .1 .1 .1 .1 .1 .1 .1 .1 .1 .0 .now) (a .1 .1 .1 .1 .1 .1 .1 .1 .1 .1 .1 .0 .now))
+    r
+    (memory-of (cache-of (s .1 .1 .0 .now) (s .1 .1 .1 .0 .now))
+    (lent-list (s .1 .1 .1 .1 .0 .now) (s .1 .1 .1 .1 .1 .0 .now) (s .1 .1 .1 .1 .1 .1 .0 .now))
+    (lent-list (s .1 .1 .1 .1 .1 .1 .1 .0 .now) (s .1 .1 .1 .1 .1 .1 .1 .1 .0 .now) (s .1 .1 .1 .1 .1 .1 .1 .1 .1 .0 .now))
+    (s .1 .1 .1 .1 .1 .1 .1 .1 .1 .1 .0 .now) (s .1 .1 .1 .1 .1 .1 .1 .1 .1 .1 .1 .0 .now)))
+promised-ik-packet w κs a r s = refl
+
+pub promised-ik-drop : (w : World) (κs : Lfts 1) (a : _) (r : _) (s : _)
+    → drop-call.clauses (w .𝓤) (w .H) (w .𝓖 .A) (w .𝓜 .mem) (w .𝓡 .run) κs a .ensures tt r s ≡ fact (w .𝓤) (Drop-reply (a .0 .now) r (s .0 .now))
+promised-ik-drop w κs a r s = refl
+
+pub promised-ik-reset : (w : World) (κs : Lfts 3) (a : _) (r : _) (s : _)
+    → reset-call.clauses (w .𝓤) (w .H) (w .𝓖 .A) (w .𝓜 .mem) (w .𝓡 .run) κs a .ensures tt r s
+    ≡ fact (w .𝓤) (Reset-reply (cache-of (a .0 .now) (a .1 .0 .now)) (a .1 .1 .0 .now) r (cache-of (s .0 .now) (s .1 .0 .now)) (s .1 .1 .0 .now))
+promised-ik-reset w κs a r s = refl
+
+-- Each is a call of a run, so demand 2 speaks of runs of these three
+pub packet-in-run : {agreed : Coding} {packet : List ℕ} {m m′ n : Memory} {reply : PacketReply} {cs : List Call}
+    → Packet-reply agreed packet m reply m′ → Ran m′ cs n → Ran m (taking agreed packet ∷ cs) n
+packet-in-run {agreed} {packet} {m′ = m′} p rest = packet-then agreed packet (p .taken) m′ (p .called) rest
+
+pub drop-in-run : {m n : Memory} {reply : StateReply} {p′ : Pending} {cs : List Call}
+    → Drop-reply (m .pending) reply p′ → Ran (with-state m (m .cache, p′)) cs n → Ran m (dropping ∷ cs) n
+drop-in-run {m} {n} {cs = cs} p rest =
+    drop-then (p .settled) (p .called) (subst (λ (x : Pending). Ran (with-state m (m .cache, x)) cs n) (p .record-left) rest)
+
+pub reset-in-run : {m n : Memory} {reply : StateReply} {c′ : Cache} {p′ : Pending} {cs : List Call}
+    → Reset-reply (m .cache) (m .pending) reply c′ p′ → Ran (with-state m (c′, p′)) cs n → Ran m (resetting ∷ cs) n
+reset-in-run {m} {n} {c′ = c′} {cs = cs} p rest =
+    reset-then (p .settled) c′ (p .called) (subst (λ (x : Pending). Ran (with-state m (c′, x)) cs n) (p .record-left) rest)

@@ -1,13 +1,14 @@
 -- The cases of the paper on packets, as a single statement.
 use mathlib.Core.Path.{_≡_, refl}
-use mathlib.Core.List.{List, [], _∷_}
+use mathlib.Core.List.{List, [], _∷_, _++_}
 use Prim.Native.Nat.{ℕ}
 use lib.ListN.{replicate}
-use Rattle.term_spec.specs.Text.{utf-8}
+use Rattle.term_spec.specs.Text.{latin-1, utf-8}
+use Rattle.term_spec.specs.AtomList.{empty-list}
 use Rattle.term_spec.specs.Answer.{Answer, good, refused}
 use Rattle.packet_spec.specs.declared.Pending.{Pending}
-use Rattle.packet_spec.specs.Memory.{Cache, Memory, cache-of, record-true, none-pending, empty-cache}
-use Rattle.packet_spec.specs.Calls.{payload-at, pending-still, complete, drop-sequence}
+use Rattle.packet_spec.specs.Memory.{Cache, Memory, cache-of, memory-of, record-true, none-pending, empty-cache}
+use Rattle.packet_spec.specs.Calls.{Outcome, payload-at, pending-still, complete, take-packet, after-packet, drop-sequence, reset}
 use Rattle.packet_spec.specs.Runs.{with-state}
 use Rattle.packet_spec.specs.Cases.{fresh, answer, then, example, Cases}
 use Rattle.packet_spec.specs.Look.{names, place-in, place-named, place-of-reference, text-held, text-of-place}
@@ -25,18 +26,43 @@ cases = record {
 abbrev ids-of : ℕ → ℕ → List ℕ → List ℕ
 ids-of s f bs = 0 ∷ 0 ∷ 0 ∷ 0 ∷ 0 ∷ 0 ∷ 0 ∷ s ∷ 0 ∷ 0 ∷ 0 ∷ 0 ∷ 0 ∷ 0 ∷ 0 ∷ f ∷ bs
 
--- of sequence 7 two bytes are gathered, and id 2 is due
+-- of sequence 7 that many bytes are gathered, and id 2 is due
+abbrev gathered-so : ℕ → Memory
+gathered-so n = with-state fresh (empty-cache, record { sequence = 7; due = 2; gathered = n })
+
+-- two bytes
 abbrev half-done : Memory
-half-done = with-state fresh (empty-cache, record { sequence = 7; due = 2; gathered = 2 })
+half-done = gathered-so 2
 
 -- place 7 holds `a`
 abbrev seven-held : Memory
 seven-held = then fresh (131 ∷ 68 ∷ 1 ∷ 8 ∷ 7 ∷ 1 ∷ 97 ∷ [])
 
--- what a drop answers, the place that a reference names, the text that a place holds
+-- place 0 has length 33, place 1 the one byte 255, which is no UTF-8; all other places are empty
+abbrev two-false : Cache
+two-false = cache-of (replicate 32 0 ++ (255 ∷ replicate 65503 0)) (33 ∷ 1 ∷ replicate 2046 65535)
+
+-- the gather buffer is one byte short
+abbrev short : Memory
+short = memory-of empty-cache empty-list empty-list none-pending (replicate 65535 0)
+
+-- what a packet answers in Latin-1 with a fresh memory, and the cache that it leaves
+unfoldable pub latin-answer : List ℕ → Answer Outcome
+unfolding answer
+latin-answer bs = take-packet latin-1 fresh bs
+
+unfoldable pub latin-cache : List ℕ → Cache
+unfolding answer
+latin-cache bs = after-packet latin-1 fresh bs .cache
+
+-- what a drop answers, what a reset answers, the place that a reference names, the text that a place holds
 unfoldable pub dropped : Pending → Answer Pending
 unfolding drop-sequence record-true
 dropped r = drop-sequence r
+
+unfoldable pub reset-of : Cache → Answer (Cache × Pending)
+unfolding answer reset
+reset-of c = reset c
 
 unfoldable pub names-place : List ℕ → ℕ → Answer ℕ
 unfolding answer names place-in place-named place-of-reference
@@ -46,16 +72,41 @@ unfoldable pub holds-text : Cache → ℕ → Answer (List ℕ)
 unfolding answer text-held text-of-place
 holds-text c p = text-of-place c p
 
--- Further examples: flags, refusals 22 and 24 to 26 and their order, a drop, the two look-ups
+-- Further examples: flags, texts, refusals and their order, a drop, a reset, the two look-ups
 pub record Examples : Type 0 where
-  -- LongAtoms: odd n, the high half of the last flag byte; even n, the low half of the last, whose high half is ignored
+  -- LongAtoms: odd n, the high half of the last flag byte; even n, the low half of the last, whose high half is ignored, as all other spare bits are
   pub long-odd : answer fresh (131 ∷ 68 ∷ 1 ∷ 24 ∷ 7 ∷ 0 ∷ 1 ∷ 97 ∷ []) ≡ good (payload-at 8 0)
-  pub long-even : answer fresh (131 ∷ 68 ∷ 2 ∷ 136 ∷ 241 ∷ 7 ∷ 0 ∷ 1 ∷ 99 ∷ 8 ∷ 0 ∷ 0 ∷ 106 ∷ []) ≡ good (payload-at 12 1)
+  pub long-even : answer fresh (131 ∷ 68 ∷ 2 ∷ 136 ∷ 225 ∷ 7 ∷ 0 ∷ 1 ∷ 99 ∷ 8 ∷ 0 ∷ 0 ∷ 106 ∷ []) ≡ good (payload-at 12 1)
+  pub spare-bits : answer fresh (131 ∷ 68 ∷ 1 ∷ 232 ∷ 7 ∷ 1 ∷ 97 ∷ []) ≡ good (payload-at 7 0)
+  -- 2 on the count and on the flags; at reference 1 on its internal index, and on its text, before 22
+  pub no-count : answer fresh (131 ∷ 68 ∷ []) ≡ refused 2 0
+  pub flags-cut : answer fresh (131 ∷ 68 ∷ 2 ∷ 136 ∷ []) ≡ refused 2 0
+  pub no-index : answer fresh (131 ∷ 68 ∷ 2 ∷ 136 ∷ 0 ∷ 7 ∷ 0 ∷ []) ≡ refused 2 1
+  pub text-cut : answer fresh (131 ∷ 68 ∷ 2 ∷ 136 ∷ 0 ∷ 7 ∷ 0 ∷ 7 ∷ 1 ∷ []) ≡ refused 2 1
   -- 22 at the later one: new after new, cached after new (before 21), new after cached; two cached ones may name one place
   pub new-new : answer fresh (131 ∷ 68 ∷ 2 ∷ 136 ∷ 0 ∷ 7 ∷ 0 ∷ 7 ∷ 0 ∷ []) ≡ refused 22 1
   pub new-cached : answer fresh (131 ∷ 68 ∷ 2 ∷ 8 ∷ 0 ∷ 7 ∷ 0 ∷ 7 ∷ []) ≡ refused 22 1
   pub cached-new : answer seven-held (131 ∷ 68 ∷ 2 ∷ 128 ∷ 0 ∷ 7 ∷ 7 ∷ 0 ∷ []) ≡ refused 22 1
   pub cached-cached : answer seven-held (131 ∷ 68 ∷ 2 ∷ 0 ∷ 0 ∷ 7 ∷ 7 ∷ []) ≡ good (payload-at 7 0)
+  -- a new reference's text: 5, and 23 for 33 letters
+  pub not-utf-8 : answer fresh (131 ∷ 68 ∷ 2 ∷ 136 ∷ 0 ∷ 7 ∷ 0 ∷ 8 ∷ 1 ∷ 255 ∷ []) ≡ refused 5 1
+  pub too-long : answer fresh (131 ∷ 68 ∷ 2 ∷ 136 ∷ 0 ∷ 7 ∷ 0 ∷ 8 ∷ 33 ∷ replicate 33 97) ≡ refused 23 1
+  -- a byte that is no UTF-8 is a character in Latin-1, stored as UTF-8
+  pub utf-8-agreed : answer fresh (131 ∷ 68 ∷ 1 ∷ 8 ∷ 7 ∷ 1 ∷ 233 ∷ []) ≡ refused 5 0
+  pub latin-agreed : latin-answer (131 ∷ 68 ∷ 1 ∷ 8 ∷ 7 ∷ 1 ∷ 233 ∷ []) ≡ good (payload-at 7 0)
+  pub latin-stored : holds-text (latin-cache (131 ∷ 68 ∷ 1 ∷ 8 ∷ 7 ∷ 1 ∷ 233 ∷ [])) 7 ≡ good (195 ∷ 169 ∷ [])
+  -- a cached reference: 21 for an empty place, 14 for a length over 32 and for what is no UTF-8
+  pub cached-empty : answer seven-held (131 ∷ 68 ∷ 2 ∷ 0 ∷ 0 ∷ 7 ∷ 8 ∷ []) ≡ refused 21 1
+  pub cached-long : answer (with-state fresh (two-false, none-pending)) (131 ∷ 68 ∷ 2 ∷ 8 ∷ 0 ∷ 7 ∷ 0 ∷ 0 ∷ []) ≡ refused 14 1
+  pub cached-false : answer (with-state fresh (two-false, none-pending)) (131 ∷ 68 ∷ 2 ∷ 8 ∷ 0 ∷ 7 ∷ 0 ∷ 1 ∷ []) ≡ refused 14 1
+  -- 13, and 14 on the record, before 1
+  pub gather-short : answer short [] ≡ refused 13 0
+  pub record-false : answer (gathered-so 65537) [] ≡ refused 14 0
+  -- 1: empty, or first byte not 131; 2 on the tag; 20
+  pub empty-packet : answer fresh [] ≡ refused 1 0
+  pub not-131 : answer fresh (130 ∷ 68 ∷ 0 ∷ []) ≡ refused 1 0
+  pub no-tag : answer fresh (131 ∷ []) ≡ refused 2 0
+  pub other-tag : answer fresh (131 ∷ 71 ∷ []) ≡ refused 20 0
   -- a start of one fragment is complete; a continuation that is due is taken
   pub whole-start : answer fresh (131 ∷ 69 ∷ ids-of 9 1 (0 ∷ 106 ∷ [])) ≡ good (complete 1)
   pub due : answer half-done (131 ∷ 70 ∷ ids-of 7 2 (97 ∷ [])) ≡ good (pending-still 1 3)
@@ -65,35 +116,64 @@ pub record Examples : Type 0 where
   -- 26, before the 2 of a header that is cut
   pub twice : answer half-done (131 ∷ 69 ∷ ids-of 8 2 (0 ∷ [])) ≡ refused 26 0
   pub twice-cut : answer half-done (131 ∷ 69 ∷ ids-of 8 2 []) ≡ refused 26 0
-  -- 25: none pending; another id, before 24 for the wrong one
-  pub none-pending-yet : answer fresh (131 ∷ 70 ∷ ids-of 7 2 []) ≡ refused 25 0
+  -- 25: none pending, though the zero record names this id; another id, before 24 for the wrong one
+  pub none-pending-yet : answer fresh (131 ∷ 70 ∷ ids-of 0 2 []) ≡ refused 25 0
   pub other : answer half-done (131 ∷ 70 ∷ ids-of 8 1 []) ≡ refused 25 0
   -- 24: not the one due
   pub wrong : answer half-done (131 ∷ 70 ∷ ids-of 7 1 []) ≡ refused 24 0
+  -- 12: a payload, or gathered bytes, over 65,536
+  pub payload-full : answer fresh (131 ∷ 68 ∷ 0 ∷ replicate 65536 106) ≡ good (payload-at 3 65536)
+  pub payload-over : answer fresh (131 ∷ 68 ∷ 0 ∷ replicate 65537 106) ≡ refused 12 0
+  pub gathered-full : answer (gathered-so 65535) (131 ∷ 70 ∷ ids-of 7 2 (97 ∷ [])) ≡ good (pending-still 1 65536)
+  pub gathered-over : answer (gathered-so 65535) (131 ∷ 70 ∷ ids-of 7 2 (97 ∷ 97 ∷ [])) ≡ refused 12 0
   -- a drop
   pub none-dropped : dropped none-pending ≡ refused 25 0
   pub one-dropped : dropped (record { sequence = 7; due = 2; gathered = 5 }) ≡ good none-pending
   pub false-dropped : dropped (record { sequence = 7; due = 2; gathered = 65537 }) ≡ refused 14 0
-  -- the place that a reference names; 6
+  -- a reset: all bytes zero, all lengths 65,535; 13 for a cache not of its size
+  pub all-reset : reset-of (seven-held .cache) ≡ good (cache-of (replicate 65536 0) (replicate 2048 65535), none-pending)
+  pub none-reset : reset-of (cache-of [] []) ≡ refused 13 0
+  -- the place that a reference names; 6, also for a continuation; a 22 at reference 1, told at place 0
   pub second-named : names-place (131 ∷ 68 ∷ 2 ∷ 12 ∷ 0 ∷ 10 ∷ 1 ∷ 97 ∷ 5 ∷ 106 ∷ []) 1 ≡ good 5
   pub first-named : names-place (131 ∷ 68 ∷ 2 ∷ 12 ∷ 0 ∷ 10 ∷ 1 ∷ 97 ∷ 5 ∷ 106 ∷ []) 0 ≡ good 1034
   pub third-named : names-place (131 ∷ 68 ∷ 2 ∷ 12 ∷ 0 ∷ 10 ∷ 1 ∷ 97 ∷ 5 ∷ 106 ∷ []) 2 ≡ refused 6 0
+  pub none-named : names-place (131 ∷ 70 ∷ ids-of 7 2 (97 ∷ [])) 0 ≡ refused 6 0
+  pub named-twice : names-place (131 ∷ 68 ∷ 2 ∷ 136 ∷ 0 ∷ 7 ∷ 0 ∷ 7 ∷ 0 ∷ []) 0 ≡ refused 22 0
   -- the text that a place holds; 13 for place 2,048 and for a cache not of its size, 21, 14 for a length over 32
   pub text-there : holds-text (seven-held .cache) 7 ≡ good (97 ∷ [])
   pub no-place : holds-text empty-cache 2048 ≡ refused 13 0
   pub no-cache : holds-text (cache-of [] []) 0 ≡ refused 13 0
   pub empty-place : holds-text (seven-held .cache) 8 ≡ refused 21 0
-  pub false-place : holds-text (cache-of (replicate 65536 0) (33 ∷ replicate 2047 65535)) 0 ≡ refused 14 0
+  pub false-place : holds-text two-false 0 ≡ refused 14 0
 
 pub examples : Examples
-unfolding then dropped names-place holds-text
+unfolding then dropped reset-of names-place holds-text latin-answer latin-cache
 examples = record {
   long-odd = refl;
   long-even = refl;
+  spare-bits = refl;
+  no-count = refl;
+  flags-cut = refl;
+  no-index = refl;
+  text-cut = refl;
   new-new = refl;
   new-cached = refl;
   cached-new = refl;
   cached-cached = refl;
+  not-utf-8 = refl;
+  too-long = refl;
+  utf-8-agreed = refl;
+  latin-agreed = refl;
+  latin-stored = refl;
+  cached-empty = refl;
+  cached-long = refl;
+  cached-false = refl;
+  gather-short = refl;
+  record-false = refl;
+  empty-packet = refl;
+  not-131 = refl;
+  no-tag = refl;
+  other-tag = refl;
   whole-start = refl;
   due = refl;
   zero-start = refl;
@@ -103,12 +183,20 @@ examples = record {
   none-pending-yet = refl;
   other = refl;
   wrong = refl;
+  payload-full = refl;
+  payload-over = refl;
+  gathered-full = refl;
+  gathered-over = refl;
   none-dropped = refl;
   one-dropped = refl;
   false-dropped = refl;
+  all-reset = refl;
+  none-reset = refl;
   second-named = refl;
   first-named = refl;
   third-named = refl;
+  none-named = refl;
+  named-twice = refl;
   text-there = refl;
   no-place = refl;
   no-cache = refl;

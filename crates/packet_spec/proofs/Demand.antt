@@ -18,11 +18,12 @@ use Rattle.packet_spec.specs.Calls.{Outcome, payload-at, pending-still, 
 use Rattle.packet_spec.specs.Answers.{outcome-case, packet-answer, taken-answer, drop-answer, reset-answer}
 use Rattle.packet_spec.specs.Promises.{Packet-call, Drop-call, Reset-call}
 use Rattle.packet_spec.specs.Runs.{Call, taking, dropping, resetting, All-bytes, with-state, after-call, after-calls}
-use Rattle.packet_spec.specs.Places.{Same}
+use Rattle.packet_spec.specs.Places.{Same, Held-new, brought}
 use Rattle.packet_spec.specs.Gathering.{So-far, none-begun, gathered-by, gathered-after, gathered-after-all, Has}
 use Rattle.packet_spec.specs.Demands.{Ran, ended, packet-then, drop-then, reset-then, Completed, Gathered, Demand-2}
+use Rattle.packet_spec.proofs.Calls.{packet-new}
 use Rattle.packet_spec.proofs.Runs.{run-holds, run-frame, run-listed}
-use Rattle.packet_spec.proofs.Gathered.{call-gathers, run-gathers, none-yet, told-gathered}
+use Rattle.packet_spec.proofs.Gathered.{call-gathers, run-gathers, none-yet, own-continuation, told-gathered}
 use Rattle.packet_spec.proofs.Gathered as gathering
 
 -- what a drop and a reset leave, by their promises
@@ -87,6 +88,7 @@ run-gathered {m} {n} {cs} u r e =
     let has : Has n g = subst (λ (x : Memory). Has x g) (sym (ran-is r)) (run-gathers cs m (none-begun m) u (none-yet m e)) in
     record {
       so-far = has;
+      next-continuation = λ agreed packet q f bs v j. own-continuation agreed n packet g has q f bs v j;
       next-answer = λ agreed packet r m′ v w. answer-is n g has agreed packet r m′ v w ∙ ap packet-answer (told-gathered agreed n packet g v has);
       completes = λ agreed packet r m′ v w k c. next-completed n g has agreed packet r m′ v w k c;
     }
@@ -96,6 +98,7 @@ demand-2 {m} {n} {cs} u r =
     record {
       others-stay = λ q a. subst (λ (x : Memory). Same (m .cache) (x .cache) q) (sym (ran-is r)) (run-frame cs m q u a);
       places-hold = ap (λ (x : Memory). held (x .cache)) (ran-is r) ∙ run-holds cs m u;
+      next-new = λ agreed packet r m′ v w p j. subst (λ (x : Memory). Held-new (x .cache) (brought p)) (sym (w .memory-left)) (packet-new agreed n packet p v j);
       plain-listed = ap (λ (x : Memory). x .plain-list) (ran-is r) ∙ run-listed cs m;
       gathered = λ e. run-gathered u r e;
     }

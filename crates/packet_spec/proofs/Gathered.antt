@@ -22,9 +22,16 @@ use Rattle.packet_spec.proofs.Judged.{Accepted, accepted, Sound-packet}
 use Rattle.packet_spec.proofs.SizesKept.{All-sized, all-sized}
 use Rattle.packet_spec.proofs.Sequence.{record-due, record-more}
 
+-- a continuation that is accepted has the SequenceId that the start gave and the id due
+own-fragment : (m : Memory) (q f : ℕ) (bs : List ℕ) (g : So-far) → Sound-packet (m .pending) (continuation q f bs) → Has m g
+    → (q ≡ g .sequence) × (f ≡ g .due)
+own-fragment m q f bs g a h =
+    let is-due : f ≡ g .due = a .2 ∙ h .its-due in
+    (a .1 ∙ h .its-sequence (λ e. a .3 (is-due ∙ e)), is-due)
+
 has-left : (m : Memory) (p : Packet) (g : So-far) → All-sized m → Sound-packet (m .pending) p → Has m g → Has (left-by m p) (gathered-by (good p) g)
 unfolding left-by gathered-by
-has-left m (plain rs at bs) g s a h = record { first-bytes = h .first-bytes; its-list = h .its-list; its-due = h .its-due; counted = h .counted }
+has-left m (plain rs at bs) g s a h = record { first-bytes = h .first-bytes; its-list = h .its-list; its-due = h .its-due; counted = h .counted; its-sequence = h .its-sequence }
 has-left m (start q f rs bs) g s a h =
     let big : length (m .gather) ≡ 65536 = s .gather-sized in
     let small : length bs ≤ 65536 = a .2 in
@@ -35,11 +42,13 @@ has-left m (start q f rs bs) g s a h =
       its-list = refl;
       its-due = record-due q f (length bs) (a .3);
       counted = λ n. ap (λ (r : Pending). r .gathered) (record-more q f (length bs) n);
+      its-sequence = λ n. ap (λ (r : Pending). r .sequence) (record-more q f (length bs) n);
     }
 has-left m (continuation q f bs) g s a h =
     let big : length (m .gather) ≡ 65536 = s .gather-sized in
     let fits : m .pending .gathered + length bs ≤ 65536 = a .0 in
-    let is-due : f ≡ g .due = a .2 ∙ h .its-due in
+    let own : (q ≡ g .sequence) × (f ≡ g .due) = own-fragment m q f bs g a h in
+    let is-due : f ≡ g .due = own .1 in
     let so-far : m .pending .gathered ≡ length (g .bytes) = h .counted (λ e. a .3 (is-due ∙ e)) in
     let total : m .pending .gathered + length bs ≡ length (g .bytes ++ bs) = rw (length-append (g .bytes) bs) (omega arith) in
     let down : f - 1 ≡ g .due - 1 = ap (λ (n : ℕ). n - 1) is-due in
@@ -51,6 +60,8 @@ has-left m (continuation q f bs) g s a h =
       its-list = h .its-list;
       its-due = record-due q f (m .pending .gathered + length bs) (a .3) ∙ down;
       counted = λ n. ap (λ (r : Pending). r .gathered) (record-more q f (m .pending .gathered + length bs) (λ e. n (sym down ∙ e))) ∙ total;
+      its-sequence = λ n.
+          ap (λ (r : Pending). r .sequence) (record-more q f (m .pending .gathered + length bs) (λ e. n (sym down ∙ e))) ∙ own .0;
     }
 
 pub call-gathers : (m : Memory) (c : Call) (g : So-far) → Bytes c → Has m g → Has (after-call m c) (gathered-after m c g)
@@ -70,9 +81,9 @@ call-gathers m dropping g u h = go (record-true (m .pending)) (eqb (m .pending .
       gather = m .gather;
     })
         (ended-by (cond x (cond y (refused 25 0) (good none-pending)) (refused 14 0)) g)
-    go false y = record { first-bytes = h .first-bytes; its-list = h .its-list; its-due = h .its-due; counted = h .counted }
-    go true true = record { first-bytes = h .first-bytes; its-list = h .its-list; its-due = h .its-due; counted = h .counted }
-    go true false = record { first-bytes = h .first-bytes; its-list = h .its-list; its-due = refl; counted = λ n. absurd (n refl) }
+    go false y = record { first-bytes = h .first-bytes; its-list = h .its-list; its-due = h .its-due; counted = h .counted; its-sequence = h .its-sequence }
+    go true true = record { first-bytes = h .first-bytes; its-list = h .its-list; its-due = h .its-due; counted = h .counted; its-sequence = h .its-sequence }
+    go true false = record { first-bytes = h .first-bytes; its-list = h .its-list; its-due = refl; counted = λ n. absurd (n refl); its-sequence = λ n. absurd (n refl) }
 call-gathers m resetting g u h = go (cache-of-size (m .cache))
   where
     go : (b : Bool) → Has (record {
@@ -83,8 +94,8 @@ call-gathers m resetting g u h = go (cache-of-size (m .cache))
       gather = m .gather;
     })
         (ended-by {A = Cache × Pending} (cond b (good (empty-cache, none-pending)) (refused 13 0)) g)
-    go true = record { first-bytes = h .first-bytes; its-list = h .its-list; its-due = refl; counted = λ n. absurd (n refl) }
-    go false = record { first-bytes = h .first-bytes; its-list = h .its-list; its-due = h .its-due; counted = h .counted }
+    go true = record { first-bytes = h .first-bytes; its-list = h .its-list; its-due = refl; counted = λ n. absurd (n refl); its-sequence = λ n. absurd (n refl) }
+    go false = record { first-bytes = h .first-bytes; its-list = h .its-list; its-due = h .its-due; counted = h .counted; its-sequence = h .its-sequence }
 
 -- after any run of calls
 pub run-gathers : (cs : List Call) (m : Memory) (g : So-far) → All-bytes cs → Has m g → Has (after-calls m cs) (gathered-after-all m cs g)
@@ -94,7 +105,7 @@ run-gathers (c ∷ cs) m g u h = run-gathers cs (after-call m c) (gathered-after
 
 -- with no sequence pending at first, whatever the gather buffer and the list are
 pub none-yet : (m : Memory) → m .pending .due ≡ 0 → Has m (none-begun m)
-none-yet m e = record { first-bytes = refl; its-list = refl; its-due = e; counted = λ n. absurd (n refl) }
+none-yet m e = record { first-bytes = refl; its-list = refl; its-due = e; counted = λ n. absurd (n refl); its-sequence = λ n. absurd (n refl) }
 
 -- the last fragment's id is 1, so none is due after it
 last-due : (f : ℕ) → (f ≡ 0 → ⊥) → eqb f 1 ≡ eqb (f - 1) 0
@@ -103,6 +114,11 @@ last-due f n = go (eqb f 1) refl
     go : (b : Bool) → eqb f 1 ≡ b → b ≡ eqb (f - 1) 0
     go true e = let is : f ≡ 1 = eqb-true f 1 e in sym (eq-eqb (f - 1) 0 (omega arith))
     go false e = let more : f ≡ 1 → ⊥ = eqb-false f 1 e in sym (ne-eqb (f - 1) 0 (λ z. more (omega arith)))
+
+-- the same of a packet that is judged so
+pub own-continuation : (agreed : Coding) (m : Memory) (packet : List ℕ) (g : So-far) → Has m g
+    → (q f : ℕ) (bs : List ℕ) → Bytes (taking agreed packet) → judged agreed m packet ≡ good (continuation q f bs) → (q ≡ g .sequence) × (f ≡ g .due)
+own-continuation agreed m packet g h q f bs u e = own-fragment m q f bs g (accepted agreed m packet (continuation q f bs) u e .sound) h
 
 -- What a packet answers, from the sequence with it
 pub told-gathered : (agreed : Coding) (m : Memory) (bs : List ℕ) (g : So-far) → Bytes (taking agreed bs) → Has m g

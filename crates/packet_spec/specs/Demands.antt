@@ -5,15 +5,16 @@ use Prim.Native.Nat.{ℕ}
 use lib.ListN.{length, take}
 use Rattle.term_spec.specs.Text.{Coding}
 use Rattle.term_spec.specs.Numbers.{Under}
+use Rattle.term_spec.specs.Answer.{good}
 use Rattle.packet_spec.specs.declared.Taken.{Taken}
 use Rattle.packet_spec.specs.declared.Settled.{Settled}
 use Rattle.packet_spec.specs.declared.PacketAnswer.the-variants as packets
 use Rattle.packet_spec.specs.Memory.{Cache, Memory, none-pending, held}
-use Rattle.packet_spec.specs.Packet.{judged}
+use Rattle.packet_spec.specs.Packet.{Packet, continuation, judged}
 use Rattle.packet_spec.specs.Answers.{packet-answer}
 use Rattle.packet_spec.specs.Promises.{Packet-call, Drop-call, Reset-call}
 use Rattle.packet_spec.specs.Runs.{Call, taking, dropping, resetting, with-state}
-use Rattle.packet_spec.specs.Places.{Same, All-alone, holding-after-all, plain-list-after-all}
+use Rattle.packet_spec.specs.Places.{Same, Held-new, brought, All-alone, holding-after-all, plain-list-after-all}
 use Rattle.packet_spec.specs.Gathering.{So-far, none-begun, gathered-after, gathered-after-all, Has, packet-told}
 
 -- A run of calls, each by its promise alone, memory lent back as the last call left it
@@ -35,11 +36,16 @@ pub record Completed (k : ℕ) (g : So-far) (m : Memory) : Type 0 where
   pub none-due : g .due ≡ 0
   pub record-zero : m .pending ≡ none-pending
 
--- From memory m with no sequence pending, by the calls of a run, to memory n: what is gathered then, and what the packet taken next answers
+-- From memory m with no sequence pending, by the calls of a run, to memory n: what is gathered then, which continuation is accepted next, and what the
+-- packet taken next answers
 pub record Gathered (m : Memory) (cs : List Call) (n : Memory) : Type 0 where
   -- the gather buffer begins with the payloads of the last sequence begun, joined in order, the pending list is the one that its start fixed, and the id due
-  -- is its first id less the fragments accepted, or 0 after a drop or a reset
+  -- is its first id less the fragments accepted, or 0 after a drop or a reset; while one is due, the record names the SequenceId that its start gave
   pub so-far : Has n (gathered-after-all m cs (none-begun m))
+  -- a continuation accepted next has the SequenceId that the start gave and the id due
+  pub next-continuation : (agreed : Coding) (packet : List ℕ) (sequence fragment : ℕ) (bs : List ℕ) → Under 256 packet
+      → judged agreed n packet ≡ good (continuation sequence fragment bs)
+      → (sequence ≡ gathered-after-all m cs (none-begun m) .sequence) × (fragment ≡ gathered-after-all m cs (none-begun m) .due)
   -- the packet taken next answers by the sequence with it
   pub next-answer : (agreed : Coding) (packet : List ℕ) (r : Taken) (m′ : Memory) → Under 256 packet → Packet-call agreed packet n r m′
       → r .answer ≡ packet-answer (packet-told (judged agreed n packet) (gathered-after n (taking agreed packet) (gathered-after-all m cs (none-begun m))))
@@ -53,6 +59,9 @@ pub record Demand-2 (m : Memory) (cs : List Call) (n : Memory) : Type 0 where
   pub others-stay : (q : ℕ) → All-alone m cs q → Same (m .cache) (n .cache) q
   -- what every place holds is what the new references of the accepted packets give, in turn
   pub places-hold : held (n .cache) ≡ holding-after-all m cs (held (m .cache))
+  -- the packet taken next, if it is accepted: the place of each of its new references then holds the text, zeros after it
+  pub next-new : (agreed : Coding) (packet : List ℕ) (r : Taken) (m′ : Memory) → Under 256 packet → Packet-call agreed packet n r m′
+      → (p : Packet) → judged agreed n packet ≡ good p → Held-new (m′ .cache) (brought p)
   -- the list for plain packets is the list of the last accepted plain packet's references, or as it was
   pub plain-listed : n .plain-list ≡ plain-list-after-all m cs (m .plain-list)
   -- sequences of fragments

@@ -42,26 +42,27 @@ pub record Gathering (m : Memory) (sequence due : ℕ) (bytes : List ℕ) (list 
 
 -- ---- any run of calls
 
--- The sequence so far: the list that its start fixed, its payloads joined in order, the id due (0: none pending)
+-- The sequence so far: its SequenceId and the list that its start fixed, its payloads joined in order, the id due (0: none pending)
 pub record So-far : Type 0 where
+  pub sequence : ℕ
   pub list : AtomList
   pub bytes : List ℕ
   pub due : ℕ
 
--- with no sequence pending: no bytes, none due, and the list as it is lent
+-- with no sequence pending: no bytes, none due, SequenceId 0, and the list as it is lent
 abbrev pub none-begun : Memory → So-far
-none-begun m = record { list = m .pending-list; bytes = []; due = 0 }
+none-begun m = record { sequence = 0; list = m .pending-list; bytes = []; due = 0 }
 
 -- after a packet judged so: a start begins anew, a continuation's payload is joined on, and all else leaves it
 unfoldable pub gathered-by : Answer Packet → So-far → So-far
 gathered-by (good (plain rs at bs)) g = g
-gathered-by (good (start sequence fragment rs bs)) g = record { list = list-of rs; bytes = bs; due = fragment - 1 }
-gathered-by (good (continuation sequence fragment bs)) g = record { list = g .list; bytes = g .bytes ++ bs; due = g .due - 1 }
+gathered-by (good (start sequence fragment rs bs)) g = record { sequence = sequence; list = list-of rs; bytes = bs; due = fragment - 1 }
+gathered-by (good (continuation sequence fragment bs)) g = record { sequence = g .sequence; list = g .list; bytes = g .bytes ++ bs; due = g .due - 1 }
 gathered-by (refused number place) g = g
 
 -- after a drop or a reset, unless it is refused, none is pending
 unfoldable pub ended-by : {A : Type 0} → Answer A → So-far → So-far
-ended-by (good a) g = record { list = g .list; bytes = g .bytes; due = 0 }
+ended-by (good a) g = record { sequence = g .sequence; list = g .list; bytes = g .bytes; due = 0 }
 ended-by (refused number place) g = g
 
 -- after a call
@@ -75,12 +76,14 @@ unfoldable pub gathered-after-all : Memory → List Call → So-far → So-far
 gathered-after-all m [] g = g
 gathered-after-all m (c ∷ cs) g = gathered-after-all (after-call m c) cs (gathered-after m c g)
 
--- The memory has it: the gather buffer begins with the bytes, the pending list is that list, the record names that id, and counts the bytes while one is due
+-- The memory has it: the gather buffer begins with the bytes, the pending list is that list, the record names that id, and while one is due it counts the
+-- bytes and names that sequence
 pub record Has (m : Memory) (g : So-far) : Type 0 where
   pub first-bytes : take (length (g .bytes)) (m .gather) ≡ g .bytes
   pub its-list : m .pending-list ≡ g .list
   pub its-due : m .pending .due ≡ g .due
   pub counted : (g .due ≡ 0 → ⊥) → m .pending .gathered ≡ length (g .bytes)
+  pub its-sequence : (g .due ≡ 0 → ⊥) → m .pending .sequence ≡ g .sequence
 
 -- What an accepted fragment answers, from the sequence with it: complete where no more is due, else the id now due; in both the number of bytes gathered
 unfoldable pub fragment-told : So-far → Outcome

@@ -1,6 +1,5 @@
--- Demand 3 over the promises of the calls that read and write, as one statement: `demand-3`, at the end. Before it the same over the definitions,
--- `demand-3-defined`, and what that rests on: the canonical standalone term of a tree within the limits is read
--- back, and an accepted message is written in canonical form.
+-- Demand 3 over the promises of the calls that read and write, as one statement: `demand-3`, at the end. Before it what that rests on: the canonical
+-- standalone term of a tree within the limits is read back, and an accepted message is written in canonical form.
 use mathlib.Core.Path.{_≡_, refl, sym, _∙_, ap, subst}
 use mathlib.Core.Logic.{_↔_, inl, inr}
 use mathlib.Core.Bool.{true}
@@ -18,7 +17,7 @@ use Rattle.term_spec.specs.AtomList.{AtomList, of-size, atoms-of}
 use Rattle.term_spec.specs.Message.{Framing, standalone, Terms, meanings, ending, version, standalone-term, read}
 use Rattle.term_spec.specs.Canonical.{canonical, canonical-standalone, standalones}
 use Rattle.term_spec.specs.Writing.{Written, written, write, output-after, scratch-after}
-use Rattle.term_spec.specs.Demands.{One-of, Accepted-term, Own-output, Read-again, Demand-3-defined, Written-out, Refused-out, Means, Demand-3}
+use Rattle.term_spec.specs.Demands.{One-of, Accepted-term, Own-output, Written-out, Refused-out, Means, Output-of, Demand-3}
 use Rattle.term_spec.specs.Rows.{table-after}
 use Rattle.term_spec.specs.Answers.{read-answer, write-answer}
 use Rattle.term_spec.specs.Promises.{Read-call, Write-call}
@@ -63,13 +62,6 @@ written-back t tree o e m room enough =
     let is : standalones (meaning tree ▹ empty) ≡ canonical-standalone t = append-nil _ ∙ ap canonical-standalone m in
     ap (written room) e ∙ written-good (tree ▹ empty) (canonical-standalone t) is room enough
 
-pub read-again : (t : Term) → Allowed t → (list : AtomList) → of-size list ≡ true → (lent : ℕ) → size t ≤ lent → length (canonical-standalone t) ≤ 65536
-    → Read-again t list lent
-unfolding write
-read-again t a list sized lent enough short =
-    let b = read-back t a list sized lent enough short in
-    record { tree = b .0; accepted = b .1; means = b .2; again = λ room fits. written-back t (b .0) _ (b .1) (b .2) room fits }
-
 -- equal bytes exactly where the meanings are equal
 pub same-bytes : (t u : Term) → Allowed t → Allowed u → (canonical-standalone t ≡ canonical-standalone u) ↔ (t ≡ u)
 unfolding canonical-standalone
@@ -106,16 +98,6 @@ own-output t (u ▹ us) (inr o) =
           ∙ sym (append-assoc (canonical-standalone u) (standalones (r .earlier)) (canonical-standalone t ++ standalones (r .others)));
     }
 
-pub demand-3-defined : (t u : Term) (a : Accepted-term t) → Accepted-term u → Demand-3-defined t u a
-demand-3-defined t u a b =
-    let p : Allowed t = term-allowed t a in
-    record {
-      canonical-written = λ scratch room rows fits. writes (a .framing) (a .list) (a .message) (a .terms) (a .accepted) scratch room rows fits;
-      own-output = own-output t (meanings (a .terms)) (a .one-of-them);
-      same-output = same-bytes t u p (term-allowed u b);
-      read-and-written-again = λ list sized lent enough short. read-again t p list sized lent enough short;
-    }
-
 -- ---- over the promises of the calls
 
 -- What the calls come to where the definitions' answers are known
@@ -131,16 +113,18 @@ written-by {output = output} w e c =
       scratch-zero = c .scratch-left;
     }
 
-means-by : (t : Term) (list : AtomList) (table : List ℕ) (answer : ReadAnswer) (left : List ℕ) → Read-again t list (length table)
+-- what the reader's call on the canonical standalone term of t comes to where it is read back as a tree
+means-by : (t : Term) (list : AtomList) (table : List ℕ) (answer : ReadAnswer) (left : List ℕ) (tree : Located)
+    → read standalone list (length table) (canonical-standalone t) ≡ good (tree ▹ empty) → meaning tree ≡ t
     → Read-call standalone list (canonical-standalone t) table answer left → Means t table answer left
 unfolding read-answer
-means-by t list table answer left g w =
-    let k : size (g .tree) + 0 ≡ size t = omega (arith, size-meaning (g .tree), ap size (g .means)) in
+means-by t list table answer left tree e m w =
+    let k : size tree + 0 ≡ size t = omega (arith, size-meaning tree, ap size m) in
     record {
-      tree = g .tree;
-      meaning-is = g .means;
-      answer-is = w .read-answered ∙ ap read-answer (g .accepted) ∙ ap (λ (n : ℕ). reads.Terms 1 n) k;
-      rows-are = w .table-left ∙ ap (table-after (length table)) (g .accepted);
+      tree = tree;
+      meaning-is = m;
+      answer-is = w .read-answered ∙ ap read-answer e ∙ ap (λ (n : ℕ). reads.Terms 1 n) k;
+      rows-are = w .table-left ∙ ap (table-after (length table)) e;
     }
 
 pub refused-by : {framing : Framing} {list : AtomList} {message scratch output : List ℕ} {answer : WriteAnswer} {scratch-is output-is : List ℕ} (number place : ℕ)
@@ -155,17 +139,27 @@ refused-by {output = output} number place e c =
       scratch-zero = c .scratch-left;
     }
 
-pub demand-3 : (t u : Term) (a : Accepted-term t) → Accepted-term u → Demand-3 t u a
-demand-3 t u a b =
-    let d = demand-3-defined t u a b in
+output-of : (t : Term) (a : Accepted-term t) → Output-of t a
+unfolding write
+output-of t a =
+    let back = read-back t (term-allowed t a) in
     record {
       canonical-written = λ scratch output rows fits answer s o w.
           written-by (record { terms = count (a .terms); bytes = standalones (meanings (a .terms)) })
-          (d .canonical-written (length scratch) (length output) rows fits) w;
-      own-output = d .own-output;
-      same-output = d .same-output;
-      read-again = λ list sized short table rows answer left w. means-by t list table answer left (d .read-and-written-again list sized (length table) rows short) w;
+          (writes (a .framing) (a .list) (a .message) (a .terms) (a .accepted) (length scratch) (length output) rows fits) w;
+      own-output = own-output t (meanings (a .terms)) (a .one-of-them);
+      read-again = λ list sized short table rows answer left w.
+          let b = back list sized (length table) rows short in
+          means-by t list table answer left (b .0) (b .1) (b .2) w;
       written-again = λ list sized short scratch output rows fits answer s o w.
-          written-by (record { terms = 1; bytes = canonical-standalone t })
-          (d .read-and-written-again list sized (length scratch) rows short .again (length output) fits) w;
+          let b = back list sized (length scratch) rows short in
+          written-by (record { terms = 1; bytes = canonical-standalone t }) (written-back t (b .0) _ (b .1) (b .2) (length output) fits) w;
+    }
+
+pub demand-3 : (t u : Term) (a : Accepted-term t) (b : Accepted-term u) → Demand-3 t u a b
+demand-3 t u a b =
+    record {
+      first-output = output-of t a;
+      second-output = output-of u b;
+      same-output = same-bytes t u (term-allowed t a) (term-allowed u b);
     }

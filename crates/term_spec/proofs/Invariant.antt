@@ -245,7 +245,3 @@ module _ (message : List ℕ) (cap : ℕ) where
 
     pub row-in-step : (p : ℕ) (s : Position) → In-step message cap s → In-step-after (row atoms cap p s)
     row-in-step = row-kept cap (In-step message cap) on-byte on-row atoms
-
-    -- reading a term ends at a position of the same message: what a caller of the code's reader needs
-    pub term-in-step : (d : ℕ) (w : Wanted) (s : Position) → In-step message cap s → In-step-after (term atoms cap d w s)
-    term-in-step = term-kept cap (In-step message cap) on-byte on-row atoms

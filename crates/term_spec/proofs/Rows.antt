@@ -2,15 +2,15 @@
 use mathlib.Core.Path.{_≡_, refl, sym, _∙_, ap, ap₂}
 use mathlib.Core.List.{List, _++_, append-assoc}
 use mathlib.Core.Option.{Option, some}
-use Prim.Native.Nat.{ℕ, suc, _+_, max, _≤_, _<_}
+use Prim.Native.Nat.{ℕ, suc, _+_, _≤_, _<_}
 use native.Mathlib.Omega.{arith}
 use lib.ListN.{length, length-append}
-use Rattle.term_spec.specs.Tree.{Tree, Forest, node, empty, _▹_, _▹▹_, count, size, sizes, depth, deepest, relabel, relabels, Each-node, Each-nodes}
+use Rattle.term_spec.specs.Tree.{Tree, Forest, node, empty, _▹_, _▹▹_, count, size, sizes, relabel, relabels, Each-node, Each-nodes}
 use Rattle.term_spec.specs.Reading.{Located, meaning}
 use Rattle.term_spec.specs.Message.{Terms, meanings}
 use Rattle.term_spec.specs.Rows.{Row, tree-rows, rows}
 
--- new labels change no number of nodes, no number of trees and no depth
+-- new labels change no number of nodes and no number of trees
 module _ {A B : Type 0} (f : A → B) where
   mutual
     pub size-relabel : (t : Tree A) → size (relabel f t) ≡ size t
@@ -23,14 +23,6 @@ module _ {A B : Type 0} (f : A → B) where
   pub count-relabels : (ts : Forest A) → count (relabels f ts) ≡ count ts
   count-relabels empty = refl
   count-relabels (t ▹ ts) = ap suc (count-relabels ts)
-
-  mutual
-    pub depth-relabel : (t : Tree A) → depth (relabel f t) ≡ depth t
-    depth-relabel (node a ts) = ap suc (deepest-relabels ts)
-
-    pub deepest-relabels : (ts : Forest A) → deepest (relabels f ts) ≡ deepest ts
-    deepest-relabels empty = refl
-    deepest-relabels (t ▹ ts) = ap₂ max (depth-relabel t) (deepest-relabels ts)
 
 pub size-meaning : (t : Located) → size (meaning t) ≡ size t
 size-meaning t = size-relabel (λ l. l .0) t
@@ -66,17 +58,6 @@ module _ {A : Type 0} where
     pub fewer-parts-each : (ts : Forest A) (n : ℕ) → sizes ts ≤ n → Each-nodes (λ a us. count us < n) ts
     fewer-parts-each empty n h = tt
     fewer-parts-each (t ▹ ts) n h = (fewer-parts t n (omega arith), fewer-parts-each ts n (omega arith))
-
-  module _ (P Q : A → Forest A → Type 0) (from : (a : A) (ts : Forest A) → P a ts → Q a ts) where
-    mutual
-      unfolding Each-node
-
-      pub each-node-map : (t : Tree A) → Each-node P t → Each-node Q t
-      each-node-map (node a ts) h = (from a ts (h .0), each-nodes-map ts (h .1))
-
-      pub each-nodes-map : (ts : Forest A) → Each-nodes P ts → Each-nodes Q ts
-      each-nodes-map empty h = tt
-      each-nodes-map (t ▹ ts) h = (each-node-map t (h .0), each-nodes-map ts (h .1))
 
   pub each-nodes-join : (P : A → Forest A → Type 0) (ts us : Forest A) → Each-nodes P ts → Each-nodes P us → Each-nodes P (ts ▹▹ us)
   unfolding Each-node

@@ -14,7 +14,6 @@ use Rattle.term_spec.specs.Message.{Framing, standalone, Terms, meanings
 use Rattle.term_spec.specs.Numbers.{Under}
 use Rattle.term_spec.specs.Rows.{table-after}
 use Rattle.term_spec.specs.Canonical.{canonical-standalone, standalones}
-use Rattle.term_spec.specs.Writing.{write}
 use Rattle.term_spec.specs.Promises.{Read-call, Write-call}
 use Rattle.term_spec.specs.declared.ReadAnswer.{ReadAnswer}
 use Rattle.term_spec.specs.declared.ReadAnswer.the-variants as reads
@@ -43,31 +42,6 @@ pub record Own-output (t : Term) (ts : Forest Label) : Type 0 where
   pub terms-are : ts ≡ earlier ▹▹ (t ▹ others)
   pub stands : standalones ts ≡ standalones earlier ++ (canonical-standalone t ++ standalones others)
 
--- an output read and written again by the definitions, with this list and so many rows
-pub record Read-again (t : Term) (list : AtomList) (lent : ℕ) : Type 0 where
-  pub tree : Located
-  -- it is accepted
-  pub accepted : read standalone list lent (canonical-standalone t) ≡ good (tree ▹ empty)
-  -- it means the same
-  pub means : meaning tree ≡ t
-  -- written again, it is one term with the same bytes
-  pub again : (room : ℕ) → length (canonical-standalone t) ≤ room → write standalone list lent room (canonical-standalone t) ≡ good (record { terms = 1; bytes = canonical-standalone t })
-
--- Demand 3 over the definitions, for any two accepted terms, of one message or of two:
-pub record Demand-3-defined (t u : Term) (a : Accepted-term t) : Type 0 where
-  -- where room and scratch rows are enough, the writer writes the message of the first in canonical form: the canonical standalone terms of its terms,
-  -- one after the other. What scratch and output held before is no input of `write`
-  pub canonical-written : (scratch room : ℕ) → sizes (a .terms) ≤ scratch → length (standalones (meanings (a .terms))) ≤ room
-      → write (a .framing) (a .list) scratch room (a .message) ≡ good (record { terms = count (a .terms); bytes = standalones (meanings (a .terms)) })
-  -- its own output stands there
-  pub own-output : Own-output t (meanings (a .terms))
-  -- the outputs are the same bytes exactly when the terms mean the same
-  pub same-output : (canonical-standalone t ≡ canonical-standalone u) ↔ (t ≡ u)
-  -- an output of at most 65,536 bytes is itself accepted, with any atom list of the stated size, so with an empty one, and any table of at least as many
-  -- rows as its term has; it means the same term; and written again it gives the same bytes
-  pub read-and-written-again : (list : AtomList) → of-size list ≡ true → (lent : ℕ) → size t ≤ lent → length (canonical-standalone t) ≤ 65536
-      → Read-again t list lent
-
 -- What a call that writes leaves: so many terms, these bytes at the front of the output, the others as they were, the scratch table all zero
 pub record Written-out (terms : ℕ) (bs scratch output : List ℕ) (answer : WriteAnswer) (scratch-is output-is : List ℕ) : Type 0 where
   pub answer-is : answer ≡ writes.Written terms (length bs)
@@ -87,17 +61,15 @@ pub record Means (t : Term) (table : List ℕ) (answer : ReadAnswer) (left : Lis
   pub answer-is : answer ≡ reads.Terms 1 (size t)
   pub rows-are : left ≡ table-after (length table) (good (tree ▹ empty))
 
--- Demand 3 over the promises of the calls, for any two accepted terms, of one message or of two, with room and scratch rows enough where they are lent
-pub record Demand-3 (t u : Term) (a : Accepted-term t) : Type 0 where
-  -- whatever scratch table and output held before, the writer's call on the message of the first leaves in the output the canonical standalone terms of its
+-- The output of an accepted term, over the promises of the calls, with room and scratch rows enough where they are lent
+pub record Output-of (t : Term) (a : Accepted-term t) : Type 0 where
+  -- whatever scratch table and output held before, the writer's call on its message leaves in the output the canonical standalone terms of the message's
   -- terms, one after the other, the bytes past them as they were, and the scratch table all zero
   pub canonical-written : (scratch output : List ℕ) → sizes (a .terms) ≤ length scratch → length (standalones (meanings (a .terms))) ≤ length output
       → (answer : WriteAnswer) (scratch-is output-is : List ℕ) → Write-call (a .framing) (a .list) (a .message) scratch output answer scratch-is output-is
       → Written-out (count (a .terms)) (standalones (meanings (a .terms))) scratch output answer scratch-is output-is
-  -- the first's own output stands there
+  -- its own output stands there
   pub own-output : Own-output t (meanings (a .terms))
-  -- the two have the same bytes there exactly when they mean the same
-  pub same-output : (canonical-standalone t ≡ canonical-standalone u) ↔ (t ≡ u)
   -- its bytes, where they are at most 65,536, are accepted by the reader's call, with any atom list of the stated size, so with an empty one, and any table of
   -- at least as many rows as the term has; and they mean the same term
   pub read-again : (list : AtomList) → of-size list ≡ true → length (canonical-standalone t) ≤ 65536 → (table : List ℕ) → size t ≤ length table
@@ -107,3 +79,9 @@ pub record Demand-3 (t u : Term) (a : Accepted-term t) : Type 0 where
       → (scratch output : List ℕ) → size t ≤ length scratch → length (canonical-standalone t) ≤ length output
       → (answer : WriteAnswer) (scratch-is output-is : List ℕ) → Write-call standalone list (canonical-standalone t) scratch output answer scratch-is output-is
       → Written-out 1 (canonical-standalone t) scratch output answer scratch-is output-is
+
+-- Demand 3, for any two accepted terms, of one message or of two: each has its output, and the two outputs are the same bytes exactly when the terms mean the same
+pub record Demand-3 (t u : Term) (a : Accepted-term t) (b : Accepted-term u) : Type 0 where
+  pub first-output : Output-of t a
+  pub second-output : Output-of u b
+  pub same-output : (canonical-standalone t ≡ canonical-standalone u) ↔ (t ≡ u)

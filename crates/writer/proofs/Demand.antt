@@ -32,5 +32,5 @@ pub promised-read-payload : (κs : Lfts 4) (a : _) (r : _) (s : _) → read-payl
 promised-read-payload κs a r s p = p
 
 -- For any two accepted terms, of one message or of two
-pub demand-3 : (t u : Term) (a : Accepted-term t) → Accepted-term u → Demand-3 t u a
+pub demand-3 : (t u : Term) (a : Accepted-term t) (b : Accepted-term u) → Demand-3 t u a b
 demand-3 = definitions.demand-3
