@@ -8,7 +8,7 @@ use Rattle.term_spec.specs.Answer.{good, Position, at-offset}
 use Rattle.term_spec.proofs.Holds.{Holds, next, done-holds}
 use Rattle.packet_spec.specs.Memory.{Held}
 use Rattle.packet_spec.specs.Header.{Reference, half, reference, references, header}
-use Rattle.dist_header.specs.Code.{flags-of, Opens, GoodHeader, HeaderIs}
+use Rattle.dist_header.specs.Code.{flags-of, references-from, Opens, GoodHeader, HeaderIs}
 use Rattle.dist_header.specs.declared.HeaderAnswer.the-variants as headers
 use Rattle.dist_header.proofs.Walk.{Along, along-none}
 
@@ -33,7 +33,7 @@ module _ (agreed : Coding) (holding : ℕ → Held) (s : List ℕ) (at n width f
   unfolding HeaderIs header-found
   header-is = is .1 .is
 
-  pub references-are : references agreed holding (flags-of s at n) width [] 0 n (at-offset s first 0) ≡ good (header-found, at-offset s payload 0)
+  pub references-are : references-from agreed holding s at n width first ≡ good (header-found, at-offset s payload 0)
   unfolding HeaderIs Opens
   references-are = sym (is .0 .0 agreed holding) ∙ header-is
 
@@ -52,11 +52,7 @@ good-of agreed holding s at n width first payload is =
       found = header-found agreed holding s at n width first payload is;
       end = at-offset s payload 0;
       is = references-are agreed holding s at n width first payload is;
-      width-least = is .0 .1;
-      width-most = is .0 .2;
-      few = is .0 .5;
-      first-is = is .0 .3;
-      first-inside = is .0 .4;
+      stands = is .0 .1;
     }
 
 module _ (agreed : Coding) (holding : ℕ → Held) (s : List ℕ) (at n width first : ℕ) where
@@ -64,7 +60,7 @@ module _ (agreed : Coding) (holding : ℕ → Held) (s : List ℕ) (at n width f
   pub record Half-way (i next : ℕ) : Type 0 where
     pub earlier : List Reference
     pub done : List Reference
-    pub along : Along agreed holding s (flags-of s at n) width (references agreed holding (flags-of s at n) width [] 0 n (at-offset s first 0)) n i next earlier done
+    pub along : Along agreed holding s (flags-of s at n) width (references-from agreed holding s at n width first) n i next earlier done
     pub count : length done ≡ i
 
   abbrev pub start : Half-way 0 first

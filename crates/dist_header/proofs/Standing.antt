@@ -1,18 +1,23 @@
 -- What stands in a header, as the code finds it at an offset of the packet: one law for each way out.
 use mathlib.Core.Path.{_≡_, refl, sym, _∙_, ap, ap₂, subst}
 use mathlib.Core.List.{List, []}
-use Prim.Native.Nat.{ℕ, _+_, _*_, _/_, _%_, _≤_, _<_}
+use mathlib.Core.Bool.{cond}
+use Prim.Native.Nat.{ℕ, zero, suc, _+_, _*_, _/_, _%_, _^_, _≤_, _<_}
 use native.Mathlib.Omega.{arith}
 use lib.ListN.{length, getD, take, drop}
 use lib.Seq.{getD-take, getD-drop}
+use lib.Dec.{eqb}
 use borrow.Author.Tests.{eq-eqb, ne-eqb, le-leb, lt-leb}
 use Rattle.term_spec.specs.Numbers.{big-endian}
 use Rattle.term_spec.specs.Text.{Coding}
 use Rattle.term_spec.specs.Answer.{Answer, good, refused, Position, at-offset, after}
 use Rattle.term_spec.proofs.Bridge.{byte-at, byte-end, bytes-at, bytes-end, number-at, number-end}
+use Rattle.octets.specs.Parts.{Width}
+use Rattle.octets.proofs.Numbers.{big-joined, big-one}
+use Rattle.octets.proofs.Widths.{width-1, width-2}
 use Rattle.packet_spec.specs.Memory.{Held}
 use Rattle.packet_spec.specs.Header.{Reference, flag-bytes, half, is-new, place-at, length-width, text-field, new-reference, reference, references, header}
-use Rattle.dist_header.specs.Code.{flags-of, Opens, Spells}
+use Rattle.dist_header.specs.Code.{flags-of, HeaderAt, Opens, Spells}
 use Rattle.dist_header.specs.declared.Opened.the-variants as opened
 use Rattle.dist_header.specs.declared.Spelled.the-variants as spelled
 
@@ -20,20 +25,27 @@ pub flag-count : (n : ℕ) → 0 < n → flag-bytes n ≡ n / 2 + 1
 unfolding flag-bytes
 flag-count n h = rw (ne-eqb n 0 (λ e. omega arith))
 
-flag-at : (s : List ℕ) (at n i : ℕ) → 0 < n → i ≤ n → getD (flags-of s at n) (i / 2) 0 ≡ getD s (at + 1 + i / 2) 0
-unfolding flags-of
-flag-at s at n i h k =
+-- half i of all bytes after the count is half i of the flags
+pub flags-half : (s : List ℕ) (at n i : ℕ) → 0 < n → i ≤ n → half (drop (at + 1) s) i ≡ half (flags-of s at n) i
+unfolding half flags-of
+flags-half s at n i h k =
     let f : flag-bytes n ≡ n / 2 + 1 = flag-count n h in
-    getD-take (flag-bytes n) (drop (at + 1) s) (i / 2) 0 (omega arith) ∙ getD-drop (at + 1) s (i / 2) 0
+    ap (λ (b : ℕ). cond (eqb (i % 2) 0) (b % 16) (b / 16)) (sym (getD-take (flag-bytes n) (drop (at + 1) s) (i / 2) 0 (omega arith)))
+
+-- the flags of reference i stand inside
+pub flags-inside : (s : List ℕ) (at n width first i : ℕ) → HeaderAt s at n width first → i < n → at + 1 + i / 2 < length s
+flags-inside s at n width first i h k =
+    let f : flag-bytes n ≡ n / 2 + 1 = flag-count n (omega arith) in
+    omega (arith, h .first-is, h .first-inside)
 
 -- half i is of flag byte i/2: the low half for even i, else the high half
-pub half-low : (s : List ℕ) (at n i : ℕ) → 0 < n → i ≤ n → i % 2 ≡ 0 → getD s (at + 1 + i / 2) 0 % 16 ≡ half (flags-of s at n) i
+pub half-low : (s : List ℕ) (at i : ℕ) → i % 2 ≡ 0 → getD s (at + 1 + i / 2) 0 % 16 ≡ half (drop (at + 1) s) i
 unfolding half
-half-low s at n i h k e = rw (eq-eqb (i % 2) 0 e, flag-at s at n i h k)
+half-low s at i e = rw (eq-eqb (i % 2) 0 e, getD-drop (at + 1) s (i / 2) 0)
 
-pub half-high : (s : List ℕ) (at n i : ℕ) → 0 < n → i ≤ n → (i % 2 ≡ 0 → ⊥) → getD s (at + 1 + i / 2) 0 / 16 ≡ half (flags-of s at n) i
+pub half-high : (s : List ℕ) (at i : ℕ) → (i % 2 ≡ 0 → ⊥) → getD s (at + 1 + i / 2) 0 / 16 ≡ half (drop (at + 1) s) i
 unfolding half
-half-high s at n i h k e = rw (ne-eqb (i % 2) 0 e, flag-at s at n i h k)
+half-high s at i e = rw (ne-eqb (i % 2) 0 e, getD-drop (at + 1) s (i / 2) 0)
 
 -- ---- count and flags
 
@@ -62,11 +74,7 @@ opens-as s at n width first h is small e k w lo hi = (
       header-opens s at h (subst (λ (m : ℕ). at + 1 + flag-bytes m ≤ length s) (sym is) (omega arith)) agreed holding
       ∙ ap (λ (m : ℕ). references agreed holding (flags-of s at m) (length-width (half (flags-of s at m) m)) [] 0 m (at-offset s (at + 1 + flag-bytes m) 0)) is
       ∙ ap₂ (λ (w f : ℕ). references agreed holding (flags-of s at n) w [] 0 n (at-offset s f 0)) (sym w) (sym e),
-  lo,
-  hi,
-  e,
-  k,
-  small,
+  record { few = small; width-least = lo; width-most = hi; first-is = e; first-inside = k },
 )
 
 no-flags : (s : List ℕ) (at : ℕ) → length-width (half (flags-of s at 0) 0) ≡ 1
@@ -82,12 +90,29 @@ unfolding length-width
 width-of h = refl
 
 pub opens-some : (s : List ℕ) (at n spare : ℕ) → at < length s → getD s at 0 ≡ n → 0 < n → n < 256 → at + 1 + (n / 2 + 1) ≤ length s
-    → spare ≡ half (flags-of s at n) n → Opens s at (opened.Header n (1 + spare % 2) (at + 1 + (n / 2 + 1)))
+    → spare ≡ half (drop (at + 1) s) n → Opens s at (opened.Header n (1 + spare % 2) (at + 1 + (n / 2 + 1)))
 opens-some s at n spare h is z small k e =
     let f : flag-bytes n ≡ n / 2 + 1 = flag-count n z in
-    opens-as s at n (1 + spare % 2) (at + 1 + (n / 2 + 1)) h is small (omega arith) k (width-of spare ∙ ap length-width e) (omega arith) (omega arith)
+    opens-as s at n (1 + spare % 2) (at + 1 + (n / 2 + 1)) h is small (omega arith) k (width-of spare ∙ ap length-width (e ∙ flags-half s at n n z (omega arith))) (omega arith) (omega arith)
 
 -- ---- one reference
+
+-- a length in 1 or 2 bytes
+pub length-width-is : (w : ℕ) → 0 < w → w ≤ 2 → Width w
+length-width-is zero lo hi = absurd (omega arith)
+length-width-is (suc zero) lo hi = width-1
+length-width-is (suc (suc zero)) lo hi = width-2
+length-width-is (suc (suc (suc w))) lo hi = absurd (omega arith)
+
+pub length-small : (s : List ℕ) (at w : ℕ) → ((i : ℕ) → getD s i 0 < 256) → at + w ≤ length s → w ≤ 2 → big-endian (take w (drop at s)) < 65536
+unfolding big-endian
+length-small s at zero bytes there hi = omega arith
+length-small s at (suc zero) bytes there hi = let e = big-one s at (omega arith) in omega (arith, bytes at)
+length-small s at (suc (suc zero)) bytes there hi =
+    let e : big-endian (take 2 (drop at s)) ≡ getD s at 0 * 256 ^ 1 + getD s (at + 1) 0
+    = sym (big-joined s at 1 1 (getD s at 0) (getD s (at + 1) 0) (omega arith) (sym (big-one s at (omega arith))) (sym (big-one s (at + 1) (omega arith)))) in
+    omega (arith, bytes at, bytes (at + 1))
+length-small s at (suc (suc (suc w))) bytes there hi = absurd (omega arith)
 
 pub spells-end : (s : List ℕ) (h width at : ℕ) → length s ≤ at → Spells s h width at spelled.Cut
 unfolding Spells reference

@@ -40,12 +40,12 @@ module _ (utf8 : Bool) (s : List ℕ) (from size : ℕ) where
       → r ≡ length (encodes cs)
   stored-latin r u f cs e = f ∙ ap (λ (bs : List ℕ). length (encodes bs)) (same-characters cs u e)
 
-  pub fits-utf8 : (at room : ℕ) → utf8 ≡ true → from + size ≤ length s → TextFits (coding-of utf8) (take size (drop from s)) at room → at + size ≤ room
-  fits-utf8 at room u h t =
-      let n : size ≡ length (encodes (t .characters)) = stored-utf8 u h (t .characters) (t .is) in
+  pub fits-utf8 : (at room : ℕ) → utf8 ≡ true → TextFits (coding-of utf8) s from size at room → at + size ≤ room
+  fits-utf8 at room u t =
+      let n : size ≡ length (encodes (t .characters)) = stored-utf8 u (t .inside) (t .characters) (t .is) in
       omega (arith, t .fits)
 
-  pub fits-latin : (at room : ℕ) → utf8 ≡ false → TextFits (coding-of utf8) (take size (drop from s)) at room → at + length (encodes (take size (drop from s))) ≤ room
+  pub fits-latin : (at room : ℕ) → utf8 ≡ false → TextFits (coding-of utf8) s from size at room → at + length (encodes (take size (drop from s))) ≤ room
   fits-latin at room u t = rw (same-characters (t .characters) u (t .is)) (t .fits)
 
 -- ---- what a place of the cache holds

@@ -8,8 +8,8 @@ use Rattle.term_spec.specs.Text.{Coding}
 use Rattle.term_spec.specs.Answer.{Answer, good, refused, Position, at-offset, after}
 use Rattle.packet_spec.specs.declared.Place.{Place}
 use Rattle.packet_spec.specs.Memory.{Held}
-use Rattle.packet_spec.specs.Header.{Reference, flag-bytes, half, reference, references}
-use Rattle.dist_header.specs.Code.{flags-of, Opens, Spells, Marked, Went, Judges, JudgesNew, JudgesCached, Steps, Ends, HeaderIs}
+use Rattle.packet_spec.specs.Header.{Reference, half, reference, references}
+use Rattle.dist_header.specs.Code.{flags-of, HeaderAt, Opens, Spells, Marked, Went, Judges, JudgesNew, JudgesCached, Steps, Ends, HeaderIs}
 use Rattle.dist_header.proofs.Marks.{marked-none}
 use Rattle.dist_header.specs.declared.Opened.the-variants as opened
 use Rattle.dist_header.specs.declared.Spelled.the-variants as spelled
@@ -202,9 +202,9 @@ unfolding Opens HeaderIs
 header-cut agreed holding s at e = e agreed holding
 
 module _ (agreed : Coding) (holding : ℕ → Held) (s : List ℕ) (at n width first : ℕ) (o : Opens s at (opened.Header n width first)) where
-  pub opened-inside : (0 < width) × (width ≤ 2) × (n < 256) × (first ≡ at + 1 + flag-bytes n) × (first ≤ length s)
+  pub opened-inside : HeaderAt s at n width first
   unfolding Opens
-  opened-inside = (o .1, o .2, o .5, o .3, o .4)
+  opened-inside = o .1
 
   pub header-refused : (number place : ℕ) → Ends (references agreed holding (flags-of s at n) width [] 0 n (at-offset s first 0)) s (ends.Refused (record { number = number; place = place }))
       → HeaderIs agreed holding s at (headers.Refused (record { number = number; place = place }))

@@ -5,9 +5,10 @@ use mathlib.Core.Bool.{Bool, true, false, cond}
 use mathlib.Core.List.{List, [], _∷_}
 use Prim.Native.Nat.{ℕ, _+_, _≤_, _<_}
 use lib.ListN.{length, getD, take, drop}
+use lib.Seq.{sets}
 use Rattle.term_spec.specs.Text.{Coding, valid, check, encodes}
 use Rattle.term_spec.specs.Answer.{Answer, good, refused, Position, at-offset}
-use Rattle.packet_spec.specs.Memory.{Cache, Held, held, nothing, no-text, text}
+use Rattle.packet_spec.specs.Memory.{Cache, CacheSized, Held, held, nothing, no-text, text}
 use Rattle.packet_spec.specs.Header.{Reference, flag-bytes, named, filled, new-reference, cached-reference, reference, references, header}
 use Rattle.dist_header.specs.declared.Opened.{Opened}
 use Rattle.dist_header.specs.declared.Spelled.{Spelled}
@@ -33,12 +34,35 @@ unfoldable pub holding-when : Bool → Cache → ℕ → Held
 holding-when true c = held c
 holding-when false c = λ p. text []
 
+-- the cache is of its stated size where it is looked at
+abbrev pub SizedWhen : Bool → Cache → Type 0
+SizedWhen look c = look ≡ true → CacheSized c
+
+-- the header at `at` has n references, the first at `first`, and lengths of this width
+pub record HeaderAt (s : List ℕ) (at n width first : ℕ) : Type 0 where
+  pub few : n < 256
+  pub width-least : 0 < width
+  pub width-most : width ≤ 2
+  pub first-is : first ≡ at + 1 + flag-bytes n
+  pub first-inside : first ≤ length s
+
+-- its references, judged in turn
+abbrev pub references-from : Coding → (ℕ → Held) → List ℕ → ℕ → ℕ → ℕ → ℕ → Answer (List Reference × Position)
+references-from agreed holding s at n width first = references agreed holding (flags-of s at n) width [] 0 n (at-offset s first 0)
+
 -- what stands before the references of the header at `at`
 unfoldable pub Opens : List ℕ → ℕ → Opened → Type 0
 Opens s at opened.Cut = (agreed : Coding) (holding : ℕ → Held) → header agreed holding (at-offset s at 0) ≡ refused 2 0
 Opens s at (opened.Header n width first) =
-    ((agreed : Coding) (holding : ℕ → Held) → header agreed holding (at-offset s at 0) ≡ references agreed holding (flags-of s at n) width [] 0 n (at-offset s first 0))
-    × (0 < width) × (width ≤ 2) × (first ≡ at + 1 + flag-bytes n) × (first ≤ length s) × (n < 256)
+    ((agreed : Coding) (holding : ℕ → Held) → header agreed holding (at-offset s at 0) ≡ references-from agreed holding s at n width first)
+    × HeaderAt s at n width first
+
+-- a reference is read at `at`, with the half h and the width of lengths
+pub record ReferenceAt (s : List ℕ) (h width at : ℕ) : Type 0 where
+  pub half-small : h < 16
+  pub width-least : 0 < width
+  pub width-most : width ≤ 2
+  pub inside : at ≤ length s
 
 -- the reference at `at`, with the half h and the width of lengths
 unfoldable pub Spells : List ℕ → ℕ → ℕ → ℕ → Spelled → Type 0
@@ -54,11 +78,17 @@ Spells s h width at (spelled.Cached p) =
     → reference agreed holding width earlier i h (at-offset s at 0) ≡ cached-reference agreed holding earlier i (p .0) (at-offset s (at + 1) 0))
     × (p .0 < 2048) × (at < length s)
 
--- these bytes are a text, and as UTF-8 it fits from `at` on
-pub record TextFits (agreed : Coding) (bs : List ℕ) (at room : ℕ) : Type 0 where
+-- the `size` bytes from `from` on are a text, and as UTF-8 it fits from `at` on
+pub record TextFits (agreed : Coding) (s : List ℕ) (from size at room : ℕ) : Type 0 where
+  pub inside : from + size ≤ length s
+  pub small : size < 65536
   pub characters : List ℕ
-  pub is : check agreed bs ≡ valid characters
+  pub is : check agreed (take size (drop from s)) ≡ valid characters
   pub fits : at + length (encodes characters) ≤ room
+
+-- the text of these bytes is stored as UTF-8 from `at` on, in r bytes
+pub record PutsText (agreed : Coding) (bs : List ℕ) (at : ℕ) (before after : List ℕ) (r : ℕ) : Type 0 where
+  pub puts : (cs : List ℕ) → check agreed bs ≡ valid cs → (r ≡ length (encodes cs)) × (after ≡ sets before at (encodes cs))
 
 -- what a place holds, its text by its length
 unfoldable pub place-text : Held → PlaceText
@@ -123,9 +153,5 @@ HeaderIs agreed holding s at (headers.Header n width first payload) =
 pub record GoodHeader (agreed : Coding) (holding : ℕ → Held) (s : List ℕ) (at n width first : ℕ) : Type 0 where
   pub found : List Reference
   pub end : Position
-  pub is : references agreed holding (flags-of s at n) width [] 0 n (at-offset s first 0) ≡ good (found, end)
-  pub width-least : 0 < width
-  pub width-most : width ≤ 2
-  pub few : n < 256
-  pub first-is : first ≡ at + 1 + flag-bytes n
-  pub first-inside : first ≤ length s
+  pub is : references-from agreed holding s at n width first ≡ good (found, end)
+  pub stands : HeaderAt s at n width first

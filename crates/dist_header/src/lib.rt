@@ -1,16 +1,12 @@
 // Headers of packets: where their references stand, whether they may be taken, and the place that a reference names.
 ghost use mathlib.Core.Path.{_≡_};
-ghost use mathlib.Core.Bool.{true};
-ghost use mathlib.Core.List.{List, []};
-ghost use Prim.Native.Nat.{ℕ, _+_, _*_, _/_, _≤_, _<_};
+ghost use mathlib.Core.List.{List};
+ghost use Prim.Native.Nat.{ℕ, _+_, _/_, _≤_, _<_};
 ghost use lib.ListN.{length, take, drop};
-ghost use lib.Seq.{sets};
-ghost use Rattle.term_spec.specs.Numbers.{big-endian};
 ghost use Rattle.term_spec.specs.Text.{coding-of, check, valid, encodes};
-ghost use Rattle.packet_spec.specs.Memory.{cache-of, held};
-ghost use Rattle.packet_spec.specs.Header.{flag-bytes, half, references};
-ghost use Rattle.term_spec.specs.Answer.{at-offset};
-ghost use Rattle.dist_header.specs.Code.{flags-of, holding-when, Opens, Spells, TextFits, place-text, JudgesNew, JudgesCached, Steps, Ends, HeaderIs};
+ghost use Rattle.packet_spec.specs.Memory.{cache-of, CacheSized, held};
+ghost use Rattle.packet_spec.specs.Header.{half};
+ghost use Rattle.dist_header.specs.Code.{holding-when, SizedWhen, HeaderAt, references-from, Opens, ReferenceAt, Spells, TextFits, PutsText, place-text, JudgesNew, JudgesCached, Steps, Ends, HeaderIs};
 use packet_spec::Place;
 use packet_spec::ReferenceIndex;
 use term_spec::Refusal;
@@ -76,10 +72,10 @@ pub enum HeaderAnswer {
     },
 }
 
-// Half i of the flag bytes of the header at `at`, which has n references.
-pub fn half_of(packet: &[u8], at: usize, n: usize, i: ReferenceIndex) -> usize
-    requires { ⌜ (0 < n) × (i .0 ≤ n) × (at + n / 2 + 2 ≤ length (now packet)) ⌝ }
-    ensures { λ r. ⌜ (r ≡ half (flags-of (now (packet .entry)) at n) (i .0)) × (r < 16) ⌝ }
+// Half i of the flag bytes of the header at `at`.
+pub fn half_of(packet: &[u8], at: usize, i: ReferenceIndex) -> usize
+    requires { ⌜ at + 1 + i .0 / 2 < length (now packet) ⌝ }
+    ensures { λ r. ⌜ (r ≡ half (drop (at + 1) (now (packet .entry))) (i .0)) × (r < 16) ⌝ }
 {
     let k = i.0;
     let flags = octets::wide(packet[at + 1 + k / 2]);
@@ -109,7 +105,7 @@ fn open_header(packet: &[u8], at: usize) -> Opened
     if packet.len() - at - 1 < flags {
         return Opened::Cut;
     }
-    let spare = half_of(packet, at, n, ReferenceIndex(n));
+    let spare = half_of(packet, at, ReferenceIndex(n));
     Opened::Header {
         n: n,
         width: 1 + spare % 2,
@@ -117,20 +113,9 @@ fn open_header(packet: &[u8], at: usize) -> Opened
     }
 }
 
-// The number in the 1 or 2 bytes from `at` on.
-fn length_at(packet: &[u8], at: usize, width: usize) -> usize
-    requires { ⌜ (0 < width) × (width ≤ 2) × (at + width ≤ length (now packet)) ⌝ }
-    ensures { λ r. ⌜ (r ≡ big-endian (take width (drop at (now (packet .entry))))) × (r < 65536) ⌝ }
-{
-    if width == 1 {
-        return octets::big1(packet, at);
-    }
-    octets::big2(packet, at)
-}
-
 // The reference at `at`, with its half and the width of lengths: its place is 256 times the segment plus the internal index.
 pub fn read_reference(packet: &[u8], half: usize, width: usize, at: usize) -> Spelled
-    requires { ⌜ (half < 16) × (0 < width) × (width ≤ 2) × (at ≤ length (now packet)) ⌝ }
+    requires { ⌜ ReferenceAt (now packet) half width at ⌝ }
     ensures { λ r. ⌜ Spells (now (packet .entry)) half width at r ⌝ }
 {
     if packet.len() <= at {
@@ -143,7 +128,7 @@ pub fn read_reference(packet: &[u8], half: usize, width: usize, at: usize) -> Sp
     if packet.len() - at - 1 < width {
         return Spelled::Cut;
     }
-    let size = length_at(packet, at + 1, width);
+    let size = octets::number(packet, at + 1, width) as usize;
     let from = at + 1 + width;
     if packet.len() - from < size {
         return Spelled::Cut;
@@ -153,13 +138,6 @@ pub fn read_reference(packet: &[u8], half: usize, width: usize, at: usize) -> Sp
         from: from,
         size: size,
     }
-}
-
-// A length of a place as a number of a machine word.
-pub fn wide_length(x: u16) -> usize
-    ensures { λ r. ⌜ (r ≡ x) × (r < 65536) ⌝ }
-{
-    x as usize
 }
 
 // The length as UTF-8 of the text, in the coding agreed, from `from` on.
@@ -182,8 +160,8 @@ pub fn put_text(
     dst: &mut [u8],
     at: usize,
 ) -> usize
-    requires { ⌜ (from + size ≤ length (now packet)) × (size < 65536) × TextFits (coding-of utf8) (take size (drop from (now packet))) at (length (now dst)) ⌝ }
-    ensures { λ r. ⌜ ((cs : List ℕ) → check (coding-of utf8) (take size (drop from (now (packet .entry)))) ≡ valid cs → (r ≡ length (encodes cs)) × (now (dst .exit) ≡ sets (now (dst .entry)) at (encodes cs))) ⌝ }
+    requires { ⌜ TextFits (coding-of utf8) (now packet) from size at (length (now dst)) ⌝ }
+    ensures { λ r. ⌜ PutsText (coding-of utf8) (take size (drop from (now (packet .entry)))) at (now (dst .entry)) (now (dst .exit)) r ⌝ }
 {
     if utf8 {
         octets::copy(packet, from, dst, at, size);
@@ -194,11 +172,11 @@ pub fn put_text(
 
 // What a place of the cache holds.
 pub fn held_at(cache: &[u8], cache_lengths: &[u16], place: Place) -> PlaceText
-    requires { ⌜ (place .0 < 2048) × (length (now cache) ≡ 65536) × (length (now «cache_lengths») ≡ 2048) ⌝ }
+    requires { ⌜ (place .0 < 2048) × CacheSized (cache-of (now cache) (now «cache_lengths»)) ⌝ }
     ensures { λ r. ⌜ r ≡ place-text (held (cache-of (now (cache .entry)) (now («cache_lengths» .entry))) (place .0)) ⌝ }
 {
     let k = place.0;
-    let size = wide_length(cache_lengths[k]);
+    let size = octets::wide16(cache_lengths[k]);
     if size == packet_spec::sizes::CACHE_EMPTY as usize {
         return PlaceText::Empty;
     }
@@ -215,7 +193,7 @@ pub fn held_at(cache: &[u8], cache_lengths: &[u16], place: Place) -> PlaceText
 
 // What a place holds where the cache is looked at; else a text.
 fn looked_at(look: bool, cache: &[u8], cache_lengths: &[u16], place: Place) -> PlaceText
-    requires { ⌜ (place .0 < 2048) × (look ≡ true → (length (now cache) ≡ 65536) × (length (now «cache_lengths») ≡ 2048)) ⌝ }
+    requires { ⌜ (place .0 < 2048) × SizedWhen look (cache-of (now cache) (now «cache_lengths»)) ⌝ }
     ensures { λ r. ⌜ r ≡ place-text (holding-when look (cache-of (now (cache .entry)) (now («cache_lengths» .entry))) (place .0)) ⌝ }
 {
     if look {
@@ -259,7 +237,7 @@ fn judge_cached(
     place: Place,
     marks: &mut [u8],
 ) -> Judged
-    requires { ⌜ (place .0 < 2048) × (look ≡ true → (length (now cache) ≡ 65536) × (length (now «cache_lengths») ≡ 2048)) × (length (now marks) ≡ 2048) ⌝ }
+    requires { ⌜ (place .0 < 2048) × SizedWhen look (cache-of (now cache) (now «cache_lengths»)) × (length (now marks) ≡ 2048) ⌝ }
     ensures { λ r. ⌜ JudgesCached (holding-when look (cache-of (now (cache .entry)) (now («cache_lengths» .entry)))) (place .0) (now (marks .entry)) (now (marks .exit)) r ⌝ }
 {
     let k = place.0;
@@ -288,7 +266,7 @@ fn judge_reference(
     cache_lengths: &[u16],
     marks: &mut [u8],
 ) -> Step
-    requires { ⌜ (half < 16) × (0 < width) × (width ≤ 2) × (at ≤ length (now packet)) × (look ≡ true → (length (now cache) ≡ 65536) × (length (now «cache_lengths») ≡ 2048)) × (length (now marks) ≡ 2048) ⌝ }
+    requires { ⌜ ReferenceAt (now packet) half width at × SizedWhen look (cache-of (now cache) (now «cache_lengths»)) × (length (now marks) ≡ 2048) ⌝ }
     ensures { λ r. ⌜ Steps (coding-of utf8) (holding-when look (cache-of (now (cache .entry)) (now («cache_lengths» .entry)))) (now (packet .entry)) half width at (now (marks .entry)) (now (marks .exit)) r ⌝ }
 {
     match read_reference(packet, half, width, at) {
@@ -320,14 +298,14 @@ fn check_references(
     cache: &[u8],
     cache_lengths: &[u16],
 ) -> References
-    requires { ⌜ (0 < width) × (width ≤ 2) × (n < 256) × (first ≡ at + 1 + flag-bytes n) × (first ≤ length (now packet)) × (look ≡ true → (length (now cache) ≡ 65536) × (length (now «cache_lengths») ≡ 2048)) ⌝ }
-    ensures { λ r. ⌜ Ends (references (coding-of utf8) (holding-when look (cache-of (now (cache .entry)) (now («cache_lengths» .entry)))) (flags-of (now (packet .entry)) at n) width [] 0 n (at-offset (now (packet .entry)) first 0)) (now (packet .entry)) r ⌝ }
+    requires { ⌜ HeaderAt (now packet) at n width first × SizedWhen look (cache-of (now cache) (now «cache_lengths»)) ⌝ }
+    ensures { λ r. ⌜ Ends (references-from (coding-of utf8) (holding-when look (cache-of (now (cache .entry)) (now («cache_lengths» .entry)))) (now (packet .entry)) at n width first) (now (packet .entry)) r ⌝ }
 {
     let mut marks = [0u8; packet_spec::sizes::CACHE_PLACES];
     let mut next = first;
     let mut i = 0;
     while i < n {
-        let half = half_of(packet, at, n, ReferenceIndex(i));
+        let half = half_of(packet, at, ReferenceIndex(i));
         match judge_reference(
             utf8,
             look,
@@ -363,7 +341,7 @@ pub fn check_header(
     cache: &[u8],
     cache_lengths: &[u16],
 ) -> HeaderAnswer
-    requires { ⌜ (at ≤ length (now packet)) × (look ≡ true → (length (now cache) ≡ 65536) × (length (now «cache_lengths») ≡ 2048)) ⌝ }
+    requires { ⌜ (at ≤ length (now packet)) × SizedWhen look (cache-of (now cache) (now «cache_lengths»)) ⌝ }
     ensures { λ r. ⌜ HeaderIs (coding-of utf8) (holding-when look (cache-of (now (cache .entry)) (now («cache_lengths» .entry)))) (now (packet .entry)) at r ⌝ }
 {
     match open_header(packet, at) {

@@ -50,7 +50,7 @@ module _ (agreed : Coding) (c : Cache) (s : List ℕ) (at : ℕ) where
     unfolding Heads payload-after
     heads-long list l = record { is = after-header ∙ rw (lt-leb (0 + length (drop payload s)) 65536 (omega (arith, left))); cache-stays = refl; list-stays = refl }
 
-    pub heads-good : (list : AtomList) (c′ : Cache) (list-places′ list-lengths′ : List ℕ) → length s - payload ≤ 65536 → Listed agreed (held c) s at n width first list-places′ list-lengths′ → Entered agreed s at n width first c c′
+    pub heads-good : (list : AtomList) (c′ : Cache) (list-places′ list-lengths′ : List ℕ) → length s - payload ≤ 65536 → Listed agreed c s at n width first list-places′ list-lengths′ → Entered agreed s at n width first c c′
         → Heads agreed s at c list (headeds.Payload payload (length s - payload)) c′ (lent-list n list-places′ list-lengths′)
     unfolding Heads payload-after list-of
     heads-good list c′ list-places′ list-lengths′ l listed all =

@@ -15,7 +15,7 @@ use Rattle.term_spec.specs.Message.{payload, ending, version, standalone-term, 
 use Rattle.term_spec.specs.Canonical.{big-bytes, integer-bytes, atom-bytes, tuple-bytes, port-bytes, words-bytes, small, all-small, long-list, list-bytes, term-bytes, canonical, canonical-standalone, standalones}
 use Rattle.term_spec.specs.Writing.{Written, written, write}
 use Rattle.packet_spec.specs.declared.Pending.{Pending}
-use Rattle.packet_spec.specs.Memory.{Memory, cache-of, cache-of-size, memory-of-size, record-true, none-pending, empty-cache, text-if, held-as, Held, held, text}
+use Rattle.packet_spec.specs.Memory.{Memory, cache-of-size, memory-of-size, record-true, none-pending, empty-cache, text-if, held-as, Held, held, text}
 use Rattle.packet_spec.specs.Header.{flag-bytes, half, is-new, place-at, length-width, named, filled, held-or, text-field, new-reference, cached-reference, reference, references, header}
 use Rattle.packet_spec.specs.Packet.{ids, packet-kind, preamble, payload-after, rest, packet, judged}
 use Rattle.packet_spec.specs.Calls.{zeros-to, enter, entered, texts-in-places, lengths-of, list-of, record-after, told-after, told, left-by, Outcome, payload-at, pending-still, complete, take-packet, after-packet}

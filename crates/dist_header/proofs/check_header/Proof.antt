@@ -21,7 +21,7 @@ check-references-requires : tie.Need-check-references-requires
 check-references-requires c κs = let a = c .before .before .before .before .before .before .before .args in
     let v = c .before .n .given in
     let e : Opens (a .packet .now) (a .at) (opened.Header (v .0 .0) (v .0 .1 .0) (v .0 .1 .1 .0)) = rw (v .1) at (c .before .before .before .open-header .ensures) in
-    let i = opened-inside (coding-of (a .utf8)) (holding-when (a .look) (cache-of (a .cache .now) (a .cache-lengths .now))) (a .packet .now) (a .at) (v .0 .0) (v .0 .1 .0) (v .0 .1 .1 .0) e in (i .0, i .1, i .2, i .3, i .4, c .before .before .before .before .before .before .before .pre .1)
+    let i = opened-inside (coding-of (a .utf8)) (holding-when (a .look) (cache-of (a .cache .now) (a .cache-lengths .now))) (a .packet .now) (a .at) (v .0 .0) (v .0 .1 .0) (v .0 .1 .1 .0) e in (i, c .before .before .before .before .before .before .before .pre .1)
 
 enum-known-refusal : tie.Need-enum-known-refusal
 enum-known-refusal c = search needs

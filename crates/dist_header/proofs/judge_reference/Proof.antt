@@ -22,7 +22,7 @@ judge-new-requires : tie.Need-judge-new-requires
 judge-new-requires c κs = let a = c .before .before .before .before .before .before .before .before .before .args in
     let v = c .before .before .place .given in
     let e : Spells (a .packet .now) (a .half) (a .width) (a .at) (spelled.New (v .0 .0) (v .0 .1 .0) (v .0 .1 .1 .0)) = rw (v .1) at (c .before .before .before .before .read-reference .ensures) in
-    let i = new-inside (a .packet .now) (a .half) (a .width) (a .at) (v .0 .0) (v .0 .1 .0) (v .0 .1 .1 .0) e in (i .0, i .2, i .3, c .before .before .before .before .before .before .before .before .before .pre .5)
+    let i = new-inside (a .packet .now) (a .half) (a .width) (a .at) (v .0 .0) (v .0 .1 .0) (v .0 .1 .1 .0) e in (i .0, i .2, i .3, c .before .before .before .before .before .before .before .before .before .pre .2)
 
 enum-known-number : tie.Need-enum-known-number
 enum-known-number c = search needs
@@ -43,7 +43,7 @@ judge-cached-requires : tie.Need-judge-cached-requires
 judge-cached-requires c κs = let a = c .before .before .before .before .before .before .before .before .before .args in
     let v = c .before .before .place2 .given in
     let e : Spells (a .packet .now) (a .half) (a .width) (a .at) (spelled.Cached (v .0 .0)) = rw (v .1) at (c .before .before .before .before .read-reference .ensures) in
-    let i = cached-inside (a .packet .now) (a .half) (a .width) (a .at) (v .0 .0) e in (i .0, c .before .before .before .before .before .before .before .before .before .pre .4, c .before .before .before .before .before .before .before .before .before .pre .5)
+    let i = cached-inside (a .packet .now) (a .half) (a .width) (a .at) (v .0 .0) e in (i .0, c .before .before .before .before .before .before .before .before .before .pre .1, c .before .before .before .before .before .before .before .before .before .pre .2)
 
 enum-known-number-2 : tie.Need-enum-known-number-2
 enum-known-number-2 c = search needs

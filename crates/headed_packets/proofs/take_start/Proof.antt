@@ -26,7 +26,7 @@ enum-known-offset : tie.Need-enum-known-offset
 enum-known-offset c = search needs
 
 copy-requires : tie.Need-copy-requires
-copy-requires c κs = let i = head-inside _ _ _ _ _ _ _ _ _ (rw (c .before .before .offset .given .1) at (c .before .before .before .before .before .before .before .before .before .before .before .before .take-header .ensures)) in (i .0, omega (arith, i .1, c .before .before .before .before .before .before .before .before .before .before .before .before .before .before .before .before .before .before .before .before .before .before .before .before .before .before .pre .2))
+copy-requires c κs = let i = head-inside _ _ _ _ _ _ _ _ _ (rw (c .before .before .offset .given .1) at (c .before .before .before .before .before .before .before .before .before .before .before .before .take-header .ensures)) in (i .0, omega (arith, i .1, c .before .before .before .before .before .before .before .before .before .before .before .before .before .before .before .before .before .before .before .before .before .before .before .before .before .before .pre .3))
 
 settle-requires : tie.Need-settle-requires
 settle-requires c κs = search needs

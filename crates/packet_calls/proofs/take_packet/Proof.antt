@@ -79,7 +79,7 @@ enum-told c = search needs
 
 take-plain-requires : tie.Need-take-plain-requires
 take-plain-requires c κs = let z = lengths-told _ (c .before .before .before .before .before .before .before .before .before .before .before .memory-fits .ensures .fits-told 0 0 none-pending) (c .before .before .before .before .before .before .before .before .before .before .if1 .left) in
-    (plain-there _ (rw (c .before .before .before .before .before .enum-told .given .1) at (c .before .before .before .before .before .before .before .read-preamble .ensures)), record { cache-is = z .places; cache-lengths-are = z .lengths; list-is = z .plain-places; list-lengths-are = z .plain-lengths })
+    (plain-there _ (rw (c .before .before .before .before .before .enum-told .given .1) at (c .before .before .before .before .before .before .before .read-preamble .ensures)), z .cache-sized, record { places-are = z .plain-places; lengths-are = z .plain-lengths })
 
 enum-known-sequence : tie.Need-enum-known-sequence
 enum-known-sequence c = search needs
@@ -87,7 +87,7 @@ enum-known-sequence c = search needs
 take-start-requires : tie.Need-take-start-requires
 take-start-requires c κs = let z = lengths-told _ (c .before .before .before .before .before .before .before .before .before .before .before .before .before .memory-fits .ensures .fits-told 0 0 none-pending) (c .before .before .before .before .before .before .before .before .before .before .before .before .if1 .left) in
     let t = start-there _ _ _ (rw (c .before .before .before .before .before .before .before .sequence .given .1) at (c .before .before .before .before .before .before .before .before .before .read-preamble .ensures)) in
-    (t .0, record { cache-is = z .places; cache-lengths-are = z .lengths; list-is = z .pending-places; list-lengths-are = z .pending-lengths }, z .gathered, t .1)
+    (t .0, z .cache-sized, record { places-are = z .pending-places; lengths-are = z .pending-lengths }, z .gathered, t .1)
 
 enum-known-sequence-2 : tie.Need-enum-known-sequence-2
 enum-known-sequence-2 c = search needs
