@@ -21,7 +21,7 @@ use Rattle.octets.proofs.Parts.{length-part}
 use Rattle.dist_header.proofs.Texts.{getD-any}
 use Rattle.dist_header.proofs.Good.{GoodNew, GoodCached, good-new, good-cached}
 use Rattle.dist_header.specs.declared.Spelled.the-variants as spelled
-use Rattle.cache_entries.specs.declared.Stored.{Stored}
+use Rattle.cache_entries.specs.declared.ListedText.{ListedText}
 use Rattle.cache_entries.specs.Code.{GoodReference, Lists, StoresText, Enters}
 
 -- ---- zeros
@@ -107,7 +107,7 @@ held-bytes places lengths p n bs h is there e =
 -- ---- one reference into a list
 
 module _ (agreed : Coding) (c : Cache) (s : List ℕ) (h width at to : ℕ) (before now : List ℕ) where
-  pub lists-cut : (r : Stored) → Spells s h width at spelled.Cut → Lists agreed c s h width at to before now r
+  pub lists-cut : (r : ListedText) → Spells s h width at spelled.Cut → Lists agreed c s h width at to before now r
   unfolding Spells
   lists-cut r e =
       record {
@@ -154,8 +154,8 @@ pub stands-new : (agreed : Coding) (holding : ℕ → Held) (s : List ℕ) (h wi
     → Spells s h width at (spelled.New p from size) → to + 32 ≤ room → TextFits agreed s from size to room
 unfolding Spells
 stands-new agreed holding s h width at p from size to room st e l =
-    let g : GoodNew agreed (p .0) (take size (drop from s)) (at-offset s (from + size) 0) (st .found) (st .end) =
-    good-new agreed holding (st .earlier) (st .i) (p .0) (take size (drop from s)) (at-offset s (from + size) 0) (st .found) (st .end)
+    let g : GoodNew agreed (p .0) (take size (drop from s)) (at-offset s (from + size) 0) (st .reference) (st .end) =
+    good-new agreed holding (st .earlier) (st .i) (p .0) (take size (drop from s)) (at-offset s (from + size) 0) (st .reference) (st .end)
     (sym (e .0 agreed holding (st .earlier) (st .i)) ∙ st .is) in
     record { inside = e .3; small = e .4; characters = g .characters; is = g .is-text; fits = omega (arith, g .short) }
 
@@ -164,8 +164,8 @@ pub stands-cached : (agreed : Coding) (places lengths s : List ℕ) (h width at 
     → Spells s h width at (spelled.Cached p) → CacheSized (cache-of places lengths) → n ≡ getD lengths (p .0) 0 → n ≤ 32
 unfolding Spells
 stands-cached agreed places lengths s h width at p n st e sized is =
-    let g : GoodCached (held (cache-of places lengths)) (p .0) (at-offset s (at + 1) 0) (st .found) (st .end) =
-    good-cached agreed (held (cache-of places lengths)) (st .earlier) (st .i) (p .0) (at-offset s (at + 1) 0) (st .found) (st .end)
+    let g : GoodCached (held (cache-of places lengths)) (p .0) (at-offset s (at + 1) 0) (st .reference) (st .end) =
+    good-cached agreed (held (cache-of places lengths)) (st .earlier) (st .i) (p .0) (at-offset s (at + 1) 0) (st .reference) (st .end)
     (sym (e .0 agreed (held (cache-of places lengths)) (st .earlier) (st .i)) ∙ st .is) in
     let small : p .0 < 2048 = e .1 in
     let big : length places ≡ 65536 = sized .places-are in

@@ -5,7 +5,7 @@ ghost use lib.ListN.{length, replicate};
 ghost use Rattle.packet_spec.specs.Memory.{cache-of, CacheSized};
 ghost use Rattle.term_spec.specs.Text.{coding-of};
 ghost use Rattle.dist_header.specs.Code.{TextFits};
-ghost use Rattle.cache_entries.specs.Code.{ListSized, HeaderIn, Listable, Lists, Listed, StoresText, Enterable, Enters, Entered};
+ghost use Rattle.cache_entries.specs.Code.{ListSized, HeaderIn, Listable, Lists, ListWritten, StoresText, Enterable, Enters, CacheWritten};
 use dist_header::Spelled;
 use packet_spec::Place;
 use packet_spec::ReferenceIndex;
@@ -23,7 +23,7 @@ pub fn fill_lengths(lengths: &mut [u16], value: u16)
 }
 
 // A text put into a list: its length, and the offset past its reference.
-struct Stored {
+struct ListedText {
     size: usize,
     next: usize,
 }
@@ -39,12 +39,12 @@ fn list_reference(
     cache_lengths: &[u16],
     i: usize,
     list_places: &mut [u8],
-) -> Stored
+) -> ListedText
     requires { ⌜ Listable (coding-of utf8) (cache-of (now cache) (now «cache_lengths»)) (now packet) half width at i (now «list_places») ⌝ }
     ensures { λ r. ⌜ Lists (coding-of utf8) (cache-of (now (cache .entry)) (now («cache_lengths» .entry))) (now (packet .entry)) half width at (32 * i) (now («list_places» .entry)) (now («list_places» .exit)) r ⌝ }
 {
     match dist_header::read_reference(packet, half, width, at) {
-        Spelled::Cut => Stored { size: 0, next: at },
+        Spelled::Cut => ListedText { size: 0, next: at },
         Spelled::New { place, from, size } => {
             let stored = dist_header::put_text(
                 utf8,
@@ -54,7 +54,7 @@ fn list_reference(
                 list_places,
                 sizes::PLACE_BYTES * i,
             );
-            Stored {
+            ListedText {
                 size: stored,
                 next: from + size,
             }
@@ -69,7 +69,7 @@ fn list_reference(
                 sizes::PLACE_BYTES * i,
                 size,
             );
-            Stored {
+            ListedText {
                 size: size,
                 next: at + 1,
             }
@@ -91,7 +91,7 @@ pub fn write_list(
     list_lengths: &mut [u16],
 )
     requires { ⌜ HeaderIn (coding-of utf8) (cache-of (now cache) (now «cache_lengths»)) (now packet) at n width first × ListSized (now «list_places») (now «list_lengths») ⌝ }
-    ensures { λ _. ⌜ Listed (coding-of utf8) (cache-of (now (cache .entry)) (now («cache_lengths» .entry))) (now (packet .entry)) at n width first (now («list_places» .exit)) (now («list_lengths» .exit)) ⌝ }
+    ensures { λ _. ⌜ ListWritten (coding-of utf8) (cache-of (now (cache .entry)) (now («cache_lengths» .entry))) (now (packet .entry)) at n width first (now («list_places» .exit)) (now («list_lengths» .exit)) ⌝ }
 {
     octets::clear_bytes(list_places, 0);
     fill_lengths(list_lengths, 0);
@@ -171,7 +171,7 @@ pub fn write_cache(
     cache_lengths: &mut [u16],
 )
     requires { ⌜ HeaderIn (coding-of utf8) (cache-of (now cache) (now «cache_lengths»)) (now packet) at n width first ⌝ }
-    ensures { λ _. ⌜ Entered (coding-of utf8) (now (packet .entry)) at n width first (cache-of (now (cache .entry)) (now («cache_lengths» .entry))) (cache-of (now (cache .exit)) (now («cache_lengths» .exit))) ⌝ }
+    ensures { λ _. ⌜ CacheWritten (coding-of utf8) (now (packet .entry)) at n width first (cache-of (now (cache .entry)) (now («cache_lengths» .entry))) (cache-of (now (cache .exit)) (now («cache_lengths» .exit))) ⌝ }
 {
     let mut next = first;
     let mut i = 0;

@@ -10,15 +10,15 @@ use Rattle.term_spec.specs.Message.{result-of}
 use Rattle.packet_spec.specs.declared.TextAnswer.{TextAnswer}
 use Rattle.packet_spec.specs.declared.TextAnswer.the-variants as texts
 use Rattle.packet_spec.specs.Memory.{Held, text}
-use Rattle.packet_spec.specs.Header.{Reference, reference, header}
+use Rattle.packet_spec.specs.Header.{Reference, header}
 use Rattle.packet_spec.specs.Look.{at-zero, place-in}
-use Rattle.dist_header.specs.Code.{references-from, GoodHeader}
+use Rattle.dist_header.specs.Code.{references-from, reference-from, GoodHeader}
 use Rattle.cache_lookup.specs.declared.Passed.{Passed}
 
 -- a good reference at `at` names this place, and reading goes on at that offset
 pub record Passes (s : List ℕ) (h width at : ℕ) (r : Passed) : Type 0 where
   pub passes : (agreed : Coding) (holding : ℕ → Held) (earlier : List Reference) (i : ℕ) (x : Reference) (t : Position)
-      → reference agreed holding width earlier i h (at-offset s at 0) ≡ good (x, t) → (t ≡ at-offset s (r .next) 0) × (x .place ≡ r .place .0) × (r .next ≤ length s)
+      → reference-from agreed holding s h width at earlier i ≡ good (x, t) → (t ≡ at-offset s (r .next) 0) × (x .place ≡ r .place .0) × (r .next ≤ length s)
 
 -- the references of the header at `at` are good, for some coding and some cache
 pub record HeaderRead (s : List ℕ) (at n width first : ℕ) : Type 0 where

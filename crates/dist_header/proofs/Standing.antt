@@ -17,8 +17,8 @@ use Rattle.octets.proofs.Numbers.{big-joined, big-one}
 use Rattle.octets.proofs.Widths.{width-1, width-2}
 use Rattle.packet_spec.specs.Memory.{Held}
 use Rattle.packet_spec.specs.Header.{Reference, flag-bytes, half, is-new, place-at, length-width, text-field, new-reference, reference, references, header}
-use Rattle.dist_header.specs.Code.{flags-of, HeaderAt, Opens, Spells}
-use Rattle.dist_header.specs.declared.Opened.the-variants as opened
+use Rattle.dist_header.specs.Code.{flags-of, HeaderAt, HeaderStarts, Spells}
+use Rattle.dist_header.specs.declared.HeaderStart.the-variants as starts
 use Rattle.dist_header.specs.declared.Spelled.the-variants as spelled
 
 pub flag-count : (n : ℕ) → 0 < n → flag-bytes n ≡ n / 2 + 1
@@ -49,29 +49,29 @@ half-high s at i e = rw (ne-eqb (i % 2) 0 e, getD-drop (at + 1) s (i / 2) 0)
 
 -- ---- count and flags
 
-pub opens-end : (s : List ℕ) (at : ℕ) → length s ≤ at → Opens s at opened.Cut
-unfolding Opens header
-opens-end s at h agreed holding = rw (byte-end s 0 at 0 h)
+pub starts-end : (s : List ℕ) (at : ℕ) → length s ≤ at → HeaderStarts s at starts.Cut
+unfolding HeaderStarts header
+starts-end s at h agreed holding = rw (byte-end s 0 at 0 h)
 
-header-opens : (s : List ℕ) (at : ℕ) → at < length s → at + 1 + flag-bytes (getD s at 0) ≤ length s → (agreed : Coding) (holding : ℕ → Held)
+header-starts : (s : List ℕ) (at : ℕ) → at < length s → at + 1 + flag-bytes (getD s at 0) ≤ length s → (agreed : Coding) (holding : ℕ → Held)
     → header agreed holding (at-offset s at 0)
     ≡ references agreed holding (flags-of s at (getD s at 0)) (length-width (half (flags-of s at (getD s at 0)) (getD s at 0))) [] 0 (getD s at 0) (at-offset s (at + 1 + flag-bytes (getD s at 0)) 0)
 unfolding header flags-of
-header-opens s at h k agreed holding = rw (byte-at s 0 at 0 h, bytes-at s 0 (flag-bytes (getD s at 0)) (at + 1) 0 k)
+header-starts s at h k agreed holding = rw (byte-at s 0 at 0 h, bytes-at s 0 (flag-bytes (getD s at 0)) (at + 1) 0 k)
 
-pub opens-cut : (s : List ℕ) (at : ℕ) → at < length s → 0 < getD s at 0 → length s < at + 1 + (getD s at 0 / 2 + 1) → Opens s at opened.Cut
-unfolding Opens header
-opens-cut s at h z k agreed holding =
+pub starts-cut : (s : List ℕ) (at : ℕ) → at < length s → 0 < getD s at 0 → length s < at + 1 + (getD s at 0 / 2 + 1) → HeaderStarts s at starts.Cut
+unfolding HeaderStarts header
+starts-cut s at h z k agreed holding =
     let f : flag-bytes (getD s at 0) ≡ getD s at 0 / 2 + 1 = flag-count (getD s at 0) z in
     rw (byte-at s 0 at 0 h, bytes-end s 0 (flag-bytes (getD s at 0)) (at + 1) 0 (omega arith) (omega arith))
 
 -- any count, with its width
-opens-as : (s : List ℕ) (at n width first : ℕ) → at < length s → getD s at 0 ≡ n → n < 256 → first ≡ at + 1 + flag-bytes n → first ≤ length s
-    → width ≡ length-width (half (flags-of s at n) n) → 0 < width → width ≤ 2 → Opens s at (opened.Header n width first)
-unfolding Opens
-opens-as s at n width first h is small e k w lo hi = (
+starts-as : (s : List ℕ) (at n width first : ℕ) → at < length s → getD s at 0 ≡ n → n < 256 → first ≡ at + 1 + flag-bytes n → first ≤ length s
+    → width ≡ length-width (half (flags-of s at n) n) → 0 < width → width ≤ 2 → HeaderStarts s at (starts.Header n width first)
+unfolding HeaderStarts
+starts-as s at n width first h is small e k w lo hi = (
   λ agreed holding.
-      header-opens s at h (subst (λ (m : ℕ). at + 1 + flag-bytes m ≤ length s) (sym is) (omega arith)) agreed holding
+      header-starts s at h (subst (λ (m : ℕ). at + 1 + flag-bytes m ≤ length s) (sym is) (omega arith)) agreed holding
       ∙ ap (λ (m : ℕ). references agreed holding (flags-of s at m) (length-width (half (flags-of s at m) m)) [] 0 m (at-offset s (at + 1 + flag-bytes m) 0)) is
       ∙ ap₂ (λ (w f : ℕ). references agreed holding (flags-of s at n) w [] 0 n (at-offset s f 0)) (sym w) (sym e),
   record { few = small; width-least = lo; width-most = hi; first-is = e; first-inside = k },
@@ -81,19 +81,19 @@ no-flags : (s : List ℕ) (at : ℕ) → length-width (half (flags-of s at 0) 0)
 unfolding length-width half flags-of flag-bytes
 no-flags s at = refl
 
-pub opens-none : (s : List ℕ) (at : ℕ) → at < length s → getD s at 0 ≡ 0 → Opens s at (opened.Header 0 1 (at + 1))
+pub starts-none : (s : List ℕ) (at : ℕ) → at < length s → getD s at 0 ≡ 0 → HeaderStarts s at (starts.Header 0 1 (at + 1))
 unfolding flag-bytes
-opens-none s at h e = opens-as s at 0 1 (at + 1) h e (omega arith) (omega arith) (omega arith) (sym (no-flags s at)) (omega arith) (omega arith)
+starts-none s at h e = starts-as s at 0 1 (at + 1) h e (omega arith) (omega arith) (omega arith) (sym (no-flags s at)) (omega arith) (omega arith)
 
 width-of : (h : ℕ) → 1 + h % 2 ≡ length-width h
 unfolding length-width
 width-of h = refl
 
-pub opens-some : (s : List ℕ) (at n spare : ℕ) → at < length s → getD s at 0 ≡ n → 0 < n → n < 256 → at + 1 + (n / 2 + 1) ≤ length s
-    → spare ≡ half (drop (at + 1) s) n → Opens s at (opened.Header n (1 + spare % 2) (at + 1 + (n / 2 + 1)))
-opens-some s at n spare h is z small k e =
+pub starts-some : (s : List ℕ) (at n spare : ℕ) → at < length s → getD s at 0 ≡ n → 0 < n → n < 256 → at + 1 + (n / 2 + 1) ≤ length s
+    → spare ≡ half (drop (at + 1) s) n → HeaderStarts s at (starts.Header n (1 + spare % 2) (at + 1 + (n / 2 + 1)))
+starts-some s at n spare h is z small k e =
     let f : flag-bytes n ≡ n / 2 + 1 = flag-count n z in
-    opens-as s at n (1 + spare % 2) (at + 1 + (n / 2 + 1)) h is small (omega arith) k (width-of spare ∙ ap length-width (e ∙ flags-half s at n n z (omega arith))) (omega arith) (omega arith)
+    starts-as s at n (1 + spare % 2) (at + 1 + (n / 2 + 1)) h is small (omega arith) k (width-of spare ∙ ap length-width (e ∙ flags-half s at n n z (omega arith))) (omega arith) (omega arith)
 
 -- ---- one reference
 

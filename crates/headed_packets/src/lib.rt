@@ -156,7 +156,7 @@ pub fn take_start(
         },
         Headed::Payload { offset, size } => {
             octets::copy(packet, offset, gather, 0, size);
-            fragments::settle(sequence, fragment, size as u64)
+            fragments::after_fragment(sequence, fragment, size as u64)
         }
     }
 }

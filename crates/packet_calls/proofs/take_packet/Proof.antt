@@ -3,7 +3,7 @@ use mathlib.Core.Path.{refl}
 use borrow.Author.Needs.{needs}
 use Rattle.packet_spec.specs.Memory.{none-pending}
 use Rattle.packet_preamble.proofs.Preambles.{plain-there, start-there, more-there}
-use Rattle.packet_calls.proofs.Whole.{size-done, false-done, opening-done, plain-done, start-done, more-done}
+use Rattle.packet_calls.proofs.Whole.{size-done, false-done, preamble-done, plain-done, start-done, more-done}
 use Rattle.lent_memory.proofs.Sizes.{lengths-told}
 use Rattle.packet_calls.proofs.take_packet.Statement.{statement}
 use Rattle.packet_calls.proofs.take_packet.Tie as tie
@@ -119,7 +119,7 @@ same-length-21 : tie.Need-same-length-21
 same-length-21 c = search needs
 
 returns-3 : tie.Need-returns-3
-returns-3 c = rw (c .refused3 .ensures) (opening-done _ _ _ (c .before .before .before .before .before .before .before .before .memory-fits .ensures .fits-told _ _ _) (c .before .before .before .before .before .before .before .if1 .left) (c .before .before .before .before .before .if2 .left) _ (rw (c .before .before .number .given .1) at (c .before .before .before .before .read-preamble .ensures)))
+returns-3 c = rw (c .refused3 .ensures) (preamble-done _ _ _ (c .before .before .before .before .before .before .before .before .memory-fits .ensures .fits-told _ _ _) (c .before .before .before .before .before .before .before .if1 .left) (c .before .before .before .before .before .if2 .left) _ (rw (c .before .before .number .given .1) at (c .before .before .before .before .read-preamble .ensures)))
 
 same-length-22 : tie.Need-same-length-22
 same-length-22 c = search needs
