@@ -21,7 +21,7 @@ use Rattle.dist_header.specs.Code.{flags-of, HeaderAt, HeaderStarts, Spe
 use Rattle.dist_header.specs.declared.HeaderStart.the-variants as starts
 use Rattle.dist_header.specs.declared.Spelled.the-variants as spelled
 
-pub flag-count : (n : ℕ) → 0 < n → flag-bytes n ≡ n / 2 + 1
+flag-count : (n : ℕ) → 0 < n → flag-bytes n ≡ n / 2 + 1
 unfolding flag-bytes
 flag-count n h = rw (ne-eqb n 0 (λ e. omega arith))
 
