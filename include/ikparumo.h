@@ -104,7 +104,7 @@ static inline uint64_t ik_row_size(uint64_t word) { return word >> 47 & 0x3fff; 
 
 struct ik_read_reply      { uint64_t refusal, place, terms, rows; };
 struct ik_write_reply     { uint64_t refusal, place, terms, length; };
-struct ik_number_reply    { uint64_t refusal, place, kind; int64_t whole; double real; };
+struct ik_number_reply    { uint64_t refusal, place, kind; int64_t integer; double real; };
 struct ik_text_reply      { uint64_t from, start, length; };
 struct ik_mark_reply      { uint64_t refusal, place, mark; };
 struct ik_pending         { uint64_t sequence, due, gathered; }; /* lent to the packet calls; due 0: none pending */
@@ -139,8 +139,8 @@ struct ik_write_reply ik_write_payload(const uint8_t *msg, size_t msg_len, uint8
 
 /* The number of a row (they count from 0).
  * Lent: the message, the atom list; nothing is written.
- * Answers kind IK_NUMBER_WHOLE and `whole` for an integer in -2^63 .. 2^63-1, IK_NUMBER_FLOAT and `real` for a float, else
- * IK_NUMBER_NEITHER, also where there is no such row; `whole` and `real` are 0 where not answered.
+ * Answers kind IK_NUMBER_WHOLE and `integer` for an integer in -2^63 .. 2^63-1, IK_NUMBER_FLOAT and `real` for a float, else
+ * IK_NUMBER_NEITHER, also where there is no such row; `integer` and `real` are 0 where not answered.
  * Refusals: those of reading with 8,192 rows. */
 struct ik_number_reply ik_number_standalone(const uint8_t *msg, size_t msg_len, uint8_t n, const uint8_t *places, size_t places_len,
                                             const uint16_t *lengths, size_t lengths_len, size_t row);
@@ -199,7 +199,7 @@ struct ik_reference_reply ik_reference(uint8_t utf8, const uint8_t *packet, size
 /* The text that a place of the cache holds, as a stretch of the cache's bytes.
  * Lent: the cache; nothing is written. Refusals in order: 13 (also a place over 2,047), 21, 14; all at place 0. */
 struct ik_place_reply ik_place(const uint8_t *cache, size_t cache_len, const uint16_t *cache_lengths, size_t cache_lengths_len,
-                               size_t place);
+                               size_t cache_place);
 
 #ifdef __cplusplus
 }

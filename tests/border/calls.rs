@@ -31,14 +31,14 @@ pub struct NumberReply {
     pub refusal: u64,
     pub place: u64,
     pub kind: u64,
-    pub whole: i64,
+    pub integer: i64,
     pub real: f64,
 }
 
 /// Floats are the same where their 64 bits are.
 impl PartialEq for NumberReply {
     fn eq(&self, other: &NumberReply) -> bool {
-        let all = |n: &NumberReply| (n.refusal, n.place, n.kind, n.whole, n.real.to_bits());
+        let all = |n: &NumberReply| (n.refusal, n.place, n.kind, n.integer, n.real.to_bits());
         all(self) == all(other)
     }
 }
@@ -177,7 +177,7 @@ extern "C" {
     fn ik_drop(pending: *mut Pending) -> StateReply;
     fn ik_reset(cache: *mut u8, cache_len: usize, cache_lengths: *mut u16, cache_lengths_len: usize, pending: *mut Pending) -> StateReply;
     fn ik_reference(utf8: u8, packet: *const u8, packet_len: usize, index: usize) -> ReferenceReply;
-    fn ik_place(cache: *const u8, cache_len: usize, cache_lengths: *const u16, cache_lengths_len: usize, place: usize) -> PlaceReply;
+    fn ik_place(cache: *const u8, cache_len: usize, cache_lengths: *const u16, cache_lengths_len: usize, cache_place: usize) -> PlaceReply;
 }
 
 /// One of two calls on terms, with the message, the list and `$more`.

@@ -13,7 +13,7 @@ static void whole(enum form form, const uint8_t *bytes, size_t size, size_t row,
     struct ik_number_reply a = number_of(form, bytes, size, row);
     SAME(a.refusal, 0);
     SAME(a.kind, IK_NUMBER_WHOLE);
-    SAME(a.whole, expected);
+    SAME(a.integer, expected);
     CHECK(all(&a.real, 8, 0));
     CHECK(guards_stand());
 }
@@ -25,7 +25,7 @@ static void bits_are(enum form form, const uint8_t *bytes, size_t size, size_t r
     memcpy(&bits, &a.real, 8);
     SAME(a.refusal, 0);
     SAME(a.kind, IK_NUMBER_FLOAT);
-    SAME(a.whole, 0);
+    SAME(a.integer, 0);
     SAME(bits, expected);
     CHECK(guards_stand());
 }
@@ -36,7 +36,7 @@ static void neither(enum form form, const uint8_t *bytes, size_t size, size_t ro
     SAME(a.refusal, 0);
     SAME(a.place, 0);
     SAME(a.kind, IK_NUMBER_NEITHER);
-    SAME(a.whole, 0);
+    SAME(a.integer, 0);
     CHECK(all(&a.real, 8, 0));
     CHECK(guards_stand());
 }
@@ -108,7 +108,7 @@ static void refused_at(enum form form, const uint8_t *bytes, size_t size, struct
     SAME(n.refusal, refusal);
     SAME(n.place, place);
     SAME(n.kind, 0);
-    SAME(n.whole, 0);
+    SAME(n.integer, 0);
     CHECK(all(&n.real, 8, 0));
     struct ik_text_reply t = (form == STANDALONE ? ik_text_standalone : ik_text_payload)(bytes, size, LIST(l), at);
     SAME(t.from, IK_FROM_NOWHERE);

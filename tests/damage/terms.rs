@@ -197,7 +197,7 @@ fn number(input: &Input, row: usize, tally: &mut Tally) {
     let got = border::number(input.form, input.message.guarded(), &input.list(), row);
     let other = looks::number(input.other_form(), input.message.other(), &input.other_list(), row as u64);
     let expected = match other {
-        Ok(looks::Number::Whole(whole)) => NumberReply { kind: 1, whole, ..NumberReply::default() },
+        Ok(looks::Number::Whole(integer)) => NumberReply { kind: 1, integer, ..NumberReply::default() },
         Ok(looks::Number::Float(bits)) => NumberReply { kind: 2, real: f64::from_bits(bits), ..NumberReply::default() },
         Ok(looks::Number::Neither) => NumberReply::default(),
         Err(Refusal { number, place }) => NumberReply { refusal: number.into(), place, ..NumberReply::default() },

@@ -382,7 +382,7 @@ static int do_number(void)
     if (refused(a.refusal, a.place))
         return 1;
     if (a.kind == IK_NUMBER_WHOLE)
-        printf("whole %lld", (long long)a.whole);
+        printf("whole %lld", (long long)a.integer);
     else if (a.kind == IK_NUMBER_FLOAT)
         printf("float %llu", wide(bits));
     else

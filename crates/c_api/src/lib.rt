@@ -181,10 +181,10 @@ pub extern "C" fn ik_reference(utf8: u8, packet: &[u8], index: usize) -> Referen
 
 // The text that a place of the cache holds.
 #[no_mangle]
-pub extern "C" fn ik_place(cache: &[u8], cache_lengths: &[u16], place: usize) -> PlaceReply
-    ensures { λ r. ⌜ r ≡ flat-place (text-answer place (text-of-place (cache-of (now (cache .entry)) (now («cache_lengths» .entry))) place)) ⌝ }
+pub extern "C" fn ik_place(cache: &[u8], cache_lengths: &[u16], cache_place: usize) -> PlaceReply
+    ensures { λ r. ⌜ r ≡ flat-place (text-answer «cache_place» (text-of-place (cache-of (now (cache .entry)) (now («cache_lengths» .entry))) «cache_place»)) ⌝ }
 {
-    c_replies::flat_place(cache_lookup::text_of_place(cache, cache_lengths, Place(place)))
+    c_replies::flat_place(cache_lookup::text_of_place(cache, cache_lengths, Place(cache_place)))
 }
 
 // What a drop or a reset answers, and the record as it is then.

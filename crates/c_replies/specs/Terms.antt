@@ -27,11 +27,11 @@ flat-write (writes.Refused r) = record { refusal = r .number; place = r .place; 
 
 -- kind 1 whole, 2 float, 0 neither
 unfoldable pub flat-number : NumberAnswer → NumberReply
-flat-number (numbers.Whole z) = record { refusal = 0; place = 0; kind = 1; whole = z; real = ofBits binary64 0 }
-flat-number (numbers.Float x) = record { refusal = 0; place = 0; kind = 2; whole = pos 0; real = x }
-flat-number numbers.Neither = record { refusal = 0; place = 0; kind = 0; whole = pos 0; real = ofBits binary64 0 }
+flat-number (numbers.Whole z) = record { refusal = 0; place = 0; kind = 1; integer = z; real = ofBits binary64 0 }
+flat-number (numbers.Float x) = record { refusal = 0; place = 0; kind = 2; integer = pos 0; real = x }
+flat-number numbers.Neither = record { refusal = 0; place = 0; kind = 0; integer = pos 0; real = ofBits binary64 0 }
 flat-number (numbers.Refused r) =
-    record { refusal = r .number; place = r .place; kind = 0; whole = pos 0; real = ofBits binary64 0 }
+    record { refusal = r .number; place = r .place; kind = 0; integer = pos 0; real = ofBits binary64 0 }
 
 -- from 1 the message, 2 the list's places, 0 nowhere
 unfoldable pub flat-text : TextAt → TextReply

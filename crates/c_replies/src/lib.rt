@@ -41,7 +41,7 @@ pub struct NumberReply {
     pub refusal: u64,
     pub place: u64,
     pub kind: u64,
-    pub whole: i64,
+    pub integer: i64,
     pub real: f64,
 }
 
@@ -147,32 +147,32 @@ pub fn flat_number(answer: NumberAnswer) -> NumberReply
     ensures { λ r. ⌜ r ≡ flat-number answer ⌝ }
 {
     match answer {
-        NumberAnswer::Whole(whole) => NumberReply {
+        NumberAnswer::Whole(integer) => NumberReply {
             refusal: 0,
             place: 0,
             kind: numbers::WHOLE,
-            whole: whole,
+            integer: integer,
             real: 0.0,
         },
         NumberAnswer::Float(real) => NumberReply {
             refusal: 0,
             place: 0,
             kind: numbers::FLOAT,
-            whole: 0,
+            integer: 0,
             real: real,
         },
         NumberAnswer::Neither => NumberReply {
             refusal: 0,
             place: 0,
             kind: numbers::NEITHER,
-            whole: 0,
+            integer: 0,
             real: 0.0,
         },
         NumberAnswer::Refused(refusal) => NumberReply {
             refusal: refusal.number as u64,
             place: refusal.place as u64,
             kind: numbers::NEITHER,
-            whole: 0,
+            integer: 0,
             real: 0.0,
         },
     }

@@ -10,14 +10,14 @@ use Rattle.term_spec.specs.Answer.{Answer, good, Position, at-offset}
 use Rattle.octets.specs.Cleared.{cleared}
 use Rattle.octets.proofs.Cleared.{cleared-all}
 use Rattle.packet_spec.specs.Memory.{Cache, Held, held}
-use Rattle.packet_spec.specs.Header.{Reference, half, references}
+use Rattle.packet_spec.specs.Header.{Reference, half}
 use Rattle.packet_spec.specs.Calls.{zeros-to, enter, entered, texts-in-places, lengths-of, list-of}
 use Rattle.packet_spec.proofs.Stores.{length-zeros-to}
 use Rattle.packet_spec.proofs.SizesKept.{length-lengths}
 use Rattle.dist_header.specs.Code.{flags-of, GoodHeader}
 use Rattle.dist_header.proofs.Walk.{along-more, along-all, Turned, turned}
 use Rattle.dist_header.proofs.Accepted.{Half-way, start}
-use Rattle.cache_entries.specs.Code.{Stands, StandsSome, Lists, Listed, Enters, Entered}
+use Rattle.cache_entries.specs.Code.{GoodReference, Lists, ListWritten, Enters, CacheWritten}
 use Rattle.cache_entries.proofs.Storing.{stored-next, length-next}
 
 texts-more : (done : List Reference) (x : Reference) → texts-in-places (done ++ (x ∷ [])) ≡ texts-in-places done ++ zeros-to 32 (x .text)
@@ -44,27 +44,28 @@ done-is whole d rs u t e f =
 module _ (agreed : Coding) (holding : ℕ → Held) (s : List ℕ) (at n width first : ℕ) where
   module _ (good-header : GoodHeader agreed holding s at n width first) (i next : ℕ) (w : Half-way agreed holding s at n width first i next) (less : i < n) where
     abbrev next-turn : Turned agreed holding s (flags-of s at n) width _ n i next (w .earlier) (w .done) (w .along)
-    next-turn = turned agreed holding s (flags-of s at n) width _ n i next (w .earlier) (w .done) (w .along) (good-header .found) (good-header .end) less (good-header .is)
+    next-turn = turned agreed holding s (flags-of s at n) width _ n i next (w .earlier) (w .done) (w .along) (good-header .references) (good-header .end) less (good-header .is)
 
     -- reference i is good
-    abbrev pub stands-next : Stands agreed holding s (half (flags-of s at n) i) width next
-    stands-next = record { earlier = w .earlier; i = i; found = next-turn .found; end = next-turn .end; is = next-turn .is }
+    abbrev pub stands-next : GoodReference agreed holding s (half (flags-of s at n) i) width next
+    stands-next = record { earlier = w .earlier; i = i; reference = next-turn .reference; end = next-turn .end; is = next-turn .is }
 
     abbrev onward : (a : ℕ) → next-turn .end ≡ at-offset s a 0 → Half-way agreed holding s at n width first (i + 1) a
     onward a e =
         let c : length (w .done) ≡ i = w .count in
         record {
-          earlier = next-turn .found ∷ w .earlier;
-          done = w .done ++ (next-turn .found ∷ []);
-          along = along-more agreed holding s (flags-of s at n) width _ n i next (w .earlier) (w .done) (w .along) (next-turn .found) a less
-              (next-turn .is ∙ ap (λ (u : Position). good (next-turn .found, u)) e);
-          count = length-append (w .done) (next-turn .found ∷ []) ∙ ap (λ (m : ℕ). m + 1) c;
+          earlier = next-turn .reference ∷ w .earlier;
+          done = w .done ++ (next-turn .reference ∷ []);
+          along = along-more agreed holding s (flags-of s at n) width _ n i next (w .earlier) (w .done) (w .along) (next-turn .reference) a less
+              (next-turn .is ∙ ap (λ (u : Position). good (next-turn .reference, u)) e);
+          count = length-append (w .done) (next-turn .reference ∷ []) ∙ ap (λ (m : ℕ). m + 1) c;
         }
 
-  -- ---- a list
+-- ---- a list
 
+module _ (agreed : Coding) (c : Cache) (s : List ℕ) (at n width first : ℕ) where
   pub record ListWalk (i next : ℕ) (list sizes : List ℕ) : Type 0 where
-    pub way : Half-way agreed holding s at n width first i next
+    pub way : Half-way agreed (held c) s at n width first i next
     pub places-are : list ≡ texts-in-places (way .done) ++ replicate (8160 - 32 * i) 0
     pub long : length (texts-in-places (way .done)) ≡ 32 * i
     pub lengths-are : sizes ≡ lengths-of (way .done) ++ replicate (255 - i) 0
@@ -74,36 +75,36 @@ module _ (agreed : Coding) (holding : ℕ → Held) (s : List ℕ) (at n width f
   unfolding texts-in-places lengths-of
   list-none list sizes list₀ sizes₀ h k e f =
       record {
-        way = start agreed holding s at n width first;
+        way = start agreed (held c) s at n width first;
         places-are = e ∙ cleared-all list₀ ∙ ap (λ (m : ℕ). replicate m 0) h;
         long = refl;
         lengths-are = f ∙ ap (λ (m : ℕ). replicate m 0) k;
       }
 
-  module _ (good-header : GoodHeader agreed holding s at n width first) (i next : ℕ) (list sizes : List ℕ) (w : ListWalk i next list sizes) (less : i < n) where
-    abbrev pub list-stands : Stands agreed holding s (half (flags-of s at n) i) width next
-    list-stands = stands-next good-header i next (w .way) less
+  module _ (good-header : GoodHeader agreed (held c) s at n width first) (i next : ℕ) (list sizes : List ℕ) (w : ListWalk i next list sizes) (less : i < n) where
+    abbrev pub list-stands : GoodReference agreed (held c) s (half (flags-of s at n) i) width next
+    list-stands = stands-next agreed (held c) s at n width first good-header i next (w .way) less
 
-    module _ (list′ : List ℕ) (size a : ℕ) (put : Lists agreed holding s (half (flags-of s at n) i) width next (32 * i) list list′ (record { size = size; next = a })) where
+    module _ (list′ : List ℕ) (size a : ℕ) (put : Lists agreed c s (half (flags-of s at n) i) width next (32 * i) list list′ (record { size = size; next = a })) where
       pub list-inside : (a ≤ length s) × (size ≤ 32)
       list-inside =
-          let t : Stands agreed holding s (half (flags-of s at n) i) width next = list-stands in
-          let k = put .lists (t .earlier) (t .i) (t .found) (t .end) (t .is) in
+          let t : GoodReference agreed (held c) s (half (flags-of s at n) i) width next = list-stands in
+          let k = put .lists (t .earlier) (t .i) (t .reference) (t .end) (t .is) in
           (k .1, k .3)
 
       pub list-more : ListWalk (i + 1) a list′ (set sizes i size)
       list-more =
-          let t : Stands agreed holding s (half (flags-of s at n) i) width next = list-stands in
-          let x : Reference = t .found in
+          let t : GoodReference agreed (held c) s (half (flags-of s at n) i) width next = list-stands in
+          let x : Reference = t .reference in
           let k = put .lists (t .earlier) (t .i) x (t .end) (t .is) in
-          let few : n < 256 = good-header .few in
-          let c : length (w .way .done) ≡ i = w .way .count in
-          let lc : length (lengths-of (w .way .done)) ≡ i = length-lengths (w .way .done) ∙ c in
+          let few : n < 256 = good-header .stands .few in
+          let count : length (w .way .done) ≡ i = w .way .count in
+          let lc : length (lengths-of (w .way .done)) ≡ i = length-lengths (w .way .done) ∙ count in
           let short : length (x .text) ≤ 32 = omega (arith, k .2, k .3) in
           let m : 8160 - 32 * i - 32 ≡ 8160 - 32 * (i + 1) = omega arith in
           let p : 255 - i ≡ suc (255 - (i + 1)) = omega arith in
           record {
-            way = onward good-header i next (w .way) less a (k .0);
+            way = onward agreed (held c) s at n width first good-header i next (w .way) less a (k .0);
             places-are =
                 k .4
                 ∙ ap₂ (λ (l : List ℕ) (j : ℕ). sets l j (x .text)) (w .places-are) (sym (w .long))
@@ -122,13 +123,13 @@ module _ (agreed : Coding) (holding : ℕ → Held) (s : List ℕ) (at n width f
           two : {p q : ℕ} → p ≡ 32 * i → q ≡ 32 → p + q ≡ 32 * (i + 1)
           two e f = omega arith
 
-  pub list-all : (i next : ℕ) (list sizes : List ℕ) → ListWalk i next list sizes → i ≡ n → n < 256 → Listed agreed holding s at n width first list sizes
+  pub list-all : (i next : ℕ) (list sizes : List ℕ) → ListWalk i next list sizes → i ≡ n → n < 256 → ListWritten agreed c s at n width first list sizes
   unfolding list-of zeros-to
   list-all i next list sizes w e few =
       record {
-        listed = λ rs t f.
+        list-written = λ rs t f.
             let d : w .way .done ≡ rs =
-            done-is _ (w .way .done) rs (at-offset s next 0) t (along-all agreed holding s (flags-of s at n) width _ n i next (w .way .earlier) (w .way .done) (w .way .along) e) f in
+            done-is _ (w .way .done) rs (at-offset s next 0) t (along-all agreed (held c) s (flags-of s at n) width _ n i next (w .way .earlier) (w .way .done) (w .way .along) e) f in
             let lt : 8160 - 32 * i ≡ 8160 - length (texts-in-places (w .way .done)) = ap (λ (m : ℕ). 8160 - m) (sym (w .long)) in
             let ll : 255 - i ≡ 255 - length (lengths-of (w .way .done)) = ap (λ (m : ℕ). 255 - m) (sym (length-lengths (w .way .done) ∙ w .way .count)) in (
               w .places-are ∙ ap (λ (m : ℕ). texts-in-places (w .way .done) ++ replicate m 0) lt ∙ ap (λ (x : List Reference). texts-in-places x ++ replicate (8160 - length (texts-in-places x)) 0) d,
@@ -148,28 +149,28 @@ module _ (agreed : Coding) (before : Cache) (s : List ℕ) (at n width first : �
   cache-none = record { way = start agreed (held before) s at n width first; cache-is = refl }
 
   module _ (good-header : GoodHeader agreed (held before) s at n width first) (i next : ℕ) (now : Cache) (w : CacheWalk i next now) (less : i < n) where
-    pub cache-stands : StandsSome agreed s (half (flags-of s at n) i) width next
-    cache-stands = record { holding = held before; stands = stands-next agreed (held before) s at n width first good-header i next (w .way) less }
+    pub cache-stands : GoodReference agreed (held before) s (half (flags-of s at n) i) width next
+    cache-stands = stands-next agreed (held before) s at n width first good-header i next (w .way) less
 
     module _ (now′ : Cache) (a : ℕ) (put : Enters agreed s (half (flags-of s at n) i) width next now now′ a) where
       pub cache-inside : a ≤ length s
       cache-inside =
-          let t : Stands agreed (held before) s (half (flags-of s at n) i) width next = stands-next agreed (held before) s at n width first good-header i next (w .way) less in
-          put .enters (held before) (t .earlier) (t .i) (t .found) (t .end) (t .is) .1
+          let t : GoodReference agreed (held before) s (half (flags-of s at n) i) width next = stands-next agreed (held before) s at n width first good-header i next (w .way) less in
+          put .enters (held before) (t .earlier) (t .i) (t .reference) (t .end) (t .is) .1
 
       pub cache-more : CacheWalk (i + 1) a now′
       cache-more =
-          let t : Stands agreed (held before) s (half (flags-of s at n) i) width next = stands-next agreed (held before) s at n width first good-header i next (w .way) less in
-          let k = put .enters (held before) (t .earlier) (t .i) (t .found) (t .end) (t .is) in
+          let t : GoodReference agreed (held before) s (half (flags-of s at n) i) width next = stands-next agreed (held before) s at n width first good-header i next (w .way) less in
+          let k = put .enters (held before) (t .earlier) (t .i) (t .reference) (t .end) (t .is) in
           record {
             way = onward agreed (held before) s at n width first good-header i next (w .way) less a (k .0);
-            cache-is = k .2 ∙ ap (λ (c : Cache). enter c (t .found)) (w .cache-is) ∙ sym (entered-more (w .way .done) before (t .found));
+            cache-is = k .2 ∙ ap (λ (c : Cache). enter c (t .reference)) (w .cache-is) ∙ sym (entered-more (w .way .done) before (t .reference));
           }
 
-  pub cache-all : (i next : ℕ) (now : Cache) → CacheWalk i next now → i ≡ n → Entered agreed s at n width first before now
+  pub cache-all : (i next : ℕ) (now : Cache) → CacheWalk i next now → i ≡ n → CacheWritten agreed s at n width first before now
   cache-all i next now w e =
       record {
-        all-entered = λ rs t f.
+        cache-written = λ rs t f.
             w .cache-is
             ∙ ap (entered before) (done-is _ (w .way .done) rs (at-offset s next 0) t
             (along-all agreed (held before) s (flags-of s at n) width _ n i next (w .way .earlier) (w .way .done) (w .way .along) e) f);

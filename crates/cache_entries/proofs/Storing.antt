@@ -12,17 +12,17 @@ use Rattle.term_spec.specs.Text.{Coding, valid, invalid-at, check, encodes, utf
 use Rattle.term_spec.specs.Answer.{Answer, good, refused, Position, at-offset}
 use Rattle.term_spec.specs.Text as texts
 use Rattle.packet_spec.specs.declared.Place.{Place}
-use Rattle.packet_spec.specs.Memory.{Cache, cache-of, Held, nothing, no-text, text, text-if, held-as, held}
+use Rattle.packet_spec.specs.Memory.{Cache, cache-of, CacheSized, Held, nothing, no-text, text, text-if, held-as, held}
 use Rattle.packet_spec.specs.Header.{Reference}
 use Rattle.packet_spec.specs.Calls.{zeros-to, enter}
 use Rattle.packet_spec.proofs.Stores.{length-zeros-to}
-use Rattle.dist_header.specs.Code.{TextFits, Spells}
+use Rattle.dist_header.specs.Code.{TextFits, PutsText, Spells}
 use Rattle.octets.proofs.Parts.{length-part}
 use Rattle.dist_header.proofs.Texts.{getD-any}
 use Rattle.dist_header.proofs.Good.{GoodNew, GoodCached, good-new, good-cached}
 use Rattle.dist_header.specs.declared.Spelled.the-variants as spelled
-use Rattle.cache_entries.specs.declared.Stored.{Stored}
-use Rattle.cache_entries.specs.Code.{Stands, Lists, StoresText, Enters}
+use Rattle.cache_entries.specs.declared.ListedText.{ListedText}
+use Rattle.cache_entries.specs.Code.{GoodReference, Lists, StoresText, Enters}
 
 -- ---- zeros
 
@@ -106,41 +106,43 @@ held-bytes places lengths p n bs h is there e =
 
 -- ---- one reference into a list
 
-module _ (agreed : Coding) (holding : ℕ → Held) (s : List ℕ) (h width at to : ℕ) (before now : List ℕ) where
-  pub lists-cut : (r : Stored) → Spells s h width at spelled.Cut → Lists agreed holding s h width at to before now r
+module _ (agreed : Coding) (c : Cache) (s : List ℕ) (h width at to : ℕ) (before now : List ℕ) where
+  pub lists-cut : (r : ListedText) → Spells s h width at spelled.Cut → Lists agreed c s h width at to before now r
   unfolding Spells
   lists-cut r e =
       record {
         lists = λ earlier i x t f.
-            let g : _≡_ {A = Answer (Reference × Position)} (refused 2 i) (good (x, t)) = sym (e agreed holding earlier i) ∙ f in
+            let g : _≡_ {A = Answer (Reference × Position)} (refused 2 i) (good (x, t)) = sym (e agreed (held c) earlier i) ∙ f in
             let no-way : _≡_ {A = ℕ} 0 1 = cc in absurd (omega arith);
       }
 
   pub lists-new : (p : Place) (from size stored : ℕ) → Spells s h width at (spelled.New p from size)
-      → ((cs : List ℕ) → check agreed (take size (drop from s)) ≡ valid cs → (stored ≡ length (encodes cs)) × (now ≡ sets before to (encodes cs)))
-      → Lists agreed holding s h width at to before now (record { size = stored; next = from + size })
+      → PutsText agreed (take size (drop from s)) to before now stored
+      → Lists agreed c s h width at to before now (record { size = stored; next = from + size })
   unfolding Spells
   lists-new p from size stored e put =
       record {
         lists = λ earlier i x t f.
             let g : GoodNew agreed (p .0) (take size (drop from s)) (at-offset s (from + size) 0) x t =
-            good-new agreed holding earlier i (p .0) (take size (drop from s)) (at-offset s (from + size) 0) x t (sym (e .0 agreed holding earlier i) ∙ f) in
-            let k : (stored ≡ length (encodes (g .characters))) × (now ≡ sets before to (encodes (g .characters))) = put (g .characters) (g .is-text) in
+            good-new agreed (held c) earlier i (p .0) (take size (drop from s)) (at-offset s (from + size) 0) x t (sym (e .0 agreed (held c) earlier i) ∙ f) in
+            let k : (stored ≡ length (encodes (g .characters))) × (now ≡ sets before to (encodes (g .characters))) = put .puts (g .characters) (g .is-text) in
             let w : encodes (g .characters) ≡ x .text = sym (ap (λ (r : Reference). r .text) (g .is)) in
             (g .ends, e .3, k .0 ∙ ap length w, omega (arith, k .0, g .short), k .1 ∙ ap (sets before to) w);
       }
 
 pub lists-cached : (agreed : Coding) (places lengths s : List ℕ) (h width at to : ℕ) (before now : List ℕ) (p : Place) (n : ℕ)
-    → Spells s h width at (spelled.Cached p) → length places ≡ 65536 → length lengths ≡ 2048 → n ≡ getD lengths (p .0) 0
+    → Spells s h width at (spelled.Cached p) → CacheSized (cache-of places lengths) → n ≡ getD lengths (p .0) 0
     → now ≡ sets before to (take n (drop (32 * p .0) places))
-    → Lists agreed (held (cache-of places lengths)) s h width at to before now (record { size = n; next = at + 1 })
+    → Lists agreed (cache-of places lengths) s h width at to before now (record { size = n; next = at + 1 })
 unfolding Spells
-lists-cached agreed places lengths s h width at to before now p n e big many is put =
+lists-cached agreed places lengths s h width at to before now p n e sized is put =
     record {
       lists = λ earlier i x t f.
           let g : GoodCached (held (cache-of places lengths)) (p .0) (at-offset s (at + 1) 0) x t =
           good-cached agreed (held (cache-of places lengths)) earlier i (p .0) (at-offset s (at + 1) 0) x t (sym (e .0 agreed (held (cache-of places lengths)) earlier i) ∙ f) in
           let small : p .0 < 2048 = e .1 in
+          let big : length places ≡ 65536 = sized .places-are in
+          let many : length lengths ≡ 2048 = sized .lengths-are in
           let k : (g .bytes ≡ take n (drop (32 * p .0) places)) × (n ≤ 32) × (length (g .bytes) ≡ n) =
           held-bytes places lengths (p .0) n (g .bytes) (omega arith) is (omega arith) (g .held-there) in
           let w : g .bytes ≡ x .text = sym (ap (λ (r : Reference). r .text) (g .is)) in
@@ -148,38 +150,41 @@ lists-cached agreed places lengths s h width at to before now p n e big many is 
     }
 
 -- the text of a good new reference fits where 32 bytes do
-pub stands-new : (agreed : Coding) (holding : ℕ → Held) (s : List ℕ) (h width at : ℕ) (p : Place) (from size to room : ℕ) → Stands agreed holding s h width at
-    → Spells s h width at (spelled.New p from size) → to + 32 ≤ room → TextFits agreed (take size (drop from s)) to room
+pub stands-new : (agreed : Coding) (holding : ℕ → Held) (s : List ℕ) (h width at : ℕ) (p : Place) (from size to room : ℕ) → GoodReference agreed holding s h width at
+    → Spells s h width at (spelled.New p from size) → to + 32 ≤ room → TextFits agreed s from size to room
 unfolding Spells
 stands-new agreed holding s h width at p from size to room st e l =
-    let g : GoodNew agreed (p .0) (take size (drop from s)) (at-offset s (from + size) 0) (st .found) (st .end) =
-    good-new agreed holding (st .earlier) (st .i) (p .0) (take size (drop from s)) (at-offset s (from + size) 0) (st .found) (st .end)
+    let g : GoodNew agreed (p .0) (take size (drop from s)) (at-offset s (from + size) 0) (st .reference) (st .end) =
+    good-new agreed holding (st .earlier) (st .i) (p .0) (take size (drop from s)) (at-offset s (from + size) 0) (st .reference) (st .end)
     (sym (e .0 agreed holding (st .earlier) (st .i)) ∙ st .is) in
-    record { characters = g .characters; is = g .is-text; fits = omega (arith, g .short) }
+    record { inside = e .3; small = e .4; characters = g .characters; is = g .is-text; fits = omega (arith, g .short) }
 
 -- the length of a place that a good cached reference names
-pub stands-cached : (agreed : Coding) (places lengths s : List ℕ) (h width at : ℕ) (p : Place) (n : ℕ) → Stands agreed (held (cache-of places lengths)) s h width at
-    → Spells s h width at (spelled.Cached p) → length places ≡ 65536 → length lengths ≡ 2048 → n ≡ getD lengths (p .0) 0 → n ≤ 32
+pub stands-cached : (agreed : Coding) (places lengths s : List ℕ) (h width at : ℕ) (p : Place) (n : ℕ) → GoodReference agreed (held (cache-of places lengths)) s h width at
+    → Spells s h width at (spelled.Cached p) → CacheSized (cache-of places lengths) → n ≡ getD lengths (p .0) 0 → n ≤ 32
 unfolding Spells
-stands-cached agreed places lengths s h width at p n st e big many is =
-    let g : GoodCached (held (cache-of places lengths)) (p .0) (at-offset s (at + 1) 0) (st .found) (st .end) =
-    good-cached agreed (held (cache-of places lengths)) (st .earlier) (st .i) (p .0) (at-offset s (at + 1) 0) (st .found) (st .end)
+stands-cached agreed places lengths s h width at p n st e sized is =
+    let g : GoodCached (held (cache-of places lengths)) (p .0) (at-offset s (at + 1) 0) (st .reference) (st .end) =
+    good-cached agreed (held (cache-of places lengths)) (st .earlier) (st .i) (p .0) (at-offset s (at + 1) 0) (st .reference) (st .end)
     (sym (e .0 agreed (held (cache-of places lengths)) (st .earlier) (st .i)) ∙ st .is) in
     let small : p .0 < 2048 = e .1 in
+    let big : length places ≡ 65536 = sized .places-are in
+    let many : length lengths ≡ 2048 = sized .lengths-are in
     held-bytes places lengths (p .0) n (g .bytes) (omega arith) is (omega arith) (g .held-there) .1
 
 -- ---- one reference into the cache
 
-pub text-entered : (agreed : Coding) (bs places lengths between places′ : List ℕ) (p stored : ℕ) → p < 2048 → length places ≡ 65536
+pub text-entered : (agreed : Coding) (s : List ℕ) (from size : ℕ) (places lengths between places′ : List ℕ) (p stored : ℕ) → p < 2048 → CacheSized (cache-of places lengths)
     → between ≡ sets places (32 * p) (replicate 32 0)
-    → ((cs : List ℕ) → check agreed bs ≡ valid cs → (stored ≡ length (encodes cs)) × (places′ ≡ sets between (32 * p) (encodes cs)))
-    → TextFits agreed bs 0 32
-    → StoresText agreed bs p (cache-of places lengths) (cache-of places′ (set lengths p stored))
+    → PutsText agreed (take size (drop from s)) (32 * p) between places′ stored
+    → TextFits agreed s from size 0 32
+    → StoresText agreed s from size p (cache-of places lengths) (cache-of places′ (set lengths p stored))
 unfolding enter
-text-entered agreed bs places lengths between places′ p stored small big cleared put fits =
+text-entered agreed s from size places lengths between places′ p stored small sized cleared put fits =
     record {
       stores = λ cs e.
-          let k : (stored ≡ length (encodes cs)) × (places′ ≡ sets between (32 * p) (encodes cs)) = put cs e in
+          let k : (stored ≡ length (encodes cs)) × (places′ ≡ sets between (32 * p) (encodes cs)) = put .puts cs e in
+          let big : length places ≡ 65536 = sized .places-are in
           let same : _≡_ {A = texts.Checked} (valid cs) (valid (fits .characters)) = sym e ∙ fits .is in
           let c : cs ≡ fits .characters = cc in
           let room : length (encodes (fits .characters)) ≤ 32 = omega (arith, fits .fits) in
@@ -198,7 +203,7 @@ module _ (agreed : Coding) (s : List ℕ) (h width at : ℕ) (before now : Cache
             let no-way : _≡_ {A = ℕ} 0 1 = cc in absurd (omega arith);
       }
 
-  pub enters-new : (p : Place) (from size : ℕ) → Spells s h width at (spelled.New p from size) → StoresText agreed (take size (drop from s)) (p .0) before now
+  pub enters-new : (p : Place) (from size : ℕ) → Spells s h width at (spelled.New p from size) → StoresText agreed s from size (p .0) before now
       → Enters agreed s h width at before now (from + size)
   unfolding Spells
   enters-new p from size e put =
@@ -220,9 +225,10 @@ enters-cached agreed s h width at c p e =
     }
 
 -- a text of 32 bytes at most fits where 32 bytes do, and its length is small
-pub fits-at : (agreed : Coding) (bs : List ℕ) (to room : ℕ) → TextFits agreed bs 0 32 → to + 32 ≤ room → TextFits agreed bs to room
-fits-at agreed bs to room f l = record { characters = f .characters; is = f .is; fits = omega (arith, f .fits) }
+pub fits-at : (agreed : Coding) (s : List ℕ) (from size to room : ℕ) → TextFits agreed s from size 0 32 → to + 32 ≤ room → TextFits agreed s from size to room
+fits-at agreed s from size to room f l = record { inside = f .inside; small = f .small; characters = f .characters; is = f .is; fits = omega (arith, f .fits) }
 
-pub stored-small : (agreed : Coding) (bs : List ℕ) (stored : ℕ) (A : List ℕ → Type 0) → TextFits agreed bs 0 32
-    → ((cs : List ℕ) → check agreed bs ≡ valid cs → (stored ≡ length (encodes cs)) × A cs) → stored ≤ 32
-stored-small agreed bs stored A f put = let e : stored ≡ length (encodes (f .characters)) = put (f .characters) (f .is) .0 in omega (arith, f .fits)
+pub stored-small : (agreed : Coding) (s : List ℕ) (from size at : ℕ) (before now : List ℕ) (stored : ℕ) → TextFits agreed s from size 0 32
+    → PutsText agreed (take size (drop from s)) at before now stored → stored ≤ 32
+stored-small agreed s from size at before now stored f put =
+    let e : stored ≡ length (encodes (f .characters)) = put .puts (f .characters) (f .is) .0 in omega (arith, f .fits)

@@ -1,11 +1,11 @@
 // What an accepted header leaves: the atom list of its references' texts, and the cache with its new entries.
 ghost use mathlib.Core.Path.{_≡_};
-ghost use Prim.Native.Nat.{_+_, _*_, _≤_, _<_};
-ghost use lib.ListN.{length, take, drop, replicate};
-ghost use Rattle.packet_spec.specs.Memory.{cache-of, held};
+ghost use Prim.Native.Nat.{_*_, _<_};
+ghost use lib.ListN.{length, replicate};
+ghost use Rattle.packet_spec.specs.Memory.{cache-of, CacheSized};
 ghost use Rattle.term_spec.specs.Text.{coding-of};
-ghost use Rattle.dist_header.specs.Code.{TextFits, GoodHeader};
-ghost use Rattle.cache_entries.specs.Code.{Room, Stands, StandsSome, StoresText, Lists, Enters, Listed, Entered};
+ghost use Rattle.dist_header.specs.Code.{TextFits};
+ghost use Rattle.cache_entries.specs.Code.{ListSized, HeaderIn, Listable, Lists, ListWritten, StoresText, Enterable, Enters, CacheWritten};
 use dist_header::Spelled;
 use packet_spec::Place;
 use packet_spec::ReferenceIndex;
@@ -23,7 +23,7 @@ pub fn fill_lengths(lengths: &mut [u16], value: u16)
 }
 
 // A text put into a list: its length, and the offset past its reference.
-struct Stored {
+struct ListedText {
     size: usize,
     next: usize,
 }
@@ -39,13 +39,12 @@ fn list_reference(
     cache_lengths: &[u16],
     i: usize,
     list_places: &mut [u8],
-) -> Stored
-    requires { ⌜ (half < 16) × (0 < width) × (width ≤ 2) × (at ≤ length (now packet)) × (length (now cache) ≡ 65536) × (length (now «cache_lengths») ≡ 2048) × (i < 255) × (length (now «list_places») ≡ 8160)
-        × Stands (coding-of utf8) (held (cache-of (now cache) (now «cache_lengths»))) (now packet) half width at ⌝ }
-    ensures { λ r. ⌜ Lists (coding-of utf8) (held (cache-of (now (cache .entry)) (now («cache_lengths» .entry)))) (now (packet .entry)) half width at (32 * i) (now («list_places» .entry)) (now («list_places» .exit)) r ⌝ }
+) -> ListedText
+    requires { ⌜ Listable (coding-of utf8) (cache-of (now cache) (now «cache_lengths»)) (now packet) half width at i (now «list_places») ⌝ }
+    ensures { λ r. ⌜ Lists (coding-of utf8) (cache-of (now (cache .entry)) (now («cache_lengths» .entry))) (now (packet .entry)) half width at (32 * i) (now («list_places» .entry)) (now («list_places» .exit)) r ⌝ }
 {
     match dist_header::read_reference(packet, half, width, at) {
-        Spelled::Cut => Stored { size: 0, next: at },
+        Spelled::Cut => ListedText { size: 0, next: at },
         Spelled::New { place, from, size } => {
             let stored = dist_header::put_text(
                 utf8,
@@ -55,14 +54,14 @@ fn list_reference(
                 list_places,
                 sizes::PLACE_BYTES * i,
             );
-            Stored {
+            ListedText {
                 size: stored,
                 next: from + size,
             }
         }
         Spelled::Cached { place } => {
             let k = place.0;
-            let size = dist_header::wide_length(cache_lengths[k]);
+            let size = octets::wide16(cache_lengths[k]);
             octets::copy(
                 cache,
                 sizes::PLACE_BYTES * k,
@@ -70,7 +69,7 @@ fn list_reference(
                 sizes::PLACE_BYTES * i,
                 size,
             );
-            Stored {
+            ListedText {
                 size: size,
                 next: at + 1,
             }
@@ -91,16 +90,15 @@ pub fn write_list(
     list_places: &mut [u8],
     list_lengths: &mut [u16],
 )
-    requires { ⌜ Room (now cache) (now «cache_lengths») (now «list_places») (now «list_lengths»)
-        × GoodHeader (coding-of utf8) (held (cache-of (now cache) (now «cache_lengths»))) (now packet) at n width first ⌝ }
-    ensures { λ _. ⌜ Listed (coding-of utf8) (held (cache-of (now (cache .entry)) (now («cache_lengths» .entry)))) (now (packet .entry)) at n width first (now («list_places» .exit)) (now («list_lengths» .exit)) ⌝ }
+    requires { ⌜ HeaderIn (coding-of utf8) (cache-of (now cache) (now «cache_lengths»)) (now packet) at n width first × ListSized (now «list_places») (now «list_lengths») ⌝ }
+    ensures { λ _. ⌜ ListWritten (coding-of utf8) (cache-of (now (cache .entry)) (now («cache_lengths» .entry))) (now (packet .entry)) at n width first (now («list_places» .exit)) (now («list_lengths» .exit)) ⌝ }
 {
     octets::clear_bytes(list_places, 0);
     fill_lengths(list_lengths, 0);
     let mut next = first;
     let mut i = 0;
     while i < n {
-        let half = dist_header::half_of(packet, at, n, ReferenceIndex(i));
+        let half = dist_header::half_of(packet, at, ReferenceIndex(i));
         let stored = list_reference(
             utf8,
             packet,
@@ -128,8 +126,8 @@ fn enter_text(
     cache: &mut [u8],
     cache_lengths: &mut [u16],
 )
-    requires { ⌜ (place .0 < 2048) × (from + size ≤ length (now packet)) × (size < 65536) × (length (now cache) ≡ 65536) × (length (now «cache_lengths») ≡ 2048) × TextFits (coding-of utf8) (take size (drop from (now packet))) 0 32 ⌝ }
-    ensures { λ _. ⌜ StoresText (coding-of utf8) (take size (drop from (now (packet .entry)))) (place .0) (cache-of (now (cache .entry)) (now («cache_lengths» .entry))) (cache-of (now (cache .exit)) (now («cache_lengths» .exit))) ⌝ }
+    requires { ⌜ (place .0 < 2048) × CacheSized (cache-of (now cache) (now «cache_lengths»)) × TextFits (coding-of utf8) (now packet) from size 0 32 ⌝ }
+    ensures { λ _. ⌜ StoresText (coding-of utf8) (now (packet .entry)) from size (place .0) (cache-of (now (cache .entry)) (now («cache_lengths» .entry))) (cache-of (now (cache .exit)) (now («cache_lengths» .exit))) ⌝ }
 {
     let k = place.0;
     let zeros = [0u8; sizes::PLACE_BYTES];
@@ -148,7 +146,7 @@ fn enter_reference(
     cache: &mut [u8],
     cache_lengths: &mut [u16],
 ) -> usize
-    requires { ⌜ (half < 16) × (0 < width) × (width ≤ 2) × (at ≤ length (now packet)) × (length (now cache) ≡ 65536) × (length (now «cache_lengths») ≡ 2048) × StandsSome (coding-of utf8) (now packet) half width at ⌝ }
+    requires { ⌜ Enterable (coding-of utf8) (cache-of (now cache) (now «cache_lengths»)) (now packet) half width at ⌝ }
     ensures { λ r. ⌜ Enters (coding-of utf8) (now (packet .entry)) half width at (cache-of (now (cache .entry)) (now («cache_lengths» .entry))) (cache-of (now (cache .exit)) (now («cache_lengths» .exit))) r ⌝ }
 {
     match dist_header::read_reference(packet, half, width, at) {
@@ -172,13 +170,13 @@ pub fn write_cache(
     cache: &mut [u8],
     cache_lengths: &mut [u16],
 )
-    requires { ⌜ (length (now cache) ≡ 65536) × (length (now «cache_lengths») ≡ 2048) × GoodHeader (coding-of utf8) (held (cache-of (now cache) (now «cache_lengths»))) (now packet) at n width first ⌝ }
-    ensures { λ _. ⌜ Entered (coding-of utf8) (now (packet .entry)) at n width first (cache-of (now (cache .entry)) (now («cache_lengths» .entry))) (cache-of (now (cache .exit)) (now («cache_lengths» .exit))) ⌝ }
+    requires { ⌜ HeaderIn (coding-of utf8) (cache-of (now cache) (now «cache_lengths»)) (now packet) at n width first ⌝ }
+    ensures { λ _. ⌜ CacheWritten (coding-of utf8) (now (packet .entry)) at n width first (cache-of (now (cache .entry)) (now («cache_lengths» .entry))) (cache-of (now (cache .exit)) (now («cache_lengths» .exit))) ⌝ }
 {
     let mut next = first;
     let mut i = 0;
     while i < n {
-        let half = dist_header::half_of(packet, at, n, ReferenceIndex(i));
+        let half = dist_header::half_of(packet, at, ReferenceIndex(i));
         next = enter_reference(utf8, packet, half, width, next, cache, cache_lengths);
         i += 1;
     }

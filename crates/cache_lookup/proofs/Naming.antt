@@ -2,7 +2,7 @@
 use mathlib.Core.Path.{_≡_, refl, sym, _∙_, ap}
 use mathlib.Core.Bool.{false}
 use mathlib.Core.List.{List, [], _∷_}
-use Prim.Native.Nat.{ℕ, zero, suc, _+_, _≤_, _<_}
+use Prim.Native.Nat.{ℕ, zero, suc, _≤_}
 use native.Mathlib.Omega.{arith}
 use lib.ListN.{length}
 use Rattle.term_spec.specs.Text.{Coding}
@@ -17,7 +17,7 @@ use Rattle.packet_spec.specs.declared.PlaceAnswer.the-variants as places
 use Rattle.dist_header.specs.Code.{holding-when, HeaderIs}
 use Rattle.dist_header.specs.declared.HeaderAnswer.the-variants as headers
 use Rattle.packet_preamble.specs.Code.{PreambleIs}
-use Rattle.dist_header.proofs.Accepted.{header-found, header-is, references-are, header-count, good-of}
+use Rattle.dist_header.proofs.Accepted.{header-references, header-is, references-are, header-count, good-of}
 use Rattle.cache_lookup.specs.Code.{HeaderRead, NamedAt, named-in}
 use Rattle.packet_preamble.specs.declared.Preamble.the-variants as preambles
 
@@ -47,7 +47,7 @@ module _ (agreed : Coding) (c : Cache) (s : List ℕ) (at i : ℕ) where
     pub named-past : n ≤ i → places.Refused (record { number = 6; place = 0 }) ≡ place-answer (named-in agreed i (at-offset s at 0))
     unfolding place-answer
     named-past h =
-        let rs : List Reference = header-found agreed (holding-when false c) s at n width first payload is in
+        let rs : List Reference = header-references agreed (holding-when false c) s at n width first payload is in
         let k : length rs ≡ n = header-count agreed (holding-when false c) s at n width first payload is in
         sym (ap place-answer (named-as (good (rs, at-offset s payload 0)) (header-is agreed (holding-when false c) s at n width first payload is)
         ∙ ap (λ (x : Answer (ℕ × Position)). at-zero (result-of x)) (past-all rs i (at-offset s payload 0) (omega arith))))
@@ -55,7 +55,7 @@ module _ (agreed : Coding) (c : Cache) (s : List ℕ) (at i : ℕ) where
     pub named-there : (p : ℕ) → NamedAt s at n width first i p → places.Place (record { 0 = p }) ≡ place-answer (named-in agreed i (at-offset s at 0))
     unfolding place-answer
     named-there p named =
-        let rs : List Reference = header-found agreed (holding-when false c) s at n width first payload is in
+        let rs : List Reference = header-references agreed (holding-when false c) s at n width first payload is in
         sym (ap place-answer (named-as (good (rs, at-offset s payload 0)) (header-is agreed (holding-when false c) s at n width first payload is)
         ∙ ap (λ (x : Answer (ℕ × Position)). at-zero (result-of x))
         (named .named agreed (holding-when false c) rs (at-offset s payload 0) (references-are agreed (holding-when false c) s at n width first payload is) (at-offset s payload 0))))

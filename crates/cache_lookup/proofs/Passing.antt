@@ -64,10 +64,10 @@ module _ (s : List ℕ) (at n width first : ℕ) where
     -- the reference that is passed
     pub record Passing (agreed : Coding) (holding : ℕ → Held) : Type 0 where
       pub before : Half-way agreed holding s at n width first i next
-      pub found : Reference
-      pub names : found .place ≡ p .0
+      pub reference : Reference
+      pub names : reference .place ≡ p .0
       pub inside : a ≤ length s
-      pub along : Along agreed holding s (flags-of s at n) width (references agreed holding (flags-of s at n) width [] 0 n (at-offset s first 0)) n (i + 1) a (found ∷ before .earlier) (before .done ++ (found ∷ []))
+      pub along : Along agreed holding s (flags-of s at n) width (references agreed holding (flags-of s at n) width [] 0 n (at-offset s first 0)) n (i + 1) a (reference ∷ before .earlier) (before .done ++ (reference ∷ []))
 
     pub passing : (agreed : Coding) (holding : ℕ → Held) (rs : List Reference) (t : Position)
         → references agreed holding (flags-of s at n) width [] 0 n (at-offset s first 0) ≡ good (rs, t) → Passing agreed holding
@@ -75,13 +75,13 @@ module _ (s : List ℕ) (at n width first : ℕ) where
         let b : Half-way agreed holding s at n width first i next = w .walked agreed holding rs t e in
         let r : Turned agreed holding s (flags-of s at n) width _ n i next (b .earlier) (b .done) (b .along) =
         turned agreed holding s (flags-of s at n) width _ n i next (b .earlier) (b .done) (b .along) rs t less e in
-        let k : (r .end ≡ at-offset s a 0) × (r .found .place ≡ p .0) × (a ≤ length s) = passes .passes agreed holding (b .earlier) i (r .found) (r .end) (r .is) in
+        let k : (r .end ≡ at-offset s a 0) × (r .reference .place ≡ p .0) × (a ≤ length s) = passes .passes agreed holding (b .earlier) i (r .reference) (r .end) (r .is) in
         record {
           before = b;
-          found = r .found;
+          reference = r .reference;
           names = k .1;
           inside = k .2;
-          along = along-more agreed holding s (flags-of s at n) width _ n i next (b .earlier) (b .done) (b .along) (r .found) a less (r .is ∙ ap (λ (u : Position). good (r .found, u)) (k .0));
+          along = along-more agreed holding s (flags-of s at n) width _ n i next (b .earlier) (b .done) (b .along) (r .reference) a less (r .is ∙ ap (λ (u : Position). good (r .reference, u)) (k .0));
         }
 
     pub walking-more : Walking (i + 1) a
@@ -90,11 +90,11 @@ module _ (s : List ℕ) (at n width first : ℕ) where
           walked = λ agreed holding rs t e.
               let k : Passing agreed holding = passing agreed holding rs t e in
               let c : length (k .before .done) ≡ i = k .before .count in
-              record { earlier = k .found ∷ k .before .earlier; done = k .before .done ++ (k .found ∷ []); along = k .along; count = length-append (k .before .done) (k .found ∷ []) ∙ ap (λ (m : ℕ). m + 1) c };
+              record { earlier = k .reference ∷ k .before .earlier; done = k .before .done ++ (k .reference ∷ []); along = k .along; count = length-append (k .before .done) (k .reference ∷ []) ∙ ap (λ (m : ℕ). m + 1) c };
         }
 
     pub walking-inside : HeaderRead s at n width first → a ≤ length s
-    walking-inside h = passing (h .agreed) (h .holding) (h .header-good .found) (h .header-good .end) (h .header-good .is) .inside
+    walking-inside h = passing (h .agreed) (h .holding) (h .header-good .references) (h .header-good .end) (h .header-good .is) .inside
 
     pub walking-named : NamedAt s at n width first i (p .0)
     unfolding place-in
@@ -102,10 +102,10 @@ module _ (s : List ℕ) (at n width first : ℕ) where
         record {
           named = λ agreed holding rs t e u.
               let k : Passing agreed holding = passing agreed holding rs t e in
-              let b : Begins agreed holding s (flags-of s at n) width _ n (i + 1) a (k .found ∷ k .before .earlier) (k .before .done ++ (k .found ∷ [])) (k .along) rs =
-              begins agreed holding s (flags-of s at n) width _ n (i + 1) a (k .found ∷ k .before .earlier) (k .before .done ++ (k .found ∷ [])) (k .along) rs t e in
-              ap (λ (xs : List Reference). place-in xs i u) (b .is ∙ append-assoc (k .before .done) (k .found ∷ []) (b .rest))
-              ∙ at-place (k .before .done) i (k .before .count) (k .found) (b .rest) u
+              let b : Begins agreed holding s (flags-of s at n) width _ n (i + 1) a (k .reference ∷ k .before .earlier) (k .before .done ++ (k .reference ∷ [])) (k .along) rs =
+              begins agreed holding s (flags-of s at n) width _ n (i + 1) a (k .reference ∷ k .before .earlier) (k .before .done ++ (k .reference ∷ [])) (k .along) rs t e in
+              ap (λ (xs : List Reference). place-in xs i u) (b .is ∙ append-assoc (k .before .done) (k .reference ∷ []) (b .rest))
+              ∙ at-place (k .before .done) i (k .before .count) (k .reference) (b .rest) u
               ∙ ap (λ (x : ℕ). good (x, u)) (k .names);
         }
       where

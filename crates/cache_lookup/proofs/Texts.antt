@@ -12,7 +12,7 @@ use Rattle.packet_spec.specs.Memory.{cache-of, cache-of-size, Held, nothing, no
 use Rattle.packet_spec.specs.Look.{text-held, text-of-place}
 use Rattle.packet_spec.specs.Answers.{text-answer}
 use Rattle.packet_spec.specs.declared.TextAnswer.the-variants as texts
-use Rattle.dist_header.specs.Code.{place-text}
+use Rattle.dist_header.specs.Code.{held-case}
 use Rattle.dist_header.specs.declared.PlaceText.the-variants as place-texts
 use Rattle.cache_lookup.specs.Code.{text-refusal}
 
@@ -35,31 +35,31 @@ module _ (cache lengths : List ℕ) (p : ℕ) where
         unfolding text-of-place
         text-is = rw (confirmed told met, le-leb p 2047 (omega arith))
 
-        pub text-none : place-texts.Empty ≡ place-text (held (cache-of cache lengths) p)
+        pub text-none : place-texts.Empty ≡ held-case (held (cache-of cache lengths) p)
             → text-refusal 21 ≡ text-answer p (text-of-place (cache-of cache lengths) p)
-        unfolding text-answer text-held place-text
+        unfolding text-answer text-held held-case
         text-none e = rw text-is (go (held (cache-of cache lengths) p) e)
           where
-            go : (x : Held) → place-texts.Empty ≡ place-text x → text-refusal 21 ≡ text-answer p (text-held x)
+            go : (x : Held) → place-texts.Empty ≡ held-case x → text-refusal 21 ≡ text-answer p (text-held x)
             go nothing f = refl
             go no-text f = let no-way : _≡_ {A = ℕ} 0 1 = cc in absurd (omega arith)
             go (text bs) f = let no-way : _≡_ {A = ℕ} 0 1 = cc in absurd (omega arith)
 
-        pub text-false : place-texts.Bad ≡ place-text (held (cache-of cache lengths) p)
+        pub text-false : place-texts.Bad ≡ held-case (held (cache-of cache lengths) p)
             → text-refusal 14 ≡ text-answer p (text-of-place (cache-of cache lengths) p)
-        unfolding text-answer text-held place-text
+        unfolding text-answer text-held held-case
         text-false e = rw text-is (go (held (cache-of cache lengths) p) e)
           where
-            go : (x : Held) → place-texts.Bad ≡ place-text x → text-refusal 14 ≡ text-answer p (text-held x)
+            go : (x : Held) → place-texts.Bad ≡ held-case x → text-refusal 14 ≡ text-answer p (text-held x)
             go nothing f = let no-way : _≡_ {A = ℕ} 0 1 = cc in absurd (omega arith)
             go no-text f = refl
             go (text bs) f = let no-way : _≡_ {A = ℕ} 0 1 = cc in absurd (omega arith)
 
-        pub text-there : (n : ℕ) → place-texts.Text n ≡ place-text (held (cache-of cache lengths) p) → texts.Text (32 * p) n ≡ text-answer p (text-of-place (cache-of cache lengths) p)
-        unfolding text-answer text-held place-text
+        pub text-there : (n : ℕ) → place-texts.Text n ≡ held-case (held (cache-of cache lengths) p) → texts.Text (32 * p) n ≡ text-answer p (text-of-place (cache-of cache lengths) p)
+        unfolding text-answer text-held held-case
         text-there n e = rw text-is (go (held (cache-of cache lengths) p) e)
           where
-            go : (x : Held) → place-texts.Text n ≡ place-text x → texts.Text (32 * p) n ≡ text-answer p (text-held x)
+            go : (x : Held) → place-texts.Text n ≡ held-case x → texts.Text (32 * p) n ≡ text-answer p (text-held x)
             go nothing f = let no-way : _≡_ {A = ℕ} 0 1 = cc in absurd (omega arith)
             go no-text f = let no-way : _≡_ {A = ℕ} 0 1 = cc in absurd (omega arith)
             go (text bs) f = let m : n ≡ length bs = cc in ap (texts.Text (32 * p)) m

@@ -7,6 +7,7 @@ ghost use Rattle.term_spec.specs.Text.{coding-of};
 ghost use Rattle.packet_spec.specs.Answers.{text-answer, place-answer};
 ghost use Rattle.packet_spec.specs.Look.{text-of-place, place-of-reference};
 ghost use Rattle.packet_spec.specs.Memory.{cache-of};
+ghost use Rattle.dist_header.specs.Code.{ReferenceAt};
 ghost use Rattle.cache_lookup.specs.Code.{Passes, HeaderRead, NamedAt, named-in, text-refusal};
 use dist_header::HeaderAnswer;
 use dist_header::PlaceText;
@@ -28,7 +29,7 @@ struct Passed {
 
 // Passes the reference at `at`, with its half and the width of lengths.
 fn pass_reference(packet: &[u8], half: usize, width: usize, at: usize) -> Passed
-    requires { ⌜ (half < 16) × (0 < width) × (width ≤ 2) × (at ≤ length (now packet)) ⌝ }
+    requires { ⌜ ReferenceAt (now packet) half width at ⌝ }
     ensures { λ r. ⌜ Passes (now (packet .entry)) half width at r ⌝ }
 {
     match dist_header::read_reference(packet, half, width, at) {
@@ -62,12 +63,12 @@ fn place_in(
     let mut next = first;
     let mut i = 0;
     while i < index.0 {
-        let half = dist_header::half_of(packet, at, n, ReferenceIndex(i));
+        let half = dist_header::half_of(packet, at, ReferenceIndex(i));
         let passed = pass_reference(packet, half, width, next);
         next = passed.next;
         i += 1;
     }
-    let half = dist_header::half_of(packet, at, n, index);
+    let half = dist_header::half_of(packet, at, index);
     let passed = pass_reference(packet, half, width, next);
     passed.place
 }

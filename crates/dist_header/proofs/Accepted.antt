@@ -8,11 +8,11 @@ use Rattle.term_spec.specs.Answer.{good, Position, at-offset}
 use Rattle.term_spec.proofs.Holds.{Holds, next, done-holds}
 use Rattle.packet_spec.specs.Memory.{Held}
 use Rattle.packet_spec.specs.Header.{Reference, half, reference, references, header}
-use Rattle.dist_header.specs.Code.{flags-of, Opens, GoodHeader, HeaderIs}
+use Rattle.dist_header.specs.Code.{flags-of, references-from, HeaderStarts, GoodHeader, HeaderIs}
 use Rattle.dist_header.specs.declared.HeaderAnswer.the-variants as headers
 use Rattle.dist_header.proofs.Walk.{Along, along-none}
 
--- as many references are found as there are to be
+-- as many references are read as there are to be
 module _ (agreed : Coding) (holding : ℕ → Held) (flags : List ℕ) (width : ℕ) where
   counted : (more : ℕ) (earlier : List Reference) (i : ℕ) (s : Position) → Holds (references agreed holding flags width earlier i more s) (λ rs t. length rs ≡ more)
   unfolding references
@@ -25,20 +25,20 @@ module _ (agreed : Coding) (holding : ℕ → Held) (flags : List ℕ) (width : 
 -- a good header, with where its references stand
 module _ (agreed : Coding) (holding : ℕ → Held) (s : List ℕ) (at n width first payload : ℕ) (is : HeaderIs agreed holding s at (headers.Header n width first payload)) where
   -- the references that it has
-  pub header-found : List Reference
+  pub header-references : List Reference
   unfolding HeaderIs
-  header-found = is .1 .found
+  header-references = is .1 .references
 
-  pub header-is : header agreed holding (at-offset s at 0) ≡ good (header-found, at-offset s payload 0)
-  unfolding HeaderIs header-found
+  pub header-is : header agreed holding (at-offset s at 0) ≡ good (header-references, at-offset s payload 0)
+  unfolding HeaderIs header-references
   header-is = is .1 .is
 
-  pub references-are : references agreed holding (flags-of s at n) width [] 0 n (at-offset s first 0) ≡ good (header-found, at-offset s payload 0)
-  unfolding HeaderIs Opens
+  pub references-are : references-from agreed holding s at n width first ≡ good (header-references, at-offset s payload 0)
+  unfolding HeaderIs HeaderStarts
   references-are = sym (is .0 .0 agreed holding) ∙ header-is
 
-  pub header-count : length header-found ≡ n
-  header-count = counted agreed holding (flags-of s at n) width n [] 0 (at-offset s first 0) .known header-found (at-offset s payload 0) references-are
+  pub header-count : length header-references ≡ n
+  header-count = counted agreed holding (flags-of s at n) width n [] 0 (at-offset s first 0) .known header-references (at-offset s payload 0) references-are
 
   pub payload-inside : payload ≤ length s
   unfolding HeaderIs
@@ -46,17 +46,13 @@ module _ (agreed : Coding) (holding : ℕ → Held) (s : List ℕ) (at n width f
 
 pub good-of : (agreed : Coding) (holding : ℕ → Held) (s : List ℕ) (at n width first payload : ℕ) → HeaderIs agreed holding s at (headers.Header n width first payload)
     → GoodHeader agreed holding s at n width first
-unfolding HeaderIs Opens
+unfolding HeaderIs HeaderStarts
 good-of agreed holding s at n width first payload is =
     record {
-      found = header-found agreed holding s at n width first payload is;
+      references = header-references agreed holding s at n width first payload is;
       end = at-offset s payload 0;
       is = references-are agreed holding s at n width first payload is;
-      width-least = is .0 .1;
-      width-most = is .0 .2;
-      few = is .0 .5;
-      first-is = is .0 .3;
-      first-inside = is .0 .4;
+      stands = is .0 .1;
     }
 
 module _ (agreed : Coding) (holding : ℕ → Held) (s : List ℕ) (at n width first : ℕ) where
@@ -64,7 +60,7 @@ module _ (agreed : Coding) (holding : ℕ → Held) (s : List ℕ) (at n width f
   pub record Half-way (i next : ℕ) : Type 0 where
     pub earlier : List Reference
     pub done : List Reference
-    pub along : Along agreed holding s (flags-of s at n) width (references agreed holding (flags-of s at n) width [] 0 n (at-offset s first 0)) n i next earlier done
+    pub along : Along agreed holding s (flags-of s at n) width (references-from agreed holding s at n width first) n i next earlier done
     pub count : length done ≡ i
 
   abbrev pub start : Half-way 0 first

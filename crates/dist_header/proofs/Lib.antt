@@ -1,5 +1,5 @@
 pub mod Standing
-pub mod Marks
+pub mod PlaceNaming
 pub mod Texts
 pub mod Judging
 pub mod Walk

@@ -1,93 +1,118 @@
 -- What stands in a header, as the code finds it at an offset of the packet: one law for each way out.
 use mathlib.Core.Path.{_≡_, refl, sym, _∙_, ap, ap₂, subst}
 use mathlib.Core.List.{List, []}
-use Prim.Native.Nat.{ℕ, _+_, _*_, _/_, _%_, _≤_, _<_}
+use mathlib.Core.Bool.{cond}
+use Prim.Native.Nat.{ℕ, zero, suc, _+_, _*_, _/_, _%_, _^_, _≤_, _<_}
 use native.Mathlib.Omega.{arith}
 use lib.ListN.{length, getD, take, drop}
 use lib.Seq.{getD-take, getD-drop}
+use lib.Dec.{eqb}
 use borrow.Author.Tests.{eq-eqb, ne-eqb, le-leb, lt-leb}
 use Rattle.term_spec.specs.Numbers.{big-endian}
 use Rattle.term_spec.specs.Text.{Coding}
 use Rattle.term_spec.specs.Answer.{Answer, good, refused, Position, at-offset, after}
 use Rattle.term_spec.proofs.Bridge.{byte-at, byte-end, bytes-at, bytes-end, number-at, number-end}
+use Rattle.octets.specs.Parts.{Width}
+use Rattle.octets.proofs.Numbers.{big-joined, big-one}
+use Rattle.octets.proofs.Widths.{width-1, width-2}
 use Rattle.packet_spec.specs.Memory.{Held}
 use Rattle.packet_spec.specs.Header.{Reference, flag-bytes, half, is-new, place-at, length-width, text-field, new-reference, reference, references, header}
-use Rattle.dist_header.specs.Code.{flags-of, Opens, Spells}
-use Rattle.dist_header.specs.declared.Opened.the-variants as opened
+use Rattle.dist_header.specs.Code.{flags-of, HeaderAt, HeaderStarts, Spells}
+use Rattle.dist_header.specs.declared.HeaderStart.the-variants as starts
 use Rattle.dist_header.specs.declared.Spelled.the-variants as spelled
 
-pub flag-count : (n : ℕ) → 0 < n → flag-bytes n ≡ n / 2 + 1
+flag-count : (n : ℕ) → 0 < n → flag-bytes n ≡ n / 2 + 1
 unfolding flag-bytes
 flag-count n h = rw (ne-eqb n 0 (λ e. omega arith))
 
-flag-at : (s : List ℕ) (at n i : ℕ) → 0 < n → i ≤ n → getD (flags-of s at n) (i / 2) 0 ≡ getD s (at + 1 + i / 2) 0
-unfolding flags-of
-flag-at s at n i h k =
+-- half i of all bytes after the count is half i of the flags
+pub flags-half : (s : List ℕ) (at n i : ℕ) → 0 < n → i ≤ n → half (drop (at + 1) s) i ≡ half (flags-of s at n) i
+unfolding half flags-of
+flags-half s at n i h k =
     let f : flag-bytes n ≡ n / 2 + 1 = flag-count n h in
-    getD-take (flag-bytes n) (drop (at + 1) s) (i / 2) 0 (omega arith) ∙ getD-drop (at + 1) s (i / 2) 0
+    ap (λ (b : ℕ). cond (eqb (i % 2) 0) (b % 16) (b / 16)) (sym (getD-take (flag-bytes n) (drop (at + 1) s) (i / 2) 0 (omega arith)))
+
+-- the flags of reference i stand inside
+pub flags-inside : (s : List ℕ) (at n width first i : ℕ) → HeaderAt s at n width first → i < n → at + 1 + i / 2 < length s
+flags-inside s at n width first i h k =
+    let f : flag-bytes n ≡ n / 2 + 1 = flag-count n (omega arith) in
+    omega (arith, h .first-is, h .first-inside)
 
 -- half i is of flag byte i/2: the low half for even i, else the high half
-pub half-low : (s : List ℕ) (at n i : ℕ) → 0 < n → i ≤ n → i % 2 ≡ 0 → getD s (at + 1 + i / 2) 0 % 16 ≡ half (flags-of s at n) i
+pub half-low : (s : List ℕ) (at i : ℕ) → i % 2 ≡ 0 → getD s (at + 1 + i / 2) 0 % 16 ≡ half (drop (at + 1) s) i
 unfolding half
-half-low s at n i h k e = rw (eq-eqb (i % 2) 0 e, flag-at s at n i h k)
+half-low s at i e = rw (eq-eqb (i % 2) 0 e, getD-drop (at + 1) s (i / 2) 0)
 
-pub half-high : (s : List ℕ) (at n i : ℕ) → 0 < n → i ≤ n → (i % 2 ≡ 0 → ⊥) → getD s (at + 1 + i / 2) 0 / 16 ≡ half (flags-of s at n) i
+pub half-high : (s : List ℕ) (at i : ℕ) → (i % 2 ≡ 0 → ⊥) → getD s (at + 1 + i / 2) 0 / 16 ≡ half (drop (at + 1) s) i
 unfolding half
-half-high s at n i h k e = rw (ne-eqb (i % 2) 0 e, flag-at s at n i h k)
+half-high s at i e = rw (ne-eqb (i % 2) 0 e, getD-drop (at + 1) s (i / 2) 0)
 
 -- ---- count and flags
 
-pub opens-end : (s : List ℕ) (at : ℕ) → length s ≤ at → Opens s at opened.Cut
-unfolding Opens header
-opens-end s at h agreed holding = rw (byte-end s 0 at 0 h)
+pub starts-end : (s : List ℕ) (at : ℕ) → length s ≤ at → HeaderStarts s at starts.Cut
+unfolding HeaderStarts header
+starts-end s at h agreed holding = rw (byte-end s 0 at 0 h)
 
-header-opens : (s : List ℕ) (at : ℕ) → at < length s → at + 1 + flag-bytes (getD s at 0) ≤ length s → (agreed : Coding) (holding : ℕ → Held)
+header-starts : (s : List ℕ) (at : ℕ) → at < length s → at + 1 + flag-bytes (getD s at 0) ≤ length s → (agreed : Coding) (holding : ℕ → Held)
     → header agreed holding (at-offset s at 0)
     ≡ references agreed holding (flags-of s at (getD s at 0)) (length-width (half (flags-of s at (getD s at 0)) (getD s at 0))) [] 0 (getD s at 0) (at-offset s (at + 1 + flag-bytes (getD s at 0)) 0)
 unfolding header flags-of
-header-opens s at h k agreed holding = rw (byte-at s 0 at 0 h, bytes-at s 0 (flag-bytes (getD s at 0)) (at + 1) 0 k)
+header-starts s at h k agreed holding = rw (byte-at s 0 at 0 h, bytes-at s 0 (flag-bytes (getD s at 0)) (at + 1) 0 k)
 
-pub opens-cut : (s : List ℕ) (at : ℕ) → at < length s → 0 < getD s at 0 → length s < at + 1 + (getD s at 0 / 2 + 1) → Opens s at opened.Cut
-unfolding Opens header
-opens-cut s at h z k agreed holding =
+pub starts-cut : (s : List ℕ) (at : ℕ) → at < length s → 0 < getD s at 0 → length s < at + 1 + (getD s at 0 / 2 + 1) → HeaderStarts s at starts.Cut
+unfolding HeaderStarts header
+starts-cut s at h z k agreed holding =
     let f : flag-bytes (getD s at 0) ≡ getD s at 0 / 2 + 1 = flag-count (getD s at 0) z in
     rw (byte-at s 0 at 0 h, bytes-end s 0 (flag-bytes (getD s at 0)) (at + 1) 0 (omega arith) (omega arith))
 
 -- any count, with its width
-opens-as : (s : List ℕ) (at n width first : ℕ) → at < length s → getD s at 0 ≡ n → n < 256 → first ≡ at + 1 + flag-bytes n → first ≤ length s
-    → width ≡ length-width (half (flags-of s at n) n) → 0 < width → width ≤ 2 → Opens s at (opened.Header n width first)
-unfolding Opens
-opens-as s at n width first h is small e k w lo hi = (
+starts-as : (s : List ℕ) (at n width first : ℕ) → at < length s → getD s at 0 ≡ n → n < 256 → first ≡ at + 1 + flag-bytes n → first ≤ length s
+    → width ≡ length-width (half (flags-of s at n) n) → 0 < width → width ≤ 2 → HeaderStarts s at (starts.Header n width first)
+unfolding HeaderStarts
+starts-as s at n width first h is small e k w lo hi = (
   λ agreed holding.
-      header-opens s at h (subst (λ (m : ℕ). at + 1 + flag-bytes m ≤ length s) (sym is) (omega arith)) agreed holding
+      header-starts s at h (subst (λ (m : ℕ). at + 1 + flag-bytes m ≤ length s) (sym is) (omega arith)) agreed holding
       ∙ ap (λ (m : ℕ). references agreed holding (flags-of s at m) (length-width (half (flags-of s at m) m)) [] 0 m (at-offset s (at + 1 + flag-bytes m) 0)) is
       ∙ ap₂ (λ (w f : ℕ). references agreed holding (flags-of s at n) w [] 0 n (at-offset s f 0)) (sym w) (sym e),
-  lo,
-  hi,
-  e,
-  k,
-  small,
+  record { few = small; width-least = lo; width-most = hi; first-is = e; first-inside = k },
 )
 
 no-flags : (s : List ℕ) (at : ℕ) → length-width (half (flags-of s at 0) 0) ≡ 1
 unfolding length-width half flags-of flag-bytes
 no-flags s at = refl
 
-pub opens-none : (s : List ℕ) (at : ℕ) → at < length s → getD s at 0 ≡ 0 → Opens s at (opened.Header 0 1 (at + 1))
+pub starts-none : (s : List ℕ) (at : ℕ) → at < length s → getD s at 0 ≡ 0 → HeaderStarts s at (starts.Header 0 1 (at + 1))
 unfolding flag-bytes
-opens-none s at h e = opens-as s at 0 1 (at + 1) h e (omega arith) (omega arith) (omega arith) (sym (no-flags s at)) (omega arith) (omega arith)
+starts-none s at h e = starts-as s at 0 1 (at + 1) h e (omega arith) (omega arith) (omega arith) (sym (no-flags s at)) (omega arith) (omega arith)
 
 width-of : (h : ℕ) → 1 + h % 2 ≡ length-width h
 unfolding length-width
 width-of h = refl
 
-pub opens-some : (s : List ℕ) (at n spare : ℕ) → at < length s → getD s at 0 ≡ n → 0 < n → n < 256 → at + 1 + (n / 2 + 1) ≤ length s
-    → spare ≡ half (flags-of s at n) n → Opens s at (opened.Header n (1 + spare % 2) (at + 1 + (n / 2 + 1)))
-opens-some s at n spare h is z small k e =
+pub starts-some : (s : List ℕ) (at n spare : ℕ) → at < length s → getD s at 0 ≡ n → 0 < n → n < 256 → at + 1 + (n / 2 + 1) ≤ length s
+    → spare ≡ half (drop (at + 1) s) n → HeaderStarts s at (starts.Header n (1 + spare % 2) (at + 1 + (n / 2 + 1)))
+starts-some s at n spare h is z small k e =
     let f : flag-bytes n ≡ n / 2 + 1 = flag-count n z in
-    opens-as s at n (1 + spare % 2) (at + 1 + (n / 2 + 1)) h is small (omega arith) k (width-of spare ∙ ap length-width e) (omega arith) (omega arith)
+    starts-as s at n (1 + spare % 2) (at + 1 + (n / 2 + 1)) h is small (omega arith) k (width-of spare ∙ ap length-width (e ∙ flags-half s at n n z (omega arith))) (omega arith) (omega arith)
 
 -- ---- one reference
+
+-- a length in 1 or 2 bytes
+pub length-width-is : (w : ℕ) → 0 < w → w ≤ 2 → Width w
+length-width-is zero lo hi = absurd (omega arith)
+length-width-is (suc zero) lo hi = width-1
+length-width-is (suc (suc zero)) lo hi = width-2
+length-width-is (suc (suc (suc w))) lo hi = absurd (omega arith)
+
+pub length-small : (s : List ℕ) (at w : ℕ) → ((i : ℕ) → getD s i 0 < 256) → at + w ≤ length s → w ≤ 2 → big-endian (take w (drop at s)) < 65536
+unfolding big-endian
+length-small s at zero bytes there hi = omega arith
+length-small s at (suc zero) bytes there hi = let e = big-one s at (omega arith) in omega (arith, bytes at)
+length-small s at (suc (suc zero)) bytes there hi =
+    let e : big-endian (take 2 (drop at s)) ≡ getD s at 0 * 256 ^ 1 + getD s (at + 1) 0
+    = sym (big-joined s at 1 1 (getD s at 0) (getD s (at + 1) 0) (omega arith) (sym (big-one s at (omega arith))) (sym (big-one s (at + 1) (omega arith)))) in
+    omega (arith, bytes at, bytes (at + 1))
+length-small s at (suc (suc (suc w))) bytes there hi = absurd (omega arith)
 
 pub spells-end : (s : List ℕ) (h width at : ℕ) → length s ≤ at → Spells s h width at spelled.Cut
 unfolding Spells reference

@@ -14,7 +14,7 @@ use Rattle.text.specs.Shown.{is-valid}
 use Rattle.text.proofs.Valid.{coding-utf8, coding-latin1, found, failed}
 use Rattle.packet_spec.specs.Memory.{Cache, cache-of, text-if, held-as, held}
 use Rattle.dist_header.specs.declared.PlaceText.{PlaceText}
-use Rattle.dist_header.specs.Code.{place-text, holding-when, TextFits}
+use Rattle.dist_header.specs.Code.{held-case, holding-when, TextFits}
 use Rattle.dist_header.specs.declared.PlaceText.the-variants as texts
 
 -- a part of a slice, by its length
@@ -40,12 +40,12 @@ module _ (utf8 : Bool) (s : List ℕ) (from size : ℕ) where
       → r ≡ length (encodes cs)
   stored-latin r u f cs e = f ∙ ap (λ (bs : List ℕ). length (encodes bs)) (same-characters cs u e)
 
-  pub fits-utf8 : (at room : ℕ) → utf8 ≡ true → from + size ≤ length s → TextFits (coding-of utf8) (take size (drop from s)) at room → at + size ≤ room
-  fits-utf8 at room u h t =
-      let n : size ≡ length (encodes (t .characters)) = stored-utf8 u h (t .characters) (t .is) in
+  pub fits-utf8 : (at room : ℕ) → utf8 ≡ true → TextFits (coding-of utf8) s from size at room → at + size ≤ room
+  fits-utf8 at room u t =
+      let n : size ≡ length (encodes (t .characters)) = stored-utf8 u (t .inside) (t .characters) (t .is) in
       omega (arith, t .fits)
 
-  pub fits-latin : (at room : ℕ) → utf8 ≡ false → TextFits (coding-of utf8) (take size (drop from s)) at room → at + length (encodes (take size (drop from s))) ≤ room
+  pub fits-latin : (at room : ℕ) → utf8 ≡ false → TextFits (coding-of utf8) s from size at room → at + length (encodes (take size (drop from s))) ≤ room
   fits-latin at room u t = rw (same-characters (t .characters) u (t .is)) (t .fits)
 
 -- ---- what a place of the cache holds
@@ -60,12 +60,12 @@ module _ (places lengths : List ℕ) (p n : ℕ) (h : p < length lengths) (is : 
   unfolding held
   held-is = ap (λ (k : ℕ). held-as k (take 32 (drop (32 * p) places))) (getD-any lengths p 65535 0 h ∙ sym is)
 
-  pub held-nothing : n ≡ 65535 → texts.Empty ≡ place-text (held (cache-of places lengths) p)
-  unfolding held-as place-text
+  pub held-nothing : n ≡ 65535 → texts.Empty ≡ held-case (held (cache-of places lengths) p)
+  unfolding held-as held-case
   held-nothing e = rw (held-is, held-as, eq-eqb n 65535 e)
 
-  pub held-long : (n ≡ 65535 → ⊥) → 32 < n → texts.Bad ≡ place-text (held (cache-of places lengths) p)
-  unfolding held-as place-text
+  pub held-long : (n ≡ 65535 → ⊥) → 32 < n → texts.Bad ≡ held-case (held (cache-of places lengths) p)
+  unfolding held-as held-case
   held-long e l = rw (held-is, held-as, ne-eqb n 65535 e, lt-leb n 32 l)
 
   module _ (e : n ≡ 65535 → ⊥) (l : n ≤ 32) (b : Bool) (is-b : b ≡ is-valid (check (coding-of true) (take (32 * p + n - 32 * p) (drop (32 * p) places)))) where
@@ -77,23 +77,23 @@ module _ (places lengths : List ℕ) (p n : ℕ) (h : p < length lengths) (is : 
     unfolding coding-of
     valid-is = text-part utf-8 places (32 * p) n b is-b
 
-    pub held-good : b ≡ true → 32 * p + n ≤ length places → texts.Text n ≡ place-text (held (cache-of places lengths) p)
-    unfolding place-text text-if
+    pub held-good : b ≡ true → 32 * p + n ≤ length places → texts.Text n ≡ held-case (held (cache-of places lengths) p)
+    unfolding held-case text-if
     held-good t there =
         let f = found _ (sym valid-is ∙ t) in
         rw (held-text, f .1) (ap texts.Text (sym (length-part places (32 * p) n there)))
 
-    pub held-bad : b ≡ false → texts.Bad ≡ place-text (held (cache-of places lengths) p)
-    unfolding place-text text-if
+    pub held-bad : b ≡ false → texts.Bad ≡ held-case (held (cache-of places lengths) p)
+    unfolding held-case text-if
     held-bad t = let f = failed _ (sym valid-is ∙ t) in rw (held-text, f .1)
 
 -- where the cache is looked at, what it holds; else a text
-pub looked : (look : Bool) (c : Cache) (p : ℕ) (r : PlaceText) → look ≡ true → r ≡ place-text (held c p) → r ≡ place-text (holding-when look c p)
+pub looked : (look : Bool) (c : Cache) (p : ℕ) (r : PlaceText) → look ≡ true → r ≡ held-case (held c p) → r ≡ held-case (holding-when look c p)
 unfolding holding-when
 looked true c p r l e = e
 looked false c p r l e = let no-way : _≡_ {A = ℕ} 0 1 = cc in absurd (omega arith)
 
-pub unlooked : (look : Bool) (c : Cache) (p : ℕ) → look ≡ false → texts.Text 0 ≡ place-text (holding-when look c p)
-unfolding holding-when place-text
+pub unlooked : (look : Bool) (c : Cache) (p : ℕ) → look ≡ false → texts.Text 0 ≡ held-case (holding-when look c p)
+unfolding holding-when held-case
 unlooked false c p l = refl
 unlooked true c p l = let no-way : _≡_ {A = ℕ} 0 1 = cc in absurd (omega arith)

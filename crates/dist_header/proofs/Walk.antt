@@ -8,49 +8,49 @@ use Rattle.term_spec.specs.Text.{Coding}
 use Rattle.term_spec.specs.Answer.{Answer, good, refused, Position, at-offset, after}
 use Rattle.packet_spec.specs.declared.Place.{Place}
 use Rattle.packet_spec.specs.Memory.{Held}
-use Rattle.packet_spec.specs.Header.{Reference, flag-bytes, half, reference, references}
-use Rattle.dist_header.specs.Code.{flags-of, Opens, Spells, Marked, Went, Judges, JudgesNew, JudgesCached, Steps, Ends, HeaderIs}
-use Rattle.dist_header.proofs.Marks.{marked-none}
-use Rattle.dist_header.specs.declared.Opened.the-variants as opened
+use Rattle.packet_spec.specs.Header.{Reference, half, reference, references}
+use Rattle.dist_header.specs.Code.{flags-of, HeaderAt, HeaderStarts, reference-from, Spells, NamingIs, Went, Judges, JudgesNew, JudgesCached, ReferenceIs, Ends, HeaderIs}
+use Rattle.dist_header.proofs.PlaceNaming.{naming-none}
+use Rattle.dist_header.specs.declared.HeaderStart.the-variants as starts
 use Rattle.dist_header.specs.declared.Spelled.the-variants as spelled
 use Rattle.dist_header.specs.declared.Judged.the-variants as judged
-use Rattle.dist_header.specs.declared.Step.the-variants as step
+use Rattle.dist_header.specs.declared.ReferenceAnswer.the-variants as answers
 use Rattle.dist_header.specs.declared.References.the-variants as ends
 use Rattle.dist_header.specs.declared.HeaderAnswer.the-variants as headers
 
 -- ---- one reference, read and judged
 
-went-from : {o o′ : Answer (Reference × Position)} {t : Position} {marks : List ℕ} {earlier : List Reference} → o′ ≡ o → Went o t marks earlier → Went o′ t marks earlier
-went-from e w = record { found = w .found; is = e ∙ w .is; marked = w .marked }
+went-from : {o o′ : Answer (Reference × Position)} {t : Position} {naming : List ℕ} {earlier : List Reference} → o′ ≡ o → Went o t naming earlier → Went o′ t naming earlier
+went-from e w = record { reference = w .reference; is = e ∙ w .is; naming-is = w .naming-is }
 
-module _ (agreed : Coding) (holding : ℕ → Held) (s : List ℕ) (h width at : ℕ) (marks marks′ : List ℕ) where
-  pub step-cut : Spells s h width at spelled.Cut → Steps agreed holding s h width at marks marks′ (step.Refused 2)
-  unfolding Spells Steps
-  step-cut e earlier i m = e agreed holding earlier i
+module _ (agreed : Coding) (holding : ℕ → Held) (s : List ℕ) (h width at : ℕ) (naming naming′ : List ℕ) where
+  pub answer-cut : Spells s h width at spelled.Cut → ReferenceIs agreed holding s h width at naming naming′ (answers.Refused 2)
+  unfolding Spells ReferenceIs
+  answer-cut e earlier i m = e agreed holding earlier i
 
-  pub step-new-refused : (p : Place) (from size k : ℕ) → Spells s h width at (spelled.New p from size)
-      → JudgesNew agreed (p .0) (take size (drop from s)) marks marks′ (judged.Refused k) → Steps agreed holding s h width at marks marks′ (step.Refused k)
-  unfolding Spells Steps JudgesNew Judges
-  step-new-refused p from size k e j earlier i m = e .0 agreed holding earlier i ∙ j holding (at-offset s (from + size) 0) earlier i m
+  pub answer-new-refused : (p : Place) (from size k : ℕ) → Spells s h width at (spelled.New p from size)
+      → JudgesNew agreed (p .0) (take size (drop from s)) naming naming′ (judged.Refused k) → ReferenceIs agreed holding s h width at naming naming′ (answers.Refused k)
+  unfolding Spells ReferenceIs JudgesNew Judges
+  answer-new-refused p from size k e j earlier i m = e .0 agreed holding earlier i ∙ j holding (at-offset s (from + size) 0) earlier i m
 
-  pub step-new : (p : Place) (from size : ℕ) → Spells s h width at (spelled.New p from size)
-      → JudgesNew agreed (p .0) (take size (drop from s)) marks marks′ judged.Good → Steps agreed holding s h width at marks marks′ (step.Next (from + size))
-  unfolding Spells Steps JudgesNew Judges
-  step-new p from size e j = (
+  pub answer-new : (p : Place) (from size : ℕ) → Spells s h width at (spelled.New p from size)
+      → JudgesNew agreed (p .0) (take size (drop from s)) naming naming′ judged.Good → ReferenceIs agreed holding s h width at naming naming′ (answers.Next (from + size))
+  unfolding Spells ReferenceIs JudgesNew Judges
+  answer-new p from size e j = (
     λ earlier i m. went-from (e .0 agreed holding earlier i) (j holding (at-offset s (from + size) 0) earlier i m),
     omega (arith, e .2),
     e .3,
   )
 
-  pub step-cached-refused : (p : Place) (k : ℕ) → Spells s h width at (spelled.Cached p)
-      → JudgesCached holding (p .0) marks marks′ (judged.Refused k) → Steps agreed holding s h width at marks marks′ (step.Refused k)
-  unfolding Spells Steps JudgesCached Judges
-  step-cached-refused p k e j earlier i m = e .0 agreed holding earlier i ∙ j agreed (at-offset s (at + 1) 0) earlier i m
+  pub answer-cached-refused : (p : Place) (k : ℕ) → Spells s h width at (spelled.Cached p)
+      → JudgesCached holding (p .0) naming naming′ (judged.Refused k) → ReferenceIs agreed holding s h width at naming naming′ (answers.Refused k)
+  unfolding Spells ReferenceIs JudgesCached Judges
+  answer-cached-refused p k e j earlier i m = e .0 agreed holding earlier i ∙ j agreed (at-offset s (at + 1) 0) earlier i m
 
-  pub step-cached : (p : Place) → Spells s h width at (spelled.Cached p)
-      → JudgesCached holding (p .0) marks marks′ judged.Good → Steps agreed holding s h width at marks marks′ (step.Next (at + 1))
-  unfolding Spells Steps JudgesCached Judges
-  step-cached p e j = (
+  pub answer-cached : (p : Place) → Spells s h width at (spelled.Cached p)
+      → JudgesCached holding (p .0) naming naming′ judged.Good → ReferenceIs agreed holding s h width at naming naming′ (answers.Next (at + 1))
+  unfolding Spells ReferenceIs JudgesCached Judges
+  answer-cached p e j = (
     λ earlier i m. went-from (e .0 agreed holding earlier i) (j agreed (at-offset s (at + 1) 0) earlier i m),
     omega arith,
     omega (arith, e .2),
@@ -68,7 +68,7 @@ cached-inside s h width at p e = (e .1, e .2)
 
 -- ---- references in turn
 
--- these references before those found
+-- these references before those read
 unfoldable pub prepended : List Reference → Answer (List Reference × Position) → Answer (List Reference × Position)
 prepended done (good r) = good (done ++ r .0, r .1)
 prepended done (refused n p) = refused n p
@@ -120,15 +120,15 @@ module _ (agreed : Coding) (holding : ℕ → Held) (s : List ℕ) (flags : List
 
     -- where all references are good, so is the next one
     pub record Turned : Type 0 where
-      pub found : Reference
+      pub reference : Reference
       pub end : Position
-      pub is : reference agreed holding width earlier i (half flags i) (at-offset s next 0) ≡ good (found, end)
+      pub is : reference-from agreed holding s (half flags i) width next earlier i ≡ good (reference, end)
 
     pub turned : (rs : List Reference) (t : Position) → i < n → whole ≡ good (rs, t) → Turned
     turned rs t less e = go (reference agreed holding width earlier i (half flags i) (at-offset s next 0)) refl
       where
         go : (o : Answer (Reference × Position)) → reference agreed holding width earlier i (half flags i) (at-offset s next 0) ≡ o → Turned
-        go (good x) f = record { found = x .0; end = x .1; is = f }
+        go (good x) f = record { reference = x .0; end = x .1; is = f }
         go (refused k p) f =
             let g : whole ≡ refused k p = along-refused k p less f in
             let no-way : _≡_ {A = ℕ} 0 1 = cc in absurd (omega arith)
@@ -159,59 +159,59 @@ module _ (agreed : Coding) (holding : ℕ → Held) (s : List ℕ) (flags : List
         none-left n i e = omega arith
 
   -- where the check of the references stands
-  pub record Checking (whole : Answer (List Reference × Position)) (n i next : ℕ) (marks : List ℕ) : Type 0 where
+  pub record Checking (whole : Answer (List Reference × Position)) (n i next : ℕ) (naming : List ℕ) : Type 0 where
     pub earlier : List Reference
     pub done : List Reference
-    pub marked : Marked marks earlier
+    pub naming-is : NamingIs naming earlier
     pub along : Along whole n i next earlier done
 
   pub checking-none : (n first : ℕ) → Checking (references agreed holding flags width [] 0 n (at-offset s first 0)) n 0 first (replicate 2048 0)
-  checking-none n first = record { earlier = []; done = []; marked = marked-none; along = along-none n first }
+  checking-none n first = record { earlier = []; done = []; naming-is = naming-none; along = along-none n first }
 
-  module _ (whole : Answer (List Reference × Position)) (n i next : ℕ) (marks : List ℕ) (c : Checking whole n i next marks) where
-    pub checking-refused : (k : ℕ) (marks′ : List ℕ) → i < n → Steps agreed holding s (half flags i) width next marks marks′ (step.Refused k)
+  module _ (whole : Answer (List Reference × Position)) (n i next : ℕ) (naming : List ℕ) (c : Checking whole n i next naming) where
+    pub checking-refused : (k : ℕ) (naming′ : List ℕ) → i < n → ReferenceIs agreed holding s (half flags i) width next naming naming′ (answers.Refused k)
         → Ends whole s (ends.Refused (record { number = k; place = i }))
-    unfolding Steps Ends
-    checking-refused k marks′ less e = along-refused whole n i next (c .earlier) (c .done) (c .along) k i less (e (c .earlier) i (c .marked))
+    unfolding ReferenceIs Ends
+    checking-refused k naming′ less e = along-refused whole n i next (c .earlier) (c .done) (c .along) k i less (e (c .earlier) i (c .naming-is))
 
-    pub checking-more : (a : ℕ) (marks′ : List ℕ) → i < n → Steps agreed holding s (half flags i) width next marks marks′ (step.Next a) → Checking whole n (i + 1) a marks′
-    unfolding Steps
-    checking-more a marks′ less e =
-        let w : Went (reference agreed holding width (c .earlier) i (half flags i) (at-offset s next 0)) (at-offset s a 0) marks′ (c .earlier) = e .0 (c .earlier) i (c .marked) in
+    pub checking-more : (a : ℕ) (naming′ : List ℕ) → i < n → ReferenceIs agreed holding s (half flags i) width next naming naming′ (answers.Next a) → Checking whole n (i + 1) a naming′
+    unfolding ReferenceIs
+    checking-more a naming′ less e =
+        let w : Went (reference agreed holding width (c .earlier) i (half flags i) (at-offset s next 0)) (at-offset s a 0) naming′ (c .earlier) = e .0 (c .earlier) i (c .naming-is) in
         record {
-          earlier = w .found ∷ c .earlier;
-          done = c .done ++ (w .found ∷ []);
-          marked = w .marked;
-          along = along-more whole n i next (c .earlier) (c .done) (c .along) (w .found) a less (w .is);
+          earlier = w .reference ∷ c .earlier;
+          done = c .done ++ (w .reference ∷ []);
+          naming-is = w .naming-is;
+          along = along-more whole n i next (c .earlier) (c .done) (c .along) (w .reference) a less (w .is);
         }
 
     pub checking-all : i ≡ n → next ≤ length s → Ends whole s (ends.End next)
     unfolding Ends
-    checking-all e l = (record { found = c .done; is = along-all whole n i next (c .earlier) (c .done) (c .along) e }, l)
+    checking-all e l = (record { references = c .done; is = along-all whole n i next (c .earlier) (c .done) (c .along) e }, l)
 
-pub next-inside : (agreed : Coding) (holding : ℕ → Held) (s : List ℕ) (h width at : ℕ) (marks marks′ : List ℕ) (a : ℕ)
-    → Steps agreed holding s h width at marks marks′ (step.Next a) → (at < a) × (a ≤ length s)
-unfolding Steps
-next-inside agreed holding s h width at marks marks′ a e = (e .1, e .2)
+pub next-inside : (agreed : Coding) (holding : ℕ → Held) (s : List ℕ) (h width at : ℕ) (naming naming′ : List ℕ) (a : ℕ)
+    → ReferenceIs agreed holding s h width at naming naming′ (answers.Next a) → (at < a) × (a ≤ length s)
+unfolding ReferenceIs
+next-inside agreed holding s h width at naming naming′ a e = (e .1, e .2)
 
 -- ---- the whole header
 
-pub header-cut : (agreed : Coding) (holding : ℕ → Held) (s : List ℕ) (at : ℕ) → Opens s at opened.Cut
+pub header-cut : (agreed : Coding) (holding : ℕ → Held) (s : List ℕ) (at : ℕ) → HeaderStarts s at starts.Cut
     → HeaderIs agreed holding s at (headers.Refused (record { number = 2; place = 0 }))
-unfolding Opens HeaderIs
+unfolding HeaderStarts HeaderIs
 header-cut agreed holding s at e = e agreed holding
 
-module _ (agreed : Coding) (holding : ℕ → Held) (s : List ℕ) (at n width first : ℕ) (o : Opens s at (opened.Header n width first)) where
-  pub opened-inside : (0 < width) × (width ≤ 2) × (n < 256) × (first ≡ at + 1 + flag-bytes n) × (first ≤ length s)
-  unfolding Opens
-  opened-inside = (o .1, o .2, o .5, o .3, o .4)
+module _ (agreed : Coding) (holding : ℕ → Held) (s : List ℕ) (at n width first : ℕ) (o : HeaderStarts s at (starts.Header n width first)) where
+  pub start-inside : HeaderAt s at n width first
+  unfolding HeaderStarts
+  start-inside = o .1
 
   pub header-refused : (number place : ℕ) → Ends (references agreed holding (flags-of s at n) width [] 0 n (at-offset s first 0)) s (ends.Refused (record { number = number; place = place }))
       → HeaderIs agreed holding s at (headers.Refused (record { number = number; place = place }))
-  unfolding Opens HeaderIs Ends
+  unfolding HeaderStarts HeaderIs Ends
   header-refused number place e = o .0 agreed holding ∙ e
 
   pub header-good : (a : ℕ) → Ends (references agreed holding (flags-of s at n) width [] 0 n (at-offset s first 0)) s (ends.End a)
       → HeaderIs agreed holding s at (headers.Header n width first a)
-  unfolding Opens HeaderIs Ends
-  header-good a e = (o, record { found = e .0 .found; is = o .0 agreed holding ∙ e .0 .is }, e .1)
+  unfolding HeaderStarts HeaderIs Ends
+  header-good a e = (o, record { references = e .0 .references; is = o .0 agreed holding ∙ e .0 .is }, e .1)

@@ -5,22 +5,23 @@ use mathlib.Core.Bool.{Bool, true, false, cond}
 use mathlib.Core.List.{List, [], _∷_}
 use Prim.Native.Nat.{ℕ, _+_, _≤_, _<_}
 use lib.ListN.{length, getD, take, drop}
+use lib.Seq.{sets}
 use Rattle.term_spec.specs.Text.{Coding, valid, check, encodes}
 use Rattle.term_spec.specs.Answer.{Answer, good, refused, Position, at-offset}
-use Rattle.packet_spec.specs.Memory.{Cache, Held, held, nothing, no-text, text}
+use Rattle.packet_spec.specs.Memory.{Cache, CacheSized, Held, held, nothing, no-text, text}
 use Rattle.packet_spec.specs.Header.{Reference, flag-bytes, named, filled, new-reference, cached-reference, reference, references, header}
-use Rattle.dist_header.specs.declared.Opened.{Opened}
+use Rattle.dist_header.specs.declared.HeaderStart.{HeaderStart}
 use Rattle.dist_header.specs.declared.Spelled.{Spelled}
 use Rattle.dist_header.specs.declared.PlaceText.{PlaceText}
 use Rattle.dist_header.specs.declared.Judged.{Judged}
-use Rattle.dist_header.specs.declared.Step.{Step}
+use Rattle.dist_header.specs.declared.ReferenceAnswer.{ReferenceAnswer}
 use Rattle.dist_header.specs.declared.References.{References}
 use Rattle.dist_header.specs.declared.HeaderAnswer.{HeaderAnswer}
-use Rattle.dist_header.specs.declared.Opened.the-variants as opened
+use Rattle.dist_header.specs.declared.HeaderStart.the-variants as starts
 use Rattle.dist_header.specs.declared.Spelled.the-variants as spelled
 use Rattle.dist_header.specs.declared.PlaceText.the-variants as texts
 use Rattle.dist_header.specs.declared.Judged.the-variants as judged
-use Rattle.dist_header.specs.declared.Step.the-variants as step
+use Rattle.dist_header.specs.declared.ReferenceAnswer.the-variants as answers
 use Rattle.dist_header.specs.declared.References.the-variants as ends
 use Rattle.dist_header.specs.declared.HeaderAnswer.the-variants as headers
 
@@ -33,80 +34,113 @@ unfoldable pub holding-when : Bool → Cache → ℕ → Held
 holding-when true c = held c
 holding-when false c = λ p. text []
 
+-- the cache is of its stated size where it is looked at
+abbrev pub SizedWhen : Bool → Cache → Type 0
+SizedWhen look c = look ≡ true → CacheSized c
+
+-- the header at `at` has n references, the first at `first`, and lengths of this width
+pub record HeaderAt (s : List ℕ) (at n width first : ℕ) : Type 0 where
+  pub few : n < 256
+  pub width-least : 0 < width
+  pub width-most : width ≤ 2
+  pub first-is : first ≡ at + 1 + flag-bytes n
+  pub first-inside : first ≤ length s
+
+-- its references, judged in turn
+abbrev pub references-from : Coding → (ℕ → Held) → List ℕ → ℕ → ℕ → ℕ → ℕ → Answer (List Reference × Position)
+references-from agreed holding s at n width first = references agreed holding (flags-of s at n) width [] 0 n (at-offset s first 0)
+
 -- what stands before the references of the header at `at`
-unfoldable pub Opens : List ℕ → ℕ → Opened → Type 0
-Opens s at opened.Cut = (agreed : Coding) (holding : ℕ → Held) → header agreed holding (at-offset s at 0) ≡ refused 2 0
-Opens s at (opened.Header n width first) =
-    ((agreed : Coding) (holding : ℕ → Held) → header agreed holding (at-offset s at 0) ≡ references agreed holding (flags-of s at n) width [] 0 n (at-offset s first 0))
-    × (0 < width) × (width ≤ 2) × (first ≡ at + 1 + flag-bytes n) × (first ≤ length s) × (n < 256)
+unfoldable pub HeaderStarts : List ℕ → ℕ → HeaderStart → Type 0
+HeaderStarts s at starts.Cut = (agreed : Coding) (holding : ℕ → Held) → header agreed holding (at-offset s at 0) ≡ refused 2 0
+HeaderStarts s at (starts.Header n width first) =
+    ((agreed : Coding) (holding : ℕ → Held) → header agreed holding (at-offset s at 0) ≡ references-from agreed holding s at n width first)
+    × HeaderAt s at n width first
+
+-- a reference is read at `at`, with the half h and the width of lengths
+pub record ReferenceAt (s : List ℕ) (h width at : ℕ) : Type 0 where
+  pub half-small : h < 16
+  pub width-least : 0 < width
+  pub width-most : width ≤ 2
+  pub inside : at ≤ length s
+
+-- that reference, judged as reference i after the earlier ones
+abbrev pub reference-from : Coding → (ℕ → Held) → List ℕ → ℕ → ℕ → ℕ → List Reference → ℕ → Answer (Reference × Position)
+reference-from agreed holding s h width at earlier i = reference agreed holding width earlier i h (at-offset s at 0)
 
 -- the reference at `at`, with the half h and the width of lengths
 unfoldable pub Spells : List ℕ → ℕ → ℕ → ℕ → Spelled → Type 0
 Spells s h width at spelled.Cut =
-    (agreed : Coding) (holding : ℕ → Held) (earlier : List Reference) (i : ℕ) → reference agreed holding width earlier i h (at-offset s at 0) ≡ refused 2 i
+    (agreed : Coding) (holding : ℕ → Held) (earlier : List Reference) (i : ℕ) → reference-from agreed holding s h width at earlier i ≡ refused 2 i
 Spells s h width at (spelled.New p from size) =
     ((agreed : Coding) (holding : ℕ → Held) (earlier : List Reference) (i : ℕ)
-    → reference agreed holding width earlier i h (at-offset s at 0)
+    → reference-from agreed holding s h width at earlier i
     ≡ new-reference agreed holding earlier i (p .0) (take size (drop from s)) (at-offset s (from + size) 0))
     × (p .0 < 2048) × (at < from) × (from + size ≤ length s) × (size < 65536)
 Spells s h width at (spelled.Cached p) =
     ((agreed : Coding) (holding : ℕ → Held) (earlier : List Reference) (i : ℕ)
-    → reference agreed holding width earlier i h (at-offset s at 0) ≡ cached-reference agreed holding earlier i (p .0) (at-offset s (at + 1) 0))
+    → reference-from agreed holding s h width at earlier i ≡ cached-reference agreed holding earlier i (p .0) (at-offset s (at + 1) 0))
     × (p .0 < 2048) × (at < length s)
 
--- these bytes are a text, and as UTF-8 it fits from `at` on
-pub record TextFits (agreed : Coding) (bs : List ℕ) (at room : ℕ) : Type 0 where
+-- the `size` bytes from `from` on are a text, and as UTF-8 it fits from `at` on
+pub record TextFits (agreed : Coding) (s : List ℕ) (from size at room : ℕ) : Type 0 where
+  pub inside : from + size ≤ length s
+  pub small : size < 65536
   pub characters : List ℕ
-  pub is : check agreed bs ≡ valid characters
+  pub is : check agreed (take size (drop from s)) ≡ valid characters
   pub fits : at + length (encodes characters) ≤ room
 
+-- the text of these bytes is stored as UTF-8 from `at` on, in r bytes
+pub record PutsText (agreed : Coding) (bs : List ℕ) (at : ℕ) (before after : List ℕ) (r : ℕ) : Type 0 where
+  pub puts : (cs : List ℕ) → check agreed bs ≡ valid cs → (r ≡ length (encodes cs)) × (after ≡ sets before at (encodes cs))
+
 -- what a place holds, its text by its length
-unfoldable pub place-text : Held → PlaceText
-place-text nothing = texts.Empty
-place-text no-text = texts.Bad
-place-text (text bs) = texts.Text (length bs)
+unfoldable pub held-case : Held → PlaceText
+held-case nothing = texts.Empty
+held-case no-text = texts.Bad
+held-case (text bs) = texts.Text (length bs)
 
--- the mark of place p: 2 where one of these references fills it new, 1 where one names it, else 0
-unfoldable pub mark-of : ℕ → List Reference → ℕ
-mark-of p rs = cond (filled p rs) 2 (cond (named p rs) 1 0)
+-- how these references name place p: 2 where one fills it new, 1 where one names it, else 0
+unfoldable pub naming-of : ℕ → List Reference → ℕ
+naming-of p rs = cond (filled p rs) 2 (cond (named p rs) 1 0)
 
--- the marks of all places
-unfoldable pub Marked : List ℕ → List Reference → Type 0
-Marked marks earlier = (p : ℕ) → p < 2048 → getD marks p 0 ≡ mark-of p earlier
+-- the table says it of each place
+unfoldable pub NamingIs : List ℕ → List Reference → Type 0
+NamingIs naming earlier = (p : ℕ) → p < 2048 → getD naming p 0 ≡ naming-of p earlier
 
--- a reference is good, reading goes on at t, and the marks are those with it
-pub record Went (o : Answer (Reference × Position)) (t : Position) (marks : List ℕ) (earlier : List Reference) : Type 0 where
-  pub found : Reference
-  pub is : o ≡ good (found, t)
-  pub marked : Marked marks (found ∷ earlier)
+-- a reference is good, reading goes on at t, and the table is the one with it
+pub record Went (o : Answer (Reference × Position)) (t : Position) (naming : List ℕ) (earlier : List Reference) : Type 0 where
+  pub reference : Reference
+  pub is : o ≡ good (reference, t)
+  pub naming-is : NamingIs naming (reference ∷ earlier)
 
--- a step of judging, which goes on at t, with the marks before and after it
+-- a reference judged, which goes on at t, with the table before and after it
 unfoldable pub Judges : (List Reference → ℕ → Answer (Reference × Position)) → Position → List ℕ → List ℕ → Judged → Type 0
-Judges steps t marks marks′ (judged.Refused k) = (earlier : List Reference) (i : ℕ) → Marked marks earlier → steps earlier i ≡ refused k i
-Judges steps t marks marks′ judged.Good = (earlier : List Reference) (i : ℕ) → Marked marks earlier → Went (steps earlier i) t marks′ earlier
+Judges judging t naming naming′ (judged.Refused k) = (earlier : List Reference) (i : ℕ) → NamingIs naming earlier → judging earlier i ≡ refused k i
+Judges judging t naming naming′ judged.Good = (earlier : List Reference) (i : ℕ) → NamingIs naming earlier → Went (judging earlier i) t naming′ earlier
 
 -- a new reference to place p with these bytes
 unfoldable pub JudgesNew : Coding → ℕ → List ℕ → List ℕ → List ℕ → Judged → Type 0
-JudgesNew agreed p bs marks marks′ r =
-    (holding : ℕ → Held) (t : Position) → Judges (λ earlier i. new-reference agreed holding earlier i p bs t) t marks marks′ r
+JudgesNew agreed p bs naming naming′ r =
+    (holding : ℕ → Held) (t : Position) → Judges (λ earlier i. new-reference agreed holding earlier i p bs t) t naming naming′ r
 
 -- a cached reference to place p
 unfoldable pub JudgesCached : (ℕ → Held) → ℕ → List ℕ → List ℕ → Judged → Type 0
-JudgesCached holding p marks marks′ r =
-    (agreed : Coding) (t : Position) → Judges (λ earlier i. cached-reference agreed holding earlier i p t) t marks marks′ r
+JudgesCached holding p naming naming′ r =
+    (agreed : Coding) (t : Position) → Judges (λ earlier i. cached-reference agreed holding earlier i p t) t naming naming′ r
 
 -- the reference at `at`, read and judged
-unfoldable pub Steps : Coding → (ℕ → Held) → List ℕ → ℕ → ℕ → ℕ → List ℕ → List ℕ → Step → Type 0
-Steps agreed holding s h width at marks marks′ (step.Refused k) =
-    (earlier : List Reference) (i : ℕ) → Marked marks earlier → reference agreed holding width earlier i h (at-offset s at 0) ≡ refused k i
-Steps agreed holding s h width at marks marks′ (step.Next a) =
-    ((earlier : List Reference) (i : ℕ) → Marked marks earlier → Went (reference agreed holding width earlier i h (at-offset s at 0)) (at-offset s a 0) marks′ earlier)
+unfoldable pub ReferenceIs : Coding → (ℕ → Held) → List ℕ → ℕ → ℕ → ℕ → List ℕ → List ℕ → ReferenceAnswer → Type 0
+ReferenceIs agreed holding s h width at naming naming′ (answers.Refused k) =
+    (earlier : List Reference) (i : ℕ) → NamingIs naming earlier → reference-from agreed holding s h width at earlier i ≡ refused k i
+ReferenceIs agreed holding s h width at naming naming′ (answers.Next a) =
+    ((earlier : List Reference) (i : ℕ) → NamingIs naming earlier → Went (reference-from agreed holding s h width at earlier i) (at-offset s a 0) naming′ earlier)
     × (at < a) × (a ≤ length s)
 
--- references found, and reading goes on at offset a of s
+-- references are read, and reading goes on at offset a of s
 pub record Reads (o : Answer (List Reference × Position)) (s : List ℕ) (a : ℕ) : Type 0 where
-  pub found : List Reference
-  pub is : o ≡ good (found, at-offset s a 0)
+  pub references : List Reference
+  pub is : o ≡ good (references, at-offset s a 0)
 
 -- all references of a header
 unfoldable pub Ends : Answer (List Reference × Position) → List ℕ → References → Type 0
@@ -117,15 +151,11 @@ Ends o s (ends.End a) = Reads o s a × (a ≤ length s)
 unfoldable pub HeaderIs : Coding → (ℕ → Held) → List ℕ → ℕ → HeaderAnswer → Type 0
 HeaderIs agreed holding s at (headers.Refused f) = header agreed holding (at-offset s at 0) ≡ refused (f .number) (f .place)
 HeaderIs agreed holding s at (headers.Header n width first payload) =
-    Opens s at (opened.Header n width first) × Reads (header agreed holding (at-offset s at 0)) s payload × (payload ≤ length s)
+    HeaderStarts s at (starts.Header n width first) × Reads (header agreed holding (at-offset s at 0)) s payload × (payload ≤ length s)
 
 -- the references of the header at `at` are good, with where they stand
 pub record GoodHeader (agreed : Coding) (holding : ℕ → Held) (s : List ℕ) (at n width first : ℕ) : Type 0 where
-  pub found : List Reference
+  pub references : List Reference
   pub end : Position
-  pub is : references agreed holding (flags-of s at n) width [] 0 n (at-offset s first 0) ≡ good (found, end)
-  pub width-least : 0 < width
-  pub width-most : width ≤ 2
-  pub few : n < 256
-  pub first-is : first ≡ at + 1 + flag-bytes n
-  pub first-inside : first ≤ length s
+  pub is : references-from agreed holding s at n width first ≡ good (references, end)
+  pub stands : HeaderAt s at n width first

@@ -1,24 +1,27 @@
 // Headers of packets: where their references stand, whether they may be taken, and the place that a reference names.
 ghost use mathlib.Core.Path.{_≡_};
-ghost use mathlib.Core.Bool.{true};
-ghost use mathlib.Core.List.{List, []};
-ghost use Prim.Native.Nat.{ℕ, _+_, _*_, _/_, _≤_, _<_};
+ghost use mathlib.Core.List.{List};
+ghost use Prim.Native.Nat.{ℕ, _+_, _/_, _≤_, _<_};
 ghost use lib.ListN.{length, take, drop};
-ghost use lib.Seq.{sets};
-ghost use Rattle.term_spec.specs.Numbers.{big-endian};
 ghost use Rattle.term_spec.specs.Text.{coding-of, check, valid, encodes};
-ghost use Rattle.packet_spec.specs.Memory.{cache-of, held};
-ghost use Rattle.packet_spec.specs.Header.{flag-bytes, half, references};
-ghost use Rattle.term_spec.specs.Answer.{at-offset};
-ghost use Rattle.dist_header.specs.Code.{flags-of, holding-when, Opens, Spells, TextFits, place-text, JudgesNew, JudgesCached, Steps, Ends, HeaderIs};
+ghost use Rattle.packet_spec.specs.Memory.{cache-of, CacheSized, held};
+ghost use Rattle.packet_spec.specs.Header.{half};
+ghost use Rattle.dist_header.specs.Code.{holding-when, SizedWhen, HeaderAt, references-from, HeaderStarts, ReferenceAt, Spells, TextFits, PutsText, held-case, JudgesNew, JudgesCached, ReferenceIs, Ends, HeaderIs};
 use packet_spec::Place;
 use packet_spec::ReferenceIndex;
 use term_spec::Refusal;
 use term_spec::refusals;
 use term_spec::sizes;
 
+// How the references before name a place: none does, one does, one fills it new.
+const UNNAMED: u8 = 0;
+
+const NAMED: u8 = 1;
+
+const FILLED: u8 = 2;
+
 // What stands before the references: their number, the width of lengths, the offset of the first.
-pub enum Opened {
+pub enum HeaderStart {
     Cut,
     Header {
         n: usize,
@@ -54,7 +57,7 @@ pub enum Judged {
 }
 
 // A reference read and judged: the number of its refusal, or the offset past it.
-pub enum Step {
+pub enum ReferenceAnswer {
     Refused(u8),
     Next(usize),
 }
@@ -76,10 +79,10 @@ pub enum HeaderAnswer {
     },
 }
 
-// Half i of the flag bytes of the header at `at`, which has n references.
-pub fn half_of(packet: &[u8], at: usize, n: usize, i: ReferenceIndex) -> usize
-    requires { ⌜ (0 < n) × (i .0 ≤ n) × (at + n / 2 + 2 ≤ length (now packet)) ⌝ }
-    ensures { λ r. ⌜ (r ≡ half (flags-of (now (packet .entry)) at n) (i .0)) × (r < 16) ⌝ }
+// Half i of the flag bytes of the header at `at`.
+pub fn half_of(packet: &[u8], at: usize, i: ReferenceIndex) -> usize
+    requires { ⌜ at + 1 + i .0 / 2 < length (now packet) ⌝ }
+    ensures { λ r. ⌜ (r ≡ half (drop (at + 1) (now (packet .entry))) (i .0)) × (r < 16) ⌝ }
 {
     let k = i.0;
     let flags = octets::wide(packet[at + 1 + k / 2]);
@@ -90,16 +93,16 @@ pub fn half_of(packet: &[u8], at: usize, n: usize, i: ReferenceIndex) -> usize
 }
 
 // The count, the flags and the width of lengths of the header at `at`.
-fn open_header(packet: &[u8], at: usize) -> Opened
+fn header_start(packet: &[u8], at: usize) -> HeaderStart
     requires { ⌜ at ≤ length (now packet) ⌝ }
-    ensures { λ r. ⌜ Opens (now (packet .entry)) at r ⌝ }
+    ensures { λ r. ⌜ HeaderStarts (now (packet .entry)) at r ⌝ }
 {
     if packet.len() <= at {
-        return Opened::Cut;
+        return HeaderStart::Cut;
     }
     let n = octets::wide(packet[at]);
     if n == 0 {
-        return Opened::Header {
+        return HeaderStart::Header {
             n: 0,
             width: 1,
             first: at + 1,
@@ -107,30 +110,19 @@ fn open_header(packet: &[u8], at: usize) -> Opened
     }
     let flags = n / 2 + 1;
     if packet.len() - at - 1 < flags {
-        return Opened::Cut;
+        return HeaderStart::Cut;
     }
-    let spare = half_of(packet, at, n, ReferenceIndex(n));
-    Opened::Header {
+    let spare = half_of(packet, at, ReferenceIndex(n));
+    HeaderStart::Header {
         n: n,
         width: 1 + spare % 2,
         first: at + 1 + flags,
     }
 }
 
-// The number in the 1 or 2 bytes from `at` on.
-fn length_at(packet: &[u8], at: usize, width: usize) -> usize
-    requires { ⌜ (0 < width) × (width ≤ 2) × (at + width ≤ length (now packet)) ⌝ }
-    ensures { λ r. ⌜ (r ≡ big-endian (take width (drop at (now (packet .entry))))) × (r < 65536) ⌝ }
-{
-    if width == 1 {
-        return octets::big1(packet, at);
-    }
-    octets::big2(packet, at)
-}
-
 // The reference at `at`, with its half and the width of lengths: its place is 256 times the segment plus the internal index.
 pub fn read_reference(packet: &[u8], half: usize, width: usize, at: usize) -> Spelled
-    requires { ⌜ (half < 16) × (0 < width) × (width ≤ 2) × (at ≤ length (now packet)) ⌝ }
+    requires { ⌜ ReferenceAt (now packet) half width at ⌝ }
     ensures { λ r. ⌜ Spells (now (packet .entry)) half width at r ⌝ }
 {
     if packet.len() <= at {
@@ -143,7 +135,7 @@ pub fn read_reference(packet: &[u8], half: usize, width: usize, at: usize) -> Sp
     if packet.len() - at - 1 < width {
         return Spelled::Cut;
     }
-    let size = length_at(packet, at + 1, width);
+    let size = octets::number(packet, at + 1, width) as usize;
     let from = at + 1 + width;
     if packet.len() - from < size {
         return Spelled::Cut;
@@ -153,13 +145,6 @@ pub fn read_reference(packet: &[u8], half: usize, width: usize, at: usize) -> Sp
         from: from,
         size: size,
     }
-}
-
-// A length of a place as a number of a machine word.
-pub fn wide_length(x: u16) -> usize
-    ensures { λ r. ⌜ (r ≡ x) × (r < 65536) ⌝ }
-{
-    x as usize
 }
 
 // The length as UTF-8 of the text, in the coding agreed, from `from` on.
@@ -182,8 +167,8 @@ pub fn put_text(
     dst: &mut [u8],
     at: usize,
 ) -> usize
-    requires { ⌜ (from + size ≤ length (now packet)) × (size < 65536) × TextFits (coding-of utf8) (take size (drop from (now packet))) at (length (now dst)) ⌝ }
-    ensures { λ r. ⌜ ((cs : List ℕ) → check (coding-of utf8) (take size (drop from (now (packet .entry)))) ≡ valid cs → (r ≡ length (encodes cs)) × (now (dst .exit) ≡ sets (now (dst .entry)) at (encodes cs))) ⌝ }
+    requires { ⌜ TextFits (coding-of utf8) (now packet) from size at (length (now dst)) ⌝ }
+    ensures { λ r. ⌜ PutsText (coding-of utf8) (take size (drop from (now (packet .entry)))) at (now (dst .entry)) (now (dst .exit)) r ⌝ }
 {
     if utf8 {
         octets::copy(packet, from, dst, at, size);
@@ -194,11 +179,11 @@ pub fn put_text(
 
 // What a place of the cache holds.
 pub fn held_at(cache: &[u8], cache_lengths: &[u16], place: Place) -> PlaceText
-    requires { ⌜ (place .0 < 2048) × (length (now cache) ≡ 65536) × (length (now «cache_lengths») ≡ 2048) ⌝ }
-    ensures { λ r. ⌜ r ≡ place-text (held (cache-of (now (cache .entry)) (now («cache_lengths» .entry))) (place .0)) ⌝ }
+    requires { ⌜ (place .0 < 2048) × CacheSized (cache-of (now cache) (now «cache_lengths»)) ⌝ }
+    ensures { λ r. ⌜ r ≡ held-case (held (cache-of (now (cache .entry)) (now («cache_lengths» .entry))) (place .0)) ⌝ }
 {
     let k = place.0;
-    let size = wide_length(cache_lengths[k]);
+    let size = octets::wide16(cache_lengths[k]);
     if size == packet_spec::sizes::CACHE_EMPTY as usize {
         return PlaceText::Empty;
     }
@@ -215,8 +200,8 @@ pub fn held_at(cache: &[u8], cache_lengths: &[u16], place: Place) -> PlaceText
 
 // What a place holds where the cache is looked at; else a text.
 fn looked_at(look: bool, cache: &[u8], cache_lengths: &[u16], place: Place) -> PlaceText
-    requires { ⌜ (place .0 < 2048) × (look ≡ true → (length (now cache) ≡ 65536) × (length (now «cache_lengths») ≡ 2048)) ⌝ }
-    ensures { λ r. ⌜ r ≡ place-text (holding-when look (cache-of (now (cache .entry)) (now («cache_lengths» .entry))) (place .0)) ⌝ }
+    requires { ⌜ (place .0 < 2048) × SizedWhen look (cache-of (now cache) (now «cache_lengths»)) ⌝ }
+    ensures { λ r. ⌜ r ≡ held-case (holding-when look (cache-of (now (cache .entry)) (now («cache_lengths» .entry))) (place .0)) ⌝ }
 {
     if look {
         return held_at(cache, cache_lengths, place);
@@ -224,20 +209,20 @@ fn looked_at(look: bool, cache: &[u8], cache_lengths: &[u16], place: Place) -> P
     PlaceText::Text(0)
 }
 
-// Judges a new reference: 22, 5, 23. `marks` has 2 for a place that an earlier reference fills new, 1 for one named otherwise.
+// Judges a new reference: 22, 5, 23. `naming` says how earlier references name each place.
 fn judge_new(
     utf8: bool,
     packet: &[u8],
     place: Place,
     from: usize,
     size: usize,
-    marks: &mut [u8],
+    naming: &mut [u8],
 ) -> Judged
-    requires { ⌜ (place .0 < 2048) × (from + size ≤ length (now packet)) × (size < 65536) × (length (now marks) ≡ 2048) ⌝ }
-    ensures { λ r. ⌜ JudgesNew (coding-of utf8) (place .0) (take size (drop from (now (packet .entry)))) (now (marks .entry)) (now (marks .exit)) r ⌝ }
+    requires { ⌜ (place .0 < 2048) × (from + size ≤ length (now packet)) × (size < 65536) × (length (now naming) ≡ 2048) ⌝ }
+    ensures { λ r. ⌜ JudgesNew (coding-of utf8) (place .0) (take size (drop from (now (packet .entry)))) (now (naming .entry)) (now (naming .exit)) r ⌝ }
 {
     let k = place.0;
-    if marks[k] != 0 {
+    if naming[k] != UNNAMED {
         return Judged::Refused(refusals::NAMED_AGAIN);
     }
     let end = from + size;
@@ -247,7 +232,7 @@ fn judge_new(
     if sizes::PLACE_BYTES < stored_length(utf8, packet, from, size) {
         return Judged::Refused(refusals::LONG_TEXT);
     }
-    marks[k] = 2;
+    naming[k] = FILLED;
     Judged::Good
 }
 
@@ -257,20 +242,20 @@ fn judge_cached(
     cache: &[u8],
     cache_lengths: &[u16],
     place: Place,
-    marks: &mut [u8],
+    naming: &mut [u8],
 ) -> Judged
-    requires { ⌜ (place .0 < 2048) × (look ≡ true → (length (now cache) ≡ 65536) × (length (now «cache_lengths») ≡ 2048)) × (length (now marks) ≡ 2048) ⌝ }
-    ensures { λ r. ⌜ JudgesCached (holding-when look (cache-of (now (cache .entry)) (now («cache_lengths» .entry)))) (place .0) (now (marks .entry)) (now (marks .exit)) r ⌝ }
+    requires { ⌜ (place .0 < 2048) × SizedWhen look (cache-of (now cache) (now «cache_lengths»)) × (length (now naming) ≡ 2048) ⌝ }
+    ensures { λ r. ⌜ JudgesCached (holding-when look (cache-of (now (cache .entry)) (now («cache_lengths» .entry)))) (place .0) (now (naming .entry)) (now (naming .exit)) r ⌝ }
 {
     let k = place.0;
-    if marks[k] == 2 {
+    if naming[k] == FILLED {
         return Judged::Refused(refusals::NAMED_AGAIN);
     }
     match looked_at(look, cache, cache_lengths, place) {
         PlaceText::Empty => Judged::Refused(refusals::EMPTY_PLACE),
         PlaceText::Bad => Judged::Refused(refusals::STATE),
         PlaceText::Text(_) => {
-            marks[k] = 1;
+            naming[k] = NAMED;
             Judged::Good
         }
     }
@@ -286,23 +271,23 @@ fn judge_reference(
     at: usize,
     cache: &[u8],
     cache_lengths: &[u16],
-    marks: &mut [u8],
-) -> Step
-    requires { ⌜ (half < 16) × (0 < width) × (width ≤ 2) × (at ≤ length (now packet)) × (look ≡ true → (length (now cache) ≡ 65536) × (length (now «cache_lengths») ≡ 2048)) × (length (now marks) ≡ 2048) ⌝ }
-    ensures { λ r. ⌜ Steps (coding-of utf8) (holding-when look (cache-of (now (cache .entry)) (now («cache_lengths» .entry)))) (now (packet .entry)) half width at (now (marks .entry)) (now (marks .exit)) r ⌝ }
+    naming: &mut [u8],
+) -> ReferenceAnswer
+    requires { ⌜ ReferenceAt (now packet) half width at × SizedWhen look (cache-of (now cache) (now «cache_lengths»)) × (length (now naming) ≡ 2048) ⌝ }
+    ensures { λ r. ⌜ ReferenceIs (coding-of utf8) (holding-when look (cache-of (now (cache .entry)) (now («cache_lengths» .entry)))) (now (packet .entry)) half width at (now (naming .entry)) (now (naming .exit)) r ⌝ }
 {
     match read_reference(packet, half, width, at) {
-        Spelled::Cut => Step::Refused(refusals::CUT),
+        Spelled::Cut => ReferenceAnswer::Refused(refusals::CUT),
         Spelled::New { place, from, size } => {
-            match judge_new(utf8, packet, place, from, size, marks) {
-                Judged::Refused(number) => Step::Refused(number),
-                Judged::Good => Step::Next(from + size),
+            match judge_new(utf8, packet, place, from, size, naming) {
+                Judged::Refused(number) => ReferenceAnswer::Refused(number),
+                Judged::Good => ReferenceAnswer::Next(from + size),
             }
         }
         Spelled::Cached { place } => {
-            match judge_cached(look, cache, cache_lengths, place, marks) {
-                Judged::Refused(number) => Step::Refused(number),
-                Judged::Good => Step::Next(at + 1),
+            match judge_cached(look, cache, cache_lengths, place, naming) {
+                Judged::Refused(number) => ReferenceAnswer::Refused(number),
+                Judged::Good => ReferenceAnswer::Next(at + 1),
             }
         }
     }
@@ -320,14 +305,14 @@ fn check_references(
     cache: &[u8],
     cache_lengths: &[u16],
 ) -> References
-    requires { ⌜ (0 < width) × (width ≤ 2) × (n < 256) × (first ≡ at + 1 + flag-bytes n) × (first ≤ length (now packet)) × (look ≡ true → (length (now cache) ≡ 65536) × (length (now «cache_lengths») ≡ 2048)) ⌝ }
-    ensures { λ r. ⌜ Ends (references (coding-of utf8) (holding-when look (cache-of (now (cache .entry)) (now («cache_lengths» .entry)))) (flags-of (now (packet .entry)) at n) width [] 0 n (at-offset (now (packet .entry)) first 0)) (now (packet .entry)) r ⌝ }
+    requires { ⌜ HeaderAt (now packet) at n width first × SizedWhen look (cache-of (now cache) (now «cache_lengths»)) ⌝ }
+    ensures { λ r. ⌜ Ends (references-from (coding-of utf8) (holding-when look (cache-of (now (cache .entry)) (now («cache_lengths» .entry)))) (now (packet .entry)) at n width first) (now (packet .entry)) r ⌝ }
 {
-    let mut marks = [0u8; packet_spec::sizes::CACHE_PLACES];
+    let mut naming = [UNNAMED; packet_spec::sizes::CACHE_PLACES];
     let mut next = first;
     let mut i = 0;
     while i < n {
-        let half = half_of(packet, at, n, ReferenceIndex(i));
+        let half = half_of(packet, at, ReferenceIndex(i));
         match judge_reference(
             utf8,
             look,
@@ -337,15 +322,15 @@ fn check_references(
             next,
             cache,
             cache_lengths,
-            &mut marks,
+            &mut naming,
         ) {
-            Step::Refused(number) => {
+            ReferenceAnswer::Refused(number) => {
                 return References::Refused(Refusal {
                     number: number,
                     place: i,
                 });
             }
-            Step::Next(offset) => {
+            ReferenceAnswer::Next(offset) => {
                 next = offset;
             }
         }
@@ -363,15 +348,15 @@ pub fn check_header(
     cache: &[u8],
     cache_lengths: &[u16],
 ) -> HeaderAnswer
-    requires { ⌜ (at ≤ length (now packet)) × (look ≡ true → (length (now cache) ≡ 65536) × (length (now «cache_lengths») ≡ 2048)) ⌝ }
+    requires { ⌜ (at ≤ length (now packet)) × SizedWhen look (cache-of (now cache) (now «cache_lengths»)) ⌝ }
     ensures { λ r. ⌜ HeaderIs (coding-of utf8) (holding-when look (cache-of (now (cache .entry)) (now («cache_lengths» .entry)))) (now (packet .entry)) at r ⌝ }
 {
-    match open_header(packet, at) {
-        Opened::Cut => HeaderAnswer::Refused(Refusal {
+    match header_start(packet, at) {
+        HeaderStart::Cut => HeaderAnswer::Refused(Refusal {
             number: refusals::CUT,
             place: 0,
         }),
-        Opened::Header { n, width, first } => {
+        HeaderStart::Header { n, width, first } => {
             match check_references(
                 utf8,
                 look,

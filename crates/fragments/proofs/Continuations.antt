@@ -17,7 +17,7 @@ use Rattle.packet_spec.specs.Memory.{Cache, Memory, memory-of, held}
 use Rattle.packet_spec.specs.Packet.{continuing, Packet, continuation, payload-after, rest}
 use Rattle.packet_spec.specs.Calls.{told, left-by, told-after, record-after}
 use Rattle.packet_spec.specs.Answers.{outcome-case}
-use Rattle.fragments.specs.Code.{settled, Takes}
+use Rattle.fragments.specs.Code.{after-fragment, Takes}
 use Rattle.fragments.proofs.Taking.{whole-part, refused-takes, good-takes}
 
 module _ (agreed : Coding) (c : Cache) (plain-list pending-list : AtomList) (r : Pending) (gather s : List ℕ) (q f : ℕ) where
@@ -62,9 +62,9 @@ module _ (agreed : Coding) (c : Cache) (plain-list pending-list : AtomList) (r :
         more-long l g = refused-takes lent lent judged-as 12 0 (ap result-of (payload-long (omega (arith, left)))) refl
 
         pub more-good : (gather′ : List ℕ) (taken-as : Taken) → length s - 18 ≤ 65536 - r .gathered → r .gathered ≤ 65536
-            → gather′ ≡ sets gather (r .gathered) (take (length s - 18) (drop 18 s)) → taken-as ≡ settled q f (r .gathered + (length s - 18))
+            → gather′ ≡ sets gather (r .gathered) (take (length s - 18) (drop 18 s)) → taken-as ≡ after-fragment q f (r .gathered + (length s - 18))
             → Takes lent judged-as (taken-as .answer) (memory-of c plain-list pending-list (taken-as .pending) gather′)
-        unfolding outcome-case told left-by settled
+        unfolding outcome-case told left-by after-fragment
         more-good gather′ taken-as l g e t =
             good-takes lent (memory-of c plain-list pending-list (taken-as .pending) gather′) judged-as (continuation q f (drop 18 s)) _
             (ap result-of (payload-there (omega (arith, left))))

@@ -12,19 +12,19 @@ use Rattle.packet_spec.specs.Memory.{Memory, none-pending}
 use Rattle.packet_spec.specs.Packet.{Packet}
 use Rattle.packet_spec.specs.Calls.{told, left-by, taken, left-after, told-after, record-after}
 use Rattle.packet_spec.specs.Answers.{outcome-case, packet-answer}
-use Rattle.fragments.specs.Code.{settled, Takes}
+use Rattle.fragments.specs.Code.{after-fragment, Takes}
 
 -- ---- a fragment's answer and record
 
-pub settled-last : (sequence fragment gathered : ℕ) → fragment ≡ 1
-    → record { answer = packets.Complete gathered; pending = none-pending } ≡ settled sequence fragment gathered
-unfolding settled outcome-case told-after record-after
-settled-last sequence fragment gathered e = rw (eq-eqb fragment 1 e)
+pub fragment-last : (sequence fragment gathered : ℕ) → fragment ≡ 1
+    → record { answer = packets.Complete gathered; pending = none-pending } ≡ after-fragment sequence fragment gathered
+unfolding after-fragment outcome-case told-after record-after
+fragment-last sequence fragment gathered e = rw (eq-eqb fragment 1 e)
 
-pub settled-more : (sequence fragment gathered : ℕ) → (fragment ≡ 1 → ⊥)
-    → record { answer = packets.Pending (fragment - 1) gathered; pending = record { sequence = sequence; due = fragment - 1; gathered = gathered } } ≡ settled sequence fragment gathered
-unfolding settled outcome-case told-after record-after
-settled-more sequence fragment gathered e = rw (ne-eqb fragment 1 e)
+pub fragment-more : (sequence fragment gathered : ℕ) → (fragment ≡ 1 → ⊥)
+    → record { answer = packets.Pending (fragment - 1) gathered; pending = record { sequence = sequence; due = fragment - 1; gathered = gathered } } ≡ after-fragment sequence fragment gathered
+unfolding after-fragment outcome-case told-after record-after
+fragment-more sequence fragment gathered e = rw (ne-eqb fragment 1 e)
 
 -- all of a list
 pub whole-part : (l : List ℕ) (n : ℕ) → n ≡ length l → take n l ≡ l

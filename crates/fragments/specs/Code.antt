@@ -17,8 +17,8 @@ use Rattle.packet_spec.specs.Calls.{told-after, record-after, taken, left-after
 use Rattle.packet_spec.specs.Answers.{outcome-case, packet-answer}
 
 -- what a fragment answers and leaves in the record
-unfoldable pub settled : ℕ → ℕ → ℕ → Taken
-settled sequence fragment gathered = record { answer = outcome-case (told-after fragment gathered); pending = record-after sequence fragment gathered }
+unfoldable pub after-fragment : ℕ → ℕ → ℕ → Taken
+after-fragment sequence fragment gathered = record { answer = outcome-case (told-after fragment gathered); pending = record-after sequence fragment gathered }
 
 -- a refused packet: its number, and the record as it was
 abbrev pub refusal : ℕ → Pending → Taken

@@ -2,7 +2,7 @@
 ghost use mathlib.Core.Path.{_≡_};
 ghost use Prim.Native.Nat.{_≤_, _<_};
 ghost use lib.ListN.{length};
-ghost use Rattle.fragments.specs.Code.{settled, refusal, TakesContinuation};
+ghost use Rattle.fragments.specs.Code.{after-fragment, refusal, TakesContinuation};
 use packet_spec::PacketAnswer;
 use packet_spec::Pending;
 use packet_spec::Taken;
@@ -23,9 +23,9 @@ pub fn refused(number: u8, pending: Pending) -> Taken
 }
 
 // What a fragment with this id answers with so many bytes gathered, and the record after it.
-pub fn settle(sequence: u64, fragment: u64, gathered: u64) -> Taken
+pub fn after_fragment(sequence: u64, fragment: u64, gathered: u64) -> Taken
     requires { ⌜ 0 < fragment ⌝ }
-    ensures { λ r. ⌜ r ≡ settled sequence fragment gathered ⌝ }
+    ensures { λ r. ⌜ r ≡ after-fragment sequence fragment gathered ⌝ }
 {
     if fragment == 1 {
         return Taken {
@@ -79,5 +79,5 @@ pub fn take_continuation(
     }
     octets::copy(packet, from, gather, before, size);
     let gathered = before + size;
-    settle(sequence, fragment, gathered as u64)
+    after_fragment(sequence, fragment, gathered as u64)
 }

@@ -15,8 +15,8 @@ use Rattle.packet_spec.specs.Packet.{payload-after}
 use Rattle.packet_spec.specs.Calls.{list-of}
 use Rattle.dist_header.specs.Code.{holding-when, GoodHeader, HeaderIs}
 use Rattle.dist_header.specs.declared.HeaderAnswer.the-variants as headers
-use Rattle.dist_header.proofs.Accepted.{header-found, header-is, references-are, header-count, payload-inside, good-of}
-use Rattle.cache_entries.specs.Code.{Listed, Entered}
+use Rattle.dist_header.proofs.Accepted.{header-references, header-is, references-are, header-count, payload-inside, good-of}
+use Rattle.cache_entries.specs.Code.{ListWritten, CacheWritten}
 use Rattle.headed_packets.specs.Code.{headed, Heads}
 use Rattle.headed_packets.specs.declared.Headed.the-variants as headeds
 
@@ -39,7 +39,7 @@ module _ (agreed : Coding) (c : Cache) (s : List ℕ) (at : ℕ) where
     told-good = good-of agreed (held c) s at n width first payload is
 
     after-header : headed agreed (held c) (at-offset s at 0)
-        ≡ after (payload-after 0 (at-offset s payload 0)) (λ bs t. good ((header-found agreed (held c) s at n width first payload is, payload, bs), t))
+        ≡ after (payload-after 0 (at-offset s payload 0)) (λ bs t. good ((header-references agreed (held c) s at n width first payload is, payload, bs), t))
     unfolding headed
     after-header = rw (header-is agreed (held c) s at n width first payload is)
 
@@ -50,21 +50,21 @@ module _ (agreed : Coding) (c : Cache) (s : List ℕ) (at : ℕ) where
     unfolding Heads payload-after
     heads-long list l = record { is = after-header ∙ rw (lt-leb (0 + length (drop payload s)) 65536 (omega (arith, left))); cache-stays = refl; list-stays = refl }
 
-    pub heads-good : (list : AtomList) (c′ : Cache) (list-places′ list-lengths′ : List ℕ) → length s - payload ≤ 65536 → Listed agreed (held c) s at n width first list-places′ list-lengths′ → Entered agreed s at n width first c c′
+    pub heads-good : (list : AtomList) (c′ : Cache) (list-places′ list-lengths′ : List ℕ) → length s - payload ≤ 65536 → ListWritten agreed c s at n width first list-places′ list-lengths′ → CacheWritten agreed s at n width first c c′
         → Heads agreed s at c list (headeds.Payload payload (length s - payload)) c′ (lent-list n list-places′ list-lengths′)
     unfolding Heads payload-after list-of
-    heads-good list c′ list-places′ list-lengths′ l listed all =
-        let rs : List Reference = header-found agreed (held c) s at n width first payload is in
+    heads-good list c′ list-places′ list-lengths′ l list-written all =
+        let rs : List Reference = header-references agreed (held c) s at n width first payload is in
         let e = references-are agreed (held c) s at n width first payload is in
-        let k = listed .listed rs (at-offset s payload 0) e in
+        let k = list-written .list-written rs (at-offset s payload 0) e in
         let inside = told-inside in
         record {
-          found = rs;
+          references = rs;
           is = after-header ∙ rw (le-leb (0 + length (drop payload s)) 65536 (omega (arith, left)));
           size-is = sym left;
           inside = omega arith;
           small = l;
-          cache-is = all .all-entered rs (at-offset s payload 0) e;
+          cache-is = all .cache-written rs (at-offset s payload 0) e;
           list-is =
               ap (λ (m : ℕ). lent-list m list-places′ list-lengths′) (sym (header-count agreed (held c) s at n width first payload is))
               ∙ ap₂ (λ (x y : List ℕ). lent-list (length rs) x y) (k .0) (k .1);

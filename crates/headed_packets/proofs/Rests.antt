@@ -17,7 +17,7 @@ use Rattle.packet_spec.specs.Header.{Reference, header}
 use Rattle.packet_spec.specs.Packet.{normal, starting, plain, start, payload-after, rest}
 use Rattle.packet_spec.specs.Calls.{told, left-by, entered, list-of, told-after, record-after}
 use Rattle.packet_spec.specs.Answers.{outcome-case}
-use Rattle.fragments.specs.Code.{settled, Takes}
+use Rattle.fragments.specs.Code.{after-fragment, Takes}
 use Rattle.fragments.proofs.Taking.{whole-part, refused-takes, good-takes}
 use Rattle.headed_packets.specs.Code.{headed, Heads}
 use Rattle.headed_packets.specs.declared.Headed.the-variants as headeds
@@ -74,7 +74,7 @@ module _ (agreed : Coding) (c c′ : Cache) (list list′ : AtomList) (s : List 
         → Takes (memory-of c list pending-list r gather) (result-of (rest agreed (held c) r normal (at-offset s 2 0))) (packets.Plain offset size) (memory-of c′ list′ pending-list r gather)
     unfolding Heads outcome-case told left-by
     plain-good offset size h =
-        good-takes (memory-of c list pending-list r gather) (memory-of c′ list′ pending-list r gather) _ (plain (h .found) offset (drop offset s)) _
+        good-takes (memory-of c list pending-list r gather) (memory-of c′ list′ pending-list r gather) _ (plain (h .references) offset (drop offset s)) _
         (ap result-of (normal-headed agreed (held c) r (at-offset s 2 0) ∙ ap (λ (x : Answer ((List Reference × ℕ × List ℕ) × Position)). after x (λ x u. good (plain (x .0) (x .1) (x .2), u))) (h .is)))
         (ap (packets.Plain offset) (h .size-is))
         (ap₂ (λ (x : Cache) (y : AtomList). memory-of x y pending-list r gather) (h .cache-is) (h .list-is))
@@ -94,14 +94,14 @@ module _ (agreed : Coding) (c c′ : Cache) (list list′ : AtomList) (s : List 
           (ap₂ (λ (x : Cache) (y : AtomList). memory-of x plain-list y r gather) (h .cache-stays) (h .list-stays))
 
       pub start-good : (offset size : ℕ) (gather′ : List ℕ) (taken-as : Taken) → Heads agreed s 18 c list (headeds.Payload offset size) c′ list′
-          → gather′ ≡ sets gather 0 (take size (drop offset s)) → taken-as ≡ settled q f size
+          → gather′ ≡ sets gather 0 (take size (drop offset s)) → taken-as ≡ after-fragment q f size
           → Takes (memory-of c plain-list list r gather) (result-of (rest agreed (held c) r (starting q f) (at-offset s 18 0))) (taken-as .answer) (memory-of c′ plain-list list′ (taken-as .pending) gather′)
-      unfolding Heads outcome-case told left-by settled
+      unfolding Heads outcome-case told left-by after-fragment
       start-good offset size gather′ taken-as h g t =
-          good-takes (memory-of c plain-list list r gather) (memory-of c′ plain-list list′ (taken-as .pending) gather′) _ (start q f (h .found) (drop offset s)) _
+          good-takes (memory-of c plain-list list r gather) (memory-of c′ plain-list list′ (taken-as .pending) gather′) _ (start q f (h .references) (drop offset s)) _
           (ap result-of (start-headed agreed (held c) r (at-offset s 18 0) q f none ∙ ap (λ (x : Answer ((List Reference × ℕ × List ℕ) × Position)). after x (λ x u. good (start q f (x .0) (x .2), u))) (h .is)))
           (ap (λ (x : Taken). x .answer) t ∙ ap (λ (n : ℕ). outcome-case (told-after f n)) (h .size-is))
           (ap₂ (λ (x : Cache) (y : AtomList). memory-of x plain-list y (taken-as .pending) gather′) (h .cache-is) (h .list-is)
-          ∙ ap₂ (λ (x : Pending) (y : List ℕ). memory-of (entered c (h .found)) plain-list (list-of (h .found)) x y)
+          ∙ ap₂ (λ (x : Pending) (y : List ℕ). memory-of (entered c (h .references)) plain-list (list-of (h .references)) x y)
           (ap (λ (x : Taken). x .pending) t ∙ ap (λ (n : ℕ). record-after q f n) (h .size-is))
           (g ∙ ap (sets gather 0) (whole-part (drop offset s) size (h .size-is))))

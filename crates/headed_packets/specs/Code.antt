@@ -35,13 +35,13 @@ pub record RefusesHeader (o : Answer ((List Reference × ℕ × List ℕ) × Pos
 
 -- a header that is taken: its references, the payload, and what the cache and the list are then
 pub record TakesHeader (o : Answer ((List Reference × ℕ × List ℕ) × Position)) (s : List ℕ) (c c′ : Cache) (list′ : AtomList) (payload size : ℕ) : Type 0 where
-  pub found : List Reference
-  pub is : o ≡ good ((found, payload, drop payload s), at-offset s payload 0)
+  pub references : List Reference
+  pub is : o ≡ good ((references, payload, drop payload s), at-offset s payload 0)
   pub size-is : size ≡ length (drop payload s)
   pub inside : payload + size ≡ length s
   pub small : size ≤ 65536
-  pub cache-is : c′ ≡ entered c found
-  pub list-is : list′ ≡ list-of found
+  pub cache-is : c′ ≡ entered c references
+  pub list-is : list′ ≡ list-of references
 
 -- the header at `at`, taken or refused
 unfoldable pub Heads : Coding → List ℕ → ℕ → Cache → AtomList → Headed → Cache → AtomList → Type 0

@@ -4,8 +4,8 @@ ghost use mathlib.Core.Path.{_≡_};
 ghost use lib.ListN.{length};
 ghost use Rattle.term_spec.specs.AtomList.{lent-list};
 ghost use Rattle.term_spec.specs.Text.{coding-of};
-ghost use Rattle.packet_spec.specs.Memory.{cache-of};
-ghost use Rattle.cache_entries.specs.Code.{Room};
+ghost use Rattle.packet_spec.specs.Memory.{cache-of, CacheSized};
+ghost use Rattle.cache_entries.specs.Code.{ListSized};
 ghost use Rattle.headed_packets.specs.Code.{Heads, TakesPlain, TakesStart};
 use dist_header::HeaderAnswer;
 use packet_spec::PacketAnswer;
@@ -32,7 +32,7 @@ fn take_header(
     list_places: &mut [u8],
     list_lengths: &mut [u16],
 ) -> Headed
-    requires { ⌜ (at ≤ length (now packet)) × Room (now cache) (now «cache_lengths») (now «list_places») (now «list_lengths») ⌝ }
+    requires { ⌜ (at ≤ length (now packet)) × CacheSized (cache-of (now cache) (now «cache_lengths»)) × ListSized (now «list_places») (now «list_lengths») ⌝ }
     ensures { λ r. ⌜ Heads (coding-of utf8) (now (packet .entry)) at
         (cache-of (now (cache .entry)) (now («cache_lengths» .entry)))
         (lent-list (now («list_n» .entry)) (now («list_places» .entry)) (now («list_lengths» .entry)))
@@ -87,7 +87,7 @@ pub fn take_plain(
     plain_places: &mut [u8],
     plain_lengths: &mut [u16],
 ) -> PacketAnswer
-    requires { ⌜ (2 ≤ length (now packet)) × Room (now cache) (now «cache_lengths») (now «plain_places») (now «plain_lengths») ⌝ }
+    requires { ⌜ (2 ≤ length (now packet)) × CacheSized (cache-of (now cache) (now «cache_lengths»)) × ListSized (now «plain_places») (now «plain_lengths») ⌝ }
     ensures { λ r. ⌜ TakesPlain (coding-of utf8) (now (packet .entry))
         (cache-of (now (cache .entry)) (now («cache_lengths» .entry)))
         (lent-list (now («plain_n» .entry)) (now («plain_places» .entry)) (now («plain_lengths» .entry)))
@@ -127,7 +127,7 @@ pub fn take_start(
     pending: Pending,
     gather: &mut [u8],
 ) -> Taken
-    requires { ⌜ (18 ≤ length (now packet)) × Room (now cache) (now «cache_lengths») (now «pending_places») (now «pending_lengths»)
+    requires { ⌜ (18 ≤ length (now packet)) × CacheSized (cache-of (now cache) (now «cache_lengths»)) × ListSized (now «pending_places») (now «pending_lengths»)
         × (length (now gather) ≡ 65536) × (0 < fragment) ⌝ }
     ensures { λ r. ⌜ TakesStart (coding-of utf8) (now (packet .entry)) sequence fragment
         (cache-of (now (cache .entry)) (now («cache_lengths» .entry)))
@@ -156,7 +156,7 @@ pub fn take_start(
         },
         Headed::Payload { offset, size } => {
             octets::copy(packet, offset, gather, 0, size);
-            fragments::settle(sequence, fragment, size as u64)
+            fragments::after_fragment(sequence, fragment, size as u64)
         }
     }
 }

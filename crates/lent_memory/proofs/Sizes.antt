@@ -1,5 +1,5 @@
 -- Sizes of lent memory, one test after the other.
-use mathlib.Core.Path.{_≡_, _∙_}
+use mathlib.Core.Path.{_≡_}
 use mathlib.Core.Bool.{Bool, true, false, not}
 use mathlib.Core.List.{List}
 use Prim.Native.Nat.{ℕ}
@@ -8,7 +8,7 @@ use lib.ListN.{length}
 use borrow.Author.Tests.{eq-eqb, ne-eqb}
 use Rattle.term_spec.specs.AtomList.{of-size}
 use Rattle.term_spec.proofs.Tests.{sizes-of, refuted, confirmed}
-use Rattle.packet_spec.specs.Memory.{Memory, cache-of, cache-of-size, memory-of-size}
+use Rattle.packet_spec.specs.Memory.{Memory, cache-of, cache-of-size, CacheSized, memory-of-size}
 use Rattle.packet_spec.proofs.Cache.{sized}
 use Rattle.packet_spec.proofs.SizesKept.{all-sized}
 
@@ -20,11 +20,11 @@ pub cache-if : (cache lengths : List ℕ) → length cache ≡ 65536 → eqb (le
 unfolding cache-of-size
 cache-if cache lengths e = rw (eq-eqb (length cache) 65536 e)
 
--- the lengths of a cache that fits
-pub cache-lent : (cache lengths : List ℕ) {b : Bool} → b ≡ cache-of-size (cache-of cache lengths) → not b ≡ false → (length cache ≡ 65536) × (length lengths ≡ 2048)
+-- the sizes of a cache that fits
+pub cache-lent : (cache lengths : List ℕ) {b : Bool} → b ≡ cache-of-size (cache-of cache lengths) → not b ≡ false → CacheSized (cache-of cache lengths)
 cache-lent cache lengths told met =
     let z = sized (cache-of cache lengths) (confirmed told met) in
-    (z .places-are, z .lengths-are)
+    record { places-are = z .places-are; lengths-are = z .lengths-are }
 
 -- one test after the other: the cache, the list for a plain packet, the list for the pending sequence, the gather buffer
 module _ (m : Memory) {a : Bool} (told : a ≡ cache-of-size (m .cache)) where
@@ -48,8 +48,7 @@ module _ (m : Memory) {a : Bool} (told : a ≡ cache-of-size (m .cache)) where
 
 -- the lengths of all lent memory
 pub record Lengths (m : Memory) : Type 0 where
-  pub places : length (m .cache .places) ≡ 65536
-  pub lengths : length (m .cache .lengths) ≡ 2048
+  pub cache-sized : CacheSized (m .cache)
   pub plain-places : length (m .plain-list .places) ≡ 8160
   pub plain-lengths : length (m .plain-list .lengths) ≡ 255
   pub pending-places : length (m .pending-list .places) ≡ 8160
@@ -62,8 +61,7 @@ lengths-told m told met =
     let one = sizes-of (m .plain-list) (z .plain-sized) in
     let two = sizes-of (m .pending-list) (z .pending-sized) in
     record {
-      places = z .cache-sized .places-are;
-      lengths = z .cache-sized .lengths-are;
+      cache-sized = record { places-are = z .cache-sized .places-are; lengths-are = z .cache-sized .lengths-are };
       plain-places = one .0;
       plain-lengths = one .1;
       pending-places = two .0;

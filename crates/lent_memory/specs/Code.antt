@@ -9,7 +9,7 @@ use Rattle.packet_spec.specs.declared.Pending.{Pending}
 use Rattle.packet_spec.specs.Memory.{cache-of, memory-of, memory-of-size}
 
 -- whether all lent memory is of its stated size: whatever the counts of the lists and the record are
-pub record Fits (r : Bool) (cache cache-lengths plain-places plain-lengths pending-places pending-lengths gather : List ℕ) : Type 0 where
+pub record MemoryFits (r : Bool) (cache cache-lengths plain-places plain-lengths pending-places pending-lengths gather : List ℕ) : Type 0 where
   pub fits-told : (plain-n pending-n : ℕ) (pending : Pending)
       → r ≡ memory-of-size
       (memory-of (cache-of cache cache-lengths) (lent-list plain-n plain-places plain-lengths) (lent-list pending-n pending-places pending-lengths) pending gather)

@@ -1,7 +1,7 @@
 // Whether memory lent to the packet calls is of its stated size.
 ghost use mathlib.Core.Path.{_≡_};
 ghost use Rattle.packet_spec.specs.Memory.{cache-of, cache-of-size};
-ghost use Rattle.lent_memory.specs.Code.{Fits};
+ghost use Rattle.lent_memory.specs.Code.{MemoryFits};
 use packet_spec::sizes;
 
 // Whether the cache is of its stated size.
@@ -24,7 +24,7 @@ pub fn memory_fits(
     pending_lengths: &[u16],
     gather: &[u8],
 ) -> bool
-    ensures { λ r. ⌜ Fits r (now (cache .entry)) (now («cache_lengths» .entry)) (now («plain_places» .entry)) (now («plain_lengths» .entry))
+    ensures { λ r. ⌜ MemoryFits r (now (cache .entry)) (now («cache_lengths» .entry)) (now («plain_places» .entry)) (now («plain_lengths» .entry))
         (now («pending_places» .entry)) (now («pending_lengths» .entry)) (now (gather .entry)) ⌝ }
 {
     if !cache_fits(cache, cache_lengths) {

@@ -9,7 +9,7 @@ use borrow.Author.Tests.{eq-eqb, ne-eqb, le-leb, lt-leb}
 use Rattle.octets.specs.Cleared.{cleared}
 use Rattle.term_spec.proofs.Tests.{refuted, confirmed}
 use Rattle.packet_spec.specs.declared.Pending.{Pending}
-use Rattle.packet_spec.specs.Memory.{Cache, cache-of, cache-of-size, record-true, none-pending, empty-cache}
+use Rattle.packet_spec.specs.Memory.{Cache, cache-of, cache-of-size, record-true, empty-cache}
 use Rattle.packet_spec.specs.Calls.{drop-sequence, reset, cache-after-reset}
 use Rattle.packet_spec.specs.Answers.{state-answer, drop-answer, reset-answer}
 use Rattle.packet_spec.specs.Promises.{Drop-call, Reset-call}
@@ -50,6 +50,6 @@ unfolding reset-answer state-answer reset cache-after-reset empty-cache
 reset-done cache lengths cache′ lengths′ r told met p l =
     let s = confirmed told met in
     let z = cache-lent cache lengths told met in
-    let x : cache′ ≡ replicate 65536 0 = p ∙ cleared-all cache 65536 (z .0) in
-    let y : lengths′ ≡ replicate 2048 65535 = l ∙ ap (λ (m : ℕ). replicate m 65535) (z .1) in
+    let x : cache′ ≡ replicate 65536 0 = p ∙ cleared-all cache 65536 (z .places-are) in
+    let y : lengths′ ≡ replicate 2048 65535 = l ∙ ap (λ (m : ℕ). replicate m 65535) (z .lengths-are) in
     record { reset-answered = rw s; cache-left = rw (cache-after-reset, s) (ap₂ cache-of x y) }

@@ -48,25 +48,25 @@ module _ (agreed : Coding) (m : Memory) (s : List ℕ) where
     false-done e = refused-done 14 (rw (judged, confirmed told met, lt-leb (m .pending .gathered) 65536 e))
 
     module _ (true-record : m .pending .gathered ≤ 65536) where
-      opened : (o : Answer (Kind × Position)) → preamble (at-offset s 0 0) ≡ o → judged agreed m s ≡ result-of (after o (λ k. rest agreed (held (m .cache)) (m .pending) k))
+      preamble-read : (o : Answer (Kind × Position)) → preamble (at-offset s 0 0) ≡ o → judged agreed m s ≡ result-of (after o (λ k. rest agreed (held (m .cache)) (m .pending) k))
       unfolding judged packet record-true
-      opened o e = rw (judged, confirmed told met, le-leb (m .pending .gathered) 65536 true-record) (ap (λ (x : Answer (Kind × Position)). result-of (after x (λ k. rest agreed (held (m .cache)) (m .pending) k))) e)
+      preamble-read o e = rw (judged, confirmed told met, le-leb (m .pending .gathered) 65536 true-record) (ap (λ (x : Answer (Kind × Position)). result-of (after x (λ k. rest agreed (held (m .cache)) (m .pending) k))) e)
 
-      pub opening-done : (k : ℕ) → PreambleIs s (preambles.Refused k) → Packet-call agreed s m (record { answer = packets.Refused (record { number = k; place = 0 }); pending = m .pending }) m
+      pub preamble-done : (k : ℕ) → PreambleIs s (preambles.Refused k) → Packet-call agreed s m (record { answer = packets.Refused (record { number = k; place = 0 }); pending = m .pending }) m
       unfolding PreambleIs
-      opening-done k e = refused-done k (opened (refused k 0) e)
+      preamble-done k e = refused-done k (preamble-read (refused k 0) e)
 
       pub plain-done : PreambleIs s preambles.Plain → (answer : PacketAnswer) (m′ : Memory) → m′ .pending ≡ m .pending
           → Takes m (result-of (rest agreed (held (m .cache)) (m .pending) normal (at-offset s 2 0))) answer m′ → Packet-call agreed s m (record { answer = answer; pending = m .pending }) m′
       unfolding PreambleIs
-      plain-done e answer m′ f t = done-as _ (opened (good (normal, at-offset s 2 0)) (e .0)) answer (m .pending) m′ f t
+      plain-done e answer m′ f t = done-as _ (preamble-read (good (normal, at-offset s 2 0)) (e .0)) answer (m .pending) m′ f t
 
       pub start-done : (q f : ℕ) → PreambleIs s (preambles.Start q f) → (r : Taken) (m′ : Memory) → m′ .pending ≡ r .pending
           → Takes m (result-of (rest agreed (held (m .cache)) (m .pending) (starting q f) (at-offset s 18 0))) (r .answer) m′ → Packet-call agreed s m r m′
       unfolding PreambleIs
-      start-done q f e r m′ g t = done-as _ (opened (good (starting q f, at-offset s 18 0)) (e .0)) (r .answer) (r .pending) m′ g t
+      start-done q f e r m′ g t = done-as _ (preamble-read (good (starting q f, at-offset s 18 0)) (e .0)) (r .answer) (r .pending) m′ g t
 
       pub more-done : (q f : ℕ) → PreambleIs s (preambles.Continuation q f) → (r : Taken) (m′ : Memory) → m′ .pending ≡ r .pending
           → Takes m (result-of (rest agreed (held (m .cache)) (m .pending) (continuing q f) (at-offset s 18 0))) (r .answer) m′ → Packet-call agreed s m r m′
       unfolding PreambleIs
-      more-done q f e r m′ g t = done-as _ (opened (good (continuing q f, at-offset s 18 0)) (e .0)) (r .answer) (r .pending) m′ g t
+      more-done q f e r m′ g t = done-as _ (preamble-read (good (continuing q f, at-offset s 18 0)) (e .0)) (r .answer) (r .pending) m′ g t

@@ -27,7 +27,7 @@ place-in [] i = refuse 6 0
 place-in (r ∷ rs) zero = done (r .place)
 place-in (r ∷ rs) (suc i) = place-in rs i
 
--- Order: the opening, the whole header, then 6
+-- Order: the preamble, the whole header, then 6
 unfoldable pub place-named : Coding → ℕ → Reading ℕ
 place-named agreed i = do
   kind ← preamble

@@ -1,4 +1,5 @@
 -- The memory that the firmware lends to the packet calls.
+use mathlib.Core.Path.{_≡_}
 use mathlib.Core.Bool.{Bool, true, false, _&&_}
 use mathlib.Core.List.{List}
 use Prim.Native.Nat.{ℕ, _*_}
@@ -33,6 +34,11 @@ memory-of cache plain-list pending-list pending gather =
 -- Refusal 13: a cache not of its stated size
 unfoldable pub cache-of-size : Cache → Bool
 cache-of-size c = eqb (length (c .places)) 65536 && eqb (length (c .lengths)) 2048
+
+-- the same, part by part: what the code asks of a cache
+pub record CacheSized (c : Cache) : Type 0 where
+  pub places-are : length (c .places) ≡ 65536
+  pub lengths-are : length (c .lengths) ≡ 2048
 
 -- Refusal 13: a cache, list or gather buffer not of its stated size
 unfoldable pub memory-of-size : Memory → Bool

@@ -78,7 +78,7 @@ module _ (agreed : Coding) (holding : ℕ → Held) (r : Pending) where
     bs ← payload-after (r .gathered)
     done (continuation sequence fragment bs)
 
-  -- Order: 14 on the record, then the opening, then what its kind asks
+  -- Order: 14 on the record, then the preamble, then what its kind asks
   unfoldable pub packet : Reading Packet
   packet = do
     rule (record-true r) 14 0

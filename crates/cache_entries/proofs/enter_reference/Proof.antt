@@ -23,7 +23,7 @@ enter-text-requires : tie.Need-enter-text-requires
 enter-text-requires c κs = let a = c .before .before .before .before .before .before .before .before .before .args in
     let v = c .before .before .before .place .given in
     let e : Spells (a .packet .now) (a .half) (a .width) (a .at) (spelled.New (v .0 .0) (v .0 .1 .0) (v .0 .1 .1 .0)) = rw (v .1) at (c .before .before .before .before .before .read-reference .ensures) in
-    let i = new-inside (a .packet .now) (a .half) (a .width) (a .at) (v .0 .0) (v .0 .1 .0) (v .0 .1 .1 .0) e in (i .0, i .2, i .3, c .before .before .before .before .before .before .before .before .before .pre .4, c .before .before .before .before .before .before .before .before .before .pre .5, stands-new (coding-of (a .utf8)) (c .before .before .before .before .before .before .before .before .before .pre .6 .holding) (a .packet .now) (a .half) (a .width) (a .at) (v .0 .0) (v .0 .1 .0) (v .0 .1 .1 .0) 0 32 (c .before .before .before .before .before .before .before .before .before .pre .6 .stands) e (omega arith))
+    let i = new-inside (a .packet .now) (a .half) (a .width) (a .at) (v .0 .0) (v .0 .1 .0) (v .0 .1 .1 .0) e in let p = c .before .before .before .before .before .before .before .before .before .pre in (i .0, p .cache-sized, stands-new (coding-of (a .utf8)) (p .holding) (a .packet .now) (a .half) (a .width) (a .at) (v .0 .0) (v .0 .1 .0) (v .0 .1 .1 .0) 0 32 (p .good-reference) e (omega arith))
 
 add-result : tie.Need-add-result
 add-result c = let a = c .before .before .before .before .before .before .before .before .before .before .before .before .before .before .args in

@@ -1,7 +1,6 @@
 -- `enter_text` meets its contract.
 use Prim.Native.Nat.{_*_}
 use native.Mathlib.Omega.{arith}
-use lib.ListN.{take, drop}
 use borrow.Author.Needs.{needs}
 use Rattle.term_spec.specs.Text.{coding-of}
 use Rattle.cache_entries.proofs.Storing.{fits-at, stored-small, text-entered}
@@ -22,11 +21,11 @@ mul-put-text c = search needs
 
 put-text-requires : tie.Need-put-text-requires
 put-text-requires c κs = let a = c .before .before .before .before .before .before .before .before .before .args in
-    (c .before .before .before .before .before .before .before .before .before .pre .1, c .before .before .before .before .before .before .before .before .before .pre .2, fits-at (coding-of (a .utf8)) (take (a .size) (drop (a .from) (a .packet .now))) (32 * a .place .0) _ (c .before .before .before .before .before .before .before .before .before .pre .5) (omega arith))
+    fits-at (coding-of (a .utf8)) (a .packet .now) (a .from) (a .size) (32 * a .place .0) _ (c .before .before .before .before .before .before .before .before .before .pre .2) (omega arith)
 
 cast-cache-lengths : tie.Need-cast-cache-lengths
 cast-cache-lengths c = let a = c .before .before .before .before .before .before .before .before .before .before .before .before .args in
-    let m = stored-small (coding-of (a .utf8)) (take (a .size) (drop (a .from) (a .packet .now))) (c .before .before .put-text .result) _ (c .before .before .before .before .before .before .before .before .before .before .before .before .pre .5) (c .before .before .put-text .ensures) in omega arith
+    let m = stored-small (coding-of (a .utf8)) (a .packet .now) (a .from) (a .size) _ _ _ (c .before .before .put-text .result) (c .before .before .before .before .before .before .before .before .before .before .before .before .pre .2) (c .before .before .put-text .ensures) in omega arith
 
 mul-cache-lengths : tie.Need-mul-cache-lengths
 mul-cache-lengths c = search needs
@@ -42,7 +41,7 @@ same-length-2 c = search needs
 
 returns : tie.Need-returns
 returns c = let a = c .before .before .before .before .before .before .before .before .before .before .before .before .args in
-    text-entered (coding-of (a .utf8)) (take (a .size) (drop (a .from) (a .packet .now))) (a .cache .now) (a .cache-lengths .now) _ _ (a .place .0) (c .before .before .put-text .result) (c .before .before .before .before .before .before .before .before .before .before .before .before .pre .0) (c .before .before .before .before .before .before .before .before .before .before .before .before .pre .3) (c .before .before .before .before .before .before .copy .ensures) (c .before .before .put-text .ensures) (c .before .before .before .before .before .before .before .before .before .before .before .before .pre .5)
+    text-entered (coding-of (a .utf8)) (a .packet .now) (a .from) (a .size) (a .cache .now) (a .cache-lengths .now) _ _ (a .place .0) (c .before .before .put-text .result) (c .before .before .before .before .before .before .before .before .before .before .before .before .pre .0) (c .before .before .before .before .before .before .before .before .before .before .before .before .pre .1) (c .before .before .before .before .before .before .copy .ensures) (c .before .before .put-text .ensures) (c .before .before .before .before .before .before .before .before .before .before .before .before .pre .2)
 
 pub enter-text-spec : {M : Type 1} → statement M
 enter-text-spec =

@@ -27,7 +27,7 @@ put-text-requires : tie.Need-put-text-requires
 put-text-requires c κs = let a = c .before .before .before .before .before .before .before .before .before .args in
     let v = c .before .before .place .given in
     let e : Spells (a .packet .now) (a .half) (a .width) (a .at) (spelled.New (v .0 .0) (v .0 .1 .0) (v .0 .1 .1 .0)) = rw (v .1) at (c .before .before .before .before .read-reference .ensures) in
-    let i = new-inside (a .packet .now) (a .half) (a .width) (a .at) (v .0 .0) (v .0 .1 .0) (v .0 .1 .1 .0) e in (i .2, i .3, stands-new (coding-of (a .utf8)) (held (cache-of (a .cache .now) (a .cache-lengths .now))) (a .packet .now) (a .half) (a .width) (a .at) (v .0 .0) (v .0 .1 .0) (v .0 .1 .1 .0) (32 * a .i) _ (c .before .before .before .before .before .before .before .before .before .pre .8) e (omega arith))
+    stands-new (coding-of (a .utf8)) (held (cache-of (a .cache .now) (a .cache-lengths .now))) (a .packet .now) (a .half) (a .width) (a .at) (v .0 .0) (v .0 .1 .0) (v .0 .1 .1 .0) (32 * a .i) _ (c .before .before .before .before .before .before .before .before .before .pre .good-reference) e (omega arith)
 
 add-t21 : tie.Need-add-t21
 add-t21 c = let a = c .before .before .before .before .before .before .before .before .before .before .before .before .args in
@@ -38,20 +38,20 @@ add-t21 c = let a = c .before .before .before .before .before .before .before .b
 enum-known-place-2 : tie.Need-enum-known-place-2
 enum-known-place-2 c = search needs
 
-mul-wide-length : tie.Need-mul-wide-length
-mul-wide-length c = let a = c .before .before .before .before .before .before .before .before .args in
+mul-wide16 : tie.Need-mul-wide16
+mul-wide16 c = let a = c .before .before .before .before .before .before .before .before .args in
     let v = c .before .place2 .given in
     let e : Spells (a .packet .now) (a .half) (a .width) (a .at) (spelled.Cached (v .0 .0)) = rw (v .1) at (c .before .before .before .read-reference .ensures) in
     let i = cached-inside (a .packet .now) (a .half) (a .width) (a .at) (v .0 .0) e in omega arith
 
-shared-slice-read-wide-length : tie.Need-shared-slice-read-wide-length
-shared-slice-read-wide-length c = let a = c .before .before .before .before .before .before .before .before .before .args in
+shared-slice-read-wide16 : tie.Need-shared-slice-read-wide16
+shared-slice-read-wide16 c = let a = c .before .before .before .before .before .before .before .before .before .args in
     let v = c .before .before .place2 .given in
     let e : Spells (a .packet .now) (a .half) (a .width) (a .at) (spelled.Cached (v .0 .0)) = rw (v .1) at (c .before .before .before .before .read-reference .ensures) in
     let i = cached-inside (a .packet .now) (a .half) (a .width) (a .at) (v .0 .0) e in omega arith
 
-wide-length-requires : tie.Need-wide-length-requires
-wide-length-requires c κs = search needs
+wide16-requires : tie.Need-wide16-requires
+wide16-requires c κs = search needs
 
 mul-copy : tie.Need-mul-copy
 mul-copy c = let a = c .before .before .before .before .before .before .before .before .before .before .args in
@@ -66,14 +66,14 @@ copy-requires : tie.Need-copy-requires
 copy-requires c κs = let a = c .before .before .before .before .before .before .before .before .before .before .before .args in
     let v = c .before .before .before .before .place2 .given in
     let e : Spells (a .packet .now) (a .half) (a .width) (a .at) (spelled.Cached (v .0 .0)) = rw (v .1) at (c .before .before .before .before .before .before .read-reference .ensures) in
-    let i = cached-inside (a .packet .now) (a .half) (a .width) (a .at) (v .0 .0) e in let m = stands-cached (coding-of (a .utf8)) (a .cache .now) (a .cache-lengths .now) (a .packet .now) (a .half) (a .width) (a .at) (v .0 .0) (c .before .wide-length .result) (c .before .before .before .before .before .before .before .before .before .before .before .pre .8) e (c .before .before .before .before .before .before .before .before .before .before .before .pre .4) (c .before .before .before .before .before .before .before .before .before .before .before .pre .5) (c .before .wide-length .ensures .0) in (omega arith, omega arith)
+    let i = cached-inside (a .packet .now) (a .half) (a .width) (a .at) (v .0 .0) e in let m = stands-cached (coding-of (a .utf8)) (a .cache .now) (a .cache-lengths .now) (a .packet .now) (a .half) (a .width) (a .at) (v .0 .0) (c .before .wide16 .result) (c .before .before .before .before .before .before .before .before .before .before .before .pre .good-reference) e (c .before .before .before .before .before .before .before .before .before .before .before .pre .cache-sized) (c .before .wide16 .ensures) in (omega arith, omega arith)
 
 add-t22 : tie.Need-add-t22
 add-t22 c = search needs
 
 returns : tie.Need-returns
 returns c = let a = c .before .before .before .before .before .before .before .args in
-    lists-cut (coding-of (a .utf8)) (held (cache-of (a .cache .now) (a .cache-lengths .now))) (a .packet .now) (a .half) (a .width) (a .at) (32 * a .i) (a .list-places .now) _ _ (rw (c .enum-told .given .1) at (c .before .before .read-reference .ensures))
+    lists-cut (coding-of (a .utf8)) (cache-of (a .cache .now) (a .cache-lengths .now)) (a .packet .now) (a .half) (a .width) (a .at) (32 * a .i) (a .list-places .now) _ _ (rw (c .enum-told .given .1) at (c .before .before .read-reference .ensures))
 
 same-length : tie.Need-same-length
 same-length c = search needs
@@ -82,7 +82,7 @@ returns-2 : tie.Need-returns-2
 returns-2 c = let a = c .before .before .before .before .before .before .before .before .before .before .before .before .args in
     let v = c .before .before .before .before .before .place .given in
     let e : Spells (a .packet .now) (a .half) (a .width) (a .at) (spelled.New (v .0 .0) (v .0 .1 .0) (v .0 .1 .1 .0)) = rw (v .1) at (c .before .before .before .before .before .before .before .read-reference .ensures) in
-    lists-new (coding-of (a .utf8)) (held (cache-of (a .cache .now) (a .cache-lengths .now))) (a .packet .now) (a .half) (a .width) (a .at) (32 * a .i) (a .list-places .now) _ (v .0 .0) (v .0 .1 .0) (v .0 .1 .1 .0) _ e (c .before .before .put-text .ensures)
+    lists-new (coding-of (a .utf8)) (cache-of (a .cache .now) (a .cache-lengths .now)) (a .packet .now) (a .half) (a .width) (a .at) (32 * a .i) (a .list-places .now) _ (v .0 .0) (v .0 .1 .0) (v .0 .1 .1 .0) _ e (c .before .before .put-text .ensures)
 
 same-length-2 : tie.Need-same-length-2
 same-length-2 c = search needs
@@ -91,7 +91,7 @@ returns-3 : tie.Need-returns-3
 returns-3 c = let a = c .before .before .before .before .before .before .before .before .before .before .before .before .before .before .args in
     let v = c .before .before .before .before .before .before .before .place2 .given in
     let e : Spells (a .packet .now) (a .half) (a .width) (a .at) (spelled.Cached (v .0 .0)) = rw (v .1) at (c .before .before .before .before .before .before .before .before .before .read-reference .ensures) in
-    lists-cached (coding-of (a .utf8)) (a .cache .now) (a .cache-lengths .now) (a .packet .now) (a .half) (a .width) (a .at) (32 * a .i) (a .list-places .now) _ (v .0 .0) (c .before .before .before .before .wide-length .result) e (c .before .before .before .before .before .before .before .before .before .before .before .before .before .before .pre .4) (c .before .before .before .before .before .before .before .before .before .before .before .before .before .before .pre .5) (c .before .before .before .before .wide-length .ensures .0) (c .before .before .copy .ensures)
+    lists-cached (coding-of (a .utf8)) (a .cache .now) (a .cache-lengths .now) (a .packet .now) (a .half) (a .width) (a .at) (32 * a .i) (a .list-places .now) _ (v .0 .0) (c .before .before .before .before .wide16 .result) e (c .before .before .before .before .before .before .before .before .before .before .before .before .before .before .pre .cache-sized) (c .before .before .before .before .wide16 .ensures) (c .before .before .copy .ensures)
 
 pub list-reference-spec : {M : Type 1} → statement M
 list-reference-spec =
@@ -104,9 +104,9 @@ list-reference-spec =
     put-text-requires
     add-t21
     enum-known-place-2
-    mul-wide-length
-    shared-slice-read-wide-length
-    wide-length-requires
+    mul-wide16
+    shared-slice-read-wide16
+    wide16-requires
     mul-copy
     mul-copy-2
     copy-requires

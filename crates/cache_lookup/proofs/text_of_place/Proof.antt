@@ -22,7 +22,7 @@ returns-2 : tie.Need-returns-2
 returns-2 c = let a = c .before .before .before .before .before .before .args in rw (c .no-text2 .ensures) (text-past (a .cache .now) (a .cache-lengths .now) (a .place .0) (c .before .before .before .cache-fits .ensures) (c .before .before .if1 .left) (c .before .if2 .taken))
 
 held-at-requires : tie.Need-held-at-requires
-held-at-requires c κs = let a = c .before .before .before .before .before .args in let z = cache-lent (a .cache .now) (a .cache-lengths .now) (c .before .before .cache-fits .ensures) (c .before .if1 .left) in (c .if2 .left, z .0, z .1)
+held-at-requires c κs = let a = c .before .before .before .before .before .args in let z = cache-lent (a .cache .now) (a .cache-lengths .now) (c .before .before .cache-fits .ensures) (c .before .if1 .left) in (c .if2 .left, z)
 
 enum-told : tie.Need-enum-told
 enum-told c = search needs

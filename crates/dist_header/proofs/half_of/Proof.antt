@@ -21,13 +21,13 @@ wide-requires c κs = search needs
 
 returns : tie.Need-returns
 returns c = let a = c .before .before .before .before .args in (
-  ap (λ (b : ℕ). b % 16) (c .before .wide .ensures .0) ∙ half-low (a .packet .now) (a .at) (a .n) (a .i .0) (omega arith) (omega arith) (c .if1 .taken),
+  ap (λ (b : ℕ). b % 16) (c .before .wide .ensures .0) ∙ half-low (a .packet .now) (a .at) (a .i .0) (c .if1 .taken),
   omega arith,
 )
 
 returns-2 : tie.Need-returns-2
 returns-2 c = let a = c .before .before .before .before .args in (
-  ap (λ (b : ℕ). b / 16) (c .before .wide .ensures .0) ∙ half-high (a .packet .now) (a .at) (a .n) (a .i .0) (omega arith) (omega arith) (c .if1 .left),
+  ap (λ (b : ℕ). b / 16) (c .before .wide .ensures .0) ∙ half-high (a .packet .now) (a .at) (a .i .0) (c .if1 .left),
   omega arith,
 )
 

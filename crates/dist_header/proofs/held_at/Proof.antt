@@ -5,23 +5,23 @@ use Rattle.dist_header.proofs.Texts.{held-nothing, held-long, held-good
 use Rattle.dist_header.proofs.held_at.Statement.{statement}
 use Rattle.dist_header.proofs.held_at.Tie as tie
 
-mul-wide-length : tie.Need-mul-wide-length
-mul-wide-length c = search needs
+mul-wide16 : tie.Need-mul-wide16
+mul-wide16 c = search needs
 
-shared-slice-read-wide-length : tie.Need-shared-slice-read-wide-length
-shared-slice-read-wide-length c = search needs
+shared-slice-read-wide16 : tie.Need-shared-slice-read-wide16
+shared-slice-read-wide16 c = search needs
 
-wide-length-requires : tie.Need-wide-length-requires
-wide-length-requires c κs = search needs
+wide16-requires : tie.Need-wide16-requires
+wide16-requires c κs = search needs
 
 cast-if1 : tie.Need-cast-if1
 cast-if1 c = search needs
 
 returns : tie.Need-returns
-returns c = let a = c .before .before .before .before .before .args in held-nothing (a .cache .now) (a .cache-lengths .now) (a .place .0) (c .before .wide-length .result) (omega arith) (c .before .wide-length .ensures .0) (c .if1 .taken)
+returns c = let a = c .before .before .before .before .before .args in held-nothing (a .cache .now) (a .cache-lengths .now) (a .place .0) (c .before .wide16 .result) (omega arith) (c .before .wide16 .ensures) (c .if1 .taken)
 
 returns-2 : tie.Need-returns-2
-returns-2 c = let a = c .before .before .before .before .before .before .args in held-long (a .cache .now) (a .cache-lengths .now) (a .place .0) (c .before .before .wide-length .result) (omega arith) (c .before .before .wide-length .ensures .0) (c .before .if1 .left) (c .if2 .taken)
+returns-2 c = let a = c .before .before .before .before .before .before .args in held-long (a .cache .now) (a .cache-lengths .now) (a .place .0) (c .before .before .wide16 .result) (omega arith) (c .before .before .wide16 .ensures) (c .before .if1 .left) (c .if2 .taken)
 
 mul-from : tie.Need-mul-from
 mul-from c = search needs
@@ -43,19 +43,19 @@ is-text-requires c κs = search needs
 
 returns-3 : tie.Need-returns-3
 returns-3 c = let a = c .before .before .before .before .before .before .before .before .before .args in
-    held-good (a .cache .now) (a .cache-lengths .now) (a .place .0) (c .before .before .before .before .before .wide-length .result) (omega arith) (c .before .before .before .before .before .wide-length .ensures .0) (c .before .before .before .before .if1 .left) (c .before .before .before .if2 .left) _ (c .before .is-text .ensures) (c .if3 .taken) (omega arith)
+    held-good (a .cache .now) (a .cache-lengths .now) (a .place .0) (c .before .before .before .before .before .wide16 .result) (omega arith) (c .before .before .before .before .before .wide16 .ensures) (c .before .before .before .before .if1 .left) (c .before .before .before .if2 .left) _ (c .before .is-text .ensures) (c .if3 .taken) (omega arith)
 
 returns-4 : tie.Need-returns-4
 returns-4 c = let a = c .before .before .before .before .before .before .before .before .before .args in
-    held-bad (a .cache .now) (a .cache-lengths .now) (a .place .0) (c .before .before .before .before .before .wide-length .result) (omega arith) (c .before .before .before .before .before .wide-length .ensures .0) (c .before .before .before .before .if1 .left) (c .before .before .before .if2 .left) _ (c .before .is-text .ensures) (c .if3 .left)
+    held-bad (a .cache .now) (a .cache-lengths .now) (a .place .0) (c .before .before .before .before .before .wide16 .result) (omega arith) (c .before .before .before .before .before .wide16 .ensures) (c .before .before .before .before .if1 .left) (c .before .before .before .if2 .left) _ (c .before .is-text .ensures) (c .if3 .left)
 
 pub held-at-spec : {M : Type 1} → statement M
 held-at-spec =
     tie.close
     (tie.spec
-    mul-wide-length
-    shared-slice-read-wide-length
-    wide-length-requires
+    mul-wide16
+    shared-slice-read-wide16
+    wide16-requires
     cast-if1
     returns
     returns-2

@@ -11,7 +11,7 @@ slice-read-if1 : tie.Need-slice-read-if1
 slice-read-if1 c = search needs
 
 returns : tie.Need-returns
-returns c = let a = c .before .before .before .before .before .args in cached-again (holding-when (a .look) (cache-of (a .cache .now) (a .cache-lengths .now))) (a .place .0) (a .marks .now) (c .before .before .before .before .before .pre .0) (c .if1 .taken)
+returns c = let a = c .before .before .before .before .before .args in cached-again (holding-when (a .look) (cache-of (a .cache .now) (a .cache-lengths .now))) (a .place .0) (a .naming .now) (c .before .before .before .before .before .pre .0) (c .if1 .taken)
 
 looked-at-requires : tie.Need-looked-at-requires
 looked-at-requires c κs = search needs
@@ -25,21 +25,21 @@ enum-told-2 c = search needs
 enum-told-3 : tie.Need-enum-told-3
 enum-told-3 c = search needs
 
-slice-write-marks : tie.Need-slice-write-marks
-slice-write-marks c = search needs
+slice-write-naming : tie.Need-slice-write-naming
+slice-write-naming c = search needs
 
 returns-2 : tie.Need-returns-2
-returns-2 c = let a = c .before .before .before .before .before .before .before .before .args in cached-empty (holding-when (a .look) (cache-of (a .cache .now) (a .cache-lengths .now))) (a .place .0) (a .marks .now) (c .before .before .before .before .before .before .before .before .pre .0) (c .before .before .before .if1 .left) (sym (c .enum-told .given .1) ∙ c .before .before .looked-at .ensures)
+returns-2 c = let a = c .before .before .before .before .before .before .before .before .args in cached-empty (holding-when (a .look) (cache-of (a .cache .now) (a .cache-lengths .now))) (a .place .0) (a .naming .now) (c .before .before .before .before .before .before .before .before .pre .0) (c .before .before .before .if1 .left) (sym (c .enum-told .given .1) ∙ c .before .before .looked-at .ensures)
 
 returns-3 : tie.Need-returns-3
-returns-3 c = let a = c .before .before .before .before .before .before .before .before .args in cached-false (holding-when (a .look) (cache-of (a .cache .now) (a .cache-lengths .now))) (a .place .0) (a .marks .now) (c .before .before .before .before .before .before .before .before .pre .0) (c .before .before .before .if1 .left) (sym (c .enum-told2 .given .1) ∙ c .before .before .looked-at .ensures)
+returns-3 c = let a = c .before .before .before .before .before .before .before .before .args in cached-false (holding-when (a .look) (cache-of (a .cache .now) (a .cache-lengths .now))) (a .place .0) (a .naming .now) (c .before .before .before .before .before .before .before .before .pre .0) (c .before .before .before .if1 .left) (sym (c .enum-told2 .given .1) ∙ c .before .before .looked-at .ensures)
 
 same-length : tie.Need-same-length
 same-length c = search needs
 
 returns-4 : tie.Need-returns-4
 returns-4 c = let a = c .before .before .before .before .before .before .before .before .args in
-    cached-good (holding-when (a .look) (cache-of (a .cache .now) (a .cache-lengths .now))) (a .place .0) (a .marks .now) (c .before .before .before .before .before .before .before .before .pre .0) (c .before .before .before .if1 .left) _ (sym (c .enum-told3 .given .1) ∙ c .before .before .looked-at .ensures) (c .before .before .before .before .before .before .before .before .pre .2)
+    cached-good (holding-when (a .look) (cache-of (a .cache .now) (a .cache-lengths .now))) (a .place .0) (a .naming .now) (c .before .before .before .before .before .before .before .before .pre .0) (c .before .before .before .if1 .left) _ (sym (c .enum-told3 .given .1) ∙ c .before .before .looked-at .ensures) (c .before .before .before .before .before .before .before .before .pre .2)
 
 pub judge-cached-spec : {M : Type 1} → statement M
 judge-cached-spec =
@@ -51,7 +51,7 @@ judge-cached-spec =
     enum-told
     enum-told-2
     enum-told-3
-    slice-write-marks
+    slice-write-naming
     returns-2
     returns-3
     same-length

@@ -12,7 +12,7 @@ slice-read-if1 : tie.Need-slice-read-if1
 slice-read-if1 c = search needs
 
 returns : tie.Need-returns
-returns c = let a = c .before .before .before .before .args in new-again (coding-of (a .utf8)) (a .place .0) (take (a .size) (drop (a .from) (a .packet .now))) (a .marks .now) (c .before .before .before .before .pre .0) (c .if1 .taken)
+returns c = let a = c .before .before .before .before .args in new-again (coding-of (a .utf8)) (a .place .0) (take (a .size) (drop (a .from) (a .packet .now))) (a .naming .now) (c .before .before .before .before .pre .0) (c .if1 .taken)
 
 add-end : tie.Need-add-end
 add-end c = search needs
@@ -31,24 +31,24 @@ is-text-requires c κs = search needs
 
 returns-2 : tie.Need-returns-2
 returns-2 c = let a = c .before .before .before .before .before .before .before .args in
-    new-bad (coding-of (a .utf8)) (a .place .0) (take (a .size) (drop (a .from) (a .packet .now))) (a .marks .now) (c .before .before .before .before .before .before .before .pre .0) (c .before .before .before .if1 .left) _ (text-part (coding-of (a .utf8)) (a .packet .now) (a .from) (a .size) _ (c .before .is-text .ensures)) (not-true _ (c .if2 .taken))
+    new-bad (coding-of (a .utf8)) (a .place .0) (take (a .size) (drop (a .from) (a .packet .now))) (a .naming .now) (c .before .before .before .before .before .before .before .pre .0) (c .before .before .before .if1 .left) _ (text-part (coding-of (a .utf8)) (a .packet .now) (a .from) (a .size) _ (c .before .is-text .ensures)) (not-true _ (c .if2 .taken))
 
 stored-length-requires : tie.Need-stored-length-requires
 stored-length-requires c κs = search needs
 
 returns-3 : tie.Need-returns-3
 returns-3 c = let a = c .before .before .before .before .before .before .before .before .before .args in
-    new-long (coding-of (a .utf8)) (a .place .0) (take (a .size) (drop (a .from) (a .packet .now))) (a .marks .now) (c .before .before .before .before .before .before .before .before .before .pre .0) (c .before .before .before .before .before .if1 .left) _ (text-part (coding-of (a .utf8)) (a .packet .now) (a .from) (a .size) _ (c .before .before .before .is-text .ensures)) (not-false _ (c .before .before .if2 .left)) _ (c .before .stored-length .ensures) (c .if3 .taken)
+    new-long (coding-of (a .utf8)) (a .place .0) (take (a .size) (drop (a .from) (a .packet .now))) (a .naming .now) (c .before .before .before .before .before .before .before .before .before .pre .0) (c .before .before .before .before .before .if1 .left) _ (text-part (coding-of (a .utf8)) (a .packet .now) (a .from) (a .size) _ (c .before .before .before .is-text .ensures)) (not-false _ (c .before .before .if2 .left)) _ (c .before .stored-length .ensures) (c .if3 .taken)
 
-slice-write-marks : tie.Need-slice-write-marks
-slice-write-marks c = search needs
+slice-write-naming : tie.Need-slice-write-naming
+slice-write-naming c = search needs
 
 same-length : tie.Need-same-length
 same-length c = search needs
 
 returns-4 : tie.Need-returns-4
 returns-4 c = let a = c .before .before .before .before .before .before .before .before .before .args in
-    new-good (coding-of (a .utf8)) (a .place .0) (take (a .size) (drop (a .from) (a .packet .now))) (a .marks .now) (c .before .before .before .before .before .before .before .before .before .pre .0) (c .before .before .before .before .before .if1 .left) _ (text-part (coding-of (a .utf8)) (a .packet .now) (a .from) (a .size) _ (c .before .before .before .is-text .ensures)) (not-false _ (c .before .before .if2 .left)) _ (c .before .stored-length .ensures) (c .if3 .left) (c .before .before .before .before .before .before .before .before .before .pre .3)
+    new-good (coding-of (a .utf8)) (a .place .0) (take (a .size) (drop (a .from) (a .packet .now))) (a .naming .now) (c .before .before .before .before .before .before .before .before .before .pre .0) (c .before .before .before .before .before .if1 .left) _ (text-part (coding-of (a .utf8)) (a .packet .now) (a .from) (a .size) _ (c .before .before .before .is-text .ensures)) (not-false _ (c .before .before .if2 .left)) _ (c .before .stored-length .ensures) (c .if3 .left) (c .before .before .before .before .before .before .before .before .before .pre .3)
 
 pub judge-new-spec : {M : Type 1} → statement M
 judge-new-spec =
@@ -64,6 +64,6 @@ judge-new-spec =
     returns-2
     stored-length-requires
     returns-3
-    slice-write-marks
+    slice-write-naming
     same-length
     returns-4)

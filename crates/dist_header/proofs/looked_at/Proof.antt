@@ -5,7 +5,7 @@ use Rattle.dist_header.proofs.looked_at.Statement.{statement}
 use Rattle.dist_header.proofs.looked_at.Tie as tie
 
 held-at-requires : tie.Need-held-at-requires
-held-at-requires c κs = let q = c .before .before .before .pre .1 (c .if1 .taken) in (c .before .before .before .pre .0, q .0, q .1)
+held-at-requires c κs = (c .before .before .before .pre .0, c .before .before .before .pre .1 (c .if1 .taken))
 
 returns : tie.Need-returns
 returns c = let a = c .before .before .before .before .args in looked (a .look) (cache-of (a .cache .now) (a .cache-lengths .now)) (a .place .0) _ (c .before .if1 .taken) (c .held-at .ensures)

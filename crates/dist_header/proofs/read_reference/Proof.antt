@@ -1,7 +1,8 @@
 -- `read_reference` meets its contract.
+use Prim.Native.Nat.{_+_}
 use native.Mathlib.Omega.{arith}
 use borrow.Author.Needs.{needs}
-use Rattle.dist_header.proofs.Standing.{spells-end, spells-cached, spells-cut-length, spells-cut-text, spells-new}
+use Rattle.dist_header.proofs.Standing.{length-width-is, length-small, spells-end, spells-cached, spells-cut-length, spells-cut-text, spells-new}
 use Rattle.dist_header.proofs.read_reference.Statement.{statement}
 use Rattle.dist_header.proofs.read_reference.Tie as tie
 
@@ -32,11 +33,11 @@ sub-if3-2 c = search needs
 returns-3 : tie.Need-returns-3
 returns-3 c = let a = c .before .before .before .before .before .before .args in spells-cut-length (a .packet .now) (a .half) (a .width) (a .at) (omega arith) (omega arith) (omega arith)
 
-add-length-at : tie.Need-add-length-at
-add-length-at c = search needs
+add-number : tie.Need-add-number
+add-number c = search needs
 
-length-at-requires : tie.Need-length-at-requires
-length-at-requires c κs = search needs
+number-requires : tie.Need-number-requires
+number-requires c κs = let p = c .before .before .before .before .before .before .pre in (length-width-is _ (p .width-least) (p .width-most), omega arith)
 
 add-from : tie.Need-add-from
 add-from c = search needs
@@ -49,12 +50,13 @@ sub-if4 c = search needs
 
 returns-4 : tie.Need-returns-4
 returns-4 c = let a = c .before .before .before .before .before .before .before .before .args in
-    spells-cut-text (a .packet .now) (a .half) (a .width) (a .at) (omega arith) (omega arith) (c .before .length-at .result) (c .before .length-at .ensures .0) (omega arith) (omega arith)
+    spells-cut-text (a .packet .now) (a .half) (a .width) (a .at) (omega arith) (omega arith) (c .before .number .result) (c .before .number .ensures) (omega arith) (omega arith)
 
 returns-5 : tie.Need-returns-5
 returns-5 c = let a = c .before .before .before .before .before .before .before .before .args in
-    spells-new (a .packet .now) (a .half) (a .width) (a .at) (omega arith) (omega arith) (c .before .length-at .result) (c .before .length-at .ensures .0) (omega arith)
-    (c .before .before .before .before .wide .result) (omega arith) (c .before .before .before .before .wide .ensures .0) (c .before .before .before .before .wide .ensures .1) (omega arith) (omega arith)
+    spells-new (a .packet .now) (a .half) (a .width) (a .at) (omega arith) (omega arith) (c .before .number .result) (c .before .number .ensures) (omega arith)
+    (c .before .before .before .before .wide .result) (omega arith) (c .before .before .before .before .wide .ensures .0) (c .before .before .before .before .wide .ensures .1) (omega arith)
+    (omega (arith, length-small (a .packet .now) (a .at + 1) (a .width) (λ i. omega (arith, c .before .before .before .before .before .before .before .shared-slice-known .given i)) (omega arith) (omega arith)))
 
 pub read-reference-spec : {M : Type 1} → statement M
 read-reference-spec =
@@ -69,8 +71,8 @@ read-reference-spec =
     sub-if3
     sub-if3-2
     returns-3
-    add-length-at
-    length-at-requires
+    add-number
+    number-requires
     add-from
     add-from-2
     sub-if4

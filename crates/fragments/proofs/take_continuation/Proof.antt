@@ -44,8 +44,8 @@ copy-requires c κs = search needs
 add-gathered : tie.Need-add-gathered
 add-gathered c = search needs
 
-settle-requires : tie.Need-settle-requires
-settle-requires c κs = search needs
+after-fragment-requires : tie.Need-after-fragment-requires
+after-fragment-requires c κs = search needs
 
 same-length : tie.Need-same-length
 same-length c = search needs
@@ -54,7 +54,7 @@ returns-5 : tie.Need-returns-5
 returns-5 c = record {
   takes-continuation = λ agreed cache plain-list pending-list.
       let a = c .before .before .before .before .before .before .before .before .before .before .before .before .before .before .args in
-      more-good agreed cache plain-list pending-list (a .pending) (a .gather .now) (a .packet .now) (a .sequence) (a .fragment) (c .before .before .before .before .before .before .before .before .before .before .if1 .left) (c .before .before .before .before .before .before .before .before .if2 .left) (c .before .before .before .before .before .before .if3 .left) _ _ (c .before .before .before .before .before .if4 .left) (c .before .before .before .before .before .before .before .before .before .before .before .before .before .before .pre .3) (c .before .before .before .copy .ensures) (c .settle .ensures);
+      more-good agreed cache plain-list pending-list (a .pending) (a .gather .now) (a .packet .now) (a .sequence) (a .fragment) (c .before .before .before .before .before .before .before .before .before .before .if1 .left) (c .before .before .before .before .before .before .before .before .if2 .left) (c .before .before .before .before .before .before .if3 .left) _ _ (c .before .before .before .before .before .if4 .left) (c .before .before .before .before .before .before .before .before .before .before .before .before .before .before .pre .3) (c .before .before .before .copy .ensures) (c .after-fragment .ensures);
 }
 
 pub take-continuation-spec : {M : Type 1} → statement M
@@ -73,6 +73,6 @@ take-continuation-spec =
     returns-4
     copy-requires
     add-gathered
-    settle-requires
+    after-fragment-requires
     same-length
     returns-5)

@@ -6,7 +6,7 @@ use Rattle.headed_packets.proofs.take_header.Statement.{statement}
 use Rattle.headed_packets.proofs.take_header.Tie as tie
 
 check-header-requires : tie.Need-check-header-requires
-check-header-requires c κs = let p = c .before .before .before .before .before .before .before .pre in (p .0, λ _. (p .1 .cache-is, p .1 .cache-lengths-are))
+check-header-requires c κs = let p = c .before .before .before .before .before .before .before .pre in (p .0, λ _. p .1)
 
 enum-known-refusal : tie.Need-enum-known-refusal
 enum-known-refusal c = search needs
@@ -27,13 +27,13 @@ returns : tie.Need-returns
 returns c = heads-long _ _ _ _ _ _ _ _ (rw (c .before .before .n .given .1) at (c .before .before .before .before .check-header .ensures)) _ (c .if1 .taken)
 
 write-list-requires : tie.Need-write-list-requires
-write-list-requires c κs = let p = c .before .before .before .before .before .before .before .before .before .before .before .before .before .before .before .before .pre in (p .1, told-good _ _ _ _ _ _ _ _ (rw (c .before .before .before .before .before .before .n .given .1) at (c .before .before .before .before .before .before .before .before .check-header .ensures)))
+write-list-requires c κs = let p = c .before .before .before .before .before .before .before .before .before .before .before .before .before .before .before .before .pre in (record { cache-sized = p .1; good-header = told-good _ _ _ _ _ _ _ _ (rw (c .before .before .before .before .before .before .n .given .1) at (c .before .before .before .before .before .before .before .before .check-header .ensures)) }, p .2)
 
 write-cache-requires : tie.Need-write-cache-requires
-write-cache-requires c κs = let p = c .before .before .before .before .before .before .before .before .before .before .before .before .before .before .before .before .before .before .before .before .before .before .before .pre in (p .1 .cache-is, p .1 .cache-lengths-are, told-good _ _ _ _ _ _ _ _ (rw (c .before .before .before .before .before .before .before .before .before .before .before .before .before .n .given .1) at (c .before .before .before .before .before .before .before .before .before .before .before .before .before .before .before .check-header .ensures)))
+write-cache-requires c κs = let p = c .before .before .before .before .before .before .before .before .before .before .before .before .before .before .before .before .before .before .before .before .before .before .before .pre in record { cache-sized = p .1; good-header = told-good _ _ _ _ _ _ _ _ (rw (c .before .before .before .before .before .before .before .before .before .before .before .before .before .n .given .1) at (c .before .before .before .before .before .before .before .before .before .before .before .before .before .before .before .check-header .ensures)) }
 
 cast-list-n : tie.Need-cast-list-n
-cast-list-n c = let g = told-good _ _ _ _ _ _ _ _ (rw (c .before .before .before .before .before .before .before .before .before .before .before .before .before .before .before .before .before .before .n .given .1) at (c .before .before .before .before .before .before .before .before .before .before .before .before .before .before .before .before .before .before .before .before .check-header .ensures)) in omega (arith, g .few)
+cast-list-n c = let g = told-good _ _ _ _ _ _ _ _ (rw (c .before .before .before .before .before .before .before .before .before .before .before .before .before .before .before .before .before .before .n .given .1) at (c .before .before .before .before .before .before .before .before .before .before .before .before .before .before .before .before .before .before .before .before .check-header .ensures)) in omega (arith, g .stands .few)
 
 same-length-3 : tie.Need-same-length-3
 same-length-3 c = search needs

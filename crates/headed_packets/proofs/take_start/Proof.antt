@@ -26,10 +26,10 @@ enum-known-offset : tie.Need-enum-known-offset
 enum-known-offset c = search needs
 
 copy-requires : tie.Need-copy-requires
-copy-requires c κs = let i = head-inside _ _ _ _ _ _ _ _ _ (rw (c .before .before .offset .given .1) at (c .before .before .before .before .before .before .before .before .before .before .before .before .take-header .ensures)) in (i .0, omega (arith, i .1, c .before .before .before .before .before .before .before .before .before .before .before .before .before .before .before .before .before .before .before .before .before .before .before .before .before .before .pre .2))
+copy-requires c κs = let i = head-inside _ _ _ _ _ _ _ _ _ (rw (c .before .before .offset .given .1) at (c .before .before .before .before .before .before .before .before .before .before .before .before .take-header .ensures)) in (i .0, omega (arith, i .1, c .before .before .before .before .before .before .before .before .before .before .before .before .before .before .before .before .before .before .before .before .before .before .before .before .before .before .pre .3))
 
-settle-requires : tie.Need-settle-requires
-settle-requires c κs = search needs
+after-fragment-requires : tie.Need-after-fragment-requires
+after-fragment-requires c κs = search needs
 
 same-length : tie.Need-same-length
 same-length c = search needs
@@ -62,13 +62,13 @@ same-length-9 : tie.Need-same-length-9
 same-length-9 c = search needs
 
 returns-3 : tie.Need-returns-3
-returns-3 c = record { takes-start = λ plain-list. start-good _ _ _ _ _ (c .before .before .before .before .before .before .before .before .before .before .before .before .before .before .before .before .before .before .before .before .before .before .before .before .before .before .before .before .before .before .args .packet .now) plain-list _ _ _ _ (c .before .before .before .before .before .before .before .before .before .before .before .before .before .before .before .before .before .before .before .before .before .before .if1 .left) _ _ _ _ (rw (c .before .before .before .before .before .before .offset .given .1) at (c .before .before .before .before .before .before .before .before .before .before .before .before .before .before .before .before .take-header .ensures)) (c .before .before .before .copy .ensures) (c .settle .ensures) }
+returns-3 c = record { takes-start = λ plain-list. start-good _ _ _ _ _ (c .before .before .before .before .before .before .before .before .before .before .before .before .before .before .before .before .before .before .before .before .before .before .before .before .before .before .before .before .before .before .args .packet .now) plain-list _ _ _ _ (c .before .before .before .before .before .before .before .before .before .before .before .before .before .before .before .before .before .before .before .before .before .before .if1 .left) _ _ _ _ (rw (c .before .before .before .before .before .before .offset .given .1) at (c .before .before .before .before .before .before .before .before .before .before .before .before .before .before .before .before .take-header .ensures)) (c .before .before .before .copy .ensures) (c .after-fragment .ensures) }
 
 pub take-start-spec : {M : Type 1} → statement M
 take-start-spec =
     tie.close
     (tie.spec
     refused-requires returns
-    take-header-requires enum-known-refusal enum-known-offset copy-requires settle-requires same-length same-length-2 same-length-3 same-length-4
+    take-header-requires enum-known-refusal enum-known-offset copy-requires after-fragment-requires same-length same-length-2 same-length-3 same-length-4
     returns-2
     same-length-5 same-length-6 same-length-7 same-length-8 same-length-9 returns-3)

@@ -3,7 +3,7 @@ use mathlib.Core.Path.{refl}
 use borrow.Author.Needs.{needs}
 use Rattle.packet_spec.specs.Memory.{none-pending}
 use Rattle.packet_preamble.proofs.Preambles.{plain-there, start-there, more-there}
-use Rattle.packet_calls.proofs.Whole.{size-done, false-done, opening-done, plain-done, start-done, more-done}
+use Rattle.packet_calls.proofs.Whole.{size-done, false-done, preamble-done, plain-done, start-done, more-done}
 use Rattle.lent_memory.proofs.Sizes.{lengths-told}
 use Rattle.packet_calls.proofs.take_packet.Statement.{statement}
 use Rattle.packet_calls.proofs.take_packet.Tie as tie
@@ -79,7 +79,7 @@ enum-told c = search needs
 
 take-plain-requires : tie.Need-take-plain-requires
 take-plain-requires c κs = let z = lengths-told _ (c .before .before .before .before .before .before .before .before .before .before .before .memory-fits .ensures .fits-told 0 0 none-pending) (c .before .before .before .before .before .before .before .before .before .before .if1 .left) in
-    (plain-there _ (rw (c .before .before .before .before .before .enum-told .given .1) at (c .before .before .before .before .before .before .before .read-preamble .ensures)), record { cache-is = z .places; cache-lengths-are = z .lengths; list-is = z .plain-places; list-lengths-are = z .plain-lengths })
+    (plain-there _ (rw (c .before .before .before .before .before .enum-told .given .1) at (c .before .before .before .before .before .before .before .read-preamble .ensures)), z .cache-sized, record { places-are = z .plain-places; lengths-are = z .plain-lengths })
 
 enum-known-sequence : tie.Need-enum-known-sequence
 enum-known-sequence c = search needs
@@ -87,7 +87,7 @@ enum-known-sequence c = search needs
 take-start-requires : tie.Need-take-start-requires
 take-start-requires c κs = let z = lengths-told _ (c .before .before .before .before .before .before .before .before .before .before .before .before .before .memory-fits .ensures .fits-told 0 0 none-pending) (c .before .before .before .before .before .before .before .before .before .before .before .before .if1 .left) in
     let t = start-there _ _ _ (rw (c .before .before .before .before .before .before .before .sequence .given .1) at (c .before .before .before .before .before .before .before .before .before .read-preamble .ensures)) in
-    (t .0, record { cache-is = z .places; cache-lengths-are = z .lengths; list-is = z .pending-places; list-lengths-are = z .pending-lengths }, z .gathered, t .1)
+    (t .0, z .cache-sized, record { places-are = z .pending-places; lengths-are = z .pending-lengths }, z .gathered, t .1)
 
 enum-known-sequence-2 : tie.Need-enum-known-sequence-2
 enum-known-sequence-2 c = search needs
@@ -119,7 +119,7 @@ same-length-21 : tie.Need-same-length-21
 same-length-21 c = search needs
 
 returns-3 : tie.Need-returns-3
-returns-3 c = rw (c .refused3 .ensures) (opening-done _ _ _ (c .before .before .before .before .before .before .before .before .memory-fits .ensures .fits-told _ _ _) (c .before .before .before .before .before .before .before .if1 .left) (c .before .before .before .before .before .if2 .left) _ (rw (c .before .before .number .given .1) at (c .before .before .before .before .read-preamble .ensures)))
+returns-3 c = rw (c .refused3 .ensures) (preamble-done _ _ _ (c .before .before .before .before .before .before .before .before .memory-fits .ensures .fits-told _ _ _) (c .before .before .before .before .before .before .before .if1 .left) (c .before .before .before .before .before .if2 .left) _ (rw (c .before .before .number .given .1) at (c .before .before .before .before .read-preamble .ensures)))
 
 same-length-22 : tie.Need-same-length-22
 same-length-22 c = search needs
