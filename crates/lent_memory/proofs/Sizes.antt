@@ -22,9 +22,7 @@ cache-if cache lengths e = rw (eq-eqb (length cache) 65536 e)
 
 -- the sizes of a cache that fits
 pub cache-lent : (cache lengths : List ℕ) {b : Bool} → b ≡ cache-of-size (cache-of cache lengths) → not b ≡ false → CacheSized (cache-of cache lengths)
-cache-lent cache lengths told met =
-    let z = sized (cache-of cache lengths) (confirmed told met) in
-    record { places-are = z .places-are; lengths-are = z .lengths-are }
+cache-lent cache lengths told met = sized (cache-of cache lengths) (confirmed told met)
 
 -- one test after the other: the cache, the list for a plain packet, the list for the pending sequence, the gather buffer
 module _ (m : Memory) {a : Bool} (told : a ≡ cache-of-size (m .cache)) where
@@ -61,7 +59,7 @@ lengths-told m told met =
     let one = sizes-of (m .plain-list) (z .plain-sized) in
     let two = sizes-of (m .pending-list) (z .pending-sized) in
     record {
-      cache-sized = record { places-are = z .cache-sized .places-are; lengths-are = z .cache-sized .lengths-are };
+      cache-sized = z .cache-sized;
       plain-places = one .0;
       plain-lengths = one .1;
       pending-places = two .0;

@@ -11,7 +11,7 @@ use borrow.Author.Tests.{eqb-true, eqb-false, eq-eqb, ne-eqb, le-leb}
 use Rattle.term_spec.specs.Text.{valid, utf-8, check}
 use Rattle.term_spec.proofs.Tests.{both-true, by-less}
 use Rattle.octets.proofs.Stores.{drop-after, part-sets}
-use Rattle.packet_spec.specs.Memory.{Cache, cache-of-size, text, text-if, held-as, held}
+use Rattle.packet_spec.specs.Memory.{Cache, cache-of-size, CacheSized, text, text-if, held-as, held}
 use Rattle.packet_spec.specs.Header.{Reference}
 use Rattle.packet_spec.specs.Calls.{zeros-to, enter}
 use Rattle.packet_spec.specs.Places.{Same, Holding}
@@ -42,17 +42,13 @@ held-new {c} {p} {t} cs h l u =
     ∙ rw (take-zeros-to 32 t, u)
 
 -- a cache of its stated size
-pub record Sized (c : Cache) : Type 0 where
-  pub places-are : length (c .places) ≡ 65536
-  pub lengths-are : length (c .lengths) ≡ 2048
-
-pub sized : (c : Cache) → cache-of-size c ≡ true → Sized c
+pub sized : (c : Cache) → cache-of-size c ≡ true → CacheSized c
 unfolding cache-of-size
 sized c e =
     let two : (eqb (length (c .places)) 65536 ≡ true) × (eqb (length (c .lengths)) 2048 ≡ true) = both-true _ _ e in
     record { places-are = eqb-true _ _ (two .0); lengths-are = eqb-true _ _ (two .1) }
 
-pub sized-back : {c : Cache} → Sized c → cache-of-size c ≡ true
+pub sized-back : {c : Cache} → CacheSized c → cache-of-size c ≡ true
 unfolding cache-of-size
 sized-back {c} s = rw (eq-eqb (length (c .places)) 65536 (s .places-are), eq-eqb (length (c .lengths)) 2048 (s .lengths-are))
 
@@ -62,11 +58,11 @@ sized-back {c} s = rw (eq-eqb (length (c .places)) 65536 (s .places-are), eq-eqb
 abbrev put : Cache → ℕ → List ℕ → Cache
 put c p t = record { places = sets (c .places) (32 * p) (zeros-to 32 t); lengths = set (c .lengths) p (length t) }
 
-pub enter-sized : (c : Cache) (r : Reference) → Sized c → Sized (enter c r)
+pub enter-sized : (c : Cache) (r : Reference) → CacheSized c → CacheSized (enter c r)
 unfolding enter
 enter-sized c r s = go (r .new)
   where
-    go : (b : Bool) → Sized (elim b [ true ↦ put c (r .place) (r .text) | false ↦ c ])
+    go : (b : Bool) → CacheSized (elim b [ true ↦ put c (r .place) (r .text) | false ↦ c ])
     go false = s
     go true =
         record {
@@ -97,7 +93,7 @@ module _ (c : Cache) (r : Reference) (short-text : length (r .text) ≤ 32) wher
           }
 
   -- a new reference's place holds its text
-  pub enter-new : r .new ≡ true → r .place < 2048 → Sized c → Holding (enter c r) (r .place) (r .text)
+  pub enter-new : r .new ≡ true → r .place < 2048 → CacheSized c → Holding (enter c r) (r .place) (r .text)
   unfolding enter
   enter-new e p s = go (r .new) e
     where

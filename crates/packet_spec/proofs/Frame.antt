@@ -7,18 +7,18 @@ use native.Mathlib.Omega.{arith}
 use lib.Dec.{eqb}
 use borrow.Author.Tests.{eqb-true, eq-eqb}
 use Rattle.term_spec.proofs.Tests.{both-true}
-use Rattle.packet_spec.specs.Memory.{Cache, text, held}
+use Rattle.packet_spec.specs.Memory.{Cache, CacheSized, text, held}
 use Rattle.packet_spec.specs.Header.{Reference, named, filled}
 use Rattle.packet_spec.specs.Calls.{enter, entered}
 use Rattle.packet_spec.specs.Places.{Same, Held-new, filled-by, filled-in-turn}
-use Rattle.packet_spec.proofs.Cache.{same-refl, same-trans, same-holding, held-same, held-new, Sized, enter-sized, enter-other, enter-new}
+use Rattle.packet_spec.proofs.Cache.{same-refl, same-trans, same-holding, held-same, held-new, enter-sized, enter-other, enter-new}
 use Rattle.packet_spec.proofs.Judged.{Sound, All-sound}
 
 pub neither : (a b : Bool) → (a || b) ≡ false → (a ≡ false) × (b ≡ false)
 neither true b e = let no-way : _≡_ {A = ℕ} 0 1 = cc in absurd (omega arith)
 neither false b e = (refl, e)
 
-pub entered-sized : (rs : List Reference) (c : Cache) → Sized c → Sized (entered c rs)
+pub entered-sized : (rs : List Reference) (c : Cache) → CacheSized c → CacheSized (entered c rs)
 unfolding entered
 entered-sized [] c s = s
 entered-sized (r ∷ rs) c s = entered-sized rs (enter c r) (enter-sized c r s)
@@ -58,7 +58,7 @@ unfolding named
 named-itself r earlier = rw (eq-eqb (r .place) (r .place) refl)
 
 -- each new reference's place holds its text
-pub entered-new : (rs : List Reference) (earlier : List Reference) (c : Cache) → Sized c → All-sound earlier rs → Held-new (entered c rs) rs
+pub entered-new : (rs : List Reference) (earlier : List Reference) (c : Cache) → CacheSized c → All-sound earlier rs → Held-new (entered c rs) rs
 unfolding entered
 entered-new [] earlier c s a = tt
 entered-new (r ∷ rs) earlier c s a = (
@@ -69,7 +69,7 @@ entered-new (r ∷ rs) earlier c s a = (
 )
 
 -- what the places hold, as the references fill them in turn
-held-enter : (r : Reference) (earlier : List Reference) (c : Cache) → Sized c → Sound earlier r → (p : ℕ) → held (enter c r) p ≡ filled-by r (held c) p
+held-enter : (r : Reference) (earlier : List Reference) (c : Cache) → CacheSized c → Sound earlier r → (p : ℕ) → held (enter c r) p ≡ filled-by r (held c) p
 unfolding filled-by
 held-enter r earlier c s a p = go (r .new && eqb (r .place) p) refl
   where
@@ -80,7 +80,7 @@ held-enter r earlier c s a p = go (r .new && eqb (r .place) p) refl
         subst (λ (q : ℕ). held (enter c r) q ≡ text (r .text)) (eqb-true (r .place) p (two .1))
         (held-new (a .a-text .characters) (enter-new c r (a .a-text .short) (two .0) (a .in-cache) s) (a .a-text .short) (a .a-text .is-utf8))
 
-pub held-entered : (rs : List Reference) (earlier : List Reference) (c : Cache) → Sized c → All-sound earlier rs
+pub held-entered : (rs : List Reference) (earlier : List Reference) (c : Cache) → CacheSized c → All-sound earlier rs
     → held (entered c rs) ≡ filled-in-turn rs (held c)
 unfolding entered filled-in-turn
 held-entered [] earlier c s a = refl

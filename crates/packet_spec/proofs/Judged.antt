@@ -157,9 +157,9 @@ Numbered normal = Unit {0}
 Numbered (starting s f) = f ≡ 0 → ⊥
 Numbered (continuing s f) = f ≡ 0 → ⊥
 
-opening-holds : (s : Position) → Fine 0 s → Holds (preamble s) (λ k t. Numbered k × Fine 0 t)
+preamble-holds : (s : Position) → Fine 0 s → Holds (preamble s) (λ k t. Numbered k × Fine 0 t)
 unfolding preamble packet-kind ids
-opening-holds s f =
+preamble-holds s f =
     bind (version-holds s f λ t g. bind (byte-holds 0 t g λ tag u _ h. go (eqb tag 68) (eqb tag 69) (eqb tag 70) u h))
   where
     numbers : (k : ℕ → ℕ → Kind) → ((s f : ℕ) → (f ≡ 0 → ⊥) → Numbered (k s f)) → (u : Position) → Fine 0 u
@@ -210,7 +210,7 @@ module _ (agreed : Coding) (holding : ℕ → Held) (texts : Texts holding) (r :
   unfolding packet
   packet-holds s f =
       bind (rule-holds (record-true r) 14 0 s λ _.
-      next _ (opening-holds s f) λ k t h.
+      next _ (preamble-holds s f) λ k t h.
       rest-holds k t (h .0) (h .1))
 
 -- what is known of an accepted packet of a call

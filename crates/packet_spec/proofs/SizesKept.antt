@@ -13,18 +13,18 @@ use Rattle.term_spec.specs.Answer.{Answer, good, refused}
 use Rattle.term_spec.specs.AtomList.{of-size}
 use Rattle.term_spec.specs.Numbers.{Under}
 use Rattle.term_spec.proofs.Tests.{both-true}
-use Rattle.packet_spec.specs.Memory.{Memory, cache-of-size, memory-of-size}
+use Rattle.packet_spec.specs.Memory.{Memory, cache-of-size, CacheSized, memory-of-size}
 use Rattle.packet_spec.specs.Header.{Reference}
 use Rattle.packet_spec.specs.Packet.{Packet, plain, start, continuation, judged}
 use Rattle.packet_spec.specs.Calls.{zeros-to, texts-in-places, lengths-of, list-of, left-by, left-after, after-packet}
 use Rattle.packet_spec.proofs.Stores.{length-zeros-to}
-use Rattle.packet_spec.proofs.Cache.{Sized, sized, sized-back}
+use Rattle.packet_spec.proofs.Cache.{sized, sized-back}
 use Rattle.packet_spec.proofs.Judged.{All-sound, Sound-packet, accepted}
 use Rattle.packet_spec.proofs.Frame.{entered-sized}
 
 -- all lent memory is of its stated size
 pub record All-sized (m : Memory) : Type 0 where
-  pub cache-sized : Sized (m .cache)
+  pub cache-sized : CacheSized (m .cache)
   pub plain-sized : of-size (m .plain-list) ≡ true
   pub pending-sized : of-size (m .pending-list) ≡ true
   pub gather-sized : length (m .gather) ≡ 65536
