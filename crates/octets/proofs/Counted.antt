@@ -12,18 +12,18 @@ module _ (m : List ℕ) (at w b : ℕ) where
   abbrev past : ℕ
   past = at + 1 + w + b + value m w (at + 1)
 
-  pub end-there : (n : ℕ) → n ≡ value m w (at + 1) → at + 1 + w + b + n ≤ length m → at + 1 + w + b + n ≡ counted-end m at w b
+  pub past-there : (n : ℕ) → n ≡ value m w (at + 1) → at + 1 + w + b + n ≤ length m → at + 1 + w + b + n ≡ counted-end m at w b
   unfolding counted-end
-  end-there n e h = let g : past ≤ length m = omega arith in rw (le-leb past (length m) g, e)
+  past-there n e h = let g : past ≤ length m = omega arith in rw (le-leb past (length m) g, e)
 
-  pub end-cut : length m < past → 0 ≡ counted-end m at w b
+  pub past-cut : length m < past → 0 ≡ counted-end m at w b
   unfolding counted-end
-  end-cut h = rw (lt-leb past (length m) h)
+  past-cut h = rw (lt-leb past (length m) h)
 
   -- what an answer says
-  pub counted-there : {r : ℕ} → r ≡ counted-end m at w b → (r ≡ 0 → ⊥) → (r ≡ past) × (past ≤ length m)
-  counted-there e some =
-      by-less (length m) past (λ short. let c = end-cut short in absurd (some (omega arith))) (λ there. let c = end-there _ refl there in (omega arith, there))
+  pub past-some : {r : ℕ} → r ≡ counted-end m at w b → (r ≡ 0 → ⊥) → (r ≡ past) × (past ≤ length m)
+  past-some e some =
+      by-less (length m) past (λ short. let c = past-cut short in absurd (some (omega arith))) (λ there. let c = past-there _ refl there in (omega arith, there))
 
-  pub counted-cut : {r : ℕ} → r ≡ counted-end m at w b → r ≡ 0 → length m < past
-  counted-cut e none = by-less (length m) past (λ short. short) (λ there. let c = end-there _ refl there in absurd (omega arith))
+  pub past-none : {r : ℕ} → r ≡ counted-end m at w b → r ≡ 0 → length m < past
+  past-none e none = by-less (length m) past (λ short. short) (λ there. let c = past-there _ refl there in absurd (omega arith))

@@ -24,7 +24,7 @@ use Rattle.term_spec.proofs.Backed.{Allowed, Atom-form, is-82, is-100, is-115, 
 use Rattle.term_spec.proofs.Tests.{also}
 use Rattle.octets.specs.Parts.{counted-end}
 use Rattle.octets.proofs.Numbers.{big-one}
-use Rattle.octets.proofs.Counted.{counted-there}
+use Rattle.octets.proofs.Counted.{past-some}
 use Rattle.row_fields.specs.declared.Content.{Content}
 use Rattle.row_fields.specs.declared.Content.the-variants.{Nothing, Whole, Big, Float, Text, Bytes, Bits, Pid, Port, Reference}
 use Rattle.row_fields.specs.Found.{value, text-width, text-found, place-found, listed-found, atom-found, kind-found, content-of}
@@ -167,7 +167,7 @@ module _ (atoms : AtomList) (m : List ℕ) (cs : List ℕ) where
     unfolding text-found
     text-content w latin1 e =
         let a = present (eqb (counted-end m p w 0) 0) (Text latin1 false (p + 1 + w) (value m w (p + 1))) e in
-        let t = counted-there m p w 0 refl (eqb-false (counted-end m p w 0) 0 (a .0)) in
+        let t = past-some m p w 0 refl (eqb-false (counted-end m p w 0) 0 (a .0)) in
         (a .1, omega (arith, t .1))
 
     place-content : (i : ℕ) → Says-atom (place-found (atoms .places) (atoms .lengths) i) → place-found (atoms .places) (atoms .lengths) i ≡ Text false true (32 * i) (getD (atoms .lengths) i 0)

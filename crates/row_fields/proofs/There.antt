@@ -2,12 +2,12 @@
 use mathlib.Core.Path.{_≡_, refl, sym, _∙_, ap, ap₂}
 use mathlib.Core.Bool.{Bool, true, false, cond}
 use mathlib.Core.List.{List}
-use Prim.Native.Nat.{ℕ, _+_, _*_, _-_, _≤_, _<_}
+use Prim.Native.Nat.{ℕ, _+_, _*_, _≤_, _<_}
 use native.Mathlib.Omega.{arith}
 use lib.Dec.{eqb, ltb}
 use lib.ListN.{length, getD}
 use Rattle.octets.specs.Parts.{counted-end}
-use Rattle.octets.proofs.Counted as octets
+use Rattle.octets.proofs.Counted.{past-there}
 use Rattle.row_fields.specs.declared.Content.the-variants.{Whole, Float, Text, Bytes, Pid, Port, Reference}
 use Rattle.row_fields.specs.Found.{value, stripped, byte-found, signed-whole, signed-found, stripped-found, big-found, integer-found, float-found, text-width, text-found, place-found, listed-found, atom-found, text-end, atom-end, bytes-found, bits-of, bits-found, binary-found, pid-found, port-found, words-found, word-found, counted-found, pids-found, ports-found, references-found}
 use Rattle.row_fields.proofs.Tests.{enough, above, unequal}
@@ -15,7 +15,7 @@ use Rattle.row_fields.proofs.Tests.{enough, above, unequal}
 -- a length in w bytes after the tag at `at`, and so many bytes with b before them
 counted : {A : Type 0} {z y : A} (a : A) (m : List ℕ) (w at b n : ℕ) → value m w (at + 1) ≡ n → at + 1 + w + b + n ≤ length m → z ≡ y
     → z ≡ cond (eqb (counted-end m at w b) 0) a y
-counted a m w at b n e h f = unequal a (octets.end-there m at w b n (sym e) h) refl (λ z. omega arith) f
+counted a m w at b n e h f = unequal a (past-there m at w b n (sym e) h) refl (λ z. omega arith) f
 
 module _ (m : List ℕ) (at : ℕ) where
   pub byte-there : at + 1 ≤ length m → Whole false (value m 1 at) ≡ byte-found m at
@@ -43,7 +43,7 @@ module _ (m : List ℕ) (at : ℕ) where
   pub end-there : (w n : ℕ) → value m w (at + 1) ≡ n → 0 < w → at + 1 + w + n ≤ length m → at + 1 + w + n ≡ text-end m w at
   unfolding text-end
   end-there w n e k h =
-      unequal {x = w} {k = 0} _ refl refl (λ z. omega arith) (counted _ m w at 0 n e (omega arith) (let g : at + 1 + w + 0 + n ≡ counted-end m at w 0 = octets.end-there m at w 0 n (sym e) (omega arith) in omega arith))
+      unequal {x = w} {k = 0} _ refl refl (λ z. omega arith) (counted _ m w at 0 n e (omega arith) (let g : at + 1 + w + 0 + n ≡ counted-end m at w 0 = past-there m at w 0 n (sym e) (omega arith) in omega arith))
 
   pub end-listed : at + 2 ≡ text-end m 0 at
   unfolding text-end

@@ -9,7 +9,7 @@ use Rattle.term_spec.specs.Head as format
 use Rattle.term_spec.proofs.Bridge.{number-at, number-end, bytes-at, bytes-end}
 use Rattle.term_spec.proofs.Tests.{by-less}
 use Rattle.octets.specs.Parts.{value, counted-end}
-use Rattle.octets.proofs.Counted.{counted-there, counted-cut}
+use Rattle.octets.proofs.Counted.{past-some, past-none}
 
 -- n in w bytes, then n bytes, of which k makes a head
 module _ (m : List ℕ) (at w rows : ℕ) (inside : at < length m) (k : ℕ → List ℕ → Reading format.Head) where
@@ -18,14 +18,14 @@ module _ (m : List ℕ) (at w rows : ℕ) (inside : at < length m) (k : ℕ → 
 
   pub plain-cut : {end : ℕ} → end ≡ counted-end m at w 0 → end ≡ 0 → plain ≡ refused 2 at
   plain-cut e z =
-      let short = counted-cut m at w 0 e z in
+      let short = past-none m at w 0 e z in
       by-less (length m) (at + 1 + w) (λ less. rw (number-end m at w (at + 1) rows (omega arith) (omega arith)))
       (λ over. rw (number-at m at w (at + 1) rows (omega arith), bytes-end m at (value m w (at + 1)) (at + 1 + w) rows (omega arith) (omega arith)))
 
   pub plain-there : {end : ℕ} → end ≡ counted-end m at w 0 → (end ≡ 0 → ⊥)
       → plain ≡ k (end - (at + 1 + w)) (take (end - (at + 1 + w)) (drop (at + 1 + w) m)) (at-offset m end rows)
   plain-there {end} e some =
-      let there = counted-there m at w 0 e some in
+      let there = past-some m at w 0 e some in
       let c : end - (at + 1 + w) ≡ value m w (at + 1) = omega (arith, there .0) in
       let d : end ≡ at + 1 + w + value m w (at + 1) = omega (arith, there .0) in
       rw (c, d, number-at m at w (at + 1) rows (omega (arith, there .1)), bytes-at m at (value m w (at + 1)) (at + 1 + w) rows (omega (arith, there .1)))
@@ -37,7 +37,7 @@ module _ (m : List ℕ) (at w rows : ℕ) (inside : at < length m) (k : ℕ → 
 
   pub marked-cut : {end : ℕ} → end ≡ counted-end m at w 1 → end ≡ 0 → marked ≡ refused 2 at
   marked-cut e z =
-      let short = counted-cut m at w 1 e z in
+      let short = past-none m at w 1 e z in
       by-less (length m) (at + 1 + w) (λ less. rw (number-end m at w (at + 1) rows (omega arith) (omega arith)))
       (λ over.
       by-less (length m) (at + 1 + w + 1)
@@ -52,7 +52,7 @@ module _ (m : List ℕ) (at w rows : ℕ) (inside : at < length m) (k : ℕ → 
   pub marked-there : {end : ℕ} → end ≡ counted-end m at w 1 → (end ≡ 0 → ⊥)
       → marked ≡ k (end - (at + 1 + w + 1)) (value m 1 (at + 1 + w)) (take (end - (at + 1 + w + 1)) (drop (at + 1 + w + 1) m)) (at-offset m end rows)
   marked-there {end} e some =
-      let there = counted-there m at w 1 e some in
+      let there = past-some m at w 1 e some in
       let c : end - (at + 1 + w + 1) ≡ value m w (at + 1) = omega (arith, there .0) in
       rw (
         c,

@@ -18,7 +18,7 @@ use Rattle.octets.proofs.Parts.{length-part}
 use Rattle.term_head.specs.declared.Later.the-variants.{Known, Reference}
 use Rattle.term_head.specs.declared.Head.the-variants.{Refused, Parts, Characters, Elements, Pairs}
 use Rattle.octets.specs.Parts.{value, counted-end}
-use Rattle.octets.proofs.Counted.{counted-there}
+use Rattle.octets.proofs.Counted.{past-some}
 use Rattle.term_head.proofs.Counted.{plain-cut, plain-there, marked-cut, marked-there}
 use Rattle.term_head.specs.Code.{Bits, head-of, head-at, fields-of, kind-later, later-of}
 
@@ -64,7 +64,7 @@ module _ (atoms : Atoms) (m : List ℕ) (at rows : ℕ) (inside : at < length m)
   pub string-there : (end : ℕ) → end ≡ counted-end m at 2 0 → (end ≡ 0 → ⊥) → Characters (end - at - 3) end ≡ fields-of atoms m at string-ext rows
   unfolding fields-of fields head-of head-at
   string-there end c some =
-      let near = counted-there m at 2 0 c some in
+      let near = past-some m at 2 0 c some in
       let n : end - at - 3 ≡ length (take (end - (at + 1 + 2)) (drop (at + 1 + 2) m)) = sym (length-part m (at + 1 + 2) (end - (at + 1 + 2)) (omega (arith, near .0, near .1)) ∙ omega arith) in
       ap (λ (k : ℕ). Characters k end) n ∙ sym (ap head-of (plain-there m at 2 rows inside (λ n bs. done (characters bs)) c some))
 

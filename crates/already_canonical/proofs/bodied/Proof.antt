@@ -1,6 +1,6 @@
 -- `bodied` meets its contract. A tag, a length, and so many bytes.
 use native.Mathlib.Omega.{arith}
-use Rattle.octets.proofs.Counted.{counted-there}
+use Rattle.octets.proofs.Counted.{past-some}
 use Rattle.already_canonical.proofs.Stands.{positive}
 use borrow.Author.Needs.{needs}
 use Rattle.already_canonical.proofs.bodied.Statement.{statement}
@@ -19,13 +19,13 @@ returns-2 : tie.Need-returns-2
 returns-2 c = search needs
 
 sub-result : tie.Need-sub-result
-sub-result c = let n = counted-there _ _ _ _ (c .before .past-counted .ensures) (c .if2 .left) in omega (arith, n .0)
+sub-result c = let n = past-some _ _ _ _ (c .before .past-counted .ensures) (c .if2 .left) in omega (arith, n .0)
 
 returns-3 : tie.Need-returns-3
 returns-3 c =
     λ l.
     let t = c .before .before .before .tagged .ensures (positive _ (c .before .before .if1 .left)) in
-    let n = counted-there _ _ _ _ (c .before .past-counted .ensures) (c .if2 .left) in
+    let n = past-some _ _ _ _ (c .before .past-counted .ensures) (c .if2 .left) in
     record { body-tag = t .tag-is; all = omega (arith, n .0); inside = omega (arith, n .0, n .1) }
 
 pub bodied-spec : {M : Type 1} → statement M

@@ -2,7 +2,7 @@
 use mathlib.Core.Path.{refl}
 use native.Mathlib.Omega.{arith}
 use borrow.Author.Needs.{needs}
-use Rattle.octets.proofs.Counted.{counted-there}
+use Rattle.octets.proofs.Counted.{past-some}
 use Rattle.row_fields.specs.Found.{bytes-found}
 use Rattle.row_fields.proofs.Tests.{equal}
 use Rattle.row_fields.proofs.There.{bytes-there}
@@ -23,10 +23,10 @@ add-t6 : tie.Need-add-t6
 add-t6 c = search needs
 
 sub-t7 : tie.Need-sub-t7
-sub-t7 c = let t = counted-there _ _ _ _ (c .before .past-counted .ensures) (c .if1 .left) in omega (arith, t .0, t .1)
+sub-t7 c = let t = past-some _ _ _ _ (c .before .past-counted .ensures) (c .if1 .left) in omega (arith, t .0, t .1)
 
 returns-2 : tie.Need-returns-2
-returns-2 c = let t = counted-there _ _ _ _ (c .before .past-counted .ensures) (c .if1 .left) in bytes-there _ _ _ (omega (arith, t .0, t .1)) (omega (arith, t .0, t .1))
+returns-2 c = let t = past-some _ _ _ _ (c .before .past-counted .ensures) (c .if1 .left) in bytes-there _ _ _ (omega (arith, t .0, t .1)) (omega (arith, t .0, t .1))
 
 pub bytes-spec : {M : Type 1} → statement M
 bytes-spec = tie.close (tie.spec past-counted-requires returns add-t5 add-t6 sub-t7 returns-2)
