@@ -1,10 +1,8 @@
 -- Pids and references whose fields stand in the message as they are written, around their node.
 use mathlib.Core.Path.{_≡_, refl, sym, _∙_, ap, ap₂, subst}
-use mathlib.Core.Bool.{false}
 use mathlib.Core.List.{List, _∷_, _++_}
 use Prim.Native.Nat.{ℕ, _+_, _*_, _-_, _≤_, _<_}
 use native.Mathlib.Omega.{arith}
-use lib.Dec.{eqb}
 use lib.ListN.{length, getD, take, drop}
 use lib.Seq.{sets}
 use borrow.Author.Tests.{le-ltb}
@@ -12,11 +10,12 @@ use Rattle.term_spec.specs.Numbers.{in-bytes}
 use Rattle.term_spec.specs.Rows.{kind-in, offset-in, parts-in}
 use Rattle.octets.proofs.Numbers.{big-one}
 use Rattle.octets.proofs.Parts.{length-words-at, part-add}
-use Rattle.row_fields.specs.Found.{value, text-width, text-end, atom-end, pid-found, pids-found, words-found, counted-found, references-found, content-of}
+use Rattle.row_fields.specs.Found.{value, text-width, atom-end, pid-found, pids-found, words-found, counted-found, references-found, content-of}
 use Rattle.row_fields.specs.Meaning.{words-at, label-of}
 use Rattle.row_fields.specs.declared.Content.{Content}
 use Rattle.row_fields.specs.declared.Content.the-variants.{Pid, Reference}
 use Rattle.row_fields.proofs.ByKind.{kind-10, kind-12}
+use Rattle.row_fields.proofs.There.{end-there, end-listed, atom-ends}
 use Rattle.layout.specs.Layout.{Put}
 use Rattle.canonical_fields.specs.Shape.{before, after}
 use Rattle.canonical_fields.specs.Sound.{Bytes-only, listed-in, before-in, after-in}
@@ -28,20 +27,9 @@ use Rattle.already_canonical.proofs.Stands.{one, number-there, copied-l
 -- ---- where a node ends
 
 module _ (m : List ℕ) (at : ℕ) where
-  end-there : (w : ℕ) → eqb w 0 ≡ false → at + (1 + w) ≤ length m → at + 1 + w + value m w (at + 1) ≤ length m → text-end m w at ≡ at + 1 + w + value m w (at + 1)
-  unfolding text-end
-  end-there w z h k =
-      let f : 1 + w ≤ length m - at = omega arith in
-      let g : value m w (at + 1) ≤ length m - (at + 1 + w) = omega arith in
-      simp (z, le-ltb (length m - at) (1 + w) f, le-ltb (length m - (at + 1 + w)) (value m w (at + 1)) g)
-
-  end-by : (tag : ℕ) → at < length m → getD m at 0 ≡ tag → atom-end m at ≡ text-end m (text-width tag) at
-  unfolding atom-end
-  end-by tag h e = let g : 1 ≤ length m - at = omega arith in simp (le-ltb (length m - at) 1 g) (ap (λ (t : ℕ). text-end m (text-width t) at) e)
-
   pub node-82 : {r : ℕ} → Tagged m at 82 2 r → at + 2 ≡ atom-end m at
-  unfolding text-end text-width
-  node-82 t = let h = t .inside in sym (end-by 82 (omega arith) (t .tag-is))
+  unfolding text-width
+  node-82 t = let h = t .inside in atom-ends m at 0 (at + 2) (omega arith) (ap text-width (t .tag-is)) (end-listed m at)
 
   pub node-119 : {r : ℕ} → Bytes-only m → Bodied m at 119 1 r → (at + r ≡ atom-end m at) × (r < 258)
   unfolding text-width
@@ -51,7 +39,7 @@ module _ (m : List ℕ) (at : ℕ) where
       let h : at + r ≤ length m = t .inside in
       let o : v ≡ getD m (at + 1) 0 = big-one m (at + 1) (omega arith) in
       let n : at + r ≡ at + 1 + 1 + v = omega arith in
-      (n ∙ sym (end-by 119 (omega arith) (t .body-tag) ∙ end-there 1 refl (omega arith) (omega arith)), omega (arith, b (at + 1)))
+      (n ∙ atom-ends m at 1 (at + 1 + 1 + v) (omega arith) (ap text-width (t .body-tag)) (end-there m at 1 v refl (omega arith) (omega arith)), omega (arith, b (at + 1)))
 
 -- ---- the fields around it
 

@@ -20,8 +20,9 @@ use Rattle.layout.proofs.Puts.{put-same}
 use Rattle.canonical_fields.specs.Shape.{tagged-bytes, before, after}
 use Rattle.canonical_fields.specs.Sound.{Bytes-only, Sound, listed-in, before-in, after-in, Sound-word}
 use lib.Seq.{drop-cons, sets}
-use Rattle.row_fields.specs.Found.{value, signed-whole, signed-found, integer-found, float-found, text-width, text-found, atom-found, bytes-found, binary-found, kind-found, content-of}
+use Rattle.row_fields.specs.Found.{value, signed-whole, signed-found, integer-found, float-found, text-width, atom-found, binary-found, kind-found, content-of}
 use Rattle.row_fields.proofs.ByKind.{kind-2, kind-3, kind-7}
+use Rattle.row_fields.proofs.There.{text-there, bytes-there, tag-text, tag-109}
 use Rattle.already_canonical.specs.Stands.{Tagged, Counted, Bodied, Stands}
 use Rattle.canonical_fields.proofs.Leads.{number-stands, positive-97, positive-98, negative-98, atom-119, tuple-104, list-106, list-over, signed-above, signed-below, sound-text, sound-bytes}
 use Rattle.canonical_fields.proofs.There.{byte-there, there, integer-there, tag-97}
@@ -113,21 +114,9 @@ module _ (m places lengths : List ℕ) (at parts : ℕ) (b : Bytes-only m) where
   unfolding label-of before after
   stands-70 e h = by-content 2 9 (Float (value m 8 (at + 1))) (float-there h) h (omega arith) (number-there m 70 at 8 b e h) refl
 
-  text-there : (w : ℕ) → at + (1 + w) ≤ length m → at + 1 + w + value m w (at + 1) ≤ length m
-      → text-found m w false at ≡ Text false false (at + 1 + w) (value m w (at + 1))
-  unfolding text-found
-  text-there w h k =
-      let f : 1 + w ≤ length m - at = omega arith in
-      let g : value m w (at + 1) ≤ length m - (at + 1 + w) = omega arith in
-      simp (le-ltb (length m - at) (1 + w) f, le-ltb (length m - (at + 1 + w)) (value m w (at + 1)) g)
-
-  tag-119 : atom-found m places lengths at 119 ≡ text-found m 1 false at
-  unfolding atom-found text-width
-  tag-119 = refl
-
   stands-119 : (v : ℕ) → getD m at 0 ≡ 119 → v ≡ value m 1 (at + 1) → v < 256 → at + (2 + v) ≤ length m
       → Sound m places (content-of m places lengths 3 at) → Stands m places lengths 3 at parts (2 + v)
-  unfolding label-of before after coded tagged-bytes
+  unfolding label-of before after coded tagged-bytes text-width
   stands-119 v e f l h s =
       let start : ℕ = at + 1 + 1 in
       let bs : List ℕ = take v (drop start m) in
@@ -135,9 +124,7 @@ module _ (m places lengths : List ℕ) (at parts : ℕ) (b : Bytes-only m) where
       = there m places lengths 3 at (omega arith)
       ∙ sym (kind-3 m places lengths at 3 refl)
       ∙ ap (atom-found m places lengths at) e
-      ∙ tag-119
-      ∙ text-there 1 (omega arith) (omega arith)
-      ∙ ap (Text false false start) (sym f) in
+      ∙ sym (text-there m at 1 v false (sym f) (omega arith) ∙ tag-text m at places lengths 119 1 false refl (omega arith) refl) in
       let spelt = sound-text m places (content-of m places lengths 3 at) false false start v c s .1 refl in
       let k : v ≡ length bs = sym (length-part m start v (omega arith)) in
       let n : 1 + (1 + v) ≡ 2 + v = omega arith in
@@ -149,17 +136,6 @@ module _ (m places lengths : List ℕ) (at parts : ℕ) (b : Bytes-only m) where
       ∙ ap (λ (x : ℕ). take x (drop at m)) n)
       refl
 
-  bytes-there : at + 5 ≤ length m → at + 5 + value m 4 (at + 1) ≤ length m → bytes-found m at ≡ Bytes (at + 5) (value m 4 (at + 1))
-  unfolding bytes-found
-  bytes-there h k =
-      let f : 5 ≤ length m - at = omega arith in
-      let g : value m 4 (at + 1) ≤ length m - (at + 5) = omega arith in
-      simp (le-ltb (length m - at) 5 f, le-ltb (length m - (at + 5)) (value m 4 (at + 1)) g)
-
-  tag-109 : binary-found m at 109 ≡ bytes-found m at
-  unfolding binary-found
-  tag-109 = refl
-
   stands-109 : (v : ℕ) → getD m at 0 ≡ 109 → v ≡ value m 4 (at + 1) → at + (5 + v) ≤ length m
       → Sound m places (content-of m places lengths 7 at) → Stands m places lengths 7 at parts (5 + v)
   unfolding label-of before after
@@ -169,9 +145,7 @@ module _ (m places lengths : List ℕ) (at parts : ℕ) (b : Bytes-only m) where
       = there m places lengths 7 at (omega arith)
       ∙ sym (kind-7 m places lengths at 7 refl)
       ∙ ap (binary-found m at) e
-      ∙ tag-109
-      ∙ bytes-there (omega arith) (omega arith)
-      ∙ ap (Bytes (at + 5)) (sym f) in
+      ∙ sym (bytes-there m at v (sym f) (omega arith) ∙ tag-109 m at) in
       let inside = sound-bytes m places (content-of m places lengths 7 at) (at + 5) v c s in
       let few : v ≤ 65536 = inside .few in
       let k : length bs ≡ value m 4 (at + 1) = length-part m (at + 5) v (omega arith) ∙ f in

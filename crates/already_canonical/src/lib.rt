@@ -44,15 +44,14 @@ fn bodied(msg: &[u8], at: usize, tag: u8, w: usize) -> usize
     requires { ⌜ (at < 65539) × Width w ⌝ }
     ensures { λ r. ⌜ (0 < r → Bodied (now (msg .entry)) at tag w r) ⌝ }
 {
-    let first = tagged(msg, at, tag, 1 + w);
-    if first == 0 {
+    if tagged(msg, at, tag, 1) == 0 {
         return 0;
     }
-    let n = octets::number(msg, at + 1, w) as usize;
-    if msg.len() - (at + first) < n {
+    let end = octets::past_counted(msg, at, w, 0);
+    if end == 0 {
         return 0;
     }
-    first + n
+    end - at
 }
 
 // How many bytes from its tag at `at` on are an integer's own in canonical form: a 97, or a 98 that has to be one. 0 where they are not.

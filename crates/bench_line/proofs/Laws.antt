@@ -7,9 +7,9 @@ use native.Mathlib.Omega.{arith}
 use native.Mathlib.Numerals.{add-one}
 use lib.Dec.{ltb}
 use lib.Pow.{pow-add}
-use borrow.Author.Tests.{ltb-true, ltb-false}
-use lib.ListN.{length, getD, set, take, drop, replicate, length-append}
-use lib.Seq.{sets, take-suc, take-all, take-append-seam, length-sets}
+use borrow.Author.Tests.{ltb-true, ltb-false, lt-ltb, le-ltb}
+use lib.ListN.{length, getD, set, take, drop, replicate, length-append, length-drop}
+use lib.Seq.{sets, sets-eq, take-suc, take-all, take-append-seam}
 use Rattle.io.specs.Digits.{glyph, digits, Fewest}
 use Rattle.io.specs.Counts.{Counts}
 use Rattle.io.proofs.Counting.{counts}
@@ -22,7 +22,7 @@ use Rattle.term_spec.specs.declared.WriteAnswer.{WriteAnswer}
 use Rattle.term_spec.specs.declared.WriteAnswer.the-variants as writes
 use Rattle.layout.specs.Layout.{Put}
 use Rattle.layout.proofs.Puts.{put-then, put-same}
-use Rattle.bench_line.specs.Line.{hex, Decimal, Ok-line, Refused-line, Line, Stored, ok-tab, refused-tab, bench-answer}
+use Rattle.bench_line.specs.Line.{hex, decimal-within, decimal, ok-line, refused-line, line-of, Stored, bench-answer}
 use Rattle.term_spec.specs.AtomList.{lent-list, empty-list}
 
 hex-append : (a b : List ℕ) → hex (a ++ b) ≡ hex a ++ hex b
@@ -70,13 +70,12 @@ pub text-put : {O P : List ℕ} (at : ℕ) (t : List ℕ) → P ≡ sets O at (t
 text-put {O} at t e = record { past = refl; stored = e ∙ ap (λ (x : List ℕ). sets O at x) (take-all (length t) t (omega arith)) }
 
 -- a machine word has at most 20 decimal digits
+power-more : (j : ℕ) → 10 ^ suc j ≡ 10 * 10 ^ j
+power-more j = let s : suc j ≡ 1 + j = omega arith in ap (λ (i : ℕ). 10 ^ i) s ∙ pow-add 10 1 j
+
 power-positive : (j : ℕ) → 1 ≤ 10 ^ j
 power-positive zero = omega arith
-power-positive (suc j) =
-    let e = power-positive j in
-    let s : suc j ≡ 1 + j = omega arith in
-    let p : 10 ^ suc j ≡ 10 * 10 ^ j = ap (λ (i : ℕ). 10 ^ i) s ∙ pow-add 10 1 j in
-    omega arith
+power-positive (suc j) = let e = power-positive j in let p = power-more j in omega arith
 
 few-by : (n k : ℕ) (b : Bool) → ltb 20 k ≡ b → n < 18446744073709551616 → Fewest 10 1 n k → k ≤ 20
 few-by n k false e h f = ltb-false 20 k e
@@ -91,35 +90,75 @@ few-by n k true e h f =
 pub few-places : (n k : ℕ) → n < 18446744073709551616 → Fewest 10 1 n k → k ≤ 20
 few-places n k h f = few-by n k (ltb 20 k) refl h f
 
-pub decimal-put : {O P : List ℕ} (ds : List ℕ) {at : ℕ} (n k : ℕ) {r : ℕ} → Fewest 10 1 n k → take k ds ≡ digits 10 k n → Put O at (take k ds) r P → k ≡ length (take k ds) → k ≤ 20 → at + 20 ≤ length O
-    → Stored (Decimal n) O at r P × (r ≤ at + 20)
-decimal-put {O} {P} ds {at} n k {r} f e p l few room =
+-- a decimal digit
+decimal-glyph : (n : ℕ) → glyph (n % 10) ≡ 48 + n % 10
+decimal-glyph n = let e : ltb (n % 10) 10 ≡ true = lt-ltb (n % 10) 10 (omega arith) in simp e
+
+-- one digit, and the last digit after the others
+decimal-one : (most n : ℕ) → n < 10 → decimal-within (suc most) n ≡ (48 + n) ∷ []
+unfolding decimal-within
+decimal-one most n h = let e : ltb n 10 ≡ true = lt-ltb n 10 h in simp (decimal-within, e)
+
+decimal-more : (most n : ℕ) → 10 ≤ n → decimal-within (suc most) n ≡ decimal-within most (n / 10) ++ ((48 + n % 10) ∷ [])
+unfolding decimal-within
+decimal-more most n h = let e : ltb n 10 ≡ false = le-ltb n 10 h in simp (decimal-within, e)
+
+one-less : (j : ℕ) → suc j - 1 ≡ j
+one-less j = omega arith
+
+-- the fewest digits that hold n are those of `decimal`
+spelt-within : (k most n : ℕ) → n ≤ most → Fewest 10 1 n (suc k) → digits 10 (suc k) n ≡ decimal-within (suc most) n
+spelt-within zero most n h f =
+    let d : n % 10 ≡ n = omega arith in
+    ap (λ (x : ℕ). x ∷ []) (decimal-glyph n ∙ ap (λ (x : ℕ). 48 + x) d) ∙ sym (decimal-one most n (f .1))
+spelt-within (suc k) most n h f =
+    let p = power-more k in
+    let q = power-more (suc k) in
+    let positive = power-positive k in
+    let least : 10 ^ suc k ≤ n = subst (λ (i : ℕ). 10 ^ i ≤ n) (one-less (suc k)) (f .2 (omega arith)) in
+    let second : 10 ^ (suc k - 1) ≤ n / 10 = rw (one-less k) (omega arith) in
+    let room : suc (most - 1) ≡ most = omega arith in
+    let few : Fewest 10 1 (n / 10) (suc k) = (omega arith, omega arith, λ _. second) in
+    let others : digits 10 (suc k) (n / 10) ≡ decimal-within (suc (most - 1)) (n / 10) = spelt-within k (most - 1) (n / 10) (omega arith) few in
+    rw (decimal-more most n (omega arith), others, room, decimal-glyph n)
+
+pub spelt : (k n : ℕ) → Fewest 10 1 n k → digits 10 k n ≡ decimal n
+unfolding decimal
+spelt zero n f = let one : 1 ≤ 0 = f .0 in absurd (omega arith)
+spelt (suc k) n f = spelt-within k n n (omega arith) f
+
+pub decimal-put : {O P : List ℕ} (ds : List ℕ) {at : ℕ} (n k : ℕ) {r : ℕ} → Fewest 10 1 n k → take k ds ≡ digits 10 k n → Put O at (take k ds) r P → k ≡ length (take k ds) → k ≤ 20
+    → Put O at (decimal n) r P × (r ≤ at + 20)
+decimal-put {O} {P} ds {at} n k {r} f e p l few =
     let past : r ≡ at + length (take k ds) = p .past in
     let fits : r ≤ at + 20 = omega arith in
-    (record { text = take k ds; is = record { places = k; fewest = f; spelt = e }; put = p; inside = omega arith }, fits)
+    (put-same (e ∙ spelt k n f) p, fits)
 
-pub ok-put : {O P Q R : List ℕ} (bs : List ℕ) {a b r : ℕ} → Put O 0 ok-tab a P → Put P a (hex bs) b Q → Put Q b (10 ∷ []) r R → 2 * length bs + 4 ≤ length O
-    → Stored (Ok-line bs) O 0 r R
-unfolding Ok-line
+-- a text at the front
+front-put : {O P text : List ℕ} {r : ℕ} → Put O 0 text r P → r ≤ length O → Stored text O r P
+front-put {O} {P} {text} {r} p h =
+    let past : r ≡ 0 + length text = p .past in
+    let z : 0 + length text ≡ length text = omega arith in
+    record { counted = omega arith; inside = h; bytes-left = p .stored ∙ sets-eq text O 0 (omega arith) ∙ ap (λ (i : ℕ). text ++ drop i O) z }
+
+pub ok-put : {O P Q R : List ℕ} (bs : List ℕ) {a b r : ℕ} → Put O 0 (111 ∷ 107 ∷ 9 ∷ []) a P → Put P a (hex bs) b Q → Put Q b (10 ∷ []) r R → 2 * length bs + 4 ≤ length O
+    → Stored (ok-line bs) O r R
+unfolding ok-line
 ok-put {O} {P} {Q} {R} bs {a} {b} {r} p q s room =
     let x : a ≡ 3 = p .past in
     let y : b ≡ a + length (hex bs) = q .past in
     let z : r ≡ b + 1 = s .past in
     let l = length-hex bs in
-    record { text = ok-tab ++ (hex bs ++ (10 ∷ [])); is = refl; put = put-then p (put-then q s); inside = omega arith }
+    front-put (put-then p (put-then q s)) (omega arith)
 
-pub refused-put : {O P Q R S T : List ℕ} {n p a b c d r : ℕ} → Put O 0 refused-tab a P → Stored (Decimal n) P a b Q → b ≤ a + 20 → Put Q b (9 ∷ []) c R
-    → Stored (Decimal p) R c d S → d ≤ c + 20 → Put S d (10 ∷ []) r T → 50 ≤ length O → Stored (Refused-line n p) O 0 r T
-refused-put {O} {P} {Q} {R} {S} {T} {n} {p} {a} {b} {c} {d} {r} first number few tab place few2 last room =
+pub refused-put : {O P Q R S T : List ℕ} (n p : ℕ) {a b c d r : ℕ} → Put O 0 (114 ∷ 101 ∷ 102 ∷ 117 ∷ 115 ∷ 101 ∷ 100 ∷ 9 ∷ []) a P → Put P a (decimal n) b Q → b ≤ a + 20 → Put Q b (9 ∷ []) c R
+    → Put R c (decimal p) d S → d ≤ c + 20 → Put S d (10 ∷ []) r T → 50 ≤ length O → Stored (refused-line n p) O r T
+unfolding refused-line
+refused-put {O} {P} {Q} {R} {S} {T} n p {a} {b} {c} {d} {r} first number few tab place few2 last room =
     let x : a ≡ 8 = first .past in
     let y : c ≡ b + 1 = tab .past in
     let z : r ≡ d + 1 = last .past in
-    record {
-      text = refused-tab ++ (number .text ++ (9 ∷ (place .text ++ (10 ∷ []))));
-      is = record { number = number .text; place = place .text; number-spelt = number .is; place-spelt = place .is; whole = refl };
-      put = put-then first (put-then (number .put) (put-then tab (put-then (place .put) last)));
-      inside = omega arith;
-    }
+    front-put (put-then first (put-then number (put-then tab (put-then place last)))) (omega arith)
 
 length-of : WriteAnswer → ℕ
 length-of (writes.Written t n) = n
@@ -135,13 +174,13 @@ refusal-of (writes.Refused r) = r
 
 -- the bytes that an answer counts are those in the output
 pub answer-good : (w : Answer Written) (O P : List ℕ) {D E : List ℕ} {t n r : ℕ} → writes.Written t n ≡ write-answer w → P ≡ output-after O w
-    → Stored (Ok-line (take n P)) D 0 r E → Stored (Line w) D 0 r E
-unfolding write-answer output-after length-of is-written Line
+    → Stored (ok-line (take n P)) D r E → Stored (line-of w) D r E
+unfolding write-answer output-after length-of is-written line-of
 answer-good (good w) O P {D} {E} {t} {n} {r} e f s =
     let bs : List ℕ = w .bytes in
     let k : n ≡ length bs = ap length-of e in
     let g : take n P ≡ bs = ap (λ (m : ℕ). take m P) k ∙ ap (λ (l : List ℕ). take (length bs) l) f ∙ take-append-seam bs (drop (length bs) O) in
-    subst (λ (l : List ℕ). Stored (Ok-line l) D 0 r E) g s
+    subst (λ (l : List ℕ). Stored (ok-line l) D r E) g s
 answer-good (refused m p) O P e f s = let z : _≡_ {A = ℕ} 1 0 = ap is-written e in absurd (omega arith)
 
 pub answer-fits : (w : Answer Written) (O P : List ℕ) {t n : ℕ} → writes.Written t n ≡ write-answer w → P ≡ output-after O w → n ≤ length P
@@ -155,15 +194,22 @@ answer-fits (refused m p) O P e f = let z : _≡_ {A = ℕ} 1 0 = ap is-written 
 
 -- a refusal's line is the answer's
 pub answer-refused : (w : Answer Written) {D E : List ℕ} {x : Refusal} {k r : ℕ} → k ≡ x .number → writes.Refused x ≡ write-answer w
-    → Stored (Refused-line k (x .place)) D 0 r E → Stored (Line w) D 0 r E
-unfolding write-answer is-written refusal-of Line
+    → Stored (refused-line k (x .place)) D r E → Stored (line-of w) D r E
+unfolding write-answer is-written refusal-of line-of
 answer-refused (good w) n e s = let z : _≡_ {A = ℕ} 0 1 = ap is-written e in absurd (omega arith)
 answer-refused (refused m p) {D} {E} {x} {k} {r} n e s =
-    subst (λ (y : Refusal). Stored (Refused-line (y .number) (y .place)) D 0 r E) (ap refusal-of e) (subst (λ (j : ℕ). Stored (Refused-line j (x .place)) D 0 r E) n s)
+    subst (λ (y : Refusal). Stored (refused-line (y .number) (y .place)) D r E) (ap refusal-of e) (subst (λ (j : ℕ). Stored (refused-line j (x .place)) D r E) n s)
+
+stored-length : (text : List ℕ) {D E : List ℕ} {r : ℕ} → Stored text D r E → length E ≡ length D
+stored-length text {D} {E} {r} s =
+    let n : length E ≡ length text + length (drop (length text) D) = ap length (s .bytes-left) ∙ length-append text (drop (length text) D) in
+    let d = length-drop (length text) D in
+    let fits : length text ≤ length D = omega arith in
+    omega arith
 
 -- the line at the start of the buffer, with the bench's list, rows and output
 pub bench-line : (m : List ℕ) {places lengths D E : List ℕ} {rows room r : ℕ} → places ≡ replicate 8160 0 → lengths ≡ replicate 255 0 → rows ≡ 8192 → room ≡ 65536
-    → Stored (Line (write standalone (lent-list 0 places lengths) rows room m)) D 0 r E → Stored (Line (bench-answer m)) D 0 r E × Counts r E
+    → Stored (line-of (write standalone (lent-list 0 places lengths) rows room m)) D r E → Stored (line-of (bench-answer m)) D r E × Counts r E
 unfolding bench-answer
 bench-line m {places} {lengths} {D} {E} {rows} {room} {r} p l n o s =
     let w : write standalone (lent-list 0 places lengths) rows room m ≡ bench-answer m =
@@ -172,5 +218,5 @@ bench-line m {places} {lengths} {D} {E} {rows} {room} {r} p l n o s =
     ∙ ap (λ (k : ℕ). write standalone empty-list k room m) n
     ∙ ap (λ (k : ℕ). write standalone empty-list 8192 k m) o in
     let fits : r ≤ length D = s .inside in
-    let size : length E ≡ length D = ap length (s .put .stored) ∙ length-sets D 0 (s .text) in
-    (subst (λ (a : Answer Written). Stored (Line a) D 0 r E) w s, counts r E (omega arith))
+    let size : length E ≡ length D = stored-length (line-of (write standalone (lent-list 0 places lengths) rows room m)) s in
+    (subst (λ (a : Answer Written). Stored (line-of a) D r E) w s, counts r E (omega arith))

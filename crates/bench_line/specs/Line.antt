@@ -1,58 +1,50 @@
 -- The line that the bench program prints of an answer: fields parted by tabs.
+use mathlib.Core.Bool.{true, false}
 use mathlib.Core.Path.{_≡_}
 use mathlib.Core.List.{List, [], _∷_, _++_}
-use Prim.Native.Nat.{ℕ, _/_, _%_, _≤_}
-use lib.ListN.{length}
-use Rattle.io.specs.Digits.{glyph, digits, Fewest}
+use Prim.Native.Nat.{ℕ, zero, suc, _+_, _/_, _%_, _≤_}
+use lib.Dec.{ltb}
+use lib.ListN.{length, drop}
+use Rattle.io.specs.Digits.{glyph}
 use Rattle.term_spec.specs.Answer.{Answer, good, refused}
 use Rattle.term_spec.specs.AtomList.{empty-list}
 use Rattle.term_spec.specs.Message.{standalone}
 use Rattle.term_spec.specs.Writing.{Written, write}
-use Rattle.layout.specs.Layout.{Put}
 
 -- two hexadecimal digits for each byte, in lower case
 unfoldable pub hex : List ℕ → List ℕ
 hex [] = []
 hex (b ∷ bs) = glyph (b / 16) ∷ glyph (b % 16) ∷ hex bs
 
--- the fewest decimal digits that hold n
-pub record Decimal (n : ℕ) (text : List ℕ) : Type 0 where
-  pub places : ℕ
-  pub fewest : Fewest 10 1 n places
-  pub spelt : text ≡ digits 10 places n
+-- the decimal digits of n, with no leading zero; at most `most` of them
+unfoldable pub decimal-within : ℕ → ℕ → List ℕ
+decimal-within zero n = []
+decimal-within (suc most) n = elim (ltb n 10) [ true ↦ (48 + n) ∷ [] | false ↦ decimal-within most (n / 10) ++ ((48 + n % 10) ∷ []) ]
 
--- `ok`, tab
-abbrev pub ok-tab : List ℕ
-ok-tab = 111 ∷ 107 ∷ 9 ∷ []
-
--- `refused`, tab
-abbrev pub refused-tab : List ℕ
-refused-tab = 114 ∷ 101 ∷ 102 ∷ 117 ∷ 115 ∷ 101 ∷ 100 ∷ 9 ∷ []
+-- n has no more than n + 1 digits
+unfoldable pub decimal : ℕ → List ℕ
+decimal n = decimal-within (suc n) n
 
 -- `ok`, tab, hex, line end
-unfoldable pub Ok-line : List ℕ → List ℕ → Type 0
-Ok-line bs line = line ≡ ok-tab ++ (hex bs ++ (10 ∷ []))
+unfoldable pub ok-line : List ℕ → List ℕ
+ok-line bs = 111 ∷ 107 ∷ 9 ∷ (hex bs ++ (10 ∷ []))
 
 -- `refused`, tab, number, tab, place, line end
-pub record Refused-line (n p : ℕ) (line : List ℕ) : Type 0 where
-  pub number : List ℕ
-  pub place : List ℕ
-  pub number-spelt : Decimal n number
-  pub place-spelt : Decimal p place
-  pub whole : line ≡ refused-tab ++ (number ++ (9 ∷ (place ++ (10 ∷ []))))
+unfoldable pub refused-line : ℕ → ℕ → List ℕ
+refused-line n p =
+    114 ∷ 101 ∷ 102 ∷ 117 ∷ 115 ∷ 101 ∷ 100 ∷ 9 ∷ (decimal n ++ (9 ∷ (decimal p ++ (10 ∷ []))))
 
 -- the line of what the writer answers
-unfoldable pub Line : Answer Written → List ℕ → Type 0
-Line (good w) line = Ok-line (w .bytes) line
-Line (refused n p) line = Refused-line n p line
+unfoldable pub line-of : Answer Written → List ℕ
+line-of (good w) = ok-line (w .bytes)
+line-of (refused n p) = refused-line n p
 
 -- the bench's answer: 8,192 scratch rows and 65,536 bytes of output
 unfoldable pub bench-answer : List ℕ → Answer Written
 bench-answer input = write standalone empty-list 8192 65536 input
 
--- a text with this property is stored from `at` on, up to r, and nothing else
-pub record Stored (Text : List ℕ → Type 0) (before : List ℕ) (at r : ℕ) (later : List ℕ) : Type 0 where
-  pub text : List ℕ
-  pub is : Text text
-  pub put : Put before at text r later
+-- r bytes, this text, stand at the front of lent bytes; every byte past them is as it was
+pub record Stored (text before : List ℕ) (r : ℕ) (later : List ℕ) : Type 0 where
+  pub counted : r ≡ length text
   pub inside : r ≤ length before
+  pub bytes-left : later ≡ text ++ drop (length text) before

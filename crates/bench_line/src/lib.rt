@@ -1,17 +1,15 @@
 // One line of the bench program: the canonical form of a standalone term in hex, or its refusal.
-use term_spec::Refusal;
 use term_spec::WriteAnswer;
 use term_spec::sizes;
 ghost use mathlib.Core.Path.{_≡_};
 ghost use Prim.Native.Nat.{_+_, _*_, _≤_, _<_};
 ghost use lib.ListN.{length};
-ghost use lib.Seq.{sets};
 ghost use Rattle.io.specs.Counts.{Counts};
 ghost use Rattle.io.specs.Digits.{glyph};
 ghost use Rattle.term_spec.specs.Message.{standalone};
 ghost use Rattle.term_spec.specs.Writing.{write};
 ghost use Rattle.layout.specs.Layout.{Put};
-ghost use Rattle.bench_line.specs.Line.{hex, Decimal, Ok-line, Refused-line, Line, Stored, bench-answer};
+ghost use Rattle.bench_line.specs.Line.{hex, decimal, ok-line, refused-line, line-of, Stored, bench-answer};
 ghost use Rattle.term_spec.specs.AtomList.{lent-list};
 
 // A hexadecimal digit, in lower case.
@@ -51,7 +49,7 @@ fn put_text(dst: &mut [u8], at: usize, text: &[u8]) -> usize
 // Stores n in decimal from `at` on; the offset past it.
 fn put_decimal(dst: &mut [u8], at: usize, n: u64) -> usize
     requires { ⌜ at + 20 ≤ length (now dst) ⌝ }
-    ensures { λ r. ⌜ Stored (Decimal n) (now (dst .entry)) at r (now (dst .exit)) × (r ≤ at + 20) ⌝ }
+    ensures { λ r. ⌜ Put (now (dst .entry)) at (decimal n) r (now (dst .exit)) × (r ≤ at + 20) ⌝ }
 {
     let mut digits = [0u8; 20];
     let k = io::decimal(n, &mut digits);
@@ -61,7 +59,7 @@ fn put_decimal(dst: &mut [u8], at: usize, n: u64) -> usize
 // The line of bytes written.
 fn put_ok(dst: &mut [u8], bytes: &[u8]) -> usize
     requires { ⌜ 2 * length (now bytes) + 4 ≤ length (now dst) ⌝ }
-    ensures { λ r. ⌜ Stored (Ok-line (now (bytes .entry))) (now (dst .entry)) 0 r (now (dst .exit)) ⌝ }
+    ensures { λ r. ⌜ Stored (ok-line (now (bytes .entry))) (now (dst .entry)) r (now (dst .exit)) ⌝ }
 {
     let a = put_text(dst, 0, b"ok\t");
     let b = put_hex(dst, a, bytes);
@@ -71,7 +69,7 @@ fn put_ok(dst: &mut [u8], bytes: &[u8]) -> usize
 // The line of a refusal.
 fn put_refused(dst: &mut [u8], number: usize, place: usize) -> usize
     requires { ⌜ 50 ≤ length (now dst) ⌝ }
-    ensures { λ r. ⌜ Stored (Refused-line number place) (now (dst .entry)) 0 r (now (dst .exit)) ⌝ }
+    ensures { λ r. ⌜ Stored (refused-line number place) (now (dst .entry)) r (now (dst .exit)) ⌝ }
 {
     let a = put_text(dst, 0, b"refused\t");
     let b = put_decimal(dst, a, number as u64);
@@ -90,7 +88,7 @@ fn put_answer(
     dst: &mut [u8],
 ) -> usize
     requires { ⌜ 2 * length (now output) + 50 ≤ length (now dst) ⌝ }
-    ensures { λ r. ⌜ Stored (Line (write standalone (lent-list 0 (now (places .entry)) (now (lengths .entry))) (length (now (scratch .entry))) (length (now (output .entry))) (now (msg .entry)))) (now (dst .entry)) 0 r (now (dst .exit)) ⌝ }
+    ensures { λ r. ⌜ Stored (line-of (write standalone (lent-list 0 (now (places .entry)) (now (lengths .entry))) (length (now (scratch .entry))) (length (now (output .entry))) (now (msg .entry)))) (now (dst .entry)) r (now (dst .exit)) ⌝ }
 {
     match writer::write_standalone(msg, 0, places, lengths, scratch, output) {
         WriteAnswer::Written { terms, length } => put_ok(dst, &output[..length]),
@@ -103,7 +101,7 @@ pub const LINE_MOST: usize = 2 * sizes::MESSAGE_MOST + 50;
 
 // Stores the bench's line for an input at the start of dst, and nothing else; how long it is.
 pub fn line(input: &[u8], dst: &mut [u8; LINE_MOST]) -> usize
-    ensures { λ r. ⌜ Stored (Line (bench-answer (now (input .entry)))) (now (dst .entry)) 0 r (now (dst .exit)) ⌝ }
+    ensures { λ r. ⌜ Stored (line-of (bench-answer (now (input .entry)))) (now (dst .entry)) r (now (dst .exit)) ⌝ }
     ensures { λ r. ⌜ Counts r (now (dst .exit)) ⌝ }
 {
     let places = [0u8; sizes::LIST_BYTES];

@@ -6,6 +6,7 @@ use Prim.Native.Nat.{ℕ, _+_, _*_, _-_}
 use lib.Dec.{eqb, leb, ltb}
 use lib.ListN.{length, getD}
 use borrow.Author.Tests.{eqb-true}
+use Rattle.octets.specs.Parts.{counted-end}
 use Rattle.row_fields.specs.Found.{value, text-width, atom-end, byte-found, signed-whole, signed-found, whole-of, stripped-found, big-found, integer-found, float-found, text-found, place-found, listed-found, atom-found, bytes-found, bits-of, bits-found, binary-found, pid-found, port-found, words-found, word-found, counted-found, pids-found, ports-found, references-found, kind-found, content-of}
 use Rattle.row_fields.specs.declared.Content.{Content}
 use Rattle.row_fields.specs.declared.Content.the-variants.{Nothing, Whole, Big, Float, Text, Bytes, Bits, Pid, Port, Reference}
@@ -41,7 +42,7 @@ module _ (P : Content → Type 0) (nothing : P Nothing) where
 
     big-each : (w at : ℕ) → P (big-found m w at)
     unfolding big-found
-    big-each w at = either (ltb (length m - at) (2 + w)) nothing (either (ltb (length m - (at + 2 + w)) (value m w (at + 1))) nothing (stripped-each _ _ _))
+    big-each w at = either (eqb (counted-end m at w 1) 0) nothing (stripped-each _ _ _)
 
     pub integer-each : (at tag : ℕ) → P (integer-found m at tag)
     unfolding integer-found
@@ -58,7 +59,7 @@ module _ (P : Content → Type 0) (nothing : P Nothing) where
 
     text-each : (w : ℕ) (latin1 : Bool) (at : ℕ) → P (text-found m w latin1 at)
     unfolding text-found
-    text-each w latin1 at = either (ltb (length m - at) (1 + w)) nothing (either (ltb (length m - (at + 1 + w)) (value m w (at + 1))) nothing (text _ _ _ _))
+    text-each w latin1 at = either (eqb (counted-end m at w 0) 0) nothing (text _ _ _ _)
 
     pub atom-each : (at tag : ℕ) → P (atom-found m places lengths at tag)
     unfolding atom-found listed-found
@@ -72,9 +73,7 @@ module _ (P : Content → Type 0) (nothing : P Nothing) where
     pub binary-each : (at tag : ℕ) → P (binary-found m at tag)
     unfolding binary-found bits-found bytes-found
     binary-each at tag =
-        either (eqb tag 77)
-        (either (ltb (length m - at) 6) nothing (either (ltb (length m - (at + 6)) (value m 4 (at + 1))) nothing (bits-each _ _ _)))
-        (either (ltb (length m - at) 5) nothing (either (ltb (length m - (at + 5)) (value m 4 (at + 1))) nothing (bytes _ _)))
+        either (eqb tag 77) (either (eqb (counted-end m at 4 1) 0) nothing (bits-each _ _ _)) (either (eqb (counted-end m at 4 0) 0) nothing (bytes _ _))
 
   pub pids-each : ((id serial creation : ℕ) → P (Pid id serial creation)) → (m : List ℕ) (at tag : ℕ) → P (pids-found m at tag)
   unfolding pids-found pid-found

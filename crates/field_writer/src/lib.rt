@@ -2,11 +2,11 @@
 use term_spec::kinds;
 use term_spec::tags;
 ghost use mathlib.Core.Path.{_≡_};
-ghost use mathlib.Core.Bool.{true, false};
+ghost use mathlib.Core.Bool.{false};
 ghost use mathlib.Core.List.{_++_};
-ghost use Prim.Native.Nat.{_+_, _*_, _-_, _≤_, _<_};
+ghost use Prim.Native.Nat.{_+_, _≤_, _<_};
 ghost use lib.ListN.{length};
-ghost use Rattle.term_spec.specs.Term.{list, pid, reference};
+ghost use Rattle.term_spec.specs.Term.{list};
 ghost use Rattle.layout.specs.Layout.{Put};
 ghost use Rattle.canonical_fields.specs.Shape.{before, after};
 ghost use Rattle.canonical_fields.specs.Sound.{before-in, after-in, Sound-word};

@@ -1,6 +1,6 @@
 // Layouts of terms' own fields: numbers in their widths and a body, measured and written.
 ghost use mathlib.Core.Path.{_≡_};
-ghost use Prim.Native.Nat.{_+_, _-_, _≤_};
+ghost use Prim.Native.Nat.{_+_, _≤_};
 ghost use lib.ListN.{length};
 ghost use Rattle.term_spec.specs.Numbers.{in-bytes, digits};
 ghost use Rattle.term_spec.specs.Text.{encodes};

@@ -4,3 +4,4 @@ pub mod Cleared
 pub mod Numbers
 pub mod Bits
 pub mod Widths
+pub mod Counted

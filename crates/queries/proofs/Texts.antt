@@ -9,7 +9,7 @@ use native.Mathlib.Omega.{arith}
 use lib.Dec.{eqb, leb, ltb}
 use lib.IntN.{pos}
 use lib.ListN.{length, getD}
-use borrow.Author.Tests.{ltb-false}
+use borrow.Author.Tests.{eqb-false, ltb-false}
 use Rattle.term_spec.specs.Numbers.{little-endian, signed32, with-sign}
 use Rattle.term_spec.specs.Text.{Coding, latin-1, utf-8}
 use Rattle.term_spec.specs.Term.{Label, integer, float, atom, tuple, list, improper-list, binary, bitstring, export}
@@ -22,7 +22,9 @@ use Rattle.term_spec.specs.Look.{Stretch, of-message, of-list, text-of}
 use Rattle.term_spec.proofs.Holds.{Holds, done-holds, weaken, skip}
 use Rattle.term_spec.proofs.Backed.{Allowed, Atom-form, is-82, is-100, is-115, is-118, is-119, atom-form, Agrees, Label-at}
 use Rattle.term_spec.proofs.Tests.{also}
+use Rattle.octets.specs.Parts.{counted-end}
 use Rattle.octets.proofs.Numbers.{big-one}
+use Rattle.octets.proofs.Counted.{past-some}
 use Rattle.row_fields.specs.declared.Content.{Content}
 use Rattle.row_fields.specs.declared.Content.the-variants.{Nothing, Whole, Big, Float, Text, Bytes, Bits, Pid, Port, Reference}
 use Rattle.row_fields.specs.Found.{value, text-width, text-found, place-found, listed-found, atom-found, kind-found, content-of}
@@ -164,10 +166,9 @@ module _ (atoms : AtomList) (m : List ℕ) (cs : List ℕ) where
     text-content : (w : ℕ) (latin1 : Bool) → Says-atom (text-found m w latin1 p) → (text-found m w latin1 p ≡ Text latin1 false (p + 1 + w) (value m w (p + 1))) × (1 + w ≤ length m - p)
     unfolding text-found
     text-content w latin1 e =
-        let x : Content = Text latin1 false (p + 1 + w) (value m w (p + 1)) in
-        let t : Bool = ltb (length m - (p + 1 + w)) (value m w (p + 1)) in
-        let a = present (ltb (length m - p) (1 + w)) (cond t Nothing x) e in
-        (a .1 ∙ present t x (a .2) .1, ltb-false (length m - p) (1 + w) (a .0))
+        let a = present (eqb (counted-end m p w 0) 0) (Text latin1 false (p + 1 + w) (value m w (p + 1))) e in
+        let t = past-some m p w 0 refl (eqb-false (counted-end m p w 0) 0 (a .0)) in
+        (a .1, omega (arith, t .1))
 
     place-content : (i : ℕ) → Says-atom (place-found (atoms .places) (atoms .lengths) i) → place-found (atoms .places) (atoms .lengths) i ≡ Text false true (32 * i) (getD (atoms .lengths) i 0)
     unfolding place-found

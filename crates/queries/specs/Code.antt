@@ -2,14 +2,12 @@
 -- About the code alone, proved against the definitions of term_spec: nothing here has to be believed.
 use mathlib.Core.Bool.{Bool, true, false, cond}
 use mathlib.Core.List.{List, []}
-use Prim.Native.Nat.{ℕ, zero, suc, _+_, _-_, _%_, _≤_}
+use Prim.Native.Nat.{ℕ, zero, suc, _+_, _-_, _%_}
 use lib.Dec.{eqb, leb, ltb}
 use lib.IntN.{pos, negsuc}
-use lib.ListN.{length, getD, take, drop}
-use Rattle.term_spec.specs.Text.{Coding, latin-1, utf-8}
-use Rattle.term_spec.specs.Answer.{Answer, good, refused}
+use lib.ListN.{getD, take, drop}
 use Rattle.term_spec.specs.Rows.{kind-in, offset-in}
-use Rattle.term_spec.specs.Look.{Number, whole-number, float-bits, neither, Stretch, of-message, of-list}
+use Rattle.term_spec.specs.Look.{Number, whole-number, float-bits, neither}
 use Rattle.term_spec.specs.Answers.{number-case}
 use Rattle.term_spec.specs.declared.ReadAnswer.{ReadAnswer}
 use Rattle.term_spec.specs.declared.ReadAnswer.the-variants as reads

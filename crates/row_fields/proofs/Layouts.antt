@@ -140,15 +140,15 @@ module _ (atoms : AtomList) (m : List ℕ) (l : Lent atoms m) (cap p : ℕ) (les
         let v : value m 4 (p + 1) < 256 ^ 4 = value-small m 4 (p + 1) (l .under) a in
         done-holds _ _ (leaf-told _ _ (integer-says 98 e _ (signed-whole (value m 4 (p + 1))) (signed-there m p (omega arith) ∙ tag-98 m p) (signed-says atoms m l (value m 4 (p + 1)) (omega arith)))))
 
-    big-row : (tag w : ℕ) → 0 < w → big-found m w p ≡ integer-found m p tag → Row tag (big-ext w)
+    big-row : (tag w : ℕ) → big-found m w p ≡ integer-found m p tag → Row tag (big-ext w)
     unfolding fields kind-of
-    big-row tag w k f e =
+    big-row tag w f e =
         let q : p + 1 + w + 1 ≡ p + 2 + w = omega arith in
         bind (number-here m p w (p + 1) r (omega arith) λ a. bind (number-here m p 1 (p + 1 + w) r a λ b. bind (bytes-here m p (value m w (p + 1)) (p + 1 + w + 1) r b λ c.
         bind (rule-holds (leb (value m 1 (p + 1 + w)) 1) 4 p _ λ g.
         let s : value m 1 (p + 1 + w) ≤ 1 = leb-true _ _ g in
         let d = digits-say atoms m l (value m 1 (p + 1 + w)) (p + 2 + w) (value m w (p + 1)) s (omega arith) in
-        done-holds _ _ (leaf-told _ _ (integer-says tag e _ _ (big-there m p w _ refl k (omega arith) ∙ f)
+        done-holds _ _ (leaf-told _ _ (integer-says tag e _ _ (big-there m p w _ refl (omega arith) ∙ f)
         (d .0 ∙ ap (λ (x : ℕ). integer (with-sign (value m 1 (p + 1 + w)) (little-endian (take (value m w (p + 1)) (drop x m))))) (sym q), d .1)))))))
 
     -- ---- floats
@@ -347,8 +347,8 @@ module _ (atoms : AtomList) (m : List ℕ) (l : Lent atoms m) (cap p : ℕ) (les
     all-rows =
         also row-97
         (also row-98
-        (also (big-row 110 1 (omega arith) (tag-110 m p))
-        (also (big-row 111 4 (omega arith) (tag-111 m p))
+        (also (big-row 110 1 (tag-110 m p))
+        (also (big-row 111 4 (tag-111 m p))
         (also row-70
         (also (latin-row 100 2 (omega arith) refl refl)
         (also (latin-row 115 1 (omega arith) refl refl)

@@ -2,18 +2,20 @@
 use mathlib.Core.Path.{_≡_, refl, sym, _∙_, ap, ap₂}
 use mathlib.Core.Bool.{Bool, true, false, cond}
 use mathlib.Core.List.{List}
-use Prim.Native.Nat.{ℕ, _+_, _*_, _-_, _≤_, _<_}
+use Prim.Native.Nat.{ℕ, _+_, _*_, _≤_, _<_}
 use native.Mathlib.Omega.{arith}
-use lib.Dec.{ltb}
+use lib.Dec.{eqb, ltb}
 use lib.ListN.{length, getD}
+use Rattle.octets.specs.Parts.{counted-end}
+use Rattle.octets.proofs.Counted.{past-there}
 use Rattle.row_fields.specs.declared.Content.the-variants.{Whole, Float, Text, Bytes, Pid, Port, Reference}
 use Rattle.row_fields.specs.Found.{value, stripped, byte-found, signed-whole, signed-found, stripped-found, big-found, integer-found, float-found, text-width, text-found, place-found, listed-found, atom-found, text-end, atom-end, bytes-found, bits-of, bits-found, binary-found, pid-found, port-found, words-found, word-found, counted-found, pids-found, ports-found, references-found}
 use Rattle.row_fields.proofs.Tests.{enough, above, unequal}
 
--- a length of w bytes after the tag at `at`, all within the first k bytes, and from `start` on so many bytes as it says
-counted : {A : Type 0} {z b : A} (a : A) (m : List ℕ) (w at k start n : ℕ) → value m w (at + 1) ≡ n → at + k ≤ length m → start + n ≤ length m → z ≡ b
-    → z ≡ cond (ltb (length m - at) k) a (cond (ltb (length m - start) (value m w (at + 1))) a b)
-counted a m w at k start n e h g f = enough a (length m) at k k refl h (enough a (length m) start n (value m w (at + 1)) (sym e) g f)
+-- a length in w bytes after the tag at `at`, and so many bytes with b before them
+counted : {A : Type 0} {z y : A} (a : A) (m : List ℕ) (w at b n : ℕ) → value m w (at + 1) ≡ n → at + 1 + w + b + n ≤ length m → z ≡ y
+    → z ≡ cond (eqb (counted-end m at w b) 0) a y
+counted a m w at b n e h f = unequal a (past-there m at w b n (sym e) h) refl (λ z. omega arith) f
 
 module _ (m : List ℕ) (at : ℕ) where
   pub byte-there : at + 1 ≤ length m → Whole false (value m 1 at) ≡ byte-found m at
@@ -24,11 +26,11 @@ module _ (m : List ℕ) (at : ℕ) where
   unfolding signed-found
   signed-there h = enough _ (length m) at 5 5 refl (omega arith) refl
 
-  pub big-there : (w n : ℕ) → value m w (at + 1) ≡ n → 0 < w → at + 2 + w + n ≤ length m
+  pub big-there : (w n : ℕ) → value m w (at + 1) ≡ n → at + 2 + w + n ≤ length m
       → stripped-found m (ltb 0 (value m 1 (at + 1 + w))) (at + 2 + w) (stripped m (at + 2 + w) n) ≡ big-found m w at
   unfolding big-found
-  big-there w n e k h =
-      counted _ m w at (2 + w) (at + 2 + w) n e (omega arith) h (ap (λ (x : ℕ). stripped-found m (ltb 0 (value m 1 (at + 1 + w))) (at + 2 + w) (stripped m (at + 2 + w) x)) (sym e))
+  big-there w n e h =
+      counted _ m w at 1 n e (omega arith) (ap (λ (x : ℕ). stripped-found m (ltb 0 (value m 1 (at + 1 + w))) (at + 2 + w) (stripped m (at + 2 + w) x)) (sym e))
 
   pub float-there : at + 9 ≤ length m → Float (value m 8 (at + 1)) ≡ float-found m at
   unfolding float-found
@@ -36,12 +38,12 @@ module _ (m : List ℕ) (at : ℕ) where
 
   pub text-there : (w n : ℕ) (latin1 : Bool) → value m w (at + 1) ≡ n → at + 1 + w + n ≤ length m → Text latin1 false (at + 1 + w) n ≡ text-found m w latin1 at
   unfolding text-found
-  text-there w n latin1 e h = counted _ m w at (1 + w) (at + 1 + w) n e (omega arith) h (ap (Text latin1 false (at + 1 + w)) (sym e))
+  text-there w n latin1 e h = counted _ m w at 0 n e (omega arith) (ap (Text latin1 false (at + 1 + w)) (sym e))
 
   pub end-there : (w n : ℕ) → value m w (at + 1) ≡ n → 0 < w → at + 1 + w + n ≤ length m → at + 1 + w + n ≡ text-end m w at
   unfolding text-end
   end-there w n e k h =
-      unequal {x = w} {k = 0} _ refl refl (λ z. omega arith) (counted _ m w at (1 + w) (at + 1 + w) n e (omega arith) h (ap (λ (x : ℕ). at + 1 + w + x) (sym e)))
+      unequal {x = w} {k = 0} _ refl refl (λ z. omega arith) (counted _ m w at 0 n e (omega arith) (let g : at + 1 + w + 0 + n ≡ counted-end m at w 0 = past-there m at w 0 n (sym e) (omega arith) in omega arith))
 
   pub end-listed : at + 2 ≡ text-end m 0 at
   unfolding text-end
@@ -53,11 +55,11 @@ module _ (m : List ℕ) (at : ℕ) where
 
   pub bytes-there : (n : ℕ) → value m 4 (at + 1) ≡ n → at + 5 + n ≤ length m → Bytes (at + 5) n ≡ bytes-found m at
   unfolding bytes-found
-  bytes-there n e h = counted _ m 4 at 5 (at + 5) n e (omega arith) h (ap (Bytes (at + 5)) (sym e))
+  bytes-there n e h = counted _ m 4 at 0 n e (omega arith) (ap (Bytes (at + 5)) (sym e))
 
   pub bits-there : (n : ℕ) → value m 4 (at + 1) ≡ n → at + 6 + n ≤ length m → bits-of (value m 1 (at + 5)) (at + 6) n ≡ bits-found m at
   unfolding bits-found
-  bits-there n e h = counted _ m 4 at 6 (at + 6) n e (omega arith) h (ap (bits-of (value m 1 (at + 5)) (at + 6)) (sym e))
+  bits-there n e h = counted _ m 4 at 1 n e (omega arith) (ap (bits-of (value m 1 (at + 5)) (at + 6)) (sym e))
 
   pub listed-there : (places lengths : List ℕ) → at + 2 ≤ length m → place-found places lengths (value m 1 (at + 1)) ≡ listed-found m places lengths at
   unfolding listed-found

@@ -8,6 +8,7 @@ use lib.Dec.{eqb, leb, ltb}
 use lib.ListN.{length, getD, take, drop}
 use Rattle.term_spec.specs.Numbers.{little-endian}
 pub use Rattle.octets.specs.Parts.{Width, value}
+use Rattle.octets.specs.Parts.{counted-end}
 use Rattle.row_fields.specs.declared.Content.{Content}
 use Rattle.row_fields.specs.declared.Content.the-variants.{Nothing, Whole, Big, Float, Text, Bytes, Bits, Pid, Port, Reference}
 
@@ -38,9 +39,8 @@ stripped-found m negative start n =
 -- an integer by its sign and digits, with w bytes of their number
 unfoldable pub big-found : List ℕ → ℕ → ℕ → Content
 big-found m w at =
-    cond (ltb (length m - at) (2 + w)) Nothing
-    (cond (ltb (length m - (at + 2 + w)) (value m w (at + 1))) Nothing
-    (stripped-found m (ltb 0 (value m 1 (at + 1 + w))) (at + 2 + w) (stripped m (at + 2 + w) (value m w (at + 1)))))
+    cond (eqb (counted-end m at w 1) 0) Nothing
+    (stripped-found m (ltb 0 (value m 1 (at + 1 + w))) (at + 2 + w) (stripped m (at + 2 + w) (value m w (at + 1))))
 
 unfoldable pub integer-found : List ℕ → ℕ → ℕ → Content
 integer-found m at tag =
@@ -58,10 +58,7 @@ text-width tag = cond (eqb tag 100) 2 (cond (eqb tag 118) 2 (cond (eqb tag 115) 
 
 -- an atom's text in the message
 unfoldable pub text-found : List ℕ → ℕ → Bool → ℕ → Content
-text-found m w latin1 at =
-    cond (ltb (length m - at) (1 + w)) Nothing
-    (cond (ltb (length m - (at + 1 + w)) (value m w (at + 1))) Nothing
-    (Text latin1 false (at + 1 + w) (value m w (at + 1))))
+text-found m w latin1 at = cond (eqb (counted-end m at w 0) 0) Nothing (Text latin1 false (at + 1 + w) (value m w (at + 1)))
 
 -- the text of the list's place i
 unfoldable pub place-found : List ℕ → List ℕ → ℕ → Content
@@ -79,30 +76,21 @@ atom-found m places lengths at tag =
 
 -- where an atom of the message ends
 unfoldable pub text-end : List ℕ → ℕ → ℕ → ℕ
-text-end m w at =
-    cond (eqb w 0) (at + 2)
-    (cond (ltb (length m - at) (1 + w)) (length m)
-    (cond (ltb (length m - (at + 1 + w)) (value m w (at + 1))) (length m)
-    (at + 1 + w + value m w (at + 1))))
+text-end m w at = cond (eqb w 0) (at + 2) (cond (eqb (counted-end m at w 0) 0) (length m) (counted-end m at w 0))
 
 unfoldable pub atom-end : List ℕ → ℕ → ℕ
 atom-end m at = cond (ltb (length m - at) 1) (length m) (text-end m (text-width (getD m at 0)) at)
 
 -- bytes, and bytes of whose last one some bits count
 unfoldable pub bytes-found : List ℕ → ℕ → Content
-bytes-found m at =
-    cond (ltb (length m - at) 5) Nothing
-    (cond (ltb (length m - (at + 5)) (value m 4 (at + 1))) Nothing
-    (Bytes (at + 5) (value m 4 (at + 1))))
+bytes-found m at = cond (eqb (counted-end m at 4 0) 0) Nothing (Bytes (at + 5) (value m 4 (at + 1)))
 
 unfoldable pub bits-of : ℕ → ℕ → ℕ → Content
 bits-of bits start n = cond (eqb bits 0) (Bytes start n) (cond (eqb bits 8) (Bytes start n) (Bits bits start n))
 
 unfoldable pub bits-found : List ℕ → ℕ → Content
 bits-found m at =
-    cond (ltb (length m - at) 6) Nothing
-    (cond (ltb (length m - (at + 6)) (value m 4 (at + 1))) Nothing
-    (bits-of (value m 1 (at + 5)) (at + 6) (value m 4 (at + 1))))
+    cond (eqb (counted-end m at 4 1) 0) Nothing (bits-of (value m 1 (at + 5)) (at + 6) (value m 4 (at + 1)))
 
 unfoldable pub binary-found : List ℕ → ℕ → ℕ → Content
 binary-found m at tag = cond (eqb tag 77) (bits-found m at) (bytes-found m at)

@@ -1,6 +1,5 @@
 // The own fields of a row's term, found again in the message and the atom list. The message was read before: only bounds are tested.
 ghost use mathlib.Core.Path.{_≡_};
-ghost use mathlib.Core.Bool.{true, false};
 ghost use Prim.Native.Nat.{_+_, _-_, _≤_, _<_};
 ghost use lib.ListN.{length, getD, take, drop};
 ghost use Rattle.term_spec.specs.Numbers.{little-endian};
@@ -172,19 +171,16 @@ fn of_digits(msg: &[u8], negative: bool, start: usize, n: usize) -> Content
 
 // The integer by sign and digits whose tag is at `at`, with w bytes of the digits' number.
 fn big(msg: &[u8], w: usize, at: usize) -> Content
-    requires { ⌜ Width w ⌝ }
+    requires { ⌜ Width w × (at < length (now msg)) ⌝ }
     ensures { λ r. ⌜ r ≡ big-found (now (msg .entry)) w at ⌝ }
 {
-    if left(msg, at) < 2 + w {
+    let end = octets::past_counted(msg, at, w, 1);
+    if end == 0 {
         return Content::Nothing;
     }
-    let n = octets::number(msg, at + 1, w) as usize;
     let start = at + 2 + w;
-    if left(msg, start) < n {
-        return Content::Nothing;
-    }
     let negative = 0 < octets::big1(msg, at + 1 + w);
-    of_digits(msg, negative, start, strip(msg, start, n))
+    of_digits(msg, negative, start, strip(msg, start, end - start))
 }
 
 // The integer whose tag is at `at`.
@@ -227,22 +223,19 @@ fn width_of(tag: u8) -> usize
 
 // The text in the message of the atom whose tag is at `at`.
 fn text(msg: &[u8], w: usize, latin1: bool, at: usize) -> Content
-    requires { ⌜ Width w ⌝ }
+    requires { ⌜ Width w × (at < length (now msg)) ⌝ }
     ensures { λ r. ⌜ r ≡ text-found (now (msg .entry)) w latin1 at ⌝ }
 {
-    if left(msg, at) < 1 + w {
+    let end = octets::past_counted(msg, at, w, 0);
+    if end == 0 {
         return Content::Nothing;
     }
-    let n = octets::number(msg, at + 1, w) as usize;
     let start = at + 1 + w;
-    if left(msg, start) < n {
-        return Content::Nothing;
-    }
     Content::Text {
         latin1: latin1,
         listed: false,
         start: start,
-        length: n,
+        length: end - start,
     }
 }
 
@@ -287,6 +280,7 @@ fn listed(msg: &[u8], places: &[u8], lengths: &[u16], at: usize) -> Content
 
 // The atom whose tag is at `at`.
 fn atom(msg: &[u8], places: &[u8], lengths: &[u16], at: usize, tag: u8) -> Content
+    requires { ⌜ at < length (now msg) ⌝ }
     ensures { λ r. ⌜ r ≡ atom-found (now (msg .entry)) (now (places .entry)) (now (lengths .entry)) at tag ⌝ }
 {
     let w = width_of(tag);
@@ -303,15 +297,11 @@ fn text_end(msg: &[u8], w: usize, at: usize) -> usize
     if w == 0 {
         return at + 2;
     }
-    if left(msg, at) < 1 + w {
+    let end = octets::past_counted(msg, at, w, 0);
+    if end == 0 {
         return msg.len();
     }
-    let n = octets::number(msg, at + 1, w) as usize;
-    let start = at + 1 + w;
-    if left(msg, start) < n {
-        return msg.len();
-    }
-    start + n
+    end
 }
 
 // Where the atom whose tag is at `at` ends.
@@ -326,18 +316,16 @@ fn atom_end(msg: &[u8], at: usize) -> usize
 
 // The bytes of the binary whose tag is at `at`.
 fn bytes(msg: &[u8], at: usize) -> Content
+    requires { ⌜ at < length (now msg) ⌝ }
     ensures { λ r. ⌜ r ≡ bytes-found (now (msg .entry)) at ⌝ }
 {
-    if left(msg, at) < 5 {
-        return Content::Nothing;
-    }
-    let n = octets::big4(msg, at + 1);
-    if left(msg, at + 5) < n {
+    let end = octets::past_counted(msg, at, 4, 0);
+    if end == 0 {
         return Content::Nothing;
     }
     Content::Bytes {
         start: at + 5,
-        length: n,
+        length: end - (at + 5),
     }
 }
 
@@ -365,20 +353,19 @@ fn of_bits(bits: usize, start: usize, n: usize) -> Content
 
 // The bits of the bitstring whose tag is at `at`.
 fn bits(msg: &[u8], at: usize) -> Content
+    requires { ⌜ at < length (now msg) ⌝ }
     ensures { λ r. ⌜ r ≡ bits-found (now (msg .entry)) at ⌝ }
 {
-    if left(msg, at) < 6 {
+    let end = octets::past_counted(msg, at, 4, 1);
+    if end == 0 {
         return Content::Nothing;
     }
-    let n = octets::big4(msg, at + 1);
-    if left(msg, at + 6) < n {
-        return Content::Nothing;
-    }
-    of_bits(octets::big1(msg, at + 5), at + 6, n)
+    of_bits(octets::big1(msg, at + 5), at + 6, end - (at + 6))
 }
 
 // The binary or bitstring whose tag is at `at`.
 fn binary(msg: &[u8], at: usize, tag: u8) -> Content
+    requires { ⌜ at < length (now msg) ⌝ }
     ensures { λ r. ⌜ r ≡ binary-found (now (msg .entry)) at tag ⌝ }
 {
     if tag == tags::BIT_BINARY_EXT {

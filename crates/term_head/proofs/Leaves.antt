@@ -17,9 +17,10 @@ use Rattle.term_spec.proofs.Bridge.{number-at, number-end}
 use Rattle.octets.proofs.Parts.{length-part}
 use Rattle.term_head.specs.declared.Later.the-variants.{Known, Reference}
 use Rattle.term_head.specs.declared.Head.the-variants.{Refused, Parts, Characters, Elements, Pairs}
-use Rattle.octets.specs.Parts.{value}
-use Rattle.term_head.proofs.Counted.{counted-near, plain-cut, plain-there, marked-cut, marked-there}
-use Rattle.term_head.specs.Code.{Bits, Counted, head-of, head-at, fields-of, kind-later, later-of}
+use Rattle.octets.specs.Parts.{value, counted-end}
+use Rattle.octets.proofs.Counted.{past-some}
+use Rattle.term_head.proofs.Counted.{plain-cut, plain-there, marked-cut, marked-there}
+use Rattle.term_head.specs.Code.{Bits, head-of, head-at, fields-of, kind-later, later-of}
 
 module _ (m : List ℕ) (at w : ℕ) (value : ℕ → ℤ) (rows : ℕ) (inside : at < length m) where
   pub integer-short : length m - at - 1 < w → Refused 2 at ≡ head-of (after (number at w (at-offset m (at + 1) rows)) (λ n. done (leaf (integer (value n)))))
@@ -56,26 +57,26 @@ module _ (atoms : Atoms) (m : List ℕ) (at rows : ℕ) (inside : at < length m)
   unfolding fields-of fields head-of head-at
   map-there n h e = rw (number-at m at 4 (at + 1) rows (omega arith), ← e)
 
-  pub string-cut : (end : ℕ) → Counted m at 2 0 end → end ≡ 0 → Refused 2 at ≡ fields-of atoms m at string-ext rows
+  pub string-cut : (end : ℕ) → end ≡ counted-end m at 2 0 → end ≡ 0 → Refused 2 at ≡ fields-of atoms m at string-ext rows
   unfolding fields-of fields head-of
   string-cut end c z = sym (ap head-of (plain-cut m at 2 rows inside (λ n bs. done (characters bs)) c z))
 
-  pub string-there : (end : ℕ) → Counted m at 2 0 end → (end ≡ 0 → ⊥) → Characters (end - at - 3) end ≡ fields-of atoms m at string-ext rows
+  pub string-there : (end : ℕ) → end ≡ counted-end m at 2 0 → (end ≡ 0 → ⊥) → Characters (end - at - 3) end ≡ fields-of atoms m at string-ext rows
   unfolding fields-of fields head-of head-at
   string-there end c some =
-      let near = counted-near m at 2 0 c some in
+      let near = past-some m at 2 0 c some in
       let n : end - at - 3 ≡ length (take (end - (at + 1 + 2)) (drop (at + 1 + 2) m)) = sym (length-part m (at + 1 + 2) (end - (at + 1 + 2)) (omega (arith, near .0, near .1)) ∙ omega arith) in
       ap (λ (k : ℕ). Characters k end) n ∙ sym (ap head-of (plain-there m at 2 rows inside (λ n bs. done (characters bs)) c some))
 
-  pub binary-cut : (end : ℕ) → Counted m at 4 0 end → end ≡ 0 → Refused 2 at ≡ fields-of atoms m at binary-ext rows
+  pub binary-cut : (end : ℕ) → end ≡ counted-end m at 4 0 → end ≡ 0 → Refused 2 at ≡ fields-of atoms m at binary-ext rows
   unfolding fields-of fields head-of
   binary-cut end c z = sym (ap head-of (plain-cut m at 4 rows inside (λ n bs. done (leaf (binary bs))) c z))
 
-  pub binary-there : (end : ℕ) → Counted m at 4 0 end → (end ≡ 0 → ⊥) → Parts 7 0 0 Known end ≡ fields-of atoms m at binary-ext rows
+  pub binary-there : (end : ℕ) → end ≡ counted-end m at 4 0 → (end ≡ 0 → ⊥) → Parts 7 0 0 Known end ≡ fields-of atoms m at binary-ext rows
   unfolding fields-of fields head-of head-at kind-later kind-of later-of
   binary-there end c some = sym (ap head-of (plain-there m at 4 rows inside (λ n bs. done (leaf (binary bs))) c some))
 
-  module _ (w end : ℕ) (c : Counted m at w 1 end) where
+  module _ (w end : ℕ) (c : end ≡ counted-end m at w 1) where
     abbrev big-head : ℕ → ℕ → List ℕ → Reading Head
     big-head n sign ds = do
       rule (leb sign 1) 4 at
@@ -94,7 +95,7 @@ module _ (atoms : Atoms) (m : List ℕ) (at rows : ℕ) (inside : at < length m)
       unfolding fields-of fields head-of head-at kind-later kind-of later-of
       big-there h = rw (marked-there m at w rows inside big-head c some, ← f, le-leb sign 1 h)
 
-  module _ (end : ℕ) (c : Counted m at 4 1 end) where
+  module _ (end : ℕ) (c : end ≡ counted-end m at 4 1) where
     abbrev bits-head : ℕ → ℕ → List ℕ → Reading Head
     bits-head n bits bs = do
       rule (bits-rule n bits) 4 at

@@ -18,10 +18,11 @@ use Rattle.text.specs.Shown.{is-valid}
 use Rattle.text.proofs.Valid.{found, failed}
 use Rattle.term_head.specs.declared.Later.the-variants.{Known}
 use Rattle.term_head.specs.declared.Head.the-variants.{Refused, Parts}
+use Rattle.octets.specs.Parts.{counted-end}
 use Rattle.term_head.proofs.Counted.{plain-cut, plain-there}
-use Rattle.term_head.specs.Code.{Counted, head-of, head-at, fields-of, kind-later, later-of}
+use Rattle.term_head.specs.Code.{head-of, head-at, fields-of, kind-later, later-of}
 
-module _ (atoms : Atoms) (m : List ℕ) (at rows : ℕ) (inside : at < length m) (utf8 : Bool) (w end : ℕ) (c : Counted m at w 0 end) where
+module _ (atoms : Atoms) (m : List ℕ) (at rows : ℕ) (inside : at < length m) (utf8 : Bool) (w end : ℕ) (c : end ≡ counted-end m at w 0) where
   abbrev atom-head : ℕ → List ℕ → Reading Head
   atom-head n bs = do
     cs ← text-or (check (coding-of utf8) bs) 5 at

@@ -3,7 +3,7 @@
 use mathlib.Core.Path.{_≡_}
 use mathlib.Core.Bool.{Bool, true, false, _&&_}
 use mathlib.Core.List.{List, [], _∷_}
-use Prim.Native.Nat.{ℕ, _+_, _-_, _≤_, _<_}
+use Prim.Native.Nat.{ℕ, _+_, _-_, _≤_}
 use lib.Dec.{eqb, leb}
 use lib.ListN.{length, getD, take, drop}
 use Rattle.term_spec.specs.Answer.{Answer, good, refused, Position, at-offset, after}
@@ -11,11 +11,9 @@ use Rattle.term_spec.specs.Term.{Label}
 use Rattle.term_spec.specs.Head.{any, an-atom, an-arity, parts, characters, elements, pairs, known, pid-fields, port-fields, reference-fields, old-reference-fields}
 use Rattle.term_spec.specs.Head as format
 use Rattle.term_spec.specs.Head.{bits-rule, bits-meaning, fields, later, form-or, form-in, forms, one-of}
-use Rattle.term_spec.specs.AtomList.{AtomList}
 use Rattle.term_spec.specs.Numbers.{big-endian}
 use Rattle.term_spec.specs.Reading.{opening}
 use Rattle.term_spec.specs.Rows.{kind-of}
-use Rattle.octets.specs.Parts.{value}
 use Rattle.term_head.specs.declared.Wanted.{Wanted}
 use Rattle.term_head.specs.declared.Wanted.the-variants.{Any, Atom, Arity}
 use Rattle.term_head.specs.declared.Later.{Later}
@@ -60,12 +58,6 @@ head-of (good x) = head-at (x .0) (x .1 .at)
 -- the fields after the tag at `at` of a message
 unfoldable pub fields-of : format.Atoms → List ℕ → ℕ → format.Form → ℕ → Head
 fields-of atoms m at f rows = head-of (fields atoms at f (at-offset m (at + 1) rows))
-
--- Bytes that are counted in w bytes after the tag at `at`, with b bytes before them: the offset past them, or 0 where the message ends before it
-pub data Counted (m : List ℕ) (at w b : ℕ) : ℕ → Type 0 where
-  cut-before : length m < at + 1 + w + b → Counted m at w b 0
-  cut-inside : (n : ℕ) → n ≡ value m w (at + 1) → at + 1 + w + b ≤ length m → length m < at + 1 + w + b + n → Counted m at w b 0
-  all-there : (n : ℕ) → n ≡ value m w (at + 1) → at + 1 + w + b + n ≤ length m → Counted m at w b (at + 1 + w + b + n)
 
 -- the kind k of n bytes with `bits` bits in the last one; 0 where the rule is broken
 pub record Bits (n bits k : ℕ) : Type 0 where

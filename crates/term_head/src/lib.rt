@@ -22,7 +22,7 @@ ghost use Rattle.term_spec.specs.Reading.{opening};
 ghost use Rattle.term_spec.specs.AtomList.{of-size, atoms-of, lent-list};
 ghost use Rattle.term_head.specs.Quick.{fit, quick-later, quick-word};
 ghost use Rattle.octets.specs.Parts.{Width, words-at};
-ghost use Rattle.term_head.specs.Code.{Bits, Counted, head-of, fields-of, later-of, step-of, later-fields, tag-fields, allowed, wanted-of, empty-at, Skipped, opened-at, opening-of};
+ghost use Rattle.term_head.specs.Code.{Bits, head-of, fields-of, later-of, step-of, later-fields, tag-fields, allowed, wanted-of, empty-at, Skipped, opened-at, opening-of};
 
 // An exponent of all ones, and what a float's bits are divided by to find its 11 bits of exponent.
 const EXPONENT_ONES: u64 = 2047;
@@ -112,22 +112,6 @@ pub enum Step {
     Refused { number: u8, place: usize },
 }
 
-// The offset past the bytes that are counted in `width` bytes after the tag at `at`, with `between` bytes before them; 0 where the message ends before it.
-fn past_counted(msg: &[u8], at: usize, width: usize, between: usize) -> usize
-    requires { ⌜ (at < length (now msg)) × Width width × (between ≤ 1) ⌝ }
-    ensures { λ r. ⌜ Counted (now (msg .entry)) at width between r ⌝ }
-{
-    let left = msg.len() - at - 1;
-    if left < width + between {
-        return 0;
-    }
-    let n = octets::number(msg, at + 1, width) as usize;
-    if left - width - between < n {
-        return 0;
-    }
-    at + 1 + width + between + n
-}
-
 // Tags 97 and 98.
 fn integer(msg: &[u8], at: usize, width: usize) -> Head
     requires { ⌜ at < length (now msg) ⌝ }
@@ -153,7 +137,7 @@ fn big(msg: &[u8], at: usize, width: usize) -> Head
     requires { ⌜ (at < length (now msg)) × Width width ⌝ }
     ensures { λ r. ⌜ ((atoms : Atoms) (rows : ℕ) → r ≡ fields-of atoms (now (msg .entry)) at (big-ext width) rows) ⌝ }
 {
-    let end = past_counted(msg, at, width, 1);
+    let end = octets::past_counted(msg, at, width, 1);
     if end == 0 {
         return Head::Refused {
             number: refusals::CUT,
@@ -226,7 +210,7 @@ fn string(msg: &[u8], at: usize) -> Head
     requires { ⌜ at < length (now msg) ⌝ }
     ensures { λ r. ⌜ ((atoms : Atoms) (rows : ℕ) → r ≡ fields-of atoms (now (msg .entry)) at string-ext rows) ⌝ }
 {
-    let end = past_counted(msg, at, 2, 0);
+    let end = octets::past_counted(msg, at, 2, 0);
     if end == 0 {
         return Head::Refused {
             number: refusals::CUT,
@@ -259,7 +243,7 @@ fn binary(msg: &[u8], at: usize) -> Head
     requires { ⌜ at < length (now msg) ⌝ }
     ensures { λ r. ⌜ ((atoms : Atoms) (rows : ℕ) → r ≡ fields-of atoms (now (msg .entry)) at binary-ext rows) ⌝ }
 {
-    let end = past_counted(msg, at, 4, 0);
+    let end = octets::past_counted(msg, at, 4, 0);
     if end == 0 {
         return Head::Refused {
             number: refusals::CUT,
@@ -302,7 +286,7 @@ fn bitstring(msg: &[u8], at: usize) -> Head
     requires { ⌜ at < length (now msg) ⌝ }
     ensures { λ r. ⌜ ((atoms : Atoms) (rows : ℕ) → r ≡ fields-of atoms (now (msg .entry)) at bit-binary-ext rows) ⌝ }
 {
-    let end = past_counted(msg, at, 4, 1);
+    let end = octets::past_counted(msg, at, 4, 1);
     if end == 0 {
         return Head::Refused {
             number: refusals::CUT,
@@ -380,7 +364,7 @@ fn atom(msg: &[u8], at: usize, width: usize, utf8: bool) -> Head
     requires { ⌜ (at < length (now msg)) × Width width ⌝ }
     ensures { λ r. ⌜ ((atoms : Atoms) (rows : ℕ) → r ≡ fields-of atoms (now (msg .entry)) at (atom-ext (coding-of utf8) width) rows) ⌝ }
 {
-    let end = past_counted(msg, at, width, 0);
+    let end = octets::past_counted(msg, at, width, 0);
     if end == 0 {
         return Head::Refused {
             number: refusals::CUT,
@@ -783,38 +767,8 @@ fn opened(at: usize, head: Head) -> Opening
     ensures { λ r. ⌜ r ≡ opened-at at head ⌝ }
 {
     match head {
-        Head::Refused { number, place } => Opening {
-            place,
-            head: Head::Refused { number, place },
-        },
-        Head::Parts {
-            kind,
-            wanted,
-            count,
-            later,
-            next,
-        } => Opening {
-            place: at,
-            head: Head::Parts {
-                kind,
-                wanted,
-                count,
-                later,
-                next,
-            },
-        },
-        Head::Characters { count, next } => Opening {
-            place: at,
-            head: Head::Characters { count, next },
-        },
-        Head::Elements { count, next } => Opening {
-            place: at,
-            head: Head::Elements { count, next },
-        },
-        Head::Pairs { count, next } => Opening {
-            place: at,
-            head: Head::Pairs { count, next },
-        },
+        Head::Refused { number, place } => Opening { place, head },
+        _ => Opening { place: at, head },
     }
 }
 
@@ -838,8 +792,7 @@ pub fn read_opening(
                 read_head(msg, n, places, lengths, place, Wanted::Any),
             )
         }
-        Wanted::Atom => opened(at, read_head(msg, n, places, lengths, at, Wanted::Atom)),
-        Wanted::Arity => opened(at, read_head(msg, n, places, lengths, at, Wanted::Arity)),
+        _ => opened(at, read_head(msg, n, places, lengths, at, wanted)),
     }
 }
 

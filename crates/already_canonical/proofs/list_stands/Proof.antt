@@ -1,5 +1,4 @@
 -- `list_stands` meets its contract. A 106.
-use native.Mathlib.Omega.{arith}
 use borrow.Author.Needs.{needs}
 use Rattle.already_canonical.proofs.list_stands.Statement.{statement}
 use Rattle.already_canonical.proofs.list_stands.Tie as tie

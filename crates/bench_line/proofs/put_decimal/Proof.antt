@@ -34,7 +34,7 @@ returns : tie.Need-returns
 returns c =
     let d = c .before .before .before .before .before .decimal in
     let few : d .result ≤ 20 = few-places (c .before .before .before .before .before .before .before .before .args .n) (d .result) (c .before .before .before .before .before .before .before .before .fits .n .fits) (d .ensures .1 .0) in
-    decimal-put _ _ (d .result) (d .ensures .1 .0) (d .ensures .1 .1) (c .before .before .put-text .ensures) (d .ensures .0 .1) few (c .before .before .before .before .before .before .before .before .pre)
+    decimal-put _ _ (d .result) (d .ensures .1 .0) (d .ensures .1 .1) (c .before .before .put-text .ensures) (d .ensures .0 .1) few
 
 pub put-decimal-spec : {M : Type 1} → statement M
 put-decimal-spec =

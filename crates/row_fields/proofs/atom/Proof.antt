@@ -2,6 +2,7 @@
 use mathlib.Core.Path.{refl, _∙_, ap}
 use Prim.Native.Nat.{ℕ}
 use lib.Dec.{ltb}
+use native.Mathlib.Omega.{arith}
 use borrow.Author.Needs.{needs}
 use Rattle.row_fields.specs.Found.{text-found, atom-found}
 use Rattle.row_fields.proofs.Tests.{equal, unequal}
@@ -19,7 +20,7 @@ unfolding atom-found
 returns c = equal _ (c .before .before .width-of .ensures .0) refl (c .before .if1 .taken) (c .listed .ensures)
 
 text-requires : tie.Need-text-requires
-text-requires c κs = c .before .width-of .ensures .2 (c .if1 .left)
+text-requires c κs = (c .before .width-of .ensures .2 (c .if1 .left), omega arith)
 
 returns-2 : tie.Need-returns-2
 unfolding atom-found

@@ -1,6 +1,7 @@
 -- `integer` meets its contract.
 use mathlib.Core.Path.{sym, _∙_, ap}
 use borrow.Author.Tests.{ne-eqb}
+use native.Mathlib.Omega.{arith}
 use borrow.Author.Needs.{needs}
 use Rattle.row_fields.specs.Found.{integer-found}
 use Rattle.octets.proofs.Widths.{width-1, width-4}
@@ -17,10 +18,10 @@ signed-requires : tie.Need-signed-requires
 signed-requires c κs = search needs
 
 big-requires : tie.Need-big-requires
-big-requires c κs = width-1
+big-requires c κs = (width-1, omega arith)
 
 big-requires-2 : tie.Need-big-requires-2
-big-requires-2 c κs = width-4
+big-requires-2 c κs = (width-4, omega arith)
 
 returns : tie.Need-returns
 unfolding integer-found

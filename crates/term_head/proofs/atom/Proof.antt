@@ -1,7 +1,7 @@
 -- `atom` meets its contract.
 use Rattle.term_spec.proofs.Tests.{refuted, confirmed}
 use Rattle.term_head.proofs.Texts.{atom-cut, atom-bad, atom-there}
-use Rattle.term_head.proofs.Counted.{counted-near}
+use Rattle.octets.proofs.Counted.{past-some}
 use native.Mathlib.Omega.{arith}
 use borrow.Author.Needs.{needs}
 use Rattle.term_head.proofs.atom.Statement.{statement}
@@ -17,16 +17,16 @@ add-from : tie.Need-add-from
 add-from c = search needs
 
 add-from-2 : tie.Need-add-from-2
-add-from-2 c = let near = counted-near _ _ _ _ (c .before .past-counted .ensures) (c .if1 .left) in omega (arith, near .0, near .1)
+add-from-2 c = let near = past-some _ _ _ _ (c .before .past-counted .ensures) (c .if1 .left) in omega (arith, near .0, near .1)
 
 sub-is-text : tie.Need-sub-is-text
-sub-is-text c = let near = counted-near _ _ _ _ (c .before .past-counted .ensures) (c .if1 .left) in omega (arith, near .0, near .1)
+sub-is-text c = let near = past-some _ _ _ _ (c .before .past-counted .ensures) (c .if1 .left) in omega (arith, near .0, near .1)
 
 part-is-text-start : tie.Need-part-is-text-start
-part-is-text-start c = let near = counted-near _ _ _ _ (c .before .past-counted .ensures) (c .if1 .left) in omega (arith, near .0, near .1)
+part-is-text-start c = let near = past-some _ _ _ _ (c .before .past-counted .ensures) (c .if1 .left) in omega (arith, near .0, near .1)
 
 part-is-text-end : tie.Need-part-is-text-end
-part-is-text-end c = let near = counted-near _ _ _ _ (c .before .past-counted .ensures) (c .if1 .left) in omega (arith, near .0, near .1)
+part-is-text-end c = let near = past-some _ _ _ _ (c .before .past-counted .ensures) (c .if1 .left) in omega (arith, near .0, near .1)
 
 is-text-requires : tie.Need-is-text-requires
 is-text-requires c κs = search needs

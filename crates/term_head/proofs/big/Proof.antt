@@ -1,6 +1,6 @@
 -- `big` meets its contract.
 use Rattle.term_head.proofs.Leaves.{big-cut, big-sign, big-there}
-use Rattle.term_head.proofs.Counted.{counted-near}
+use Rattle.octets.proofs.Counted.{past-some}
 use native.Mathlib.Omega.{arith}
 use borrow.Author.Needs.{needs}
 use Rattle.term_head.proofs.big.Statement.{statement}
@@ -16,10 +16,10 @@ add-big1 : tie.Need-add-big1
 add-big1 c = search needs
 
 add-big1-2 : tie.Need-add-big1-2
-add-big1-2 c = let near = counted-near _ _ _ _ (c .before .past-counted .ensures) (c .if1 .left) in omega (arith, near .0, near .1)
+add-big1-2 c = let near = past-some _ _ _ _ (c .before .past-counted .ensures) (c .if1 .left) in omega (arith, near .0, near .1)
 
 big1-requires : tie.Need-big1-requires
-big1-requires c κs = let near = counted-near _ _ _ _ (c .before .past-counted .ensures) (c .if1 .left) in omega (arith, near .0, near .1)
+big1-requires c κs = let near = past-some _ _ _ _ (c .before .past-counted .ensures) (c .if1 .left) in omega (arith, near .0, near .1)
 
 returns-2 : tie.Need-returns-2
 returns-2 c = λ atoms rows. big-sign _ _ _ _ (omega arith) _ _ (c .before .before .before .past-counted .ensures) (c .before .before .if1 .left) _ (c .before .big1 .ensures .0) (c .if2 .taken)

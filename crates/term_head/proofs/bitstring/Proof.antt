@@ -1,6 +1,6 @@
 -- `bitstring` meets its contract.
 use Rattle.term_head.proofs.Leaves.{bits-cut, bits-broken, bits-there}
-use Rattle.term_head.proofs.Counted.{counted-near}
+use Rattle.octets.proofs.Counted.{past-some}
 use native.Mathlib.Omega.{arith}
 use borrow.Author.Needs.{needs}
 use Rattle.term_head.proofs.bitstring.Statement.{statement}
@@ -13,19 +13,19 @@ returns : tie.Need-returns
 returns c = λ atoms rows. bits-cut _ _ _ _ (omega arith) _ (c .before .past-counted .ensures) (c .if1 .taken)
 
 sub-bits-kind : tie.Need-sub-bits-kind
-sub-bits-kind c = omega (arith, counted-near _ _ _ _ (c .before .past-counted .ensures) (c .if1 .left) .1)
+sub-bits-kind c = let near = past-some _ _ _ _ (c .before .past-counted .ensures) (c .if1 .left) in omega (arith, near .0, near .1)
 
 sub-bits-kind-2 : tie.Need-sub-bits-kind-2
-sub-bits-kind-2 c = omega (arith, counted-near _ _ _ _ (c .before .past-counted .ensures) (c .if1 .left) .1)
+sub-bits-kind-2 c = let near = past-some _ _ _ _ (c .before .past-counted .ensures) (c .if1 .left) in omega (arith, near .0, near .1)
 
 add-big1 : tie.Need-add-big1
 add-big1 c = search needs
 
 add-big1-2 : tie.Need-add-big1-2
-add-big1-2 c = let near = counted-near _ _ _ _ (c .before .past-counted .ensures) (c .if1 .left) in omega (arith, near .0, near .1)
+add-big1-2 c = let near = past-some _ _ _ _ (c .before .past-counted .ensures) (c .if1 .left) in omega (arith, near .0, near .1)
 
 big1-requires : tie.Need-big1-requires
-big1-requires c κs = let near = counted-near _ _ _ _ (c .before .past-counted .ensures) (c .if1 .left) in omega (arith, near .0, near .1)
+big1-requires c κs = let near = past-some _ _ _ _ (c .before .past-counted .ensures) (c .if1 .left) in omega (arith, near .0, near .1)
 
 bits-kind-requires : tie.Need-bits-kind-requires
 bits-kind-requires c κs = search needs

@@ -1,6 +1,6 @@
 -- `string` meets its contract.
 use Rattle.term_head.proofs.Leaves.{string-cut, string-there}
-use Rattle.term_head.proofs.Counted.{counted-near}
+use Rattle.octets.proofs.Counted.{past-some}
 use native.Mathlib.Omega.{arith}
 use borrow.Author.Needs.{needs}
 use Rattle.term_head.proofs.string.Statement.{statement}
@@ -13,10 +13,10 @@ returns : tie.Need-returns
 returns c = λ atoms rows. string-cut _ _ _ _ (omega arith) _ (c .before .past-counted .ensures) (c .if1 .taken)
 
 sub-count : tie.Need-sub-count
-sub-count c = omega (arith, counted-near _ _ _ _ (c .before .past-counted .ensures) (c .if1 .left) .1)
+sub-count c = let near = past-some _ _ _ _ (c .before .past-counted .ensures) (c .if1 .left) in omega (arith, near .0, near .1)
 
 sub-count-2 : tie.Need-sub-count-2
-sub-count-2 c = omega (arith, counted-near _ _ _ _ (c .before .past-counted .ensures) (c .if1 .left) .1)
+sub-count-2 c = let near = past-some _ _ _ _ (c .before .past-counted .ensures) (c .if1 .left) in omega (arith, near .0, near .1)
 
 returns-2 : tie.Need-returns-2
 returns-2 c = λ atoms rows. string-there _ _ _ _ (omega arith) _ (c .before .past-counted .ensures) (c .if1 .left)
