@@ -18,7 +18,7 @@ use Rattle.row_fields.specs.declared.Content.the-variants.{Whole, Text, Bytes, 
 use Rattle.layout.specs.Layout.{Put}
 use Rattle.layout.proofs.Puts.{put-same}
 use Rattle.canonical_fields.specs.Shape.{tagged-bytes, before, after}
-use Rattle.canonical_fields.specs.Sound.{Bytes-only, Sound, listed-in, before-in, after-in, Sound-word}
+use Rattle.canonical_fields.specs.Sound.{Bytes-only, Sound-content, listed-in, before-in, after-in, Sound-word}
 use lib.Seq.{drop-cons, sets}
 use Rattle.row_fields.specs.Found.{value, signed-whole, signed-found, integer-found, float-found, text-width, atom-found, binary-found, kind-found, content-of}
 use Rattle.row_fields.proofs.ByKind.{kind-2, kind-3, kind-7}
@@ -115,7 +115,7 @@ module _ (m places lengths : List ℕ) (at parts : ℕ) (b : Bytes-only m) where
   stands-70 e h = by-content 2 9 (Float (value m 8 (at + 1))) (float-there h) h (omega arith) (number-there m 70 at 8 b e h) refl
 
   stands-119 : (v : ℕ) → getD m at 0 ≡ 119 → v ≡ value m 1 (at + 1) → v < 256 → at + (2 + v) ≤ length m
-      → Sound m places (content-of m places lengths 3 at) → Stands m places lengths 3 at parts (2 + v)
+      → Sound-content m places (content-of m places lengths 3 at) → Stands m places lengths 3 at parts (2 + v)
   unfolding label-of before after coded tagged-bytes text-width
   stands-119 v e f l h s =
       let start : ℕ = at + 1 + 1 in
@@ -137,7 +137,7 @@ module _ (m places lengths : List ℕ) (at parts : ℕ) (b : Bytes-only m) where
       refl
 
   stands-109 : (v : ℕ) → getD m at 0 ≡ 109 → v ≡ value m 4 (at + 1) → at + (5 + v) ≤ length m
-      → Sound m places (content-of m places lengths 7 at) → Stands m places lengths 7 at parts (5 + v)
+      → Sound-content m places (content-of m places lengths 7 at) → Stands m places lengths 7 at parts (5 + v)
   unfolding label-of before after
   stands-109 v e f h s =
       let bs : List ℕ = take v (drop (at + 5) m) in
@@ -205,7 +205,7 @@ module _ (m places lengths : List ℕ) (at parts : ℕ) (b : Bytes-only m) where
     pub counted-116 : Counted m at 116 4 (parts / 2) r → Stands m places lengths 9 at parts r
     counted-116 t = rw (t .count-tagged .all) (stands-116 (t .count-tagged .tag-is) (t .count-tagged .inside) (t .count-is))
 
-    pub bodied-119 : Bodied m at 119 1 r → Sound m places (content-of m places lengths 3 at) → Stands m places lengths 3 at parts r
+    pub bodied-119 : Bodied m at 119 1 r → Sound-content m places (content-of m places lengths 3 at) → Stands m places lengths 3 at parts r
     bodied-119 t s =
         let n : ℕ = value m 1 (at + 1) in
         let e : r ≡ 2 + n = t .all in
@@ -214,7 +214,7 @@ module _ (m places lengths : List ℕ) (at parts : ℕ) (b : Bytes-only m) where
         let l : n < 256 = omega (arith, b (at + 1)) in
         rw e (stands-119 n (t .body-tag) refl l (omega arith) s)
 
-    pub bodied-109 : Bodied m at 109 4 r → Sound m places (content-of m places lengths 7 at) → Stands m places lengths 7 at parts r
+    pub bodied-109 : Bodied m at 109 4 r → Sound-content m places (content-of m places lengths 7 at) → Stands m places lengths 7 at parts r
     bodied-109 t s =
         let n : ℕ = value m 4 (at + 1) in
         let e : r ≡ 5 + n = t .all in
@@ -223,7 +223,7 @@ module _ (m places lengths : List ℕ) (at parts : ℕ) (b : Bytes-only m) where
 
 -- by the word
 module _ (m places lengths : List ℕ) (w kind k at : ℕ) (e : kind ≡ kind-in w) (f : kind ≡ k) (g : at ≡ offset-in w) where
-  pub sound-in : Sound-word m places lengths w → Sound m places (content-of m places lengths k at)
+  pub sound-in : Sound-word m places lengths w → Sound-content m places (content-of m places lengths k at)
   sound-in s = rw (← f, e, g) (s .sound)
 
   pub stands-in : (n r : ℕ) → n ≡ parts-in w → Stands m places lengths k at n r → Stands m places lengths (kind-in w) (offset-in w) (parts-in w) r

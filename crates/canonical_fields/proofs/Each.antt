@@ -7,7 +7,7 @@ use lib.Dec.{eqb, leb, ltb}
 use lib.ListN.{length, getD}
 use borrow.Author.Tests.{eqb-true}
 use Rattle.octets.specs.Parts.{counted-end}
-use Rattle.row_fields.specs.Found.{value, text-width, atom-end, byte-found, signed-whole, signed-found, whole-of, stripped-found, big-found, integer-found, float-found, text-found, place-found, listed-found, atom-found, bytes-found, bits-of, bits-found, binary-found, pid-found, port-found, words-found, word-found, counted-found, pids-found, ports-found, references-found, kind-found, content-of}
+use Rattle.row_fields.specs.Found.{value, text-width, atom-end, byte-found, signed-whole, signed-found, integer-of, stripped-found, big-found, integer-found, float-found, text-found, place-found, listed-found, atom-found, bytes-found, bits-of, bits-found, binary-found, pid-found, port-found, words-found, word-found, counted-found, pids-found, ports-found, references-found, kind-found, content-of}
 use Rattle.row_fields.specs.declared.Content.{Content}
 use Rattle.row_fields.specs.declared.Content.the-variants.{Nothing, Whole, Big, Float, Text, Bytes, Bits, Pid, Port, Reference}
 
@@ -32,8 +32,8 @@ module _ (P : Content → Type 0) (nothing : P Nothing) where
     unfolding signed-found signed-whole
     signed-each at = either (ltb (length m - at) 5) nothing (either (ltb (value m 4 (at + 1)) 2147483648) (whole _ _) (whole _ _))
 
-    whole-each : (negative : Bool) (n : ℕ) → P (whole-of negative n)
-    unfolding whole-of
+    whole-each : (negative : Bool) (n : ℕ) → P (integer-of negative n)
+    unfolding integer-of
     whole-each negative n = either (eqb n 0) (whole _ _) (whole _ _)
 
     stripped-each : (negative : Bool) (start n : ℕ) → P (stripped-found m negative start n)

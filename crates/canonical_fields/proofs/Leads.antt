@@ -35,7 +35,7 @@ use Rattle.layout.specs.Layout.{body-bytes, Inside, Body-inside, Lays, laid-of}
 use Rattle.layout.proofs.Digits.{digits-of}
 use Rattle.layout.proofs.Bodies.{lays, length-stretch, length-bits}
 use Rattle.canonical_fields.specs.Shape.{tagged-bytes, list-start, list-end, before, after}
-use Rattle.canonical_fields.specs.Sound.{High, Bytes-only, Spelt, Sound-text, Sound, listed-in}
+use Rattle.canonical_fields.specs.Sound.{High, Bytes-only, Spelt, Sound-text, Sound-content, listed-in}
 
 -- other bytes that are the same
 pub says : {m places bs cs : List ℕ} {l : Layout} → bs ≡ cs → Lays m places bs l → Lays m places cs l
@@ -330,28 +330,28 @@ plain-trail m places kind n (fields.Port id creation) o = absurd (miss (1 ∷ 2 
 plain-trail m places kind n (Reference creation start k) o = absurd (miss (1 ∷ 2 ∷ 3 ∷ 4 ∷ 5 ∷ 6 ∷ []) 9 tt o)
 
 module _ (m places : List ℕ) (content : Content) where
-  pub sound-whole : (negative : Bool) (n : ℕ) → content ≡ Whole negative n → Sound m places content → negative ≡ true → 0 < n
-  unfolding Sound
+  pub sound-whole : (negative : Bool) (n : ℕ) → content ≡ Whole negative n → Sound-content m places content → negative ≡ true → 0 < n
+  unfolding Sound-content
   sound-whole negative n e h = rw e at h
 
-  pub sound-big : (negative : Bool) (start n : ℕ) → content ≡ Big negative start n → Sound m places content → High m start n
-  unfolding Sound
+  pub sound-big : (negative : Bool) (start n : ℕ) → content ≡ Big negative start n → Sound-content m places content → High m start n
+  unfolding Sound-content
   sound-big negative start n e h = rw e at h
 
-  pub sound-text : (latin1 listed : Bool) (start n : ℕ) → content ≡ Text latin1 listed start n → Sound m places content → Sound-text m places latin1 listed start n
-  unfolding Sound
+  pub sound-text : (latin1 listed : Bool) (start n : ℕ) → content ≡ Text latin1 listed start n → Sound-content m places content → Sound-text m places latin1 listed start n
+  unfolding Sound-content
   sound-text latin1 listed start n e h = rw e at h
 
-  pub sound-bytes : (start n : ℕ) → content ≡ Bytes start n → Sound m places content → Inside m start n
-  unfolding Sound
+  pub sound-bytes : (start n : ℕ) → content ≡ Bytes start n → Sound-content m places content → Inside m start n
+  unfolding Sound-content
   sound-bytes start n e h = rw e at h
 
-  pub sound-bits : (bits start n : ℕ) → content ≡ fields.Bits bits start n → Sound m places content → Inside m start n × (1 ≤ n)
-  unfolding Sound
+  pub sound-bits : (bits start n : ℕ) → content ≡ fields.Bits bits start n → Sound-content m places content → Inside m start n × (1 ≤ n)
+  unfolding Sound-content
   sound-bits bits start n e h = rw e at h
 
-  pub sound-words : (creation start words : ℕ) → content ≡ Reference creation start words → Sound m places content → Inside m start (4 * words)
-  unfolding Sound
+  pub sound-words : (creation start words : ℕ) → content ≡ Reference creation start words → Sound-content m places content → Inside m start (4 * words)
+  unfolding Sound-content
   sound-words creation start words e h = rw e at h
 
   module _ (kind n : ℕ) where

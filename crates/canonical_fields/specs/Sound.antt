@@ -34,17 +34,17 @@ Sound-text m places latin1 listed start n = Inside (source m places listed) star
 abbrev pub Bytes-only : List ℕ → Type 0
 Bytes-only m = (i : ℕ) → getD m i 0 < 256
 
-unfoldable pub Sound : List ℕ → List ℕ → Content → Type 0
-Sound m places Nothing = Unit {0}
-Sound m places (Whole negative n) = negative ≡ true → 0 < n
-Sound m places (Big negative start n) = High m start n
-Sound m places (Float bits) = Unit {0}
-Sound m places (Text latin1 listed start n) = Sound-text m places latin1 listed start n
-Sound m places (Bytes start n) = Inside m start n
-Sound m places (Bits bits start n) = Inside m start n × (1 ≤ n)
-Sound m places (Pid id serial creation) = Unit {0}
-Sound m places (Port id creation) = Unit {0}
-Sound m places (Reference creation start n) = Inside m start (4 * n)
+unfoldable pub Sound-content : List ℕ → List ℕ → Content → Type 0
+Sound-content m places Nothing = Unit {0}
+Sound-content m places (Whole negative n) = negative ≡ true → 0 < n
+Sound-content m places (Big negative start n) = High m start n
+Sound-content m places (Float bits) = Unit {0}
+Sound-content m places (Text latin1 listed start n) = Sound-text m places latin1 listed start n
+Sound-content m places (Bytes start n) = Inside m start n
+Sound-content m places (Bits bits start n) = Inside m start n × (1 ≤ n)
+Sound-content m places (Pid id serial creation) = Unit {0}
+Sound-content m places (Port id creation) = Unit {0}
+Sound-content m places (Reference creation start n) = Inside m start (4 * n)
 
 -- a list of which only the places count
 abbrev pub listed-in : List ℕ → AtomList
@@ -65,5 +65,5 @@ after-in m places lengths w = after (label-in m places lengths w) (parts-in w)
 
 -- a row's word that points at what can be written; an improper list has parts
 pub record Sound-word (m places lengths : List ℕ) (w : ℕ) : Type 0 where
-  pub sound : Sound m places (content-in m places lengths w)
+  pub sound : Sound-content m places (content-in m places lengths w)
   pub some-parts : kind-in w ≡ 6 → 0 < parts-in w

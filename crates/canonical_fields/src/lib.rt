@@ -18,7 +18,7 @@ ghost use Rattle.row_fields.specs.Meaning.{sign, coded, words-at, bare, label-o
 ghost use Rattle.octets.specs.Parts.{stretch, source};
 ghost use Rattle.layout.specs.Layout.{body-bytes, Inside, Body-inside, Lays};
 ghost use Rattle.canonical_fields.specs.Shape.{tagged-bytes, before, after};
-ghost use Rattle.canonical_fields.specs.Sound.{High, Bytes-only, Sound-text, Sound, listed-in, content-in};
+ghost use Rattle.canonical_fields.specs.Sound.{High, Bytes-only, Sound-text, Sound-content, listed-in, content-in};
 
 // The tags of the canonical form, as numbers of a layout.
 const SMALL_INTEGER: u64 = tags::SMALL_INTEGER_EXT as u64;
@@ -242,7 +242,7 @@ fn port_lead(id: u64, creation: u64, n: usize) -> Layout
 
 // The bytes before the parts of a term of this kind, with this content and n parts.
 pub fn lead(msg: &[u8], places: &[u8], kind: usize, content: Content, n: usize) -> Layout
-    requires { ⌜ Sound (now msg) (now places) content × (kind ≡ 6 → 0 < n) ⌝ }
+    requires { ⌜ Sound-content (now msg) (now places) content × (kind ≡ 6 → 0 < n) ⌝ }
     ensures { λ r. ⌜ Lays (now (msg .entry)) (now (places .entry)) (before (label-of (now (msg .entry)) (listed-in (now (places .entry))) kind content) n) r ⌝ }
 {
     match content {
@@ -354,7 +354,7 @@ fn words_trail(creation: u64, start: usize, words: usize, n: usize) -> Layout
 
 // The bytes after the parts of a term of this kind, with this content and n parts.
 pub fn trail(msg: &[u8], places: &[u8], kind: usize, content: Content, n: usize) -> Layout
-    requires { ⌜ Sound (now msg) (now places) content ⌝ }
+    requires { ⌜ Sound-content (now msg) (now places) content ⌝ }
     ensures { λ r. ⌜ Lays (now (msg .entry)) (now (places .entry)) (after (label-of (now (msg .entry)) (listed-in (now (places .entry))) kind content) n) r ⌝ }
 {
     match content {

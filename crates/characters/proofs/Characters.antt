@@ -19,7 +19,7 @@ use Rattle.row_fields.specs.declared.Content.the-variants.{Whole, Big, Nothing,
 use denote.Enum.Declared.{tagOf}
 use types.Run.{OneOf, miss}
 use Rattle.row_fields.proofs.Content.{the-type}
-use Rattle.canonical_fields.specs.Sound.{High, Bytes-only, Sound, listed-in, label-in}
+use Rattle.canonical_fields.specs.Sound.{High, Bytes-only, Sound-content, listed-in, label-in}
 use Rattle.row_fields.specs.Found.{content-of}
 use Rattle.row_fields.proofs.ByKind.{kind-14}
 use Rattle.characters.specs.Code.{character-code}
@@ -58,7 +58,7 @@ module _ (m places : List ℕ) (kind : ℕ) (content : Content) where
   pub code-by : (c : Content) {r : ℕ} → content ≡ c → r ≡ character-code (small (label-of m (listed-in places) kind c)) → r ≡ character-code (small (label-of m (listed-in places) kind content))
   code-by c e h = h ∙ ap (λ (d : Content). character-code (small (label-of m (listed-in places) kind d))) (sym e)
 
-  pub code-big : (negative : Bool) (start n : ℕ) → content ≡ Big negative start n → Sound m places content → Bytes-only m
+  pub code-big : (negative : Bool) (start n : ℕ) → content ≡ Big negative start n → Sound-content m places content → Bytes-only m
       → 256 ≡ character-code (small (label-of m (listed-in places) kind content))
   unfolding label-of
   code-big negative start n e s b =
@@ -67,7 +67,7 @@ module _ (m places : List ℕ) (kind : ℕ) (content : Content) where
 
 -- what is no integer of at most 8 digits is no character
 module _ (m places : List ℕ) (kind : ℕ) where
-  pub other-content : (c : Content) → OneOf (0 ∷ 2 ∷ 3 ∷ 4 ∷ 5 ∷ 6 ∷ 7 ∷ 8 ∷ 9 ∷ []) (tagOf the-type c) → Sound m places c → Bytes-only m
+  pub other-content : (c : Content) → OneOf (0 ∷ 2 ∷ 3 ∷ 4 ∷ 5 ∷ 6 ∷ 7 ∷ 8 ∷ 9 ∷ []) (tagOf the-type c) → Sound-content m places c → Bytes-only m
       → 256 ≡ character-code (small (label-of m (listed-in places) kind c))
   unfolding label-of small character-code
   other-content Nothing o s b = bare-none kind

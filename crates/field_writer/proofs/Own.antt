@@ -18,7 +18,7 @@ use Rattle.layout.specs.declared.Layout.{Layout}
 use Rattle.layout.specs.Layout.{layout-bytes, Lays, Put}
 use Rattle.layout.proofs.Puts.{put-same, put-then, put-none}
 use Rattle.canonical_fields.specs.Shape.{before, after}
-use Rattle.canonical_fields.specs.Sound.{Sound, listed-in, content-in, before-in, after-in, Sound-word, label-in}
+use Rattle.canonical_fields.specs.Sound.{Sound-content, listed-in, content-in, before-in, after-in, Sound-word, label-in}
 use lib.Seq.{sets}
 use Rattle.row_fields.specs.Found.{kind-found, content-of}
 use Rattle.canonical_fields.proofs.Leads.{list-106, list-108, list-over, list-closed, bare-over, says}
@@ -27,7 +27,7 @@ use Rattle.canonical_fields.proofs.Each.{byte-each, integer-each, float-each, a
 -- ---- a row's word
 
 module _ (m places lengths : List ℕ) (w : ℕ) (own : Content) (kind n : ℕ) (e : own ≡ content-in m places lengths w) (f : kind ≡ kind-in w) (g : n ≡ parts-in w) where
-  pub word-sound : Sound-word m places lengths w → Sound m places own
+  pub word-sound : Sound-word m places lengths w → Sound-content m places own
   word-sound s = rw e (s .sound)
 
   pub word-parts : Sound-word m places lengths w → kind ≡ 6 → 0 < n

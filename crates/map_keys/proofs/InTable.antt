@@ -12,7 +12,7 @@ use Rattle.term_spec.specs.Term.{Label, Term}
 use Rattle.term_spec.specs.Equal.{same, among}
 use Rattle.term_spec.specs.Head.{Atoms}
 use Rattle.term_spec.specs.AtomList.{AtomList, atoms-of}
-use Rattle.term_spec.specs.Reading.{Place, tag-at, character-at, Located, meaning}
+use Rattle.term_spec.specs.Reading.{Offset, tag-at, character-at, Located, meaning}
 use Rattle.term_spec.specs.Message.{Terms}
 use Rattle.term_spec.specs.Rows.{Row, tree-rows, rows, word, kind-of, kind-at, Tree-here, Rows-here}
 use Rattle.term_spec.proofs.Backed.{Label-at, Backed, Backeds}
@@ -47,7 +47,7 @@ module _ (message : List ℕ) (cap : ℕ) (atoms : Atoms) where
         each-row-join Backed-row (tree-rows whole n t) (rows whole (n + size t) ts) (backed-tree-rows whole n t (b .0)) (backed-rows whole (n + size t) ts (b .1))
 
   -- without the kind of characters a kind is that of the label
-  term-kind-of : (l : Label) (p : Place) → Label-at message cap atoms p l → term-kind (kind-at l p) ≡ kind-of l
+  term-kind-of : (l : Label) (p : Offset) → Label-at message cap atoms p l → term-kind (kind-at l p) ≡ kind-of l
   unfolding term-kind kind-at kind-of
   term-kind-of l (tag-at p) h = let r : Between 1 13 (kind-of l) = kind-of-range l in rw (ne-eqb (kind-of l) 14 (λ e. omega arith))
   term-kind-of l (character-at p) h = sym (ap kind-of (h .1))

@@ -22,7 +22,7 @@ use Rattle.term_spec.specs.declared.MarkAnswer.{MarkAnswer}
 use Rattle.term_spec.proofs.Message.{accepted-message, allowed-valid}
 use Rattle.queries.specs.declared.TextAt.{TextAt}
 use Rattle.queries.specs.Code.{numbered, located, mark-at, bytes-at}
-use Rattle.queries.specs.Promises.{is-latin1, stretch-at, text-at, Inside}
+use Rattle.queries.specs.Promises.{is-latin1, stretch-at, text-at, Text-inside}
 use Rattle.queries.specs.Promises.{Locate-call}
 use Rattle.queries.proofs.Numbers.{float-exact}
 use Rattle.queries.proofs.Rows.{bits-answered, numbers-are, texts-are}
@@ -50,16 +50,16 @@ module _ (framing : Framing) (list : AtomList) (m : List ℕ) (few : list .n ≤
 
   -- where an atom's text stands
   pub text-told : (at : ℕ) (x : TextAt) → x ≡ located m (list .places) (list .lengths) T r at → Locate-call framing list m at x
-  unfolding text-in atom-text text-at located read-answer Inside
+  unfolding text-in atom-text text-at located read-answer Text-inside
   text-told at x e =
       let f : x ≡ located m (list .places) (list .lengths) (table-after 8192 (read framing list 8192 m)) (read-answer (read framing list 8192 m)) at
       = e ∙ ap₂ (λ (t : List ℕ) (q : ReadAnswer). located m (list .places) (list .lengths) t q at) table-is answer-is in
       let k = go (read framing list 8192 m) refl in
-      record { text-located = f ∙ k .0; text-inside = subst (Inside m (list .places)) (sym f) (k .1) }
+      record { text-located = f ∙ k .0; text-inside = subst (Text-inside m (list .places)) (sym f) (k .1) }
     where
       go : (o : Answer Terms) → read framing list 8192 m ≡ o
           → (located m (list .places) (list .lengths) (table-after 8192 o) (read-answer o) at ≡ text-at (atom-text m list at o))
-          × Inside m (list .places) (located m (list .places) (list .lengths) (table-after 8192 o) (read-answer o) at)
+          × Text-inside m (list .places) (located m (list .places) (list .lengths) (table-after 8192 o) (read-answer o) at)
       go (good ts) f = texts-are list m ts few under (accepted-message framing list 8192 m under ts f) at
       go (refused n p) f = (refl, tt)
 

@@ -15,7 +15,7 @@ use Rattle.term_spec.specs.Answer.{good, refused}
 use Rattle.term_spec.specs.Answers.{read-answer, number-case}
 use Rattle.term_spec.specs.Head.{finite}
 use Rattle.term_spec.specs.AtomList.{AtomList, atoms-of}
-use Rattle.term_spec.specs.Reading.{Place, tag-at, character-at, Located, meaning}
+use Rattle.term_spec.specs.Reading.{Offset, tag-at, character-at, Located, meaning}
 use Rattle.term_spec.specs.Message.{Terms, meanings}
 use Rattle.term_spec.specs.Rows.{Row, tree-rows, rows, kind-of, kind-at, offset-of, kind-in, offset-in, word, row-words, table-after, Here}
 use Rattle.term_spec.specs.Look.{float-bits, neither, number-of, number-at, atom-at, text-of, atom-text}
@@ -35,7 +35,7 @@ use Rattle.map_keys.proofs.Accepted.{held-rows}
 use Rattle.queries.specs.declared.TextAt.{TextAt}
 use Rattle.queries.specs.declared.TextAt.the-variants as texts
 use Rattle.queries.specs.Code.{content-number, numbered, atom-row, atom-among, text-said, located}
-use Rattle.queries.specs.Promises.{text-at, Inside}
+use Rattle.queries.specs.Promises.{text-at, Text-inside}
 use Rattle.queries.proofs.Numbers.{content-is, float-label}
 use Rattle.queries.proofs.Texts.{atom-tag, content-stands, said-inside}
 
@@ -114,10 +114,10 @@ or-else true x = refl
 or-else false x = refl
 
 module _ (at : ℕ) where
-  abbrev test : Label → Place → Bool
+  abbrev test : Label → Offset → Bool
   test l p = cond (eqb (kind-at l p) 3) (eqb (offset-of p) at) false
 
-  first-row : (l : Label) (p : Place) (whole : Option ℕ) (n k : ℕ) (rs : List Row)
+  first-row : (l : Label) (p : Offset) (whole : Option ℕ) (n k : ℕ) (rs : List Row)
       → atom-at at (record { label = l; place = p; whole = whole; parts = n; size = k } ∷ rs) ≡ cond (test l p) true (atom-at at rs)
   unfolding atom-at kind-at kind-of offset-of
   first-row (atom cs) (tag-at q) whole n k rs = or-else (eqb q at) (atom-at at rs)
@@ -156,7 +156,7 @@ module _ (at : ℕ) where
       let ih : atom-among T (length rs) (a + 1) at ≡ atom-at at rs = among-is T rs (a + 1) (here-rest h) (s .1) in
       rw (here-word h, w .kind-is, w .offset-is, ih) (sym (first-row (r .label) (r .place) (r .whole) (r .parts) (r .size) rs))
 
-  module _ (P : Place → Label → Type 0) where
+  module _ (P : Offset → Label → Type 0) where
     -- where one is, it is backed as each row is
     atom-backed : (rs : List Row) → Each-row (λ r. P (r .place) (r .label)) rs → atom-at at rs ≡ true → (cs : List ℕ) × P (tag-at at) (atom cs)
     unfolding Each-row atom-at
@@ -172,7 +172,7 @@ module _ (at : ℕ) where
             let tag : r .place ≡ tag-at (offset-of (r .place)) = tag-of-kind (r .label) (r .place) (λ z. omega arith) in
             let place : r .place ≡ tag-at at = tag ∙ ap tag-at (eqb-true _ _ g) in
             let a = kind-atom (r .label) (sym (kind-of-tag (r .label) at) ∙ ap (kind-at (r .label)) (sym place) ∙ three) in
-            (a .0, subst (P (tag-at at)) (a .1) (subst (λ (q : Place). P q (r .label)) place (h .0)))
+            (a .0, subst (P (tag-at at)) (a .1) (subst (λ (q : Offset). P q (r .label)) place (h .0)))
         by-kind true f false g k ih = ih k
         by-kind false f u g k ih = ih k
 
@@ -230,7 +230,7 @@ module _ (list : AtomList) (m : List ℕ) (ts : Terms) (few : list .n ≤ 255) (
   abbrev said : ℕ → TextAt
   said at = text-said at (content-of m (list .places) (list .lengths) 3 at)
 
-  atom-says : (at : ℕ) → atom-at at all ≡ true → (said at ≡ text-at (good (text-of m list at))) × Inside m (list .places) (said at)
+  atom-says : (at : ℕ) → atom-at at all ≡ true → (said at ≡ text-at (good (text-of m list at))) × Text-inside m (list .places) (said at)
   unfolding text-at kind-at offset-of kind-of
   atom-says at e =
       let b = atom-backed at (λ p l. Label-at m (min 8192 8192) (atoms-of list) p l) all all-backed e in
@@ -239,8 +239,8 @@ module _ (list : AtomList) (m : List ℕ) (ts : Terms) (few : list .n ≤ 255) (
       (content-stands list m (b .0) at (t .0) (t .1) (s .means), said-inside m (list .places) at _ (s .sound))
 
   pub texts-are : (at : ℕ) → (located m (list .places) (list .lengths) T (read-answer (good ts)) at ≡ text-at (atom-text m list at (good ts)))
-      × Inside m (list .places) (located m (list .places) (list .lengths) T (read-answer (good ts)) at)
-  unfolding read-answer located atom-text text-at Inside
+      × Text-inside m (list .places) (located m (list .places) (list .lengths) T (read-answer (good ts)) at)
+  unfolding read-answer located atom-text text-at Text-inside
   texts-are at =
       let e : atom-among T (sizes ts) 0 at ≡ atom-at at all
       = ap (λ (n : ℕ). atom-among T n 0 at) (sym (length-rows option.none 0 ts)) ∙ among-is at T all 0 (held .stand .words) (held .all-small) in
@@ -248,6 +248,6 @@ module _ (list : AtomList) (m : List ℕ) (ts : Terms) (few : list .n ≤ 255) (
     where
       go : (t : Bool) → atom-at at all ≡ t
           → (cond t (said at) (texts.Refused (record { number = 4; place = at })) ≡ text-at (cond t (good (text-of m list at)) (refused 4 at)))
-          × Inside m (list .places) (cond t (said at) (texts.Refused (record { number = 4; place = at })))
+          × Text-inside m (list .places) (cond t (said at) (texts.Refused (record { number = 4; place = at })))
       go true e = atom-says at e
       go false e = (refl, tt)

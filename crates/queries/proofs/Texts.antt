@@ -33,7 +33,7 @@ use Rattle.row_fields.proofs.Says.{Sound}
 use Rattle.row_fields.proofs.Read.{All-rows, row-of, position-is, head-here}
 use Rattle.queries.specs.declared.TextAt.the-variants as texts
 use Rattle.queries.specs.Code.{text-said}
-use Rattle.queries.specs.Promises.{is-latin1, stretch-at, Inside}
+use Rattle.queries.specs.Promises.{is-latin1, stretch-at, Text-inside}
 
 -- ---- an atom's label stands at an atom's tag
 
@@ -226,8 +226,8 @@ module _ (atoms : AtomList) (m : List ℕ) (cs : List ℕ) where
         ap (text-said p) (k .0) ∙ atom-stands (getD m p 0) f a refl (k .1)
 
 -- a text that is found is there
-pub said-inside : (m places : List ℕ) (at : ℕ) (c : Content) → Sound m places c → Inside m places (text-said at c)
-unfolding text-said Inside
+pub said-inside : (m places : List ℕ) (at : ℕ) (c : Content) → Sound m places c → Text-inside m places (text-said at c)
+unfolding text-said Text-inside
 said-inside m places at Nothing s = tt
 said-inside m places at (Whole negative n) s = tt
 said-inside m places at (Big negative start n) s = tt

@@ -25,7 +25,7 @@ use Rattle.row_fields.specs.Found.{content-of}
 use Rattle.queries.specs.declared.TextAt.{TextAt}
 use Rattle.queries.specs.declared.TextAt.the-variants as texts
 use Rattle.queries.specs.Code.{signed-number, float-number, content-number, numbered, atom-row, atom-among, text-said, located, bytes-at}
-use Rattle.queries.specs.Promises.{Inside}
+use Rattle.queries.specs.Promises.{Text-inside}
 
 -- ---- numbers
 
@@ -163,12 +163,12 @@ module _ (m places lengths T : List ℕ) (read : ReadAnswer) (at : ℕ) where
 -- ---- bytes
 
 module _ (m places : List ℕ) (t : TextAt) (start n : ℕ) where
-  pub inside-message : (latin1 : Bool) → t ≡ texts.Message start n latin1 → Inside m places t → start + n ≤ length m
-  unfolding Inside
+  pub inside-message : (latin1 : Bool) → t ≡ texts.Message start n latin1 → Text-inside m places t → start + n ≤ length m
+  unfolding Text-inside
   inside-message latin1 e h = rw e at h
 
-  pub inside-list : t ≡ texts.List start n → Inside m places t → start + n ≤ length places
-  unfolding Inside
+  pub inside-list : t ≡ texts.List start n → Text-inside m places t → start + n ≤ length places
+  unfolding Text-inside
   inside-list e h = rw e at h
 
   pub part-message : (latin1 : Bool) → t ≡ texts.Message start n latin1 → take (start + n - start) (drop start m) ≡ bytes-at m places t

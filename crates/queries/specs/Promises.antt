@@ -29,10 +29,10 @@ text-at (good t) = stretch-at (t .0) (t .1)
 text-at (refused n p) = texts.Refused (record { number = n; place = p })
 
 -- a stretch stays inside the message, or inside the list's places
-unfoldable pub Inside : List ℕ → List ℕ → TextAt → Type 0
-Inside m places (texts.Message start n latin1) = start + n ≤ length m
-Inside m places (texts.List start n) = start + n ≤ length places
-Inside m places (texts.Refused refusal) = Unit {0}
+unfoldable pub Text-inside : List ℕ → List ℕ → TextAt → Type 0
+Text-inside m places (texts.Message start n latin1) = start + n ≤ length m
+Text-inside m places (texts.List start n) = start + n ≤ length places
+Text-inside m places (texts.Refused refusal) = Unit {0}
 
 -- a row's number
 abbrev pub Number-call : Framing → AtomList → List ℕ → ℕ → NumberAnswer → Type 0
@@ -41,7 +41,7 @@ Number-call framing list message row answer = answer ≡ number-answer (number-i
 -- where the text stands of the atom whose tag is at this offset: settled whole, and inside the message or the list's places
 pub record Locate-call (framing : Framing) (list : AtomList) (message : List ℕ) (at : ℕ) (answer : TextAt) : Type 0 where
   pub text-located : answer ≡ text-at (text-in framing list message at)
-  pub text-inside : Inside message (list .places) answer
+  pub text-inside : Text-inside message (list .places) answer
 
 -- its bytes, none where refused
 abbrev pub Text-call : Framing → AtomList → List ℕ → ℕ → List ℕ → Type 0

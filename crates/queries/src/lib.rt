@@ -5,7 +5,7 @@ ghost use lib.IntN.{pos, negsuc};
 ghost use Rattle.term_spec.specs.Answers.{number-case};
 ghost use Rattle.term_spec.specs.Message.{standalone, payload};
 ghost use Rattle.queries.specs.Code.{signed-number, float-number, content-number, numbered, atom-row, atom-among, text-said, located, mark-at, bytes-at};
-ghost use Rattle.queries.specs.Promises.{Inside, Number-call, Locate-call, Text-call, Mark-call};
+ghost use Rattle.queries.specs.Promises.{Text-inside, Number-call, Locate-call, Text-call, Mark-call};
 ghost use Rattle.term_spec.specs.AtomList.{lent-list};
 use map_keys::row_at;
 use reader::read_payload;
@@ -220,7 +220,7 @@ fn mark_at(t: TextAt) -> MarkAnswer
 
 // The bytes of a text that stands there.
 fn bytes_at<'a>(msg: &'a [u8], places: &'a [u8], t: TextAt) -> &'a [u8]
-    requires { ⌜ Inside (now msg) (now places) t ⌝ }
+    requires { ⌜ Text-inside (now msg) (now places) t ⌝ }
     ensures { λ r. ⌜ now r ≡ bytes-at (now (msg .entry)) (now (places .entry)) t ⌝ }
 {
     match t {

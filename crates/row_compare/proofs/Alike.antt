@@ -27,7 +27,7 @@ use Rattle.row_fields.specs.declared.Content.{Content}
 use Rattle.row_fields.specs.declared.Content.the-variants.{Nothing, Whole, Big, Float, Text, Bytes, Bits, Pid, Port, Reference}
 use Rattle.row_fields.specs.Found.{value}
 use Rattle.row_fields.specs.Meaning.{stretch, sign, words-at, characters-of, coded, bare, label-of}
-use Rattle.row_compare.specs.Same.{same-bool, same-list, high, same-part, same-stretch, same-spelling, same-text, same-last, same-bits, same-words, numbers-of, stretch-of, text-of, flat-of, same-numbers, source, same-texts, same-atoms, same-stretches, same-flat, same-contents}
+use Rattle.row_compare.specs.Same.{same-bool, same-list, high, same-part, same-stretch, same-spelling, same-text, same-last, same-bits, same-words, numbers-of, stretch-of, text-flat, flat-of, same-numbers, source, same-texts, same-atoms, same-stretches, same-flat, same-contents}
 use Rattle.row_compare.proofs.Lists.{same-true, same-self}
 use Rattle.row_fields.proofs.Values.{under-part, big-same, little-same, little-least}
 use Rattle.row_fields.proofs.Says.{Readable, Sound}
@@ -274,7 +274,7 @@ case-of code f =
     (Reference (f .first) (f .start) (f .length))))))))))
 
 case-is : (c : Content) → c ≡ case-of (flat-of c .code) (flat-of c)
-unfolding case-of flat-of numbers-of stretch-of text-of
+unfolding case-of flat-of numbers-of stretch-of text-flat
 case-is Nothing = refl
 case-is (Whole s n) = refl
 case-is (Big s i n) = refl
@@ -321,7 +321,7 @@ bare-class kind = go (eqb kind 4) (eqb kind 5) (eqb kind 6) (eqb kind 9)
     go false false false false = refl
 
 label-class : (m : List ℕ) (atoms : AtomList) (kind : ℕ) (c : Content) → class (label-of m atoms kind c) ≡ merged (flat-of c .code)
-unfolding class merged label-of flat-of numbers-of stretch-of text-of
+unfolding class merged label-of flat-of numbers-of stretch-of text-flat
 label-class m atoms kind Nothing = bare-class kind
 label-class m atoms kind (Whole s n) = refl
 label-class m atoms kind (Big s i n) = refl
@@ -427,7 +427,7 @@ module _ (atoms : AtomList) (m : List ℕ) (under : Under 256 m) (k k′ : ℕ) 
       (flats-agree m (atoms .places) (flat-of (Float x)) (flat-of (Float y)) yes-agrees)
 
   texts : (x y p q : Bool) (i n j o : ℕ) → Sound m (atoms .places) (Text x p i n) → Sound m (atoms .places) (Text y q j o) → Goal (Text x p i n) (Text y q j o)
-  unfolding same-contents flat-of text-of same-stretches same-atoms same-texts label-of
+  unfolding same-contents flat-of text-flat same-stretches same-atoms same-texts label-of
   texts x y p q i n j o a b =
       through (λ z. ap atom (z .1))
       (λ e. (record { code = refl; negative = refl; first = refl; second = refl; third = refl }, cc))
@@ -505,7 +505,7 @@ module _ (atoms : AtomList) (m : List ℕ) (under : Under 256 m) (k k′ : ℕ) 
       go (inr x) = at-case a b 2 s h x
 
   pub alike-contents : (a b : Content) → S a → S b → Goal a b
-  unfolding case-of flat-of numbers-of stretch-of text-of merged
+  unfolding case-of flat-of numbers-of stretch-of text-flat merged
   alike-contents Nothing b s t = one-case Nothing b 0 refl refl (λ z. omega arith) t (λ _. nothings)
   alike-contents (Whole x n) b s t =
       let f : Flat = flat-of b in

@@ -76,8 +76,8 @@ unfoldable pub stretch-of : ℕ → Bool → ℕ → ℕ → ℕ → Flat
 stretch-of code negative first start length =
     record { code = code; negative = negative; latin1 = false; listed = false; first = first; second = 0; third = 0; start = start; length = length }
 
-unfoldable pub text-of : Bool → Bool → ℕ → ℕ → Flat
-text-of latin1 listed start length =
+unfoldable pub text-flat : Bool → Bool → ℕ → ℕ → Flat
+text-flat latin1 listed start length =
     record { code = 4; negative = false; latin1 = latin1; listed = listed; first = 0; second = 0; third = 0; start = start; length = length }
 
 unfoldable pub flat-of : Content → Flat
@@ -85,7 +85,7 @@ flat-of Nothing = numbers-of 0 false 0 0 0
 flat-of (Whole negative n) = numbers-of 1 negative n 0 0
 flat-of (Big negative start n) = stretch-of 2 negative 0 start n
 flat-of (Float bits) = numbers-of 3 false bits 0 0
-flat-of (Text latin1 listed start n) = text-of latin1 listed start n
+flat-of (Text latin1 listed start n) = text-flat latin1 listed start n
 flat-of (Bytes start n) = stretch-of 5 false 0 start n
 flat-of (Bits bits start n) = stretch-of 6 false bits start n
 flat-of (Pid id serial creation) = numbers-of 7 false id serial creation

@@ -9,7 +9,7 @@ ghost use Prim.Native.Nat.{_+_, _≤_, _<_};
 ghost use lib.Dec.{leb};
 ghost use lib.ListN.{length, take, drop};
 ghost use Rattle.term_spec.specs.Text.{encodes};
-ghost use Rattle.row_compare.specs.Same.{same-bool, same-list, same-part, same-stretch, same-spelling, same-text, same-texts, same-last, same-bits, same-words, Spelling, numbers-of, stretch-of, text-of, flat-of, same-numbers, same-atoms, same-stretches, same-flat, same-contents};
+ghost use Rattle.row_compare.specs.Same.{same-bool, same-list, same-part, same-stretch, same-spelling, same-text, same-texts, same-last, same-bits, same-words, Spelling, numbers-of, stretch-of, text-flat, flat-of, same-numbers, same-atoms, same-stretches, same-flat, same-contents};
 ghost use Rattle.row_compare.specs.Hash.{mix, mix-all, as-utf8, hash-part, hashed, hash-stretch, hash-flat, hash-contents};
 
 // A content as its case's number and its fields, zero and false where it has none.
@@ -57,8 +57,8 @@ fn stretch_of(code: usize, negative: bool, first: u64, start: usize, length: usi
     }
 }
 
-fn text_of(latin1: bool, listed: bool, start: usize, length: usize) -> Flat
-    ensures { λ r. ⌜ r ≡ text-of latin1 listed start length ⌝ }
+fn text_flat(latin1: bool, listed: bool, start: usize, length: usize) -> Flat
+    ensures { λ r. ⌜ r ≡ text-flat latin1 listed start length ⌝ }
 {
     Flat {
         code: codes::TEXT,
@@ -93,7 +93,7 @@ fn flatten(c: Content) -> Flat
             listed,
             start,
             length,
-        } => text_of(latin1, listed, start, length),
+        } => text_flat(latin1, listed, start, length),
         Content::Bytes { start, length } => stretch_of(codes::BYTES, false, 0, start, length),
         Content::Bits {
             bits,

@@ -10,7 +10,7 @@ use Rattle.term_spec.specs.Numbers.{with-sign}
 use Rattle.term_spec.specs.Term.{Label, integer}
 use Rattle.term_spec.specs.Answer.{Position, at-offset}
 use Rattle.term_spec.specs.Head.{term-head}
-use Rattle.term_spec.specs.Reading.{Place, tag-at, character-at}
+use Rattle.term_spec.specs.Reading.{Offset, tag-at, character-at}
 use Rattle.term_spec.specs.AtomList.{AtomList, atoms-of}
 use Rattle.term_spec.specs.Rows.{kind-of, kind-at, offset-of}
 use Rattle.term_spec.proofs.Holds.{Holds}
@@ -39,7 +39,7 @@ module _ (atoms : AtomList) (m : List ℕ) (l : Lent atoms m) (cap : ℕ) where
       (omega arith, λ _. refl)
 
   -- what is found again of a node that the message backs, by its row's kind and offset, says its label
-  pub content-says : (x : Label) (place : Place) → Label-at m cap (atoms-of atoms) place x → Says atoms m (kind-at x place) (offset-of place) x
+  pub content-says : (x : Label) (place : Offset) → Label-at m cap (atoms-of atoms) place x → Says atoms m (kind-at x place) (offset-of place) x
   unfolding kind-at offset-of
   content-says x (tag-at p) (h, a, b, i, e, agrees) =
       let s : Position = a .start in

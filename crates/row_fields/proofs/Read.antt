@@ -11,7 +11,7 @@ use borrow.Author.Tests.{eqb-true}
 use Rattle.term_spec.specs.Answer.{Position, at-offset, bytes, number}
 use Rattle.term_spec.specs.Term.{Label}
 use Rattle.term_spec.specs.Head.{Atoms, Wanted, Form, form-in, forms, fields, Head, term-head, id-words}
-use Rattle.term_spec.specs.Reading.{Place, tag-at, character-at}
+use Rattle.term_spec.specs.Reading.{Offset, tag-at, character-at}
 use Rattle.term_spec.specs.Rows.{offset-of}
 use Rattle.term_spec.proofs.Steps.{spot}
 use Rattle.term_spec.proofs.Bridge.{byte-at, byte-end, bytes-at, bytes-end, number-at, number-end}
@@ -92,7 +92,7 @@ module _ (m : List ℕ) (cap : ℕ) (atoms : Atoms) where
       let told : Holds (term-head atoms (a .wanted) (at-offset m p r)) (λ _ _. p < length m) = head-here m atoms (a .wanted) p r inside (λ less f k _. record { known = λ _ _ _. less }) in
       told .known h (a .stop) (ap (term-head atoms (a .wanted)) (sym here) ∙ a .reads)
 
-  pub label-inside : (place : Place) (x : Label) → Label-at m cap atoms place x → offset-of place < length m
+  pub label-inside : (place : Offset) (x : Label) → Label-at m cap atoms place x → offset-of place < length m
   unfolding offset-of
   label-inside (tag-at p) x h = head-inside p (h .0) (h .1)
   label-inside (character-at p) x h = h .0

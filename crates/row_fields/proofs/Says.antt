@@ -18,7 +18,7 @@ use Rattle.term_spec.proofs.Holds.{little-under}
 use Rattle.octets.proofs.Parts.{length-part}
 use Rattle.row_fields.specs.declared.Content.{Content}
 use Rattle.row_fields.specs.declared.Content.the-variants.{Nothing, Whole, Big, Float, Text, Bytes, Bits, Pid, Port, Reference}
-use Rattle.row_fields.specs.Found.{stripped, signed-whole, whole-of, stripped-found, content-of}
+use Rattle.row_fields.specs.Found.{stripped, signed-whole, integer-of, stripped-found, content-of}
 use Rattle.row_fields.specs.Meaning.{stretch, sign, characters-of, coded, label-of}
 use Rattle.octets.specs.Parts.{source}
 use Rattle.row_fields.proofs.Values.{under-part, stripped-value, stripped-few, stripped-top}
@@ -72,8 +72,8 @@ no-sign (suc s) = refl
 
 module _ (atoms : AtomList) (m : List ℕ) (l : Lent atoms m) where
   whole-says : (s n : ℕ) → s ≤ 1 → n < 18446744073709551616
-      → (label-of m atoms 1 (whole-of (ltb 0 s) n) ≡ integer (with-sign s n)) × Sound m (atoms .places) (whole-of (ltb 0 s) n)
-  unfolding whole-of label-of with-sign
+      → (label-of m atoms 1 (integer-of (ltb 0 s) n) ≡ integer (with-sign s n)) × Sound m (atoms .places) (integer-of (ltb 0 s) n)
+  unfolding integer-of label-of with-sign
   whole-says s n h k = go (eqb n 0) refl
     where
       go : (t : Bool) → eqb n 0 ≡ t
@@ -87,8 +87,8 @@ module _ (atoms : AtomList) (m : List ℕ) (l : Lent atoms m) where
   stripped-says s start d h k top = go (ltb 8 d) refl
     where
       go : (t : Bool) → ltb 8 d ≡ t
-          → (label-of m atoms 1 (cond t (Big (ltb 0 s) start d) (whole-of (ltb 0 s) (little-endian (stretch m start d)))) ≡ integer (with-sign s (little-endian (stretch m start d))))
-          × Sound m (atoms .places) (cond t (Big (ltb 0 s) start d) (whole-of (ltb 0 s) (little-endian (stretch m start d))))
+          → (label-of m atoms 1 (cond t (Big (ltb 0 s) start d) (integer-of (ltb 0 s) (little-endian (stretch m start d)))) ≡ integer (with-sign s (little-endian (stretch m start d))))
+          × Sound m (atoms .places) (cond t (Big (ltb 0 s) start d) (integer-of (ltb 0 s) (little-endian (stretch m start d))))
       go true e =
           let b : 8 < d = ltb-true 8 d e in
           (ap integer (sign-is s (little-endian (stretch m start d)) h), (b, k, top (omega arith)))

@@ -29,12 +29,12 @@ unfoldable pub signed-found : List ℕ → ℕ → Content
 signed-found m at = cond (ltb (length m - at) 5) Nothing (signed-whole (value m 4 (at + 1)))
 
 -- an integer by its sign and digits, the highest not zero
-unfoldable pub whole-of : Bool → ℕ → Content
-whole-of negative n = cond (eqb n 0) (Whole false 0) (Whole negative n)
+unfoldable pub integer-of : Bool → ℕ → Content
+integer-of negative n = cond (eqb n 0) (Whole false 0) (Whole negative n)
 
 unfoldable pub stripped-found : List ℕ → Bool → ℕ → ℕ → Content
 stripped-found m negative start n =
-    cond (ltb 8 n) (Big negative start n) (whole-of negative (little-endian (take n (drop start m))))
+    cond (ltb 8 n) (Big negative start n) (integer-of negative (little-endian (take n (drop start m))))
 
 -- an integer by its sign and digits, with w bytes of their number
 unfoldable pub big-found : List ℕ → ℕ → ℕ → Content
@@ -126,7 +126,7 @@ references-found m at tag =
     (cond (eqb tag 114) (counted-found m 1 at)
     (counted-found m 4 at))
 
--- by the row's kind (format's kind-of)
+-- by the row's kind (`kind-of`)
 unfoldable pub kind-found : List ℕ → List ℕ → List ℕ → ℕ → ℕ → Content
 kind-found m places lengths at kind =
     cond (eqb kind 1) (integer-found m at (getD m at 0))

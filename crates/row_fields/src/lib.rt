@@ -3,7 +3,7 @@ ghost use mathlib.Core.Path.{_≡_};
 ghost use Prim.Native.Nat.{_+_, _-_, _≤_, _<_};
 ghost use lib.ListN.{length, getD, take, drop};
 ghost use Rattle.term_spec.specs.Numbers.{little-endian};
-ghost use Rattle.row_fields.specs.Found.{Width, stripped, byte-found, signed-whole, signed-found, whole-of, stripped-found, big-found, integer-found, float-found, text-width, text-found, place-found, listed-found, atom-found, text-end, atom-end, bytes-found, bits-of, bits-found, binary-found, pid-found, port-found, words-found, word-found, counted-found, pids-found, ports-found, references-found, content-of};
+ghost use Rattle.row_fields.specs.Found.{Width, stripped, byte-found, signed-whole, signed-found, integer-of, stripped-found, big-found, integer-found, float-found, text-width, text-found, place-found, listed-found, atom-found, text-end, atom-end, bytes-found, bits-of, bits-found, binary-found, pid-found, port-found, words-found, word-found, counted-found, pids-found, ports-found, references-found, content-of};
 use term_spec::kinds;
 use term_spec::sizes;
 use term_spec::tags;
@@ -140,7 +140,7 @@ fn signed(msg: &[u8], at: usize) -> Content
 }
 
 fn whole(negative: bool, n: u64) -> Content
-    ensures { λ r. ⌜ r ≡ whole-of negative n ⌝ }
+    ensures { λ r. ⌜ r ≡ integer-of negative n ⌝ }
 {
     if n == 0 {
         return Content::Whole {

@@ -10,7 +10,7 @@ use lib.Seq.{drop-cons}
 use borrow.Author.Tests.{eqb-true, ltb-true}
 use Rattle.term_spec.specs.Answer.{Answer, good, refused, Position, Reading, done, at-offset}
 use Rattle.term_spec.specs.Head.{Atoms, Wanted, any, known, parts, characters, elements, pairs, term-head}
-use Rattle.term_spec.specs.Head as format
+use Rattle.term_spec.specs.Head as head-spec
 use Rattle.term_spec.specs.Reading.{empty-108, opening}
 use Rattle.term_spec.specs.Rows.{kind-of}
 use Rattle.term_head.specs.Code.{kind-later, later-of, head-at, head-of}
@@ -35,15 +35,15 @@ none-left [] e = refl
 none-left (x ∷ xs) e = absurd (omega arith)
 
 module _ (w : ℕ) (some : w ≡ 0 → ⊥) (next : ℕ) where
-  known-told : (n : ℕ) (l : format.Later) → w ≡ quick-later (later-of l) (fit (kind-later l) next n) → Told w (parts [] n l) next
+  known-told : (n : ℕ) (l : head-spec.Later) → w ≡ quick-later (later-of l) (fit (kind-later l) next n) → Told w (parts [] n l) next
   unfolding quick-later later-of kind-later
   known-told n (known l) e = record { kind = kind-of l; count = n; common = some-parts l n; holds = fit-held w (kind-of l) next n some e }
-  known-told n (format.pid-fields v) e = absurd (some e)
-  known-told n (format.port-fields v x) e = absurd (some e)
-  known-told n (format.reference-fields k v) e = absurd (some e)
-  known-told n format.old-reference-fields e = absurd (some e)
+  known-told n (head-spec.pid-fields v) e = absurd (some e)
+  known-told n (head-spec.port-fields v x) e = absurd (some e)
+  known-told n (head-spec.reference-fields k v) e = absurd (some e)
+  known-told n head-spec.old-reference-fields e = absurd (some e)
 
-  told : (h : format.Head) → w ≡ quick-word (head-at h next) → Told w h next
+  told : (h : head-spec.Head) → w ≡ quick-word (head-at h next) → Told w h next
   unfolding head-at quick-word
   told (parts ws n l) e =
       let a = held (eqb (length ws) 0) w _ some e in
@@ -61,7 +61,7 @@ module _ (w : ℕ) (some : w ≡ 0 → ⊥) (next : ℕ) where
       record { kind = 0; count = n; common = some-pairs n (λ z. let b = ltb-true 0 n (a .0) in omega arith); holds = fit-held w 0 next n some (a .1) }
 
 -- it is no 108 of length 0
-common-stays : (h : format.Head) (kind count : ℕ) → Common h kind count → empty-108 h ≡ false
+common-stays : (h : head-spec.Head) (kind count : ℕ) → Common h kind count → empty-108 h ≡ false
 common-stays h kind count (some-parts l n) = refl
 common-stays h kind count no-characters = refl
 common-stays h kind count (some-elements zero some) = absurd (some refl)
@@ -69,16 +69,16 @@ common-stays h kind count (some-elements (suc n) some) = refl
 common-stays h kind count (some-pairs n some) = refl
 
 -- the first head that is none is the opening
-first-stays : (atoms : Atoms) (bound : List ℕ) (b : ℕ) (rest : List ℕ) → bound ≡ b ∷ rest → (w : Wanted) (s : Position) (h : format.Head) (t : Position) → term-head atoms w s ≡ good (h, t) → empty-108 h ≡ false
+first-stays : (atoms : Atoms) (bound : List ℕ) (b : ℕ) (rest : List ℕ) → bound ≡ b ∷ rest → (w : Wanted) (s : Position) (h : head-spec.Head) (t : Position) → term-head atoms w s ≡ good (h, t) → empty-108 h ≡ false
     → opening atoms bound w s ≡ good ((s .at, h), t)
 unfolding opening
 first-stays atoms bound b rest e w s h t f g =
-    rw (e, f) (ap (λ (z : Bool). (elim z as (λ _. Reading (ℕ × format.Head)) [ true ↦ opening atoms rest any | false ↦ done (s .at, h) ]) t) g)
+    rw (e, f) (ap (λ (z : Bool). (elim z as (λ _. Reading (ℕ × head-spec.Head)) [ true ↦ opening atoms rest any | false ↦ done (s .at, h) ]) t) g)
 
 -- The term at `at` of a message, by its word
 module _ (atoms : Atoms) (wanted : Wanted) (m : List ℕ) (at row w : ℕ) where
   pub record Quickly : Type 0 where
-    pub h : format.Head
+    pub h : head-spec.Head
     pub next : ℕ
     pub opens : opening atoms (drop at m) wanted (at-offset m at row) ≡ good ((at, h), at-offset m next row)
     pub further : at < next
@@ -89,7 +89,7 @@ module _ (atoms : Atoms) (wanted : Wanted) (m : List ℕ) (at row w : ℕ) where
   unfolding head-of quick-word
   quickly some e = go (term-head atoms wanted (at-offset m at row)) refl e
     where
-      go : (o : Answer (format.Head × Position)) → term-head atoms wanted (at-offset m at row) ≡ o → w ≡ quick-word (head-of o) → Quickly
+      go : (o : Answer (head-spec.Head × Position)) → term-head atoms wanted (at-offset m at row) ≡ o → w ≡ quick-word (head-of o) → Quickly
       go (refused n p) f g = absurd (some g)
       go (good x) f g =
           let i : Past m (at + 1) row (x .1) = head-past-tag atoms m at row wanted .known (x .0) (x .1) f in

@@ -5,15 +5,15 @@ use Prim.Native.Nat.{ℕ, _+_, _-_, _<_}
 use native.Mathlib.Omega.{arith}
 use lib.ListN.{length, take, drop}
 use Rattle.term_spec.specs.Answer.{Answer, refused, Position, Reading, after, number, bytes, at-offset}
-use Rattle.term_spec.specs.Head as format
+use Rattle.term_spec.specs.Head as head-spec
 use Rattle.term_spec.proofs.Bridge.{number-at, number-end, bytes-at, bytes-end}
 use Rattle.term_spec.proofs.Tests.{by-less}
 use Rattle.octets.specs.Parts.{value, counted-end}
 use Rattle.octets.proofs.Counted.{past-some, past-none}
 
 -- n in w bytes, then n bytes, of which k makes a head
-module _ (m : List ℕ) (at w rows : ℕ) (inside : at < length m) (k : ℕ → List ℕ → Reading format.Head) where
-  abbrev plain : Answer (format.Head × Position)
+module _ (m : List ℕ) (at w rows : ℕ) (inside : at < length m) (k : ℕ → List ℕ → Reading head-spec.Head) where
+  abbrev plain : Answer (head-spec.Head × Position)
   plain = after (number at w (at-offset m (at + 1) rows)) (λ n. λ s. after (bytes at n s) (k n))
 
   pub plain-cut : {end : ℕ} → end ≡ counted-end m at w 0 → end ≡ 0 → plain ≡ refused 2 at
@@ -31,8 +31,8 @@ module _ (m : List ℕ) (at w rows : ℕ) (inside : at < length m) (k : ℕ → 
       rw (c, d, number-at m at w (at + 1) rows (omega (arith, there .1)), bytes-at m at (value m w (at + 1)) (at + 1 + w) rows (omega (arith, there .1)))
 
 -- n in w bytes, then a byte x, then n bytes
-module _ (m : List ℕ) (at w rows : ℕ) (inside : at < length m) (k : ℕ → ℕ → List ℕ → Reading format.Head) where
-  abbrev marked : Answer (format.Head × Position)
+module _ (m : List ℕ) (at w rows : ℕ) (inside : at < length m) (k : ℕ → ℕ → List ℕ → Reading head-spec.Head) where
+  abbrev marked : Answer (head-spec.Head × Position)
   marked = after (number at w (at-offset m (at + 1) rows)) (λ n. λ s. after (number at 1 s) (λ x. λ t. after (bytes at n t) (k n x)))
 
   pub marked-cut : {end : ℕ} → end ≡ counted-end m at w 1 → end ≡ 0 → marked ≡ refused 2 at

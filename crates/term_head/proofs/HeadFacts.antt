@@ -11,7 +11,7 @@ use borrow.Author.Tests.{eqb-true}
 use Rattle.term_spec.specs.Text.{check}
 use Rattle.term_spec.specs.Answer.{Position, at-offset, after, rule, byte, bytes, number}
 use Rattle.term_spec.specs.Head.{Atoms, an-atom, an-arity, Form, small-integer-ext, integer-ext, new-float-ext, atom-cache-ref, nil-ext, string-ext, list-ext, binary-ext, bit-binary-ext, map-ext, reference-ext, export-ext, big-ext, tuple-ext, pid-ext, new-reference-ext, atom-ext, port-ext, text-or, finite, bits-rule, forms, form-in, form-or, form, fields, term-head, later, parts, characters, elements, pairs}
-use Rattle.term_spec.specs.Head as format
+use Rattle.term_spec.specs.Head as head-spec
 use Rattle.term_spec.specs.Reading.{empty-108}
 use Rattle.term_spec.proofs.Bridge.{byte-at, byte-end}
 use Rattle.term_spec.proofs.Holds.{Holds, next, weaken, done-holds, refused-holds, skip}
@@ -39,7 +39,7 @@ module _ (m : List ℕ) (from rows : ℕ) where
   past-is t i = ap₂ (λ (l : List ℕ) (r : ℕ). record { at = t .at; left = l; rows-taken = r }) (i .in-step .bytes-are) (i .rows-are)
 
 -- a head ends past its tag, in the message
-pub head-past-tag : (atoms : Atoms) (m : List ℕ) (at rows : ℕ) (w : format.Wanted) → Holds (term-head atoms w (at-offset m at rows)) (λ _ t. Past m (at + 1) rows t)
+pub head-past-tag : (atoms : Atoms) (m : List ℕ) (at rows : ℕ) (w : head-spec.Wanted) → Holds (term-head atoms w (at-offset m at rows)) (λ _ t. Past m (at + 1) rows t)
 unfolding term-head
 head-past-tag atoms m at rows w =
     by-less at (length m)
@@ -53,13 +53,13 @@ head-past-tag atoms m at rows w =
     (λ over. rw (byte-end m at at rows over) (refused-holds 2 at))
 
 -- The parts that a head wants: none, a node, or module, function and arity
-pub data Wants : List format.Wanted → Type 0 where
+pub data Wants : List head-spec.Wanted → Type 0 where
   no-part : Wants []
   one-node : Wants (an-atom ∷ [])
   a-function : Wants (an-atom ∷ an-atom ∷ an-arity ∷ [])
 
 -- what a head's layout says of it
-unfoldable pub Wanting : format.Head → Type 0
+unfoldable pub Wanting : head-spec.Head → Type 0
 Wanting (parts ws n l) = Wants ws
 Wanting (characters cs) = Unit {0}
 Wanting (elements n) = Unit {0}
@@ -86,11 +86,11 @@ plain (new-reference-ext w) = true
 plain (atom-ext c w) = true
 plain (port-ext v w) = true
 
-record Shape (p : Bool) (h : format.Head) : Type 0 where
+record Shape (p : Bool) (h : head-spec.Head) : Type 0 where
   wanting : Wanting h
   filled : p ≡ true → empty-108 h ≡ false
 
-full : (l : List format.Wanted) (n : ℕ) (x : format.Later) → Wants l → Shape true (parts l n x)
+full : (l : List head-spec.Wanted) (n : ℕ) (x : head-spec.Later) → Wants l → Shape true (parts l n x)
 unfolding Wanting
 full l n x w = record { wanting = w; filled = λ _. refl }
 
@@ -123,7 +123,7 @@ module _ (atoms : Atoms) (p : ℕ) where
   shape (port-ext v w) s = done-holds _ s (full _ _ _ one-node)
 
 -- what a head wants
-pub head-wanting : (atoms : Atoms) (w : format.Wanted) (s : Position) → Holds (term-head atoms w s) (λ h _. Wanting h)
+pub head-wanting : (atoms : Atoms) (w : head-spec.Wanted) (s : Position) → Holds (term-head atoms w s) (λ h _. Wanting h)
 unfolding term-head
 head-wanting atoms w s =
     skip (byte (s .at) s) λ tag t. skip (form (s .at) w tag t) λ f t.

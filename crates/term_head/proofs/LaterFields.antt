@@ -11,7 +11,7 @@ use borrow.Author.Tests.{lt-ltb, le-ltb, le-leb, lt-leb, eq-eqb, ne-eqb}
 use Rattle.term_spec.specs.Numbers.{big-endian}
 use Rattle.term_spec.specs.Answer.{good, refused, at-offset}
 use Rattle.term_spec.specs.Head.{known, pid-fields, port-fields, reference-fields, old-reference-fields, later, id-words, words-rule, creation-rule}
-use Rattle.term_spec.specs.Head as format
+use Rattle.term_spec.specs.Head as head-spec
 use Rattle.term_spec.proofs.Bridge.{number-at, number-end}
 use Rattle.term_spec.proofs.Tests.{by-less}
 use Rattle.octets.proofs.Numbers.{big-halves, big-one}
@@ -237,7 +237,7 @@ by-later m at place rows (Port v w) = later-fields m at place (port-fields v w) 
 by-later m at place rows (Reference k w) = later-fields m at place (reference-fields k w) rows
 by-later m at place rows OldReference = later-fields m at place old-reference-fields rows
 
-pub settled : (m : List ℕ) (at place rows : ℕ) (l : format.Later) → later-fields m at place l rows ≡ by-later m at place rows (later-of l)
+pub settled : (m : List ℕ) (at place rows : ℕ) (l : head-spec.Later) → later-fields m at place l rows ≡ by-later m at place rows (later-of l)
 unfolding by-later later-of later-fields later step-of
 settled m at place rows (known x) = refl
 settled m at place rows (pid-fields w) = refl

@@ -10,7 +10,7 @@ use borrow.Author.Tests.{eqb-true, eqb-false, leb-true, le-leb, lt-leb, eq-eqb, 
 use Rattle.term_spec.specs.Numbers.{big-endian}
 use Rattle.term_spec.specs.Answer.{Answer, good, refused, Position, at-offset, Reading, after, done}
 use Rattle.term_spec.specs.Head.{Atoms, any, forms, form-in, form-or, form, fields, list-ext, term-head, parts, characters, elements, pairs}
-use Rattle.term_spec.specs.Head as format
+use Rattle.term_spec.specs.Head as head-spec
 use Rattle.term_spec.specs.Reading.{empty-108, opening}
 use Rattle.term_spec.proofs.Bridge.{byte-at, byte-end, number-at, number-end}
 use Rattle.term_spec.proofs.Holds.{Holds, done-holds, refused-holds}
@@ -111,7 +111,7 @@ passed-more m at place o e =
     let y = empty-step m place atoms rows (x .0) (x .1) e in
     (y .0, y .1, x .2 ∙ y .2)
 
-module _ (atoms : Atoms) (m : List ℕ) (at rows : ℕ) (w : format.Wanted) where
+module _ (atoms : Atoms) (m : List ℕ) (at rows : ℕ) (w : head-spec.Wanted) where
   -- an opening with no such 108 is its head
   plain-opening : (bound : List ℕ) → length m - at ≤ length bound → Holds (term-head atoms w (at-offset m at rows)) (λ h _. empty-108 h ≡ false)
       → opening atoms bound w (at-offset m at rows) ≡ after (term-head atoms w (at-offset m at rows)) (λ h. done (at, h))
@@ -119,22 +119,22 @@ module _ (atoms : Atoms) (m : List ℕ) (at rows : ℕ) (w : format.Wanted) wher
   plain-opening [] h f = rw (byte-end m at at rows (omega arith))
   plain-opening (b ∷ bound) h f = go (term-head atoms w (at-offset m at rows)) f
     where
-      go : (o : Answer (format.Head × Position)) → Holds o (λ h _. empty-108 h ≡ false)
-          → after {B = ℕ × format.Head} o (λ h. elim (empty-108 h) as (λ _. Reading (ℕ × format.Head)) [ true ↦ opening atoms bound any | false ↦ done (at, h) ]) ≡ after o (λ h. done (at, h))
+      go : (o : Answer (head-spec.Head × Position)) → Holds o (λ h _. empty-108 h ≡ false)
+          → after {B = ℕ × head-spec.Head} o (λ h. elim (empty-108 h) as (λ _. Reading (ℕ × head-spec.Head)) [ true ↦ opening atoms bound any | false ↦ done (at, h) ]) ≡ after o (λ h. done (at, h))
       go (good x) f =
-          ap (λ (t : Bool). (elim t as (λ _. Reading (ℕ × format.Head)) [ true ↦ opening atoms bound any | false ↦ done (at, x .0) ]) (x .1))
+          ap (λ (t : Bool). (elim t as (λ _. Reading (ℕ × head-spec.Head)) [ true ↦ opening atoms bound any | false ↦ done (at, x .0) ]) (x .1))
           (f .known (x .0) (x .1) refl)
       go (refused n p) f = refl
 
 -- an opening as the code has it
-opened-head : (at : ℕ) (h : format.Head) (next : ℕ) → opened-at at (head-at h next) ≡ record { place = at; head = head-at h next }
+opened-head : (at : ℕ) (h : head-spec.Head) (next : ℕ) → opened-at at (head-at h next) ≡ record { place = at; head = head-at h next }
 unfolding opened-at head-at
 opened-head at (parts ws n l) next = refl
 opened-head at (characters cs) next = refl
 opened-head at (elements n) next = refl
 opened-head at (pairs n) next = refl
 
-opened-is : (at : ℕ) (o : Answer (format.Head × Position)) → opened-at at (head-of o) ≡ opening-of (after o (λ h. done (at, h)))
+opened-is : (at : ℕ) (o : Answer (head-spec.Head × Position)) → opened-at at (head-of o) ≡ opening-of (after o (λ h. done (at, h)))
 unfolding opened-at head-of opening-of
 opened-is at (good x) = opened-head at (x .0) (x .1 .at)
 opened-is at (refused n p) = refl

@@ -9,7 +9,7 @@ use lib.ListN.{length, getD, take, drop}
 use Rattle.term_spec.specs.Answer.{Answer, good, refused, Position, at-offset, after}
 use Rattle.term_spec.specs.Term.{Label}
 use Rattle.term_spec.specs.Head.{any, an-atom, an-arity, parts, characters, elements, pairs, known, pid-fields, port-fields, reference-fields, old-reference-fields}
-use Rattle.term_spec.specs.Head as format
+use Rattle.term_spec.specs.Head as head-spec
 use Rattle.term_spec.specs.Head.{bits-rule, bits-meaning, fields, later, form-or, form-in, forms, one-of}
 use Rattle.term_spec.specs.Numbers.{big-endian}
 use Rattle.term_spec.specs.Reading.{opening}
@@ -24,20 +24,20 @@ use Rattle.term_head.specs.declared.Opening.{Opening}
 use Rattle.term_head.specs.declared.Step.{Step}
 use Rattle.term_head.specs.declared.Step.the-variants as step
 
-unfoldable pub wanted-of : Wanted → format.Wanted
+unfoldable pub wanted-of : Wanted → head-spec.Wanted
 wanted-of Any = any
 wanted-of Atom = an-atom
 wanted-of Arity = an-arity
 
 -- the kind of the term, which its later fields do not change
-unfoldable pub kind-later : format.Later → ℕ
+unfoldable pub kind-later : head-spec.Later → ℕ
 kind-later (known l) = kind-of l
 kind-later (pid-fields w) = 10
 kind-later (port-fields v w) = 11
 kind-later (reference-fields k w) = 12
 kind-later old-reference-fields = 12
 
-unfoldable pub later-of : format.Later → Later
+unfoldable pub later-of : head-spec.Later → Later
 later-of (known l) = Known
 later-of (pid-fields w) = Pid w
 later-of (port-fields v w) = Port v w
@@ -45,18 +45,18 @@ later-of (reference-fields k w) = Reference k w
 later-of old-reference-fields = OldReference
 
 -- a head, and the offset past it
-unfoldable pub head-at : format.Head → ℕ → Head
+unfoldable pub head-at : head-spec.Head → ℕ → Head
 head-at (parts ws n l) next = Parts (kind-later l) (length ws) n (later-of l) next
 head-at (characters cs) next = Characters (length cs) next
 head-at (elements n) next = Elements n next
 head-at (pairs n) next = Pairs n next
 
-unfoldable pub head-of : Answer (format.Head × Position) → Head
+unfoldable pub head-of : Answer (head-spec.Head × Position) → Head
 head-of (refused n p) = Refused n p
 head-of (good x) = head-at (x .0) (x .1 .at)
 
 -- the fields after the tag at `at` of a message
-unfoldable pub fields-of : format.Atoms → List ℕ → ℕ → format.Form → ℕ → Head
+unfoldable pub fields-of : head-spec.Atoms → List ℕ → ℕ → head-spec.Form → ℕ → Head
 fields-of atoms m at f rows = head-of (fields atoms at f (at-offset m (at + 1) rows))
 
 -- the kind k of n bytes with `bits` bits in the last one; 0 where the rule is broken
@@ -65,7 +65,7 @@ pub record Bits (n bits k : ℕ) : Type 0 where
   pub kept : (k ≡ 0 → ⊥) → bits-rule n bits ≡ true
   pub kind : (k ≡ 0 → ⊥) → (bs : List ℕ) → kind-of (bits-meaning bits bs) ≡ k
 
-unfoldable pub opening-of : Answer ((ℕ × format.Head) × Position) → Opening
+unfoldable pub opening-of : Answer ((ℕ × head-spec.Head) × Position) → Opening
 opening-of (refused n p) = record { place = p; head = Refused n p }
 opening-of (good x) = record { place = x .0 .0; head = head-at (x .0 .1) (x .1 .at) }
 
@@ -75,11 +75,11 @@ step-of (refused n p) = step.Refused n p
 step-of (good x) = step.Got (x .1 .at)
 
 -- the later fields, from `at` on, of the term at `place`
-unfoldable pub later-fields : List ℕ → ℕ → ℕ → format.Later → ℕ → Step
+unfoldable pub later-fields : List ℕ → ℕ → ℕ → head-spec.Later → ℕ → Step
 later-fields m at place l rows = step-of (later place l (at-offset m at rows))
 
 -- the fields that a tag has; refusal 3: a tag not in the table
-unfoldable pub tag-fields : format.Atoms → List ℕ → ℕ → ℕ → ℕ → Head
+unfoldable pub tag-fields : head-spec.Atoms → List ℕ → ℕ → ℕ → ℕ → Head
 tag-fields atoms m at tag rows = head-of (after (form-or 3 at (form-in forms tag) (at-offset m (at + 1) rows)) (fields atoms at))
 
 -- whether a term with this tag may stand where one is so wanted
@@ -96,7 +96,7 @@ empty-at m at = leb 5 (length m - at) && eqb (getD m at 0) 108 && eqb (big-endia
 pub record Skipped (m : List ℕ) (at place : ℕ) : Type 0 where
   pub inside : place ≤ length m
   pub stops : empty-at m place ≡ false
-  pub opens : (atoms : format.Atoms) (rows : ℕ) (bound : List ℕ) → length m - at ≤ length bound
+  pub opens : (atoms : head-spec.Atoms) (rows : ℕ) (bound : List ℕ) → length m - at ≤ length bound
       → (rest : List ℕ) × (length m - place ≤ length rest) × (opening atoms bound any (at-offset m at rows) ≡ opening atoms rest any (at-offset m place rows))
 
 -- a head with the offset of its tag; a refusal with its own place

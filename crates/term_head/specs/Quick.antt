@@ -7,7 +7,7 @@ use Prim.Native.Nat.{ℕ, _+_, _*_, _<_}
 use lib.Dec.{eqb, ltb}
 use Rattle.term_spec.specs.Term.{Label}
 use Rattle.term_spec.specs.Head.{known, parts, characters, elements, pairs}
-use Rattle.term_spec.specs.Head as format
+use Rattle.term_spec.specs.Head as head-spec
 use Rattle.term_spec.specs.Rows.{kind-of}
 use Rattle.term_head.specs.declared.Later.{Later}
 use Rattle.term_head.specs.declared.Later.the-variants.{Known, Pid, Port, Reference, OldReference}
@@ -39,7 +39,7 @@ quick-word (Elements count next) = only-if (ltb 0 count) (fit 15 next count)
 quick-word (Pairs count next) = only-if (ltb 0 count) (fit 0 next count)
 
 -- The heads that have a word, each with what stands in the kind's place and with the number of parts
-pub data Common : format.Head → ℕ → ℕ → Type 0 where
+pub data Common : head-spec.Head → ℕ → ℕ → Type 0 where
   some-parts : (l : Label) (n : ℕ) → Common (parts [] n (known l)) (kind-of l) n
   no-characters : Common (characters []) 5 0
   some-elements : (n : ℕ) → (n ≡ 0 → ⊥) → Common (elements n) 15 n
@@ -53,7 +53,7 @@ pub record Holds-word (w kind next count : ℕ) : Type 0 where
   pub word-is : w ≡ kind + 16 * next + 2097152 * count
 
 -- w is the word of the head h that ends at `next`
-pub record Told (w : ℕ) (h : format.Head) (next : ℕ) : Type 0 where
+pub record Told (w : ℕ) (h : head-spec.Head) (next : ℕ) : Type 0 where
   pub kind : ℕ
   pub count : ℕ
   pub common : Common h kind count

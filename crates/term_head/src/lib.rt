@@ -17,7 +17,7 @@ ghost use Rattle.term_spec.specs.Answer.{after, done, at-offset};
 ghost use Rattle.term_spec.specs.Answer as answer;
 ghost use Rattle.term_spec.specs.Head.{Atoms, leaf, tuple-ext, list-ext, map-ext, string-ext, binary-ext, bit-binary-ext, big-ext, new-float-ext, new-reference-ext, atom-ext, atom-cache-ref};
 ghost use Rattle.term_spec.specs.Head.{pid-fields, port-fields, reference-fields, old-reference-fields, creation-rule, words-rule, one-of, term-head};
-ghost use Rattle.term_spec.specs.Head as format;
+ghost use Rattle.term_spec.specs.Head as head-spec;
 ghost use Rattle.term_spec.specs.Reading.{opening};
 ghost use Rattle.term_spec.specs.AtomList.{of-size, atoms-of, lent-list};
 ghost use Rattle.term_head.specs.Quick.{fit, quick-later, quick-word};
@@ -259,7 +259,7 @@ fn binary(msg: &[u8], at: usize) -> Head
     }
 }
 
-// The kind of n bytes of which `bits` of the last count: 7 a binary, 8 a bitstring, 0 where these bits break the rule.
+// The kind of n bytes of which `bits` of the last count: a binary, a bitstring, or 0 where these bits break the rule.
 fn bits_kind(n: usize, bits: usize) -> usize
     ensures { λ r. ⌜ Bits n bits r ⌝ }
 {
@@ -622,7 +622,7 @@ fn old_reference_fields(msg: &[u8], at: usize, place: usize) -> Step
 // The fields after the parts of the term at `place`: all are there (2) before one is judged (4).
 pub fn read_later(msg: &[u8], at: usize, place: usize, later: Later) -> Step
     requires { ⌜ at ≤ length (now msg) ⌝ }
-    ensures { λ r. ⌜ ((l : format.Later) → later-of l ≡ later → (rows : ℕ) → r ≡ step-of (format.later place l (at-offset (now (msg .entry)) at rows))) ⌝ }
+    ensures { λ r. ⌜ ((l : head-spec.Later) → later-of l ≡ later → (rows : ℕ) → r ≡ step-of (head-spec.later place l (at-offset (now (msg .entry)) at rows))) ⌝ }
 {
     match later {
         Later::Known => Step::Got { next: at },

@@ -26,7 +26,7 @@ use Rattle.term_reader.specs.declared.Step.{Step}
 use Rattle.term_reader.specs.declared.Step.the-variants as step
 use Rattle.term_reader.specs.declared.Parts.{Parts}
 use Rattle.term_reader.specs.declared.Parts.the-variants as parts-of
-use Rattle.term_reader.specs.Code.{whole-of, Room, Sound, inner, Done, TermDone, PartsDone}
+use Rattle.term_reader.specs.Code.{whole-of, Room, Sound-head, inner, Done, TermDone, PartsDone}
 use Rattle.term_reader.proofs.Characters.{code-of-whole, row-free, row-none}
 use Rattle.term_reader.proofs.Found.{Parts-found, parts-found, parts-refused}
 use Rattle.term_reader.proofs.Openings.{Opened-at, opened-refused}
@@ -41,7 +41,7 @@ module _ (atoms : Atoms) (cap left : ℕ) (w : Wanted) (m : List ℕ) (at row wh
   term-refused R n p e f = rw (opened-refused atoms m at row w R n p e f)
 
   pub term-opened : {place : ℕ} {head : code.Head} (o : Opened-at atoms m at row w place head) (r : Step)
-      → ((h : Head) (next : ℕ) → head ≡ head-at h next → Sound m place next h → TermDone m cap row whole T (body atoms cap left place h (at-offset m next row)) r U)
+      → ((h : Head) (next : ℕ) → head ≡ head-at h next → Sound-head m place next h → TermDone m cap row whole T (body atoms cap left place h (at-offset m next row)) r U)
       → TermDone m cap row whole T (term atoms cap left w (at-offset m at row)) r U
   unfolding one-term
   term-opened o r d = rw (o .is) (d (o .h) (o .next) (o .head-is) (o .sound))

@@ -18,7 +18,7 @@ use Rattle.term_reader.specs.declared.Step.{Step}
 use Rattle.term_reader.specs.declared.Step.the-variants as step
 use Rattle.term_reader.specs.declared.Parts.{Parts}
 use Rattle.term_reader.specs.declared.Parts.the-variants as parts-of
-use Rattle.term_reader.specs.Code.{whole-of, Stored, Done, RunDone, PartsDone}
+use Rattle.term_reader.specs.Code.{whole-of, Rows-stored, Done, RunDone, PartsDone}
 
 module _ {X : Type 0} (size-of : X → ℕ) (as-rows : X → List ℕ) (From : X → Type 0) (m : List ℕ) (cap row : ℕ) (T : List ℕ) where
   -- x is found, and its rows are stored; reading goes on at `next`, with the row `end`
@@ -32,7 +32,7 @@ module _ {X : Type 0} (size-of : X → ℕ) (as-rows : X → List ℕ) (From : X
     pub from : From x
 
   found-at : (y : X × Position) (T′ : List ℕ) (next end : ℕ) → next ≡ y .1 .at → end ≡ row + size-of (y .0)
-      → Stored size-of as-rows From m cap row T (y .0) (y .1) T′ → Found (good y) next end T′
+      → Rows-stored size-of as-rows From m cap row T (y .0) (y .1) T′ → Found (good y) next end T′
   found-at y T′ next end a b d =
       record {
         x = y .0;

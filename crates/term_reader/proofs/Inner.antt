@@ -27,7 +27,7 @@ use Rattle.term_reader.specs.declared.Step.{Step}
 use Rattle.term_reader.specs.declared.Step.the-variants as step
 use Rattle.term_reader.specs.declared.Parts.{Parts}
 use Rattle.term_reader.specs.declared.Parts.the-variants as parts-of
-use Rattle.term_reader.specs.Code.{whole-of, asked, Fits, Sound, Opens, inner, last, Done, TermDone, RunDone, PartsDone}
+use Rattle.term_reader.specs.Code.{whole-of, asked, Head-fits, Sound-head, Head-read, inner, last, Done, TermDone, RunDone, PartsDone}
 use Rattle.term_reader.proofs.Found.{Found, step-found, step-refused, join-parts, joined-words}
 use Rattle.term_head.proofs.HeadFacts.{Past, past-is}
 use Rattle.term_head.proofs.OpeningFacts.{later-kind}
@@ -50,18 +50,18 @@ next-is (characters cs) next = refl
 next-is (elements n) next = refl
 next-is (pairs n) next = refl
 
-module _ (m : List ℕ) (place : ℕ) (head H : code.Head) (o : Opens m place head) where
+module _ (m : List ℕ) (place : ℕ) (head H : code.Head) (o : Head-read m place head) where
   opens-next : head ≡ H → next-of H ≡ o .next
   opens-next e = ap next-of (sym e ∙ o .is) ∙ next-is (o .h) (o .next)
 
   pub opens-near : head ≡ H → next-of H ≤ length m
   opens-near e = omega (arith, opens-next e, o .sound .end)
 
-pub opens-place : (m : List ℕ) (place : ℕ) (head : code.Head) → Opens m place head → place < length m
+pub opens-place : (m : List ℕ) (place : ℕ) (head : code.Head) → Head-read m place head → place < length m
 opens-place m place head o = omega (arith, o .sound .before, o .sound .end)
 
-characters-span : (m : List ℕ) (place n next : ℕ) (h : Head) (at : ℕ) → head-at h at ≡ heads.Characters n next → Fits m place h → (n ≡ 0 → ⊥) → place + 3 + n ≤ length m
-unfolding head-at Fits
+characters-span : (m : List ℕ) (place n next : ℕ) (h : Head) (at : ℕ) → head-at h at ≡ heads.Characters n next → Head-fits m place h → (n ≡ 0 → ⊥) → place + 3 + n ≤ length m
+unfolding head-at Head-fits
 characters-span m place n next (parts ws k l) at e f some = let z : _≡_ {A = ℕ} 0 1 = cc in absurd (omega arith)
 characters-span m place n next (elements k) at e f some = let z : _≡_ {A = ℕ} 0 1 = cc in absurd (omega arith)
 characters-span m place n next (pairs k) at e f some = let z : _≡_ {A = ℕ} 0 1 = cc in absurd (omega arith)
@@ -70,7 +70,7 @@ characters-span m place n next (characters cs) at e f some =
     let z : place + 3 + length cs ≤ length m = f (λ zero-length. some (sym g ∙ zero-length)) in
     omega arith
 
-pub opens-span : (m : List ℕ) (place : ℕ) (head : code.Head) (n next : ℕ) → Opens m place head → head ≡ heads.Characters n next → length m ≤ 65536 → (n ≡ 0 → ⊥) → place + 3 + n ≤ 65536
+pub opens-span : (m : List ℕ) (place : ℕ) (head : code.Head) (n next : ℕ) → Head-read m place head → head ≡ heads.Characters n next → length m ≤ 65536 → (n ≡ 0 → ⊥) → place + 3 + n ≤ 65536
 opens-span m place head n next o e short some =
     omega (arith, characters-span m place n next (o .h) (o .next) (sym (o .is) ∙ e) (o .sound .fits) some)
 
@@ -80,13 +80,13 @@ module _ (atoms : Atoms) (cap deep : ℕ) (m : List ℕ) (place row : ℕ) (T : 
   abbrev Inner-done : Head → ℕ → Type 0
   Inner-done h next = PartsDone m 0 cap row row T (inner atoms cap deep place h (at-offset m next row)) r U
 
-  pub inner-refused : (n p : ℕ) → head ≡ heads.Refused n p → (h : Head) (next : ℕ) → head ≡ head-at h next → Sound m place next h → Inner-done h next
+  pub inner-refused : (n p : ℕ) → head ≡ heads.Refused n p → (h : Head) (next : ℕ) → head ≡ head-at h next → Sound-head m place next h → Inner-done h next
   inner-refused n p e h next f s = absurd (head-refused h next n p (sym f ∙ e))
 
   pub inner-parts : (kind wanted n : ℕ) (l′ : code-later.Later) (at : ℕ) → head ≡ heads.Parts kind wanted n l′ at
       → ((l : Later) → kind ≡ kind-later l → later-of l ≡ l′ → Inner-done (parts (asked wanted) n l) at)
-      → (h : Head) (next : ℕ) → head ≡ head-at h next → Sound m place next h → Inner-done h next
-  unfolding head-at Fits
+      → (h : Head) (next : ℕ) → head ≡ head-at h next → Sound-head m place next h → Inner-done h next
+  unfolding head-at Head-fits
   inner-parts kind wanted n l′ at e d (characters cs) next f s = let z : _≡_ {A = ℕ} 0 1 = cc in absurd (omega arith)
   inner-parts kind wanted n l′ at e d (elements k) next f s = let z : _≡_ {A = ℕ} 0 1 = cc in absurd (omega arith)
   inner-parts kind wanted n l′ at e d (pairs k) next f s = let z : _≡_ {A = ℕ} 0 1 = cc in absurd (omega arith)
@@ -100,7 +100,7 @@ module _ (atoms : Atoms) (cap deep : ℕ) (m : List ℕ) (place row : ℕ) (T : 
       rw (g, c, q) at (d l a b)
 
   pub inner-characters : (n at : ℕ) → head ≡ heads.Characters n at → ((cs : List ℕ) → length cs ≡ n → at ≤ length m → Inner-done (characters cs) at)
-      → (h : Head) (next : ℕ) → head ≡ head-at h next → Sound m place next h → Inner-done h next
+      → (h : Head) (next : ℕ) → head ≡ head-at h next → Sound-head m place next h → Inner-done h next
   unfolding head-at
   inner-characters n at e d (parts ws k l) next f s = let z : _≡_ {A = ℕ} 0 1 = cc in absurd (omega arith)
   inner-characters n at e d (elements k) next f s = let z : _≡_ {A = ℕ} 0 1 = cc in absurd (omega arith)
@@ -110,7 +110,7 @@ module _ (atoms : Atoms) (cap deep : ℕ) (m : List ℕ) (place row : ℕ) (T : 
       let q : at ≡ next = cc in
       rw q at (d cs c (omega (arith, s .end)))
 
-  pub inner-elements : (n at : ℕ) → head ≡ heads.Elements n at → Inner-done (elements n) at → (h : Head) (next : ℕ) → head ≡ head-at h next → Sound m place next h → Inner-done h next
+  pub inner-elements : (n at : ℕ) → head ≡ heads.Elements n at → Inner-done (elements n) at → (h : Head) (next : ℕ) → head ≡ head-at h next → Sound-head m place next h → Inner-done h next
   unfolding head-at
   inner-elements n at e d (parts ws k l) next f s = let z : _≡_ {A = ℕ} 0 1 = cc in absurd (omega arith)
   inner-elements n at e d (characters cs) next f s = let z : _≡_ {A = ℕ} 0 1 = cc in absurd (omega arith)
@@ -120,7 +120,7 @@ module _ (atoms : Atoms) (cap deep : ℕ) (m : List ℕ) (place row : ℕ) (T : 
       let q : at ≡ next = cc in
       rw (c, q) at d
 
-  pub inner-pairs : (n at : ℕ) → head ≡ heads.Pairs n at → Inner-done (pairs n) at → (h : Head) (next : ℕ) → head ≡ head-at h next → Sound m place next h → Inner-done h next
+  pub inner-pairs : (n at : ℕ) → head ≡ heads.Pairs n at → Inner-done (pairs n) at → (h : Head) (next : ℕ) → head ≡ head-at h next → Sound-head m place next h → Inner-done h next
   unfolding head-at
   inner-pairs n at e d (parts ws k l) next f s = let z : _≡_ {A = ℕ} 0 1 = cc in absurd (omega arith)
   inner-pairs n at e d (characters cs) next f s = let z : _≡_ {A = ℕ} 0 1 = cc in absurd (omega arith)
@@ -341,7 +341,7 @@ module _ (atoms : Atoms) (cap deep : ℕ) (m : List ℕ) (at row whole : ℕ) (T
 
   module _ {place : ℕ} {head : code.Head} (o : Opened-at atoms m at row (wanted-of Any) place head) where
     pub tailed-last : (r : Parts) (U : List ℕ) → ((n next : ℕ) → head ≡ heads.Elements n next → ⊥)
-        → ((h : Head) (next : ℕ) → head ≡ head-at h next → Sound m place next h → PartsDone m before cap row whole T (last atoms cap deep place h (at-offset m next row)) r U) → All r U
+        → ((h : Head) (next : ℕ) → head ≡ head-at h next → Sound-head m place next h → PartsDone m before cap row whole T (last atoms cap deep place h (at-offset m next row)) r U) → All r U
     tailed-last r U other d =
         i .goes r U (rw (tail-last atoms cap deep m at row o (i .bound) (i .enough) other) (d (o .h) (o .next) (o .head-is) (o .sound)))
 
@@ -389,7 +389,7 @@ module _ (atoms : Atoms) (cap deep : ℕ) (m : List ℕ) (place row whole before
 
   pub last-characters : (n at : ℕ) (r : Parts) (U : List ℕ) → head ≡ heads.Characters n at
       → ((cs : List ℕ) → length cs ≡ n → at ≤ length m → PartsDone m before cap row whole T (inner atoms cap deep place (characters cs) (at-offset m at row)) r U)
-      → (h : Head) (next : ℕ) → head ≡ head-at h next → Sound m place next h → Last-done h next r U
+      → (h : Head) (next : ℕ) → head ≡ head-at h next → Sound-head m place next h → Last-done h next r U
   unfolding head-at inner last
   last-characters n at r U e d (parts ws k l) next f s = let z : _≡_ {A = ℕ} 0 1 = cc in absurd (omega arith)
   last-characters n at r U e d (elements k) next f s = let z : _≡_ {A = ℕ} 0 1 = cc in absurd (omega arith)

@@ -18,7 +18,7 @@ use Rattle.term_head.specs.Code.{head-at, opening-of}
 use Rattle.term_head.proofs.HeadFacts.{Past, past-byte, past-row, past-is, Wants, no-part, one-node, a-function, Wanting}
 use Rattle.term_head.proofs.OpeningFacts.{opening-opens, refused-found}
 use Rattle.term_head.proofs.OpeningFacts as facts
-use Rattle.term_reader.specs.Code.{asked, Fits, Sound, Opens}
+use Rattle.term_reader.specs.Code.{asked, Head-fits, Sound-head, Head-read}
 
 -- later fields end in the message too, with no row taken
 pub later-past : (m : List ℕ) (r p : ℕ) (l : Later) (from : ℕ) → from ≤ length m → Holds (later p l (at-offset m from r)) (λ x t. Past m from r t)
@@ -38,8 +38,8 @@ characters-end m cap atoms off [] h some = absurd (some refl)
 characters-end m cap atoms off (c ∷ []) h some = omega (arith, h .0)
 characters-end m cap atoms off (c ∷ d ∷ cs) h some = omega (arith, characters-end m cap atoms (off + 1) (d ∷ cs) (h .2) (λ e. omega arith))
 
-head-fits : (m : List ℕ) (cap : ℕ) (atoms : Atoms) (place : ℕ) (h : Head) → Wanting h → On-chars m cap atoms place h → Fits m place h
-unfolding Wanting Fits
+head-fits : (m : List ℕ) (cap : ℕ) (atoms : Atoms) (place : ℕ) (h : Head) → Wanting h → On-chars m cap atoms place h → Head-fits m place h
+unfolding Wanting Head-fits
 head-fits m cap atoms place (parts ws n l) w c = wants-asked ws w
 head-fits m cap atoms place (characters cs) w c = λ some. characters-end m cap atoms (place + 3) cs c some
 head-fits m cap atoms place (elements n) w c = tt
@@ -59,7 +59,7 @@ module _ (atoms : Atoms) (m : List ℕ) (at row : ℕ) (w : Wanted) where
     pub is : opening atoms (drop at m) w (at-offset m at row) ≡ good ((place, h), at-offset m next row)
     pub head-is : head′ ≡ head-at h next
     pub further : at < next
-    pub sound : Sound m place next h
+    pub sound : Sound-head m place next h
 
   opened-by : (o : Answer ((ℕ × Head) × Position)) (R : Opening) → opening atoms (drop at m) w (at-offset m at row) ≡ o → R ≡ opening-of o → ((n p : ℕ) → R .head ≡ heads.Refused n p → ⊥)
       → at ≤ length m → Opened-at (R .place) (R .head)
@@ -77,7 +77,7 @@ module _ (atoms : Atoms) (m : List ℕ) (at row : ℕ) (w : Wanted) where
         is = f ∙ ap₂ (λ (a : ℕ) (s : Position). good ((a, y .0 .1), s)) (sym p) (past-is m (y .0 .0 + 1) row (y .1) (k .past));
         head-is = ap (λ (x : Opening). x .head) e;
         further = omega (arith, k .from);
-        sound = subst (λ (a : ℕ). Sound m a (y .1 .at) (y .0 .1)) (sym p)
+        sound = subst (λ (a : ℕ). Sound-head m a (y .1 .at) (y .0 .1)) (sym p)
             (record { before = ends; end = k .past .in-step .inside; fits = head-fits m row atoms (y .0 .0) (y .0 .1) (k .wanting) (b .3) });
       }
 
@@ -89,5 +89,5 @@ module _ (atoms : Atoms) (m : List ℕ) (at row : ℕ) (w : Wanted) where
       → opening atoms (drop at m) w (at-offset m at row) ≡ refused n p
   opened-refused R n p e f = refused-found _ R (e row) n p f .0
 
-  pub opens : {place : ℕ} {head′ : code.Head} → Opened-at place head′ → Opens m place head′
+  pub opens : {place : ℕ} {head′ : code.Head} → Opened-at place head′ → Head-read m place head′
   opens o = record { h = o .h; next = o .next; is = o .head-is; sound = o .sound }

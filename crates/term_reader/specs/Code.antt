@@ -50,23 +50,23 @@ pub record Room (m : List ℕ) (atoms : AtomList) (T : List ℕ) (cap at row who
   pub inside : whole ≤ row
 
 -- what a head at `place` of a message promises of what it says: parts are asked for by their number, characters stand in the message
-unfoldable pub Fits : List ℕ → ℕ → Head → Type 0
-Fits m place (parts ws n l) = ws ≡ asked (length ws)
-Fits m place (characters cs) = (length cs ≡ 0 → ⊥) → place + 3 + length cs ≤ length m
-Fits m place (elements n) = Unit {0}
-Fits m place (pairs n) = Unit {0}
+unfoldable pub Head-fits : List ℕ → ℕ → Head → Type 0
+Head-fits m place (parts ws n l) = ws ≡ asked (length ws)
+Head-fits m place (characters cs) = (length cs ≡ 0 → ⊥) → place + 3 + length cs ≤ length m
+Head-fits m place (elements n) = Unit {0}
+Head-fits m place (pairs n) = Unit {0}
 
-pub record Sound (m : List ℕ) (place next : ℕ) (h : Head) : Type 0 where
+pub record Sound-head (m : List ℕ) (place next : ℕ) (h : Head) : Type 0 where
   pub before : place < next
   pub end : next ≤ length m
-  pub fits : Fits m place h
+  pub fits : Head-fits m place h
 
 -- a head that was read at `place`
-pub record Opens (m : List ℕ) (place : ℕ) (head : code.Head) : Type 0 where
+pub record Head-read (m : List ℕ) (place : ℕ) (head : code.Head) : Type 0 where
   pub h : Head
   pub next : ℕ
   pub is : head ≡ head-at h next
-  pub sound : Sound m place next h
+  pub sound : Sound-head m place next h
 
 -- With `deep` levels left for the parts:
 module _ (atoms : Atoms) (cap deep : ℕ) where
@@ -106,7 +106,7 @@ module _ (atoms : Atoms) (cap deep : ℕ) where
 
 -- What a reader leaves: T′ is T with the words of what was read stored from `row` on, and reading goes on at an offset of m
 module _ {X : Type 0} (size-of : X → ℕ) (as-rows : X → List ℕ) (From : X → Type 0) (m : List ℕ) (cap row : ℕ) (T : List ℕ) where
-  pub record Stored (x : X) (s : Position) (T′ : List ℕ) : Type 0 where
+  pub record Rows-stored (x : X) (s : Position) (T′ : List ℕ) : Type 0 where
     pub table-is : T′ ≡ sets T row (as-rows x)
     pub stands : s ≡ at-offset m (s .at) (row + size-of x)
     pub near : s .at ≤ length m
@@ -115,7 +115,7 @@ module _ {X : Type 0} (size-of : X → ℕ) (as-rows : X → List ℕ) (From : X
 
 module _ {X S : Type 0} (got : X → ℕ → ℕ → S) (no : ℕ → ℕ → S) (size-of : X → ℕ) (as-rows : X → List ℕ) (From : X → Type 0) where
   unfoldable pub Done : List ℕ → ℕ → ℕ → List ℕ → Answer (X × Position) → S → List ℕ → Type 0
-  Done m cap row T (good x) r T′ = (r ≡ got (x .0) (x .1 .at) (row + size-of (x .0))) × Stored size-of as-rows From m cap row T (x .0) (x .1) T′
+  Done m cap row T (good x) r T′ = (r ≡ got (x .0) (x .1 .at) (row + size-of (x .0))) × Rows-stored size-of as-rows From m cap row T (x .0) (x .1) T′
   Done m cap row T (refused n p) r T′ = r ≡ no n p
 
 -- one term
@@ -149,13 +149,13 @@ module _ (m : List ℕ) (list : AtomList) (cap left at row whole : ℕ) (T S : L
 
   -- the term at `at`, whose head is read
   pub record Body-read (head : code.Head) (r : Step) (T′ S′ : List ℕ) : Type 0 where
-    pub rows-stored : (h : Head) (next : ℕ) → head ≡ head-at h next → Sound m at next h
+    pub rows-stored : (h : Head) (next : ℕ) → head ≡ head-at h next → Sound-head m at next h
         → TermDone m cap row whole T (body (atoms-of list) cap left at h (at-offset m next row)) r T′
     pub keys-kept : Keeps S S′
 
   -- the parts of the term at `at`, whose head is read
   pub record Inner-read (head : code.Head) (r : Parts) (T′ S′ : List ℕ) : Type 0 where
-    pub rows-stored : (h : Head) (next : ℕ) → head ≡ head-at h next → Sound m at next h
+    pub rows-stored : (h : Head) (next : ℕ) → head ≡ head-at h next → Sound-head m at next h
         → PartsDone m 0 cap row whole T (inner (atoms-of list) cap left at h (at-offset m next row)) r T′
     pub keys-kept : Keeps S S′
 
@@ -177,7 +177,7 @@ module _ (m : List ℕ) (list : AtomList) (cap left at row whole : ℕ) (T S : L
 
   -- the tail of a list, a term at `at` that is joined no further, after `before` elements
   pub record Last-read (before : ℕ) (head : code.Head) (r : Parts) (T′ S′ : List ℕ) : Type 0 where
-    pub rows-stored : (h : Head) (next : ℕ) → head ≡ head-at h next → Sound m at next h
+    pub rows-stored : (h : Head) (next : ℕ) → head ≡ head-at h next → Sound-head m at next h
         → PartsDone m before cap row whole T (last (atoms-of list) cap left at h (at-offset m next row)) r T′
     pub keys-kept : Keeps S S′
 

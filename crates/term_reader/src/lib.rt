@@ -11,12 +11,12 @@ ghost use Prim.Native.Nat.{ℕ, _+_, _/_, _%_, _≤_, _<_, min};
 ghost use lib.ListN.{length, replicate};
 ghost use lib.Seq.{sets};
 ghost use Rattle.term_spec.specs.AtomList.{atoms-of, lent-list};
-ghost use Rattle.term_spec.specs.Head as format;
+ghost use Rattle.term_spec.specs.Head as head-spec;
 ghost use Rattle.term_spec.specs.Head.{characters, elements, pairs, term-head};
 ghost use Rattle.term_spec.specs.Answer.{at-offset};
 ghost use Rattle.term_head.specs.Code.{wanted-of, head-of};
 ghost use Rattle.term_head.specs.Quick.{quick-word};
-ghost use Rattle.term_reader.specs.Code.{asked, character-words, Room, Opens, inner, PartsDone, Term-read, Run-read, Body-read, Inner-read, Parts-read, Many-read, Tail-read, Last-read, Common-read};
+ghost use Rattle.term_reader.specs.Code.{asked, character-words, Room, Head-read, inner, PartsDone, Term-read, Run-read, Body-read, Inner-read, Parts-read, Many-read, Tail-read, Last-read, Common-read};
 
 // Of the parts that are wanted, so many are atoms at most.
 const WANTED_ATOMS: usize = 2;
@@ -264,7 +264,7 @@ fn read_body(
     left: usize,
     cap: usize,
 ) -> Step
-    requires { ⌜ Room (now msg) (lent-list n (now places) (now lengths)) (now table) cap place row whole × Opens (now msg) place head ⌝ }
+    requires { ⌜ Room (now msg) (lent-list n (now places) (now lengths)) (now table) cap place row whole × Head-read (now msg) place head ⌝ }
     requires { ⌜ 0 < length (now seen) ⌝ }
     ensures { λ r. ⌜ Body-read (now (msg .entry)) (lent-list n (now (places .entry)) (now (lengths .entry))) cap left place row whole (now (table .entry)) (now (seen .entry)) head r (now (table .exit)) (now (seen .exit)) ⌝ }
 {
@@ -320,7 +320,7 @@ fn read_inner(
     deep: usize,
     cap: usize,
 ) -> Parts
-    requires { ⌜ Room (now msg) (lent-list n (now places) (now lengths)) (now table) cap place row row × Opens (now msg) place head ⌝ }
+    requires { ⌜ Room (now msg) (lent-list n (now places) (now lengths)) (now table) cap place row row × Head-read (now msg) place head ⌝ }
     requires { ⌜ 0 < length (now seen) ⌝ }
     ensures { λ r. ⌜ Inner-read (now (msg .entry)) (lent-list n (now (places .entry)) (now (lengths .entry))) cap deep place row row (now (table .entry)) (now (seen .entry)) head r (now (table .exit)) (now (seen .exit)) ⌝ }
 {
@@ -649,7 +649,7 @@ fn read_characters(
     before: usize,
 ) -> Parts
     requires { ⌜ (cap ≤ 8192) × (cap ≤ length (now table)) × (row ≤ cap) × (whole ≤ row) × (before ≤ row) × ((count ≡ 0 → ⊥) → place + 3 + count ≤ 65536) ⌝ }
-    ensures { λ r. ⌜ ((atoms : format.Atoms) (m cs : List ℕ) → length cs ≡ count → next ≤ length m → PartsDone m before cap row whole (now (table .entry)) (inner atoms cap deep place (characters cs) (at-offset m next row)) r (now (table .exit))) ⌝ }
+    ensures { λ r. ⌜ ((atoms : head-spec.Atoms) (m cs : List ℕ) → length cs ≡ count → next ≤ length m → PartsDone m before cap row whole (now (table .entry)) (inner atoms cap deep place (characters cs) (at-offset m next row)) r (now (table .exit))) ⌝ }
 {
     if count == 0 {
         return Parts::Got {
@@ -818,7 +818,7 @@ fn read_last(
     cap: usize,
     before: usize,
 ) -> Parts
-    requires { ⌜ Room (now msg) (lent-list n (now places) (now lengths)) (now table) cap place row whole × Opens (now msg) place head × (before ≤ row) ⌝ }
+    requires { ⌜ Room (now msg) (lent-list n (now places) (now lengths)) (now table) cap place row whole × Head-read (now msg) place head × (before ≤ row) ⌝ }
     requires { ⌜ 0 < length (now seen) ⌝ }
     ensures { λ r. ⌜ Last-read (now (msg .entry)) (lent-list n (now (places .entry)) (now (lengths .entry))) cap deep place row whole (now (table .entry)) (now (seen .entry)) before head r (now (table .exit)) (now (seen .exit)) ⌝ }
 {

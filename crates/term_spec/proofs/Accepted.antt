@@ -13,7 +13,7 @@ use Rattle.term_spec.specs.Term.{Label, Term, integer, atom, tuple, list
 use Rattle.term_spec.specs.Equal.{among}
 use Rattle.term_spec.specs.Answer.{Answer, good, refused, Position, Reading, after, done}
 use Rattle.term_spec.specs.Head.{Atoms, Wanted, any, an-atom, an-arity, Head, leaf, parts, characters, elements, pairs, Later, known, pid-fields, port-fields, reference-fields, old-reference-fields, later, id-words, words-rule, creation-rule}
-use Rattle.term_spec.specs.Reading.{Place, tag-at, character-at, Located, meaning, empty-108, opening, one-term, row, body, contents, term, each, run, entries, string, list-tail}
+use Rattle.term_spec.specs.Reading.{Offset, tag-at, character-at, Located, meaning, empty-108, opening, one-term, row, body, contents, term, each, run, entries, string, list-tail}
 use Rattle.term_spec.specs.Message.{meanings}
 use Rattle.term_spec.specs.Numbers.{Under}
 use Rattle.term_spec.specs.Valid.{Fits, Valid, Valids, Keys, Improper, IsList}
@@ -130,11 +130,11 @@ ends-cons : (t : Term) {l : Label} {ts : Forest Label} → Ends l ts → Ends l 
 ends-cons t proper = proper
 ends-cons t (improper {ts = ts} h) = improper (last-cons t ts h)
 
-ends-join : (us vs : Forest (Label × Place)) {l : Label} → Ends l (meanings vs) → Ends l (meanings (us ▹▹ vs))
+ends-join : (us vs : Forest (Label × Offset)) {l : Label} → Ends l (meanings vs) → Ends l (meanings (us ▹▹ vs))
 ends-join empty vs e = e
 ends-join (u ▹ us) vs e = ends-cons (meaning u) (ends-join us vs e)
 
-last-join : (us vs : Forest (Label × Place)) → Last-plain (meanings vs) → Last-plain (meanings (us ▹▹ vs))
+last-join : (us vs : Forest (Label × Offset)) → Last-plain (meanings vs) → Last-plain (meanings (us ▹▹ vs))
 last-join empty vs h = h
 last-join (u ▹ us) vs h = last-cons (meaning u) (meanings (us ▹▹ vs)) (last-join us vs h)
 
@@ -160,7 +160,7 @@ module _ (cap : ℕ) where
     pub answers : Answers a (meaning u)
 
   -- a run of parts
-  pub record Founds (d r : ℕ) (us : Forest (Label × Place)) (t : Position) : Type 0 where
+  pub record Founds (d r : ℕ) (us : Forest (Label × Offset)) (t : Position) : Type 0 where
     pub valid : Valids (meanings us)
     pub deep : deepest (meanings us) ≤ d
     pub room : r + sizes (meanings us) ≤ cap
@@ -169,7 +169,7 @@ module _ (cap : ℕ) where
   no-parts : {d r : ℕ} {t : Position} → r ≤ cap → Fine r t → Founds d r empty t
   no-parts h g = record { valid = tt; deep = omega arith; room = omega arith; fine = at-rows g (omega arith) }
 
-  one-more : {w : Wanted} {a : Asked w} {d r : ℕ} {u : Located} {us : Forest (Label × Place)} {s t : Position}
+  one-more : {w : Wanted} {a : Asked w} {d r : ℕ} {u : Located} {us : Forest (Label × Offset)} {s t : Position}
       → Found a d r u s → Founds d (r + size (meaning u)) us t → Founds d r (u ▹ us) t
   one-more f fs =
       record {
@@ -179,7 +179,7 @@ module _ (cap : ℕ) where
         fine = at-rows (fs .fine) (omega arith);
       }
 
-  joined : (us : Forest (Label × Place)) {d r : ℕ} {vs : Forest (Label × Place)} {s t : Position}
+  joined : (us : Forest (Label × Offset)) {d r : ℕ} {vs : Forest (Label × Offset)} {s t : Position}
       → Founds d r us s → Founds d (r + sizes (meanings us)) vs t → Founds d r (us ▹▹ vs) t
   joined empty f fs = record { valid = fs .valid; deep = fs .deep; room = omega (arith, fs .room); fine = at-rows (fs .fine) (omega arith) }
   joined (u ▹ us) {d} {r} {vs} {s} {t} f fs =
@@ -217,7 +217,7 @@ module _ (cap : ℕ) where
         done-holds _ t (one-more f (one-more f′ (fs .0)), (not-true (among (meaning k) earlier) e, fs .1)))
 
   -- a small integer that stands for a character
-  character-found : {d r : ℕ} {t : Position} (c : ℕ) (p : Place) → c < 256 → 0 < d → r < cap → Fine (r + 1) t
+  character-found : {d r : ℕ} {t : Position} (c : ℕ) (p : Offset) → c < 256 → 0 < d → r < cap → Fine (r + 1) t
       → Found for-any d r (node (integer (pos c), p) empty) t
   character-found c p h k l g =
       record { valid = (integer-fits (pos c) 1 h (lit< tt), tt); deep = omega arith; room = omega arith; fine = at-rows g (omega arith); answers = tt }
@@ -259,7 +259,7 @@ module _ (cap : ℕ) where
           bind (opening-holds atoms true-atoms a (s .left) s g λ p x t ok z suits g.
           weaken (λ u t. Found a d r u t × (Plain x → ¬ IsList (top (meaning u)))) (ok-inner w a p x r t ok z suits g h) (λ u t f. f .0))
 
-      abbrev Ending : ℕ → Forest (Label × Place) × Label → Position → Type 0
+      abbrev Ending : ℕ → Forest (Label × Offset) × Label → Position → Type 0
       Ending r e t = Founds d r (e .0) t × Ends (e .1) (meanings (e .0))
 
       tail-holds : (bound : List ℕ) (r : ℕ) (s : Position) → Fine r s → r ≤ cap → Holds (list-tail atoms cap d inner bound s) (Ending r)
@@ -271,7 +271,7 @@ module _ (cap : ℕ) where
         where
           go : (p : ℕ) (x : Head) (t : Position) → Sound x → empty-108 x ≡ false → Fine r t
               → ((r′ : ℕ) (s′ : Position) → Fine r′ s′ → r′ ≤ cap → Holds (list-tail atoms cap d inner bound s′) (Ending r′))
-              → Holds ((elim x as (λ _. Reading (Forest (Label × Place) × Label)) [
+              → Holds ((elim x as (λ _. Reading (Forest (Label × Offset) × Label)) [
                 | characters cs ↦ λ t. after (string atoms cap d p (p + 3) cs t) (λ ts. done (ts, list))
                 | elements n ↦ λ t. after (run (one-term atoms inner) n t) (λ ts. λ t. after (list-tail atoms cap d inner bound t) (λ end. done (ts ▹▹ end .0, end .1)))
                 | parts ws n l ↦ λ t. after (inner p (parts ws n l) t) (λ u. done (u ▹ empty, improper-list))
@@ -295,7 +295,7 @@ module _ (cap : ℕ) where
       Result a r h u t = Found a (suc d) r u t × (Plain h → ¬ IsList (top (meaning u)))
 
       -- a whole from its parts
-      made : {w : Wanted} {a : Asked w} {r : ℕ} {us : Forest (Label × Place)} {t : Position} (l : Label) (p : Place)
+      made : {w : Wanted} {a : Asked w} {r : ℕ} {us : Forest (Label × Offset)} {t : Position} (l : Label) (p : Offset)
           → Founds d (r + 1) us t → Fits l (meanings us) → Answers a (node l (meanings us)) → Found a (suc d) r (node (l, p) us) t
       made l p f fits answers =
           record {
@@ -307,7 +307,7 @@ module _ (cap : ℕ) where
           }
 
       -- a list from its elements and its end
-      list-fits : (us vs : Forest (Label × Place)) (l : Label) (r : ℕ) → r + sizes (meanings (us ▹▹ vs)) ≤ cap → 0 < count (meanings us) → Ends l (meanings vs)
+      list-fits : (us vs : Forest (Label × Offset)) (l : Label) (r : ℕ) → r + sizes (meanings (us ▹▹ vs)) ≤ cap → 0 < count (meanings us) → Ends l (meanings vs)
           → Fits l (meanings (us ▹▹ vs))
       list-fits us vs list r room some-us proper = omega (arith, count-le-sizes (meanings (us ▹▹ vs)))
       list-fits empty vs improper-list r room some-us (improper h) = absurd (omega arith)
@@ -356,8 +356,8 @@ module _ (cap : ℕ) where
           next (λ us t. (z : Located) × (us ≡ z ▹ empty) × Founds d (r + 1 + size (meaning x) + size (meaning y)) us t × Answers for-arity (meaning z))
           (next (Found for-arity d (r + 1 + size (meaning x) + size (meaning y))) (reader an-arity for-arity _ t (f′ .fine) (f′ .room)) λ z t f″.
           done-holds _ t (z, refl, one-more f″ (no-parts (f″ .room) (f″ .fine)), f″ .answers)) λ us t k.
-          done-holds _ t (y, k .0, ap (λ (vs : Forest (Label × Place)). y ▹ vs) (k .1), one-more f′ (k .2), f′ .answers, k .3)) λ us t k.
-          done-holds _ t (x, k .0, k .1, ap (λ (vs : Forest (Label × Place)). x ▹ vs) (k .2), one-more f (k .3), f .answers, k .4, k .5)) λ us t k.
+          done-holds _ t (y, k .0, ap (λ (vs : Forest (Label × Offset)). y ▹ vs) (k .1), one-more f′ (k .2), f′ .answers, k .3)) λ us t k.
+          done-holds _ t (x, k .0, k .1, ap (λ (vs : Forest (Label × Offset)). x ▹ vs) (k .2), one-more f (k .3), f .answers, k .4, k .5)) λ us t k.
           let parts-are : meanings us ≡ node (atom (k .5 .0)) empty ▹ node (atom (k .6 .0)) empty ▹ node (integer (pos (k .7 .0))) empty ▹ empty
           = ap meanings (k .3)
           ∙ ap₂ (λ (x : Term) (ts : Forest Label). x ▹ ts) (k .5 .1) (ap₂ (λ (y : Term) (z : Term). y ▹ z ▹ empty) (k .6 .1) (k .7 .2)) in

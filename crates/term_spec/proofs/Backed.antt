@@ -17,7 +17,7 @@ use Rattle.term_spec.specs.Equal.{among}
 use Rattle.term_spec.specs.Answer.{Answer, good, refused, Position, Reading, after, done, rule, byte, first-of, bytes, number}
 use Rattle.term_spec.specs.Head.{Atoms, Wanted, any, tagged, an-atom, one-of, leaf, Form, small-integer-ext, integer-ext, big-ext, new-float-ext, atom-ext, atom-cache-ref, tuple-ext, nil-ext, string-ext, list-ext, binary-ext, bit-binary-ext, map-ext, pid-ext, port-ext, new-reference-ext, reference-ext, export-ext, form, form-in, forms, form-or, fields, Head, parts, characters, elements, pairs, later, term-head, finite, bits-rule, text-or}
 use Rattle.term_spec.specs.Text.{Coding, latin-1, utf-8, check}
-use Rattle.term_spec.specs.Reading.{Place, tag-at, character-at, Located, meaning, empty-108, opening, one-term, row, body, contents, term, each, run, entries, string, list-tail}
+use Rattle.term_spec.specs.Reading.{Offset, tag-at, character-at, Located, meaning, empty-108, opening, one-term, row, body, contents, term, each, run, entries, string, list-tail}
 use Rattle.term_spec.proofs.Holds.{Holds, both, next, done-holds, refused-holds, weaken, skip}
 use Rattle.term_spec.proofs.Invariant.{In-step, on-byte, later-in-step, rule-in-step, head-in-step, row-in-step}
 
@@ -112,7 +112,7 @@ module _ (message : List ℕ) (cap : ℕ) (atoms : Atoms) where
     pub reads : term-head atoms wanted start ≡ good (h, stop)
 
   -- a node's label follows from the message at its place
-  abbrev pub Label-at : Place → Label → Type 0
+  abbrev pub Label-at : Offset → Label → Type 0
   Label-at (tag-at p) x = (h : Head) × (a : Head-at p h) × (b : Position) × In-step message cap b × (b .at ≡ a .stop .at) × Agrees p h b x
   Label-at (character-at p) x = (p < length message) × (x ≡ integer (pos (getD message p 0)))
 
@@ -120,7 +120,7 @@ module _ (message : List ℕ) (cap : ℕ) (atoms : Atoms) where
     pub Backed : Located → Type 0
     Backed (node l ts) = Label-at (l .1) (l .0) × Backeds ts
 
-    pub Backeds : Forest (Label × Place) → Type 0
+    pub Backeds : Forest (Label × Offset) → Type 0
     Backeds empty = Unit {0}
     Backeds (t ▹ ts) = Backed t × Backeds ts
 
@@ -220,7 +220,7 @@ module _ (message : List ℕ) (cap : ℕ) (atoms : Atoms) where
   abbrev Tree-backed : Located → Position → Type 0
   Tree-backed u t = In-step message cap t × Backed u
 
-  abbrev Run-backed : Forest (Label × Place) → Position → Type 0
+  abbrev Run-backed : Forest (Label × Offset) → Position → Type 0
   Run-backed us t = In-step message cap t × Backeds us
 
   string-backed : (d p off : ℕ) (cs : List ℕ) (s : Position) → In-step message cap s → Chars-at off cs → Holds (string atoms cap d p off cs s) Run-backed
@@ -232,7 +232,7 @@ module _ (message : List ℕ) (cap : ℕ) (atoms : Atoms) where
       next Run-backed (string-backed (suc d) p (off + 1) cs t i (c .2)) λ us t k.
       done-holds _ t (k .0, (((c .0, ap (λ (y : ℕ). integer (pos y)) (sym (c .1))), tt), k .1))
 
-  pub joined : (us vs : Forest (Label × Place)) → Backeds us → Backeds vs → Backeds (us ▹▹ vs)
+  pub joined : (us vs : Forest (Label × Offset)) → Backeds us → Backeds vs → Backeds (us ▹▹ vs)
   joined empty vs b c = c
   joined (u ▹ us) vs b c = (b .0, joined us vs (b .1) c)
 
@@ -335,7 +335,7 @@ module _ (message : List ℕ) (cap : ℕ) (atoms : Atoms) where
     unfolding one-term
     part-backed w s i = next Opened (opening-backed (s .left) w s i) λ o t k. ok (o .0) (o .1) t (k .0) (k .1) (k .2) (k .3)
 
-    abbrev Ended : Forest (Label × Place) × Label → Position → Type 0
+    abbrev Ended : Forest (Label × Offset) × Label → Position → Type 0
     Ended e t = In-step message cap t × Backeds (e .0) × ((e .1 ≡ list) ⊎ (e .1 ≡ improper-list))
 
     tail-backed : (bound : List ℕ) (s : Position) → In-step message cap s → Holds (list-tail atoms cap d inner bound s) Ended
@@ -346,7 +346,7 @@ module _ (message : List ℕ) (cap : ℕ) (atoms : Atoms) where
       where
         go : (p : ℕ) (x : Head) (t : Position) → In-step message cap t → (a : Head-at p x) → t .at ≡ a .stop .at → On-chars p x
             → ((t : Position) → In-step message cap t → Holds (list-tail atoms cap d inner bound t) Ended)
-            → Holds ((elim x as (λ _. Reading (Forest (Label × Place) × Label)) [
+            → Holds ((elim x as (λ _. Reading (Forest (Label × Offset) × Label)) [
               | characters cs ↦ λ t. after (string atoms cap d p (p + 3) cs t) (λ ts. done (ts, list))
               | elements n ↦ λ t. after (run (one-term atoms inner) n t) (λ ts. λ t. after (list-tail atoms cap d inner bound t) (λ end. done (ts ▹▹ end .0, end .1)))
               | parts ws n l ↦ λ t. after (inner p (parts ws n l) t) (λ u. done (u ▹ empty, improper-list))

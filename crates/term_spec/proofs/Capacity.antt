@@ -12,7 +12,7 @@ use Rattle.term_spec.specs.Term.{Label, Term, list, improper-list}
 use Rattle.term_spec.specs.Equal.{among}
 use Rattle.term_spec.specs.Answer.{Answer, good, refused, Position, Reading, after, done, rule}
 use Rattle.term_spec.specs.Head.{Atoms, Wanted, any, Head, parts, characters, elements, pairs, Later, later}
-use Rattle.term_spec.specs.Reading.{Place, tag-at, Located, meaning, opening, one-term, row, body, contents, term, each, run, entries, string, list-tail}
+use Rattle.term_spec.specs.Reading.{Offset, tag-at, Located, meaning, opening, one-term, row, body, contents, term, each, run, entries, string, list-tail}
 use Rattle.term_spec.specs.AtomList.{AtomList, of-size, atoms-of}
 use Rattle.term_spec.specs.Message.{Framing, standalone, payload, Terms, version, ending, standalone-term, payload-terms, terms-framed, result-of, first-check, capacity-of, read}
 use Rattle.term_spec.proofs.Steps.{spot}
@@ -149,9 +149,9 @@ module _ (small large : ℕ) (less : small ≤ large) where
       tail-alike [] s = no 2 _
       tail-alike (b ∷ bound) s = step (opening-alike (s .left) any s) λ o t i. counted (go (o .0) (o .1) t (λ t. tail-alike bound t)) (omega arith)
         where
-          tail-of : ℕ → (ℕ → Head → Reading Located) → ℕ → Head → Reading (Forest (Label × Place) × Label)
+          tail-of : ℕ → (ℕ → Head → Reading Located) → ℕ → Head → Reading (Forest (Label × Offset) × Label)
           tail-of cap inner p x =
-              elim x as (λ _. Reading (Forest (Label × Place) × Label)) [
+              elim x as (λ _. Reading (Forest (Label × Offset) × Label)) [
                 | characters cs ↦ λ t. after (string atoms cap d p (p + 3) cs t) (λ ts. done (ts, list))
                 | elements n ↦ λ t. after (run (one-term atoms inner) n t) (λ ts. λ t. after (list-tail atoms cap d inner bound t) (λ end. done (ts ▹▹ end .0, end .1)))
                 | parts ws n l ↦ λ t. after (inner p (parts ws n l) t) (λ u. done (u ▹ empty, improper-list))

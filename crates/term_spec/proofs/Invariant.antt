@@ -15,7 +15,7 @@ use Rattle.term_spec.specs.Term.{Label, Term, list, improper-list}
 use Rattle.term_spec.specs.Equal.{among}
 use Rattle.term_spec.specs.Answer.{Answer, good, refused, Position, Reading, after, done, rule, byte, first-of, bytes, number}
 use Rattle.term_spec.specs.Head.{Atoms, Wanted, any, tagged, one-of, Form, small-integer-ext, integer-ext, big-ext, new-float-ext, atom-ext, atom-cache-ref, tuple-ext, nil-ext, string-ext, list-ext, binary-ext, bit-binary-ext, map-ext, pid-ext, port-ext, new-reference-ext, reference-ext, export-ext, form, form-in, forms, form-or, fields, Head, parts, characters, elements, pairs, Later, known, pid-fields, port-fields, reference-fields, old-reference-fields, later, id-words, words-rule, creation-rule, finite, bits-rule, term-head, text-or}
-use Rattle.term_spec.specs.Reading.{Place, Located, meaning, empty-108, opening, one-term, row, body, contents, term, each, run, entries, string, list-tail}
+use Rattle.term_spec.specs.Reading.{Offset, Located, meaning, empty-108, opening, one-term, row, body, contents, term, each, run, entries, string, list-tail}
 use Rattle.term_spec.proofs.Holds.{Holds, next, done-holds, refused-holds}
 
 module _ (cap : ℕ) (I : Position → Type 0)
@@ -178,7 +178,7 @@ module _ (cap : ℕ) (I : Position → Type 0)
       tail-kept (b ∷ bound) s i = step (opening-kept (s .left) any s i) λ o t i. go (o .0) (o .1) t i (λ t i. tail-kept bound t i)
         where
           go : (p : ℕ) (x : Head) (t : Position) → I t → ((t : Position) → I t → Kept (list-tail atoms cap d inner bound t))
-              → Kept ((elim x as (λ _. Reading (Forest (Label × Place) × Label)) [
+              → Kept ((elim x as (λ _. Reading (Forest (Label × Offset) × Label)) [
                 | characters cs ↦ λ t. after (string atoms cap d p (p + 3) cs t) (λ ts. done (ts, list))
                 | elements n ↦ λ t. after (run (one-term atoms inner) n t) (λ ts. λ t. after (list-tail atoms cap d inner bound t) (λ end. done (ts ▹▹ end .0, end .1)))
                 | parts ws n l ↦ λ t. after (inner p (parts ws n l) t) (λ u. done (u ▹ empty, improper-list))

@@ -12,7 +12,7 @@ use Rattle.term_spec.specs.Tree.{Forest, node, empty, _▹_, size, sizes
 use Rattle.term_spec.specs.Term.{Label, Term, integer, float, atom, tuple, list, improper-list, binary, bitstring, map, pid, port, reference, export}
 use Rattle.term_spec.specs.Answer.{Answer, good, Position, Reading}
 use Rattle.term_spec.specs.Head.{Atoms, Wanted, any, Head, leaf, parts, characters, elements, pairs, term-head, form, form-in, forms, form-or, fields, later}
-use Rattle.term_spec.specs.Reading.{Place, tag-at, character-at, Located, meaning, opening, row, body, one-term, contents, term, each, run, entries, string, list-tail}
+use Rattle.term_spec.specs.Reading.{Offset, tag-at, character-at, Located, meaning, opening, row, body, one-term, contents, term, each, run, entries, string, list-tail}
 use Rattle.term_spec.specs.Canonical.{small, put, all-small, canonical, canonicals}
 use Rattle.term_spec.specs.Valid.{Fits, Valids, Keys}
 use Rattle.term_spec.proofs.Steps.{spot}
@@ -90,7 +90,7 @@ module _ (atoms : Atoms) (cap : ℕ) where
 
   -- a run of parts
   pub record Runs (d : ℕ) (left rest : List ℕ) (at r : ℕ) (ts : Forest Label) : Type 0 where
-    pub trees : Forest (Label × Place)
+    pub trees : Forest (Label × Offset)
     pub end : ℕ
     pub reads : run (term atoms cap d) (count ts) (spot at left r) ≡ good (trees, spot end rest (r + sizes ts))
     pub means : relabels (λ l. l .0) trees ≡ ts
@@ -113,7 +113,7 @@ module _ (atoms : Atoms) (cap : ℕ) where
 
   -- the characters of a list of small integers
   pub record Strings (d p off at : ℕ) (cs rest : List ℕ) (r : ℕ) (ts : Forest Label) : Type 0 where
-    pub trees : Forest (Label × Place)
+    pub trees : Forest (Label × Offset)
     pub reads : string atoms cap d p off cs (spot at rest r) ≡ good (trees, spot at rest (r + sizes ts))
     pub means : relabels (λ l. l .0) trees ≡ ts
 
@@ -145,7 +145,7 @@ module _ (atoms : Atoms) (cap : ℕ) where
 
   -- keys and values
   pub record Maps (d : ℕ) (earlier : List Term) (n : ℕ) (left rest : List ℕ) (at r : ℕ) (ts : Forest Label) : Type 0 where
-    pub trees : Forest (Label × Place)
+    pub trees : Forest (Label × Offset)
     pub end : ℕ
     pub reads : entries (term atoms cap d) earlier n (spot at left r) ≡ good (trees, spot end rest (r + sizes ts))
     pub means : relabels (λ l. l .0) trees ≡ ts

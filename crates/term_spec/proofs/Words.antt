@@ -9,7 +9,7 @@ use lib.Seq.{sets, sets-eq, getD-drop, drop-drop, drop-append-seam, drop-at, len
 use Rattle.term_spec.specs.Tree.{Forest, node, _▹_, _▹▹_, count, size, sizes, Each-node, Each-nodes}
 use Rattle.term_spec.specs.Term.{Label, integer, float, atom, tuple, list, improper-list, binary, bitstring, map, pid, port, reference, export}
 use Rattle.term_spec.specs.Answer.{good}
-use Rattle.term_spec.specs.Reading.{Place, tag-at, character-at, Located}
+use Rattle.term_spec.specs.Reading.{Offset, tag-at, character-at, Located}
 use Rattle.term_spec.specs.Message.{Terms}
 use Rattle.term_spec.specs.Rows.{Row, tree-rows, rows, kind-of, kind-at, offset-of, whole-code, pack, Small-fields, kind-in, offset-in, whole-in, parts-in, size-in, word, row-words, table-after, Placed, Here, Tree-here, Rows-here}
 use Rattle.term_spec.proofs.Rows.{count-le-sizes, length-tree-rows, length-rows, rows-join}
@@ -56,7 +56,7 @@ kind-of-range (port i c) = (omega arith, omega arith)
 kind-of-range (reference c ws) = (omega arith, omega arith)
 kind-of-range export = (omega arith, omega arith)
 
-pub kind-at-range : (l : Label) (p : Place) → Between 1 14 (kind-at l p)
+pub kind-at-range : (l : Label) (p : Offset) → Between 1 14 (kind-at l p)
 unfolding kind-at
 kind-at-range l (tag-at p) = let h : Between 1 13 (kind-of l) = kind-of-range l in (omega arith, omega arith)
 kind-at-range l (character-at p) = (omega arith, omega arith)
@@ -65,7 +65,7 @@ pub kind-of-tag : (l : Label) (p : ℕ) → kind-at l (tag-at p) ≡ kind-of l
 unfolding kind-at
 kind-of-tag l p = refl
 
-pub tag-of-kind : (l : Label) (p : Place) → (kind-at l p ≡ 14 → ⊥) → p ≡ tag-at (offset-of p)
+pub tag-of-kind : (l : Label) (p : Offset) → (kind-at l p ≡ 14 → ⊥) → p ≡ tag-at (offset-of p)
 unfolding kind-at offset-of
 tag-of-kind l (tag-at p) other = refl
 tag-of-kind l (character-at p) other = absurd (other refl)
@@ -180,7 +180,7 @@ sets-here T a xs h =
 -- ---- where rows stand in a table
 
 -- the row of a term with this label and these parts
-abbrev pub row-of : Option ℕ → Label × Place → Terms → Row
+abbrev pub row-of : Option ℕ → Label × Offset → Terms → Row
 row-of whole l ts = record { label = l .0; place = l .1; whole = whole; parts = count ts; size = suc (sizes ts) }
 
 -- a run of terms after another
@@ -217,18 +217,18 @@ module _ {T : List ℕ} {whole : Option ℕ} {n : ℕ} where
       }
 
   -- the row of a term, then those of its parts
-  pub node-here : {l : Label × Place} {ts : Terms} → Tree-here T whole n (node l ts) → getD T n 0 ≡ word (row-of whole l ts)
+  pub node-here : {l : Label × Offset} {ts : Terms} → Tree-here T whole n (node l ts) → getD T n 0 ≡ word (row-of whole l ts)
   unfolding tree-rows row-words
   node-here h = here-word (h .tree-words)
 
-  pub node-packed : {l : Label × Place} {ts : Terms} → Tree-here T whole n (node l ts) → Small-row (row-of whole l ts) → Word-of (row-of whole l ts) (getD T n 0)
+  pub node-packed : {l : Label × Offset} {ts : Terms} → Tree-here T whole n (node l ts) → Small-row (row-of whole l ts) → Word-of (row-of whole l ts) (getD T n 0)
   node-packed {l} {ts} h s = rw (node-here h) (word-packed (row-of whole l ts) s)
 
-  pub parts-here : {l : Label × Place} {ts : Terms} → Tree-here T whole n (node l ts) → Rows-here T (some n) (n + 1) ts
+  pub parts-here : {l : Label × Offset} {ts : Terms} → Tree-here T whole n (node l ts) → Rows-here T (some n) (n + 1) ts
   unfolding tree-rows row-words
   parts-here h = record { words = here-rest (h .tree-words) }
 
-  pub node-below : {l : Label × Place} {ts : Terms} → Tree-here T whole n (node l ts) → n < length T
+  pub node-below : {l : Label × Offset} {ts : Terms} → Tree-here T whole n (node l ts) → n < length T
   unfolding tree-rows row-words
   node-below h = here-below (h .tree-words)
 

@@ -11,7 +11,7 @@ use Rattle.term_spec.specs.Text.{Coding, latin-1, utf-8}
 use Rattle.term_spec.specs.Term.{Label, integer, float, atom, tuple, list, improper-list, binary, bitstring, map, pid, port, reference, export}
 use Rattle.term_spec.specs.Answer.{Answer, good, refused}
 use Rattle.term_spec.specs.AtomList.{AtomList, place-length}
-use Rattle.term_spec.specs.Reading.{Place, tag-at, character-at}
+use Rattle.term_spec.specs.Reading.{Offset, tag-at, character-at}
 use Rattle.term_spec.specs.Message.{Framing, Terms, read}
 use Rattle.term_spec.specs.Rows.{Row, rows}
 
@@ -67,7 +67,7 @@ is-atom (port i c) = false
 is-atom (reference c ws) = false
 is-atom export = false
 
-abbrev stands-at : ℕ → Place → Bool
+abbrev stands-at : ℕ → Offset → Bool
 stands-at at (tag-at p) = eqb p at
 stands-at at (character-at p) = false
 

@@ -9,7 +9,7 @@ use Rattle.term_spec.specs.Term.{Label}
 use Rattle.term_spec.specs.Answer.{Answer, good, refused, Position, Reading, _>>=_, _>>_, done, refuse, here}
 use Rattle.term_spec.specs.Head.{Atoms, any}
 use Rattle.term_spec.specs.AtomList.{AtomList, of-size, atoms-of}
-use Rattle.term_spec.specs.Reading.{Place, Located, bytes-left, term}
+use Rattle.term_spec.specs.Reading.{Offset, Located, bytes-left, term}
 
 -- how the terms of a message are set: a standalone term, or a payload
 pub data Framing : Type 0 where
@@ -17,7 +17,7 @@ pub data Framing : Type 0 where
 
 -- terms as they were read, one after the other
 abbrev pub Terms : Type 0
-Terms = Forest (Label × Place)
+Terms = Forest (Label × Offset)
 
 -- what they mean
 abbrev pub meanings : Terms → Forest Label

@@ -11,12 +11,12 @@ use Rattle.term_spec.specs.Answer.{good, refused, Reading, _>>=_, _>>_, 
 use Rattle.term_spec.specs.Head.{Atoms, Wanted, any, Head, parts, characters, elements, pairs, term-head, later}
 
 -- Where a term of the message stands: its tag's offset; of a character of a 107, its byte's
-pub data Place : Type 0 where
-  tag-at character-at : ℕ → Place
+pub data Offset : Type 0 where
+  tag-at character-at : ℕ → Offset
 
 -- a term as it was read
 abbrev pub Located : Type 0
-Located = Tree (Label × Place)
+Located = Tree (Label × Offset)
 
 -- what it means
 abbrev pub meaning : Located → Term
@@ -54,7 +54,7 @@ one-term atoms inner wanted = do
 
 module _ (part : Wanted → Reading Located) where
   -- parts that are wanted so, in turn
-  unfoldable pub each : List Wanted → Reading (Forest (Label × Place))
+  unfoldable pub each : List Wanted → Reading (Forest (Label × Offset))
   each [] = done empty
   each (w ∷ ws) = do
     t ← part w
@@ -62,7 +62,7 @@ module _ (part : Wanted → Reading Located) where
     done (t ▹ ts)
 
   -- n parts of any kind
-  unfoldable pub run : ℕ → Reading (Forest (Label × Place))
+  unfoldable pub run : ℕ → Reading (Forest (Label × Offset))
   run zero = done empty
   run (suc n) = do
     t ← part any
@@ -70,7 +70,7 @@ module _ (part : Wanted → Reading Located) where
     done (t ▹ ts)
 
   -- n keys with their values. Refusal 7: key equal to an earlier key, judged before the value is read
-  unfoldable pub entries : List Term → ℕ → Reading (Forest (Label × Place))
+  unfoldable pub entries : List Term → ℕ → Reading (Forest (Label × Offset))
   entries earlier zero = done empty
   entries earlier (suc n) = do
     p ← here
@@ -90,7 +90,7 @@ module _ (atoms : Atoms) (capacity : ℕ) where
       ]
 
   -- the characters of the 107 at p, the first one's byte at `at`, with `deep` levels left for them: 8 and 9 are judged at that 107's tag
-  unfoldable pub string : ℕ → ℕ → ℕ → List ℕ → Reading (Forest (Label × Place))
+  unfoldable pub string : ℕ → ℕ → ℕ → List ℕ → Reading (Forest (Label × Offset))
   string deep p at [] = done empty
   string zero p at (c ∷ cs) = refuse 8 p
   string (suc deep) p at (c ∷ cs) = do
@@ -102,7 +102,7 @@ module _ (atoms : Atoms) (capacity : ℕ) where
   module _ (deep : ℕ) (inner : ℕ → Head → Reading Located) where
     -- What follows the elements of a 108: a tail that is a list is joined on, any other is the last part of an improper list.
     -- Each joined tail takes a byte or more, so the bytes left bound their number.
-    unfoldable pub list-tail : List ℕ → Reading (Forest (Label × Place) × Label)
+    unfoldable pub list-tail : List ℕ → Reading (Forest (Label × Offset) × Label)
     list-tail [] = do
       p ← here
       refuse 2 p

@@ -7,13 +7,13 @@ use lib.ListN.{length, replicate, drop}
 use Rattle.term_spec.specs.Tree.{Forest, node, _▹_, count, size, sizes}
 use Rattle.term_spec.specs.Term.{Label, integer, float, atom, tuple, list, improper-list, binary, bitstring, map, pid, port, reference, export}
 use Rattle.term_spec.specs.Answer.{Answer, good, refused}
-use Rattle.term_spec.specs.Reading.{Place, tag-at, character-at, Located}
+use Rattle.term_spec.specs.Reading.{Offset, tag-at, character-at, Located}
 use Rattle.term_spec.specs.Message.{Terms}
 
 -- a term's own fields, where it stands, the row of its whole, if it has one, its number of parts, and the rows of it and all its parts
 pub record Row : Type 0 where
   pub label : Label
-  pub place : Place
+  pub place : Offset
   pub whole : Option ℕ
   pub parts : ℕ
   pub size : ℕ
@@ -47,11 +47,11 @@ kind-of (port i c) = 11
 kind-of (reference c ws) = 12
 kind-of export = 13
 
-unfoldable pub kind-at : Label → Place → ℕ
+unfoldable pub kind-at : Label → Offset → ℕ
 kind-at l (tag-at p) = kind-of l
 kind-at l (character-at p) = 14
 
-unfoldable pub offset-of : Place → ℕ
+unfoldable pub offset-of : Offset → ℕ
 offset-of (tag-at p) = p
 offset-of (character-at p) = p
 
@@ -99,7 +99,7 @@ table-after lent (good ts) = let ws : List ℕ = row-words (rows none 0 ts) in w
 table-after lent (refused n p) = replicate lent 0
 
 -- a term's place is below an offset
-abbrev pub Placed : ℕ → Label × Place → Terms → Type 0
+abbrev pub Placed : ℕ → Label × Offset → Terms → Type 0
 Placed bound l ts = offset-of (l .1) < bound
 
 -- xs stand in T from index a on

@@ -32,7 +32,7 @@ pub const STATE: u8 = 14;
 pub const PACKET: u8 = 20;
 // Cached place empty.
 pub const EMPTY_PLACE: u8 = 21;
-// Place named again beside a new entry.
+// Offset named again beside a new entry.
 pub const NAMED_AGAIN: u8 = 22;
 // Text over 32 bytes as UTF-8.
 pub const LONG_TEXT: u8 = 23;

@@ -13,4 +13,4 @@ pub const PLACE_BYTES: usize = 32;
 // Places of an atom list, and their bytes together.
 pub const LIST_PLACES: usize = 255;
 
-pub const LIST_BYTES: usize = 8160;
+pub const LIST_BYTES: usize = LIST_PLACES * PLACE_BYTES;

@@ -7,7 +7,7 @@ use native.Mathlib.Omega.{arith}
 use lib.ListN.{length, getD}
 use Rattle.term_spec.specs.Tree.{Forest, node, _▹_, count, size, sizes, Each-node}
 use Rattle.term_spec.specs.Term.{Label, integer, float, atom, tuple, list, improper-list, binary, bitstring, map, pid, port, reference, export}
-use Rattle.term_spec.specs.Reading.{Place, tag-at, character-at, Located}
+use Rattle.term_spec.specs.Reading.{Offset, tag-at, character-at, Located}
 use Rattle.term_spec.specs.Message.{Terms, meanings}
 use Rattle.term_spec.specs.Rows.{kind-of, kind-at, offset-of, whole-code, kind-in, parts-in, size-in}
 use Rattle.term_spec.specs.Valid.{Fits, Improper}
@@ -51,7 +51,7 @@ kind-improper (port i c) e = absurd (omega arith)
 kind-improper (reference c ws) e = absurd (omega arith)
 kind-improper export e = absurd (omega arith)
 
-pub tag-kind : (l : Label) (p : Place) (k : ℕ) → k < 14 → kind-at l p ≡ k → kind-of l ≡ k
+pub tag-kind : (l : Label) (p : Offset) (k : ℕ) → k < 14 → kind-at l p ≡ k → kind-of l ≡ k
 unfolding kind-at
 tag-kind l (tag-at p) k h e = e
 tag-kind l (character-at p) k h e = absurd (omega arith)
@@ -78,7 +78,7 @@ module _ {m places lengths T : List ℕ} where
       let a : whole-code (h .run-whole) ≤ row = h .run-above in
       record { run-whole = h .run-whole; run-above = omega arith; run-stands = others-here (h .run-stands); run-few = omega arith; run-nodes = h .run-nodes .1 }
 
-  module _ {row : ℕ} {l : Label × Place} {ts : Terms} (h : Term-in-table m places lengths T row (node l ts)) where
+  module _ {row : ℕ} {l : Label × Offset} {ts : Terms} (h : Term-in-table m places lengths T row (node l ts)) where
     pub held-parts : Run-in-table m places lengths T (row + 1) ts
     unfolding Each-node whole-code
     held-parts =
@@ -126,6 +126,6 @@ module _ {m places lengths T : List ℕ} where
         some-of e =
             let i : l .0 ≡ improper-list = kind-improper (l .0) (tag-kind (l .0) (l .1) 6 (omega arith) e) in
             let n : 0 < count (meanings ts) = improper-parts (l .0) (meanings ts) i (held-writable .fits) in
-            let c = count-relabels (λ (x : Label × Place). x .0) ts in
+            let c = count-relabels (λ (x : Label × Offset). x .0) ts in
             let d = held-count in
             omega arith

@@ -13,7 +13,7 @@ use borrow.Author.Tests.{ltb-true, eqb-true, eq-eqb, ne-eqb}
 use Rattle.term_spec.specs.Tree.{Forest, node, _▹_, count, sizes}
 use Rattle.term_spec.specs.Numbers.{in-bytes}
 use Rattle.term_spec.specs.Term.{Label, integer, float, atom, tuple, list, improper-list, binary, bitstring, map, pid, port, reference, export}
-use Rattle.term_spec.specs.Reading.{Place, Located}
+use Rattle.term_spec.specs.Reading.{Offset, Located}
 use Rattle.term_spec.specs.Message.{Terms, meanings}
 use Rattle.term_spec.specs.Rows.{kind-of, kind-in, parts-in}
 use Rattle.term_spec.specs.Canonical.{small, put, all-small}
@@ -92,7 +92,7 @@ code-some l c e n = go (small l) e
 module _ (m places lengths T : List ℕ) where
   -- a run of which there is more
   pub record Front (row : ℕ) (ts : Terms) : Type 0 where
-    pub label : Label × Place
+    pub label : Label × Offset
     pub parts : Terms
     pub others : Terms
     pub is : ts ≡ node label parts ▹ others
@@ -271,7 +271,7 @@ module _ {m places lengths T : List ℕ} where
   characters-end {row} {n} {at} {i} {cs} {O} {out} ts s l c e =
       let z : s .left ≡ [] = none-left (s .rest) (n - i) (s .left) (s .rest-count) (omega arith) (s .are) in
       let k : length cs ≡ count (meanings ts) = small-count (meanings ts) cs e in
-      let j = count-relabels (λ (x : Label × Place). x .0) ts in
+      let j = count-relabels (λ (x : Label × Offset). x .0) ts in
       record { past = omega arith; stored = sym (ap (λ (x : List ℕ). sets out (at + i) x) z) ∙ s .stored }
 
 -- ---- strings
@@ -302,7 +302,7 @@ as-empty l ts e = go (eqb (kind-of l) 5)
     go false = refl
 
 pub count-meanings : (ts : Terms) → count (meanings ts) ≡ count ts
-count-meanings ts = count-relabels (λ (x : Label × Place). x .0) ts
+count-meanings ts = count-relabels (λ (x : Label × Offset). x .0) ts
 
 -- what is written as a string is a list, and its characters are its elements
 pub as-inverse : (l : Label) (ts : Forest Label) (cs : List ℕ) → as-string l ts ≡ some cs → (l ≡ list) × (some-small (count ts) (all-small ts) ≡ some cs)
@@ -350,7 +350,7 @@ module _ {m places lengths T : List ℕ} {row : ℕ} where
       (as-list (l .0) (meanings ts) (tag-kind (l .0) (l .1) 5 (omega arith) (sym (held-kind h) ∙ sym e ∙ five))
       ∙ small-some (count (meanings ts)) (all-small (meanings ts)) (λ z. any (sym c ∙ sym (count-meanings ts) ∙ z))))
 
-  term-node : (t : Located) → Term-in-table m places lengths T row t → (l : Label × Place) × (ts : Terms) × Term-in-table m places lengths T row (node l ts)
+  term-node : (t : Located) → Term-in-table m places lengths T row t → (l : Label × Offset) × (ts : Terms) × Term-in-table m places lengths T row (node l ts)
   term-node (node l ts) h = (l, ts, h)
 
   pub term-below : Some-term m places lengths T row → row < length T

@@ -10,7 +10,7 @@ use lib.Seq.{sets}
 use Rattle.term_spec.specs.Tree.{Forest, node, _▹_, count, size, sizes}
 use Rattle.term_spec.specs.Numbers.{in-bytes}
 use Rattle.term_spec.specs.Term.{Label, Term}
-use Rattle.term_spec.specs.Reading.{Place, Located, meaning}
+use Rattle.term_spec.specs.Reading.{Offset, Located, meaning}
 use Rattle.term_spec.specs.Message.{Terms, meanings}
 use Rattle.term_spec.specs.Rows.{kind-of, parts-in, size-in}
 use Rattle.term_spec.specs.Canonical.{all-small, canonical, canonicals}
@@ -41,14 +41,14 @@ string-put n at cs {O} {P} {Q} {R} {r} p q w =
     put-then first (put-then second w)
 
 -- of a term that is written as a string
-pub record Strung (l : Label × Place) (ts : Terms) : Type 0 where
+pub record Strung (l : Label × Offset) (ts : Terms) : Type 0 where
   pub characters : List ℕ
   pub are : all-small (meanings ts) ≡ some characters
   pub bytes : canonical (node (l .0) (meanings ts)) ≡ 107 ∷ (in-bytes 2 (count ts) ++ characters)
 
 -- a term that is written part by part, and has room
 record Parts-fit (m places lengths T : List ℕ) (row room at : ℕ) : Type 0 where
-  label : Label × Place
+  label : Label × Offset
   parts : Terms
   held : Term-in-table m places lengths T row (node label parts)
   fits : at
@@ -56,13 +56,13 @@ record Parts-fit (m places lengths T : List ℕ) (row room at : ℕ) : Type 0 wh
       ≤ room
 
 module _ {m places lengths T : List ℕ} {row : ℕ} where
-  few-parts : {l : Label × Place} {ts : Terms} → Term-in-table m places lengths T row (node l ts) → count ts + 1 ≤ 8192
+  few-parts : {l : Label × Offset} {ts : Terms} → Term-in-table m places lengths T row (node l ts) → count ts + 1 ≤ 8192
   few-parts {l} {ts} h =
       let c : count ts ≤ sizes ts = count-le-sizes ts in
       let f : row + suc (sizes ts) ≤ 8192 = h .few in
       omega arith
 
-  pub strung : {l : Label × Place} {ts : Terms} → Term-in-table m places lengths T row (node l ts) → string-term (node l ts) ≡ true → Strung l ts
+  pub strung : {l : Label × Offset} {ts : Terms} → Term-in-table m places lengths T row (node l ts) → string-term (node l ts) ≡ true → Strung l ts
   unfolding string-term
   strung {l} {ts} h e =
       let o = some-told (as-string (l .0) (meanings ts)) e in
@@ -78,7 +78,7 @@ module _ {m places lengths T : List ℕ} {row : ℕ} where
       }
 
   -- of one that is written part by part
-  pub unstrung : {l : Label × Place} {ts : Terms} → Term-in-table m places lengths T row (node l ts) → string-term (node l ts) ≡ false
+  pub unstrung : {l : Label × Offset} {ts : Terms} → Term-in-table m places lengths T row (node l ts) → string-term (node l ts) ≡ false
       → canonical (node (l .0) (meanings ts))
       ≡ before-in m places lengths (getD T row 0) ++ (canonicals (meanings ts) ++ after-in m places lengths (getD T row 0))
   unfolding string-term kind-of
@@ -90,7 +90,7 @@ module _ {m places lengths T : List ℕ} {row : ℕ} where
       canonical-parts (l .0) (meanings ts) (held-writable h .fits) (λ f. sym (as-list (l .0) (meanings ts) (ap kind-of f)) ∙ no)
       ∙ ap₂ (λ (y : Label) (k : ℕ). before y k ++ (canonicals (meanings ts) ++ after y k)) x n
 
-  unstrung-length : {l : Label × Place} {ts : Terms} → Term-in-table m places lengths T row (node l ts) → string-term (node l ts) ≡ false
+  unstrung-length : {l : Label × Offset} {ts : Terms} → Term-in-table m places lengths T row (node l ts) → string-term (node l ts) ≡ false
       → length (canonical (node (l .0) (meanings ts)))
       ≡ length (before-in m places lengths (getD T row 0)) + (length (canonicals (meanings ts)) + length (after-in m places lengths (getD T row 0)))
   unstrung-length h e = rw (unstrung h e) (simp length-append)

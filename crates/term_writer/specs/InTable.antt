@@ -8,7 +8,7 @@ use Prim.Native.Nat.{ℕ, _+_, _≤_, _<_}
 use lib.Dec.{eqb}
 use Rattle.term_spec.specs.Tree.{Forest, count, size, sizes, Each-node, Each-nodes}
 use Rattle.term_spec.specs.Term.{Label, list}
-use Rattle.term_spec.specs.Reading.{Place, Located}
+use Rattle.term_spec.specs.Reading.{Offset, Located}
 use Rattle.term_spec.specs.Message.{Terms, meanings}
 use Rattle.term_spec.specs.Rows.{kind-of, kind-at, offset-of, whole-code, Tree-here, Rows-here}
 use Rattle.term_spec.specs.Canonical.{all-small}
@@ -16,14 +16,14 @@ use Rattle.term_spec.specs.Valid.{Fits}
 use Rattle.row_fields.specs.Found.{content-of}
 use Rattle.row_fields.specs.Meaning.{label-of}
 use Rattle.canonical_fields.specs.Shape.{some-small}
-use Rattle.canonical_fields.specs.Sound.{Sound, listed-in}
+use Rattle.canonical_fields.specs.Sound.{Sound-content, listed-in}
 
 module _ (m places lengths : List ℕ) where
   -- a node whose fields are found again, and that has a canonical form
-  pub record Writable (l : Label × Place) (ts : Terms) : Type 0 where
+  pub record Writable (l : Label × Offset) (ts : Terms) : Type 0 where
     pub near : offset-of (l .1) < 65536
     pub says : label-of m (listed-in places) (kind-at (l .0) (l .1)) (content-of m places lengths (kind-at (l .0) (l .1)) (offset-of (l .1))) ≡ l .0
-    pub sound : Sound m places (content-of m places lengths (kind-at (l .0) (l .1)) (offset-of (l .1)))
+    pub sound : Sound-content m places (content-of m places lengths (kind-at (l .0) (l .1)) (offset-of (l .1)))
     pub fits : Fits (l .0) (meanings ts)
     pub at-tag : l .0 ≡ list → kind-at (l .0) (l .1) ≡ 5
 

@@ -13,7 +13,7 @@ use Rattle.term_spec.specs.Text.{Checked, encodes}
 use Rattle.term_spec.specs.Term.{Label, list, bitstring}
 use Rattle.term_spec.specs.Answer.{good}
 use Rattle.term_spec.specs.Head.{Atoms, bits-rule, bits-meaning, clear-low}
-use Rattle.term_spec.specs.Reading.{Place, tag-at, character-at, Located, meaning}
+use Rattle.term_spec.specs.Reading.{Offset, tag-at, character-at, Located, meaning}
 use Rattle.term_spec.specs.AtomList.{AtomList, of-size, atoms-of}
 use Rattle.term_spec.specs.Message.{Framing, Terms, meanings, read}
 use Rattle.term_spec.specs.Rows.{kind-of, kind-at, offset-of, whole-code, table-after}
@@ -34,14 +34,14 @@ use Rattle.row_fields.proofs.Read.{label-inside}
 use Rattle.octets.specs.Parts.{stretch}
 use Rattle.layout.specs.Layout.{Inside}
 use Rattle.layout.proofs.Bodies.{length-bits}
-use Rattle.canonical_fields.specs.Sound.{Spelt, Sound, listed-in}
+use Rattle.canonical_fields.specs.Sound.{Spelt, Sound-content, listed-in}
 use Rattle.term_writer.specs.InTable.{Writable, Run-in-table}
 
 -- ---- every node is found again
 
 module _ (m : List ℕ) (cap : ℕ) (atoms : Atoms) where
   -- a list's place is its tag
-  pub label-tag : (place : Place) (x : Label) → Label-at m cap atoms place x → x ≡ list → kind-at x place ≡ 5
+  pub label-tag : (place : Offset) (x : Label) → Label-at m cap atoms place x → x ≡ list → kind-at x place ≡ 5
   unfolding kind-at kind-of
   label-tag (tag-at p) x h e = ap kind-of e
   label-tag (character-at p) x h e = let no-way : _≡_ {A = ℕ} 0 1 = cc in absurd (omega arith)
@@ -65,13 +65,13 @@ not-zero negative zero h e = let f : negative ≡ false = h refl in let no-way :
 not-zero negative (suc n) h e = omega arith
 
 module _ (m : List ℕ) (atoms : AtomList) (short : length m ≤ 65536) (fits : length (atoms .places) ≤ 65536) where
-  text-sound : (latin1 listed : Bool) (start n : ℕ) → contents.Sound m (atoms .places) (Text latin1 listed start n) → Sound m (atoms .places) (Text latin1 listed start n)
-  unfolding Sound
+  text-sound : (latin1 listed : Bool) (start n : ℕ) → contents.Sound m (atoms .places) (Text latin1 listed start n) → Sound-content m (atoms .places) (Text latin1 listed start n)
+  unfolding Sound-content
   text-sound latin1 true start n (h, r) = (record { there = h; few = omega arith }, λ e. spelt-by _ (subst (λ (z : Bool). Readable z (stretch (atoms .places) start n)) e r))
   text-sound latin1 false start n (h, r) = (record { there = h; few = omega arith }, λ e. spelt-by _ (subst (λ (z : Bool). Readable z (stretch m start n)) e r))
 
-  pub sound-by : (kind : ℕ) (c : Content) (ts : Forest Label) → contents.Sound m (atoms .places) c → Fits (label-of m atoms kind c) ts → Sound m (atoms .places) c
-  unfolding Sound label-of
+  pub sound-by : (kind : ℕ) (c : Content) (ts : Forest Label) → contents.Sound m (atoms .places) c → Fits (label-of m atoms kind c) ts → Sound-content m (atoms .places) c
+  unfolding Sound-content label-of
   sound-by kind Nothing ts h f = tt
   sound-by kind (Whole negative n) ts (_, h) f = not-zero negative n h
   sound-by kind (Big negative start n) ts (many, there, high) f = record { there = record { there = there; few = omega arith }; many = many; high = omega arith }
@@ -101,7 +101,7 @@ module _ (m : List ℕ) (atoms : AtomList) (short : length m ≤ 65536) (fits : 
   listed-alone kind (Reference c start n) = refl
 
   module _ (lent : Lent atoms m) (cap : ℕ) where
-    node-writable : (l : Label × Place) (ts : Terms) → Label-at m cap (atoms-of atoms) (l .1) (l .0) → Fits (l .0) (meanings ts) → Writable m (atoms .places) (atoms .lengths) l ts
+    node-writable : (l : Label × Offset) (ts : Terms) → Label-at m cap (atoms-of atoms) (l .1) (l .0) → Fits (l .0) (meanings ts) → Writable m (atoms .places) (atoms .lengths) l ts
     node-writable l ts h f =
         let k : ℕ = kind-at (l .0) (l .1) in
         let p : ℕ = offset-of (l .1) in

@@ -4,7 +4,7 @@ use native.Mathlib.Omega.{arith}
 use Rattle.term_spec.specs.Rows.{kind-in}
 use Rattle.row_fields.specs.Meaning.{label-of}
 use Rattle.row_fields.specs.declared.Content.{Content}
-use Rattle.canonical_fields.specs.Sound.{Sound, content-in}
+use Rattle.canonical_fields.specs.Sound.{Sound-content, content-in}
 use Rattle.canonical_fields.proofs.Leads.{sound-whole}
 use Rattle.characters.proofs.Characters.{code-by, other-content}
 use borrow.Author.Needs.{needs}
@@ -32,7 +32,7 @@ returns-2 : tie.Need-returns-2
 returns-2 c =
     let args = c .before .before .before .before .before .args in
     let e = c .before .content .ensures in
-    let s = subst (λ (d : Content). Sound (args .msg .now) (args .places .now) d) (sym e) (c .before .before .before .before .before .pre .sound) in
+    let s = subst (λ (d : Content). Sound-content (args .msg .now) (args .places .now) d) (sym e) (c .before .before .before .before .before .pre .sound) in
     let other = other-content (args .msg .now) (args .places .now) (kind-in (args .word)) _ (c .match .keys2) s (λ i. omega (arith, c .before .before .before .before .shared-slice-known .given i)) in
     (code-by (args .msg .now) (args .places .now) (kind-in (args .word)) (content-in (args .msg .now) (args .places .now) (args .lengths .now) (args .word)) _ (sym e) other, omega arith)
 

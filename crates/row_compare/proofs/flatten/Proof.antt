@@ -32,8 +32,8 @@ numbers-of-requires-3 c κs = search needs
 enum-known-c-4 : tie.Need-enum-known-c-4
 enum-known-c-4 c = search needs
 
-text-of-requires : tie.Need-text-of-requires
-text-of-requires c κs = search needs
+text-flat-requires : tie.Need-text-flat-requires
+text-flat-requires c κs = search needs
 
 enum-known-c-5 : tie.Need-enum-known-c-5
 enum-known-c-5 c = search needs
@@ -83,7 +83,7 @@ returns-4 c = c .numbers-of3 .ensures ∙ sym (ap flat-of (c .before .before .c3
 
 returns-5 : tie.Need-returns-5
 unfolding flat-of
-returns-5 c = c .text-of .ensures ∙ sym (ap flat-of (c .before .before .c4 .given .1))
+returns-5 c = c .text-flat .ensures ∙ sym (ap flat-of (c .before .before .c4 .given .1))
 
 returns-6 : tie.Need-returns-6
 unfolding flat-of
@@ -118,7 +118,7 @@ flatten-spec =
     enum-known-c-3
     numbers-of-requires-3
     enum-known-c-4
-    text-of-requires
+    text-flat-requires
     enum-known-c-5
     stretch-of-requires-2
     enum-known-c-6
