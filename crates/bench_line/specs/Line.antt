@@ -16,7 +16,7 @@ unfoldable pub hex : List ℕ → List ℕ
 hex [] = []
 hex (b ∷ bs) = glyph (b / 16) ∷ glyph (b % 16) ∷ hex bs
 
--- the decimal digits of n, with no leading zero; at most `most` of them
+-- the decimal digits of n in ASCII, with no leading zero; at most `most` of them
 unfoldable pub decimal-within : ℕ → ℕ → List ℕ
 decimal-within zero n = []
 decimal-within (suc most) n = elim (ltb n 10) [ true ↦ (48 + n) ∷ [] | false ↦ decimal-within most (n / 10) ++ ((48 + n % 10) ∷ []) ]
