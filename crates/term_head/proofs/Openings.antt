@@ -16,9 +16,8 @@ use Rattle.term_spec.proofs.Bridge.{byte-at, byte-end, number-at, number-end}
 use Rattle.term_spec.proofs.Holds.{Holds, done-holds, refused-holds}
 use Rattle.term_spec.proofs.Tests.{both-true, by-less}
 use Rattle.term_head.specs.declared.Wanted.{Wanted}
-use Rattle.term_head.specs.declared.Wanted.the-variants.{Any, Atom, Arity}
+use Rattle.term_head.specs.declared.Wanted.the-variants.{Any}
 use Rattle.term_head.specs.declared.Head.{Head}
-use Rattle.term_head.specs.declared.Head.the-variants.{Refused, Parts, Characters, Elements, Pairs}
 use Rattle.term_head.specs.declared.Opening.{Opening}
 use Rattle.term_head.specs.Code.{head-of, head-at, opening-of, opened-at, wanted-of, allowed, empty-at, Skipped}
 use Rattle.term_head.proofs.HeadFacts.{not-108}
@@ -139,21 +138,6 @@ unfolding opened-at head-of opening-of
 opened-is at (good x) = opened-head at (x .0) (x .1 .at)
 opened-is at (refused n p) = refl
 
-pub opened-other : (at : ℕ) (h : Head) → ((n p : ℕ) → h ≡ Refused n p → ⊥) → record { place = at; head = h } ≡ opened-at at h
-unfolding opened-at
-opened-other at (Refused n p) f = absurd (f n p refl)
-opened-other at (Parts k w c l next) f = refl
-opened-other at (Characters c next) f = refl
-opened-other at (Elements c next) f = refl
-opened-other at (Pairs c next) f = refl
-
--- no 108 stands where an atom or an arity is wanted
-not-any : (w : Wanted) → (w ≡ Any → ⊥) → allowed w 108 ≡ false
-unfolding allowed
-not-any Any f = absurd (f refl)
-not-any Atom f = refl
-not-any Arity f = refl
-
 module _ (atoms : Atoms) (m : List ℕ) (at rows : ℕ) (hd : Head) (r : Opening) where
   pub opening-any : (w : Wanted) (place : ℕ) → w ≡ Any → Skipped m at place → hd ≡ head-of (term-head atoms (wanted-of Any) (at-offset m place rows)) → r ≡ opened-at place hd
       → r ≡ opening-of (opening atoms (drop at m) (wanted-of w) (at-offset m at rows))
@@ -163,11 +147,10 @@ module _ (atoms : Atoms) (m : List ℕ) (at rows : ℕ) (hd : Head) (r : Opening
       let y = plain-opening atoms m place rows any (x .0) (x .1) (head-full m place atoms rows (s .stops)) in
       rw (e, g, f) (opened-is place (term-head atoms any (at-offset m place rows)) ∙ ap opening-of (sym (x .2 ∙ y)))
 
-  pub opening-only : (w : Wanted) → (w ≡ Any → ⊥) → hd ≡ head-of (term-head atoms (wanted-of w) (at-offset m at rows)) → r ≡ opened-at at hd
+  pub opening-only : (w : Wanted) → allowed w 108 ≡ false → hd ≡ head-of (term-head atoms (wanted-of w) (at-offset m at rows)) → r ≡ opened-at at hd
       → r ≡ opening-of (opening atoms (drop at m) (wanted-of w) (at-offset m at rows))
   opening-only w e f g =
       let y = plain-opening atoms m at rows (wanted-of w) (drop at m) (simp length-drop (omega arith)) (not-108 atoms m at rows w (λ a t.
       let b : allowed w 108 ≡ true = rw t at a in
-      let d : allowed w 108 ≡ false = not-any w e in
       let z : _≡_ {A = ℕ} 0 1 = cc in omega arith)) in
       rw (g, f) (opened-is at (term-head atoms (wanted-of w) (at-offset m at rows)) ∙ ap opening-of (sym y))

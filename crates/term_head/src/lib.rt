@@ -767,8 +767,38 @@ fn opened(at: usize, head: Head) -> Opening
     ensures { λ r. ⌜ r ≡ opened-at at head ⌝ }
 {
     match head {
-        Head::Refused { number, place } => Opening { place, head },
-        _ => Opening { place: at, head },
+        Head::Refused { number, place } => Opening {
+            place,
+            head: Head::Refused { number, place },
+        },
+        Head::Parts {
+            kind,
+            wanted,
+            count,
+            later,
+            next,
+        } => Opening {
+            place: at,
+            head: Head::Parts {
+                kind,
+                wanted,
+                count,
+                later,
+                next,
+            },
+        },
+        Head::Characters { count, next } => Opening {
+            place: at,
+            head: Head::Characters { count, next },
+        },
+        Head::Elements { count, next } => Opening {
+            place: at,
+            head: Head::Elements { count, next },
+        },
+        Head::Pairs { count, next } => Opening {
+            place: at,
+            head: Head::Pairs { count, next },
+        },
     }
 }
 
@@ -792,7 +822,8 @@ pub fn read_opening(
                 read_head(msg, n, places, lengths, place, Wanted::Any),
             )
         }
-        _ => opened(at, read_head(msg, n, places, lengths, at, wanted)),
+        Wanted::Atom => opened(at, read_head(msg, n, places, lengths, at, Wanted::Atom)),
+        Wanted::Arity => opened(at, read_head(msg, n, places, lengths, at, Wanted::Arity)),
     }
 }
 
