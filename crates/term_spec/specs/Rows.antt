@@ -62,6 +62,20 @@ whole-code (some n) = n + 1
 unfoldable pub pack : ℕ → ℕ → ℕ → ℕ → ℕ → ℕ
 pack kind offset whole parts size = kind + 2 ^ 4 * offset + 2 ^ 20 * whole + 2 ^ 34 * parts + 2 ^ 47 * size
 
+unfoldable pub word : Row → ℕ
+word r = pack (kind-at (r .label) (r .place)) (offset-of (r .place)) (whole-code (r .whole)) (r .parts) (r .size)
+
+unfoldable pub row-words : List Row → List ℕ
+row-words [] = []
+row-words (r ∷ rs) = word r ∷ row-words rs
+
+-- A lent table of that many words after a reading: the rows, all past them zero; all zero on any refusal
+unfoldable pub table-after : ℕ → Answer Terms → List ℕ
+table-after lent (good ts) = let ws : List ℕ = row-words (rows none 0 ts) in ws ++ replicate (lent - length ws) 0
+table-after lent (refused n p) = replicate lent 0
+
+-- ---- For proofs and inner functions alone: no promise of a public call and no demand cites what follows.
+
 -- the fields within their bits
 pub record Small-fields (kind offset whole parts size : ℕ) : Type 0 where
   pub small-kind : kind < 2 ^ 4
@@ -86,19 +100,7 @@ parts-in w = w / 2 ^ 34 % 2 ^ 13
 unfoldable pub size-in : ℕ → ℕ
 size-in w = w / 2 ^ 47 % 2 ^ 14
 
-unfoldable pub word : Row → ℕ
-word r = pack (kind-at (r .label) (r .place)) (offset-of (r .place)) (whole-code (r .whole)) (r .parts) (r .size)
-
-unfoldable pub row-words : List Row → List ℕ
-row-words [] = []
-row-words (r ∷ rs) = word r ∷ row-words rs
-
--- A lent table of that many words after a reading: the rows, all past them zero; all zero on any refusal
-unfoldable pub table-after : ℕ → Answer Terms → List ℕ
-table-after lent (good ts) = let ws : List ℕ = row-words (rows none 0 ts) in ws ++ replicate (lent - length ws) 0
-table-after lent (refused n p) = replicate lent 0
-
--- a term's place is below an offset
+-- a term stands below an offset
 abbrev pub Placed : ℕ → Label × Offset → Terms → Type 0
 Placed bound l ts = offset-of (l .1) < bound
 

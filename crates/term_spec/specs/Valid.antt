@@ -1,4 +1,5 @@
 -- Which trees are meanings of terms: what an accepted reading gives, and all that its canonical form needs.
+-- For proofs alone: no promise of a public call and no demand cites it.
 use mathlib.Core.Path.{_≡_}
 use mathlib.Core.Bool.{true, false}
 use mathlib.Core.List.{List, [], _∷_}
