@@ -16,12 +16,20 @@ ghost use Rattle.octets.specs.Cleared.{cleared};
 ghost use Rattle.term_reader.specs.Code.{Room};
 ghost use Rattle.reader.specs.Code.{first-refusal, rows-in, framing-of, Outermost-read, Message-read};
 
-// The slots for the keys of a message of at most SHORT bytes, and of a longer one.
-const SHORT: usize = 1024;
+// Messages of few, some and more bytes, each with as many slots as its keys may need and half as many again; a longer one has MOST_SLOTS.
+pub const FEW_BYTES: usize = 256;
 
-const SHORT_SLOTS: usize = 512;
+pub const SOME_BYTES: usize = 1024;
 
-const LONG_SLOTS: usize = 8192;
+const MORE_BYTES: usize = 4096;
+
+const FEW_SLOTS: usize = 128;
+
+const SOME_SLOTS: usize = 512;
+
+const MORE_SLOTS: usize = 2048;
+
+const MOST_SLOTS: usize = 8192;
 
 // How the terms of a message are set: as a standalone term, or as a payload.
 pub enum Framing {
@@ -159,40 +167,6 @@ fn framed_terms(
     }
 }
 
-// The terms of a short message: few slots for its keys, which are cleared in little time.
-fn short_terms(
-    msg: &[u8],
-    n: u8,
-    places: &[u8],
-    lengths: &[u16],
-    table: &mut [u64],
-    cap: usize,
-    framing: Framing,
-) -> ReadAnswer
-    requires { ⌜ Room (now msg) (lent-list n (now places) (now lengths)) (now table) cap 0 0 0 ⌝ }
-    ensures { λ r. ⌜ Message-read (framing-of framing) (now (msg .entry)) (lent-list n (now (places .entry)) (now (lengths .entry))) cap (now (table .entry)) r (now (table .exit)) ⌝ }
-{
-    let mut seen = [0u16; SHORT_SLOTS];
-    framed_terms(msg, n, places, lengths, table, &mut seen, cap, framing)
-}
-
-// The terms of a long message: twice as many slots as there are keys at most.
-fn long_terms(
-    msg: &[u8],
-    n: u8,
-    places: &[u8],
-    lengths: &[u16],
-    table: &mut [u64],
-    cap: usize,
-    framing: Framing,
-) -> ReadAnswer
-    requires { ⌜ Room (now msg) (lent-list n (now places) (now lengths)) (now table) cap 0 0 0 ⌝ }
-    ensures { λ r. ⌜ Message-read (framing-of framing) (now (msg .entry)) (lent-list n (now (places .entry)) (now (lengths .entry))) cap (now (table .entry)) r (now (table .exit)) ⌝ }
-{
-    let mut seen = [0u16; LONG_SLOTS];
-    framed_terms(msg, n, places, lengths, table, &mut seen, cap, framing)
-}
-
 // The refusal that comes before any byte is read: 13 for an atom list not of its size, 12 for a message too long, or 0.
 fn first_refusal(msg: &[u8], places: &[u8], lengths: &[u16]) -> u8
     ensures { λ r. ⌜ ((n : ℕ) → r ≡ first-refusal (lent-list n (now (places .entry)) (now (lengths .entry))) (now (msg .entry))) ⌝ }
@@ -222,8 +196,30 @@ fn settle(table: &mut [u64], answer: ReadAnswer) -> ReadAnswer
     }
 }
 
-// Reads the terms of a message that are set so into the table, with this atom list.
-fn read_framed(
+// Reads the terms of a message that are set so into the table, with this atom list and these slots for keys.
+fn read_with(
+    msg: &[u8],
+    n: u8,
+    places: &[u8],
+    lengths: &[u16],
+    table: &mut [u64],
+    seen: &mut [u16],
+    framing: Framing,
+) -> ReadAnswer
+    requires { ⌜ 0 < length (now seen) ⌝ }
+    ensures { λ r. ⌜ Read-call (framing-of framing) (lent-list n (now (places .entry)) (now (lengths .entry))) (now (msg .entry)) (now (table .entry)) r (now (table .exit)) ⌝ }
+{
+    let number = first_refusal(msg, places, lengths);
+    if number != 0 {
+        return settle(table, ReadAnswer::Refused(Refusal { number, place: 0 }));
+    }
+    let cap = term_reader::at_most(table.len(), sizes::ROWS_MOST);
+    let answer = framed_terms(msg, n, places, lengths, table, seen, cap, framing);
+    settle(table, answer)
+}
+
+// Reads a message with the slots that one of at most FEW_BYTES needs.
+pub fn read_few(
     msg: &[u8],
     n: u8,
     places: &[u8],
@@ -233,17 +229,31 @@ fn read_framed(
 ) -> ReadAnswer
     ensures { λ r. ⌜ Read-call (framing-of framing) (lent-list n (now (places .entry)) (now (lengths .entry))) (now (msg .entry)) (now (table .entry)) r (now (table .exit)) ⌝ }
 {
-    let number = first_refusal(msg, places, lengths);
-    if number != 0 {
-        return settle(table, ReadAnswer::Refused(Refusal { number, place: 0 }));
+    let mut seen = [0u16; FEW_SLOTS];
+    read_with(msg, n, places, lengths, table, &mut seen, framing)
+}
+
+// Reads a message with the slots that a longer one needs. Small messages do not come here, so their stack is free of them.
+pub fn read_larger(
+    msg: &[u8],
+    n: u8,
+    places: &[u8],
+    lengths: &[u16],
+    table: &mut [u64],
+    framing: Framing,
+) -> ReadAnswer
+    ensures { λ r. ⌜ Read-call (framing-of framing) (lent-list n (now (places .entry)) (now (lengths .entry))) (now (msg .entry)) (now (table .entry)) r (now (table .exit)) ⌝ }
+{
+    if msg.len() <= SOME_BYTES {
+        let mut seen = [0u16; SOME_SLOTS];
+        return read_with(msg, n, places, lengths, table, &mut seen, framing);
     }
-    let cap = term_reader::at_most(table.len(), sizes::ROWS_MOST);
-    if SHORT < msg.len() {
-        let answer = long_terms(msg, n, places, lengths, table, cap, framing);
-        return settle(table, answer);
+    if msg.len() <= MORE_BYTES {
+        let mut seen = [0u16; MORE_SLOTS];
+        return read_with(msg, n, places, lengths, table, &mut seen, framing);
     }
-    let answer = short_terms(msg, n, places, lengths, table, cap, framing);
-    settle(table, answer)
+    let mut seen = [0u16; MOST_SLOTS];
+    read_with(msg, n, places, lengths, table, &mut seen, framing)
 }
 
 // Reads a standalone term into the table, with this atom list.
@@ -256,7 +266,10 @@ pub fn read_standalone(
 ) -> ReadAnswer
     ensures { λ r. ⌜ Read-call standalone (lent-list n (now (places .entry)) (now (lengths .entry))) (now (msg .entry)) (now (table .entry)) r (now (table .exit)) ⌝ }
 {
-    read_framed(msg, n, places, lengths, table, Framing::Standalone)
+    if msg.len() <= FEW_BYTES {
+        return read_few(msg, n, places, lengths, table, Framing::Standalone);
+    }
+    read_larger(msg, n, places, lengths, table, Framing::Standalone)
 }
 
 // Reads the terms of a payload into the table, with this atom list.
@@ -269,5 +282,8 @@ pub fn read_payload(
 ) -> ReadAnswer
     ensures { λ r. ⌜ Read-call payload (lent-list n (now (places .entry)) (now (lengths .entry))) (now (msg .entry)) (now (table .entry)) r (now (table .exit)) ⌝ }
 {
-    read_framed(msg, n, places, lengths, table, Framing::Payload)
+    if msg.len() <= FEW_BYTES {
+        return read_few(msg, n, places, lengths, table, Framing::Payload);
+    }
+    read_larger(msg, n, places, lengths, table, Framing::Payload)
 }
