@@ -13,6 +13,7 @@ make(Dir) ->
     [write(Dir, ["small-", Name], [message(F, I) || I <- lists:seq(1, ?EACH)]) || {Name, F} <- small()],
     [write(Dir, io_lib:format("size-~s-~b", [Name, KB]), [sized(Kind, 1024 * KB)]) || {Name, Kind} <- kinds(), KB <- sizes(Kind)],
     [write(Dir, ["packet-", Name], packets(N, Flag)) || {Name, N, Flag} <- headers()],
+    write(Dir, "packet-4-fragments", lists:append([fragments(I) || I <- lists:seq(1, ?EACH div 4)])),
     ok.
 
 write(Dir, Name, Messages) ->
@@ -101,7 +102,7 @@ sizes(Kind) ->
     Most = byte_size(sized(Kind, ?BYTES_MOST)),
     [KB || KB <- [1, 2, 4, 8, 16, 32, 64], KB =:= 1 orelse 600 * KB < Most].
 
-%% ---- plain packets: a header of N references, all new or, after a first packet, all cached; a control message and a message
+%% ---- packets: a header of N references, all new or, after a first packet, all cached; a control message and a message
 
 headers() -> [{"no-references", 0, cached}, {"3-cached", 3, cached}, {"3-new", 3, new}, {"255-cached", 255, cached}].
 
@@ -109,10 +110,23 @@ packets(0, _) -> [packet(0, new, I, ?NODE_NAME) || I <- lists:seq(1, ?EACH)];
 packets(N, new) -> [packet(N, new, I, <<82, 0>>) || I <- lists:seq(1, ?EACH)];
 packets(N, cached) -> [packet(N, case I of 1 -> new; _ -> cached end, I, <<82, 0>>) || I <- lists:seq(1, ?EACH)].
 
-packet(N, Flag, I, Node) ->
+packet(N, Flag, I, Node) -> iolist_to_binary([131, 68, header(N, Flag), payload(I, Node)]).
+
+header(N, Flag) -> [N, flags(N, Flag), [entry(Flag, K) || K <- lists:seq(1, N)]].
+
+payload(I, Node) ->
     Control = [104, 4, 97, 6, 88, Node, <<I:32, 0:32, 7:32>>, 119, 0, 119, 6, "picker"],
     Message = [104, 3, 119, 4, "pick", 97, I rem 256, 109, <<10:32>>, sku(I)],
-    iolist_to_binary([131, 68, N, flags(N, Flag), [entry(Flag, K) || K <- lists:seq(1, N)], Control, Message]).
+    iolist_to_binary([Control, Message]).
+
+%% One payload in four fragments, whose ids count down to 1; the first has the header, of three references.
+fragments(I) ->
+    Payload = payload(I, <<82, 0>>),
+    Part = byte_size(Payload) div 4,
+    <<A:Part/binary, B:Part/binary, C:Part/binary, D/binary>> = Payload,
+    Flag = case I of 1 -> new; _ -> cached end,
+    [iolist_to_binary([131, 69, <<I:64, 4:64>>, header(3, Flag), A]) |
+     [iolist_to_binary([131, 70, <<I:64, Id:64>>, Bytes]) || {Id, Bytes} <- [{3, B}, {2, C}, {1, D}]]].
 
 flags(0, _) -> [];
 flags(N, Flag) ->

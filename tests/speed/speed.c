@@ -10,12 +10,12 @@
 #include "ikparumo.h"
 #include "libei.h"
 
-enum { MESSAGES_MOST = 1024, ROUNDS = 15, ROUNDS_SLOW = 2, OUTPUT_BYTES = 4 * BYTES_MOST };
+enum { MESSAGES_MOST = 1024, ROUNDS = 15, ROUNDS_SLOW = 2, WORKS_MOST = 9, OUTPUT_BYTES = 4 * BYTES_MOST };
 static const double LEAST_NS = 3e5, SLOW_NS = 2e7; /* a round lasts at least the one; rounds beyond the other are few */
 
 struct message {
     const uint8_t *bytes;
-    size_t size, rows;
+    size_t size, rows, atom;        /* the offset of its last atom, or 0 */
     uint64_t *table;                /* with exactly the rows that it needs */
     struct element *elements;       /* what libei decoded of it */
     size_t count;
@@ -51,11 +51,23 @@ static struct ik_write_reply write_with(const struct message *m, uint64_t *table
 static void read_exact(const struct message *m) { sink = read_with(m, m->table, m->rows).rows; }
 static void read_full(const struct message *m) { sink = read_with(m, full_table, IK_ROWS_MOST).rows; }
 static void read_libei(const struct message *m) { sink = (uint64_t)libei_decode(&reading, m->bytes, m->size); }
+static void number_last(const struct message *m)
+{
+    sink = ik_number_standalone(m->bytes, m->size, 0, places, sizeof places, lengths, IK_LIST_PLACES, m->rows - 1).kind;
+}
+static void text_last(const struct message *m)
+{
+    sink = ik_text_standalone(m->bytes, m->size, 0, places, sizeof places, lengths, IK_LIST_PLACES, m->atom).length;
+}
+static void mark_last(const struct message *m)
+{
+    sink = ik_mark_standalone(m->bytes, m->size, 0, places, sizeof places, lengths, IK_LIST_PLACES, m->atom).mark;
+}
 static void write_exact(const struct message *m) { sink = write_with(m, m->table, m->rows).length; }
 static void write_full(const struct message *m) { sink = write_with(m, full_table, IK_ROWS_MOST).length; }
 static void write_libei(const struct message *m) { sink = (uint64_t)libei_encode(m->elements, m->count, output); }
 
-/* ---- packets with headers */
+/* ---- packets: plain ones and fragments */
 
 static uint8_t cache[IK_CACHE_BYTES], gather[IK_GATHER_BYTES], plain_n, pending_n;
 static uint8_t plain_places[IK_LIST_BYTES], pending_places[IK_LIST_BYTES];
@@ -69,15 +81,38 @@ static struct ik_packet_reply take_packet(const struct message *m)
                      pending_lengths, IK_LIST_PLACES, &record, gather, sizeof gather);
 }
 
+/* Takes a packet and reads the payload that it is or ends, if any. */
 static struct ik_read_reply read_packet(const struct message *m, uint64_t *table, size_t rows)
 {
     struct ik_packet_reply p = take_packet(m);
-    return ik_read_payload(m->bytes + p.offset, p.length, plain_n, plain_places, sizeof plain_places, plain_lengths, IK_LIST_PLACES,
-                           table, rows);
+    if (p.kind == IK_PACKET_PLAIN)
+        return ik_read_payload(m->bytes + p.offset, p.length, plain_n, plain_places, sizeof plain_places, plain_lengths, IK_LIST_PLACES,
+                               table, rows);
+    if (p.kind == IK_PACKET_COMPLETE)
+        return ik_read_payload(gather, p.gathered, pending_n, pending_places, sizeof pending_places, pending_lengths, IK_LIST_PLACES,
+                               table, rows);
+    return (struct ik_read_reply){p.refusal, p.place, 0, 0};
 }
 
 static void packet_alone(const struct message *m) { sink = take_packet(m).length; }
 static void packet_read(const struct message *m) { sink = read_packet(m, m->table, m->rows).rows; }
+static void packet_reference(const struct message *m) { sink = ik_reference(1, m->bytes, m->size, 0).cache_place; }
+static void packet_place(const struct message *m)
+{
+    (void)m;
+    sink = ik_place(cache, sizeof cache, cache_lengths, IK_CACHE_PLACES, 1).length;
+}
+static void packet_drop(const struct message *m)
+{
+    (void)m;
+    record = (struct ik_pending){1, 2, 0};
+    sink = ik_drop(&record).refusal;
+}
+static void packet_reset(const struct message *m)
+{
+    (void)m;
+    sink = ik_reset(cache, sizeof cache, cache_lengths, IK_CACHE_PLACES, &record).refusal;
+}
 
 /* ---- measuring */
 
@@ -118,7 +153,7 @@ static int prepare(struct work *w)
 /* Alternating rounds: each work once in every round. */
 static void measure(struct work *works, size_t count)
 {
-    int rounds[8];
+    int rounds[WORKS_MOST];
     for (size_t k = 0; k < count; k++)
         rounds[k] = prepare(&works[k]);
     for (int r = 0; r < ROUNDS; r++)
@@ -169,7 +204,7 @@ static void load_messages(const char *path)
             fail(path, message_count, "bad file", n);
         uint8_t *own = memory(n);
         memcpy(own, b + 4, n);
-        messages[message_count++] = (struct message){own, n, 0, NULL, NULL, 0};
+        messages[message_count++] = (struct message){own, n, 0, 0, NULL, NULL, 0};
         byte_count += n;
         at += 4 + n;
     }
@@ -217,6 +252,9 @@ static void settle_terms(const char *name, const char *written)
             fail(name, i, "ik_read_standalone refuses it", r.refusal);
         m->rows = r.rows;
         m->table = memory(m->rows * sizeof *m->table);
+        for (size_t row = 0; row < m->rows; row++)
+            if (ik_row_kind(full_table[row]) == IK_KIND_ATOM)
+                m->atom = ik_row_offset(full_table[row]);
         struct ik_write_reply w = write_with(m, m->table, m->rows);
         if (w.refusal)
             fail(name, i, "ik_write_standalone refuses it", w.refusal);
@@ -236,15 +274,30 @@ static void settle_packets(const char *name)
     ik_reset(cache, sizeof cache, cache_lengths, IK_CACHE_PLACES, &record);
     for (size_t i = 0; i < message_count; i++) {
         struct message *m = &messages[i];
-        struct ik_packet_reply p = take_packet(m);
-        if (p.refusal || p.kind != IK_PACKET_PLAIN)
-            fail(name, i, "ik_packet refuses it", p.refusal);
         struct ik_read_reply r = read_packet(m, full_table, IK_ROWS_MOST);
         if (r.refusal)
-            fail(name, i, "ik_read_payload refuses it", r.refusal);
+            fail(name, i, "ik_packet or ik_read_payload refuses it", r.refusal);
         m->rows = r.rows;
         m->table = memory(m->rows * sizeof *m->table);
     }
+}
+
+static void measure_file(const char *corpus, const char *written, const char *name)
+{
+    char path[4096];
+    snprintf(path, sizeof path, "%s/%s", corpus, name);
+    load_messages(path);
+    if (strncmp(name, "packet-", 7) == 0) {
+        settle_packets(name);
+        measure_and_print(name, (struct work[]){{packet_alone, 0, 0}, {packet_read, 0, 0}, {packet_reference, 0, 0}, {packet_place, 0, 0},
+                                                {packet_drop, 0, 0}}, 5);
+        measure_and_print("reset", (struct work[]){{packet_reset, 0, 0}}, 1);
+        return;
+    }
+    settle_terms(name, written);
+    measure_and_print(name, (struct work[]){{read_exact, 0, 0}, {read_full, 0, 0}, {read_libei, 0, 0}, {write_exact, 0, 0},
+                                            {write_full, 0, 0}, {write_libei, 0, 0}, {number_last, 0, 0}, {text_last, 0, 0},
+                                            {mark_last, 0, 0}}, 9);
 }
 
 int main(int argc, char **argv)
@@ -252,18 +305,7 @@ int main(int argc, char **argv)
     if (argc < 3)
         return 2;
     ei_init();
-    for (int i = 3; i < argc; i++) {
-        char path[4096];
-        snprintf(path, sizeof path, "%s/%s", argv[1], argv[i]);
-        load_messages(path);
-        if (strncmp(argv[i], "packet-", 7) == 0) {
-            settle_packets(argv[i]);
-            measure_and_print(argv[i], (struct work[]){{packet_alone, 0, 0}, {packet_read, 0, 0}}, 2);
-            continue;
-        }
-        settle_terms(argv[i], argv[2]);
-        measure_and_print(argv[i], (struct work[]){{read_exact, 0, 0}, {read_full, 0, 0}, {read_libei, 0, 0}, {write_exact, 0, 0},
-                                                   {write_full, 0, 0}, {write_libei, 0, 0}}, 6);
-    }
+    for (int i = 3; i < argc; i++)
+        measure_file(argv[1], argv[2], argv[i]);
     return 0;
 }

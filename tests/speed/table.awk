@@ -8,11 +8,18 @@ FNR == NR { best(read_erlang, $2); best(write_erlang, $3); next }
 
 { first_pass = !($1 in bytes); bytes[$1] = $2; messages[$1] = $3 }
 
-$1 ~ /^packet-/ { if (first_pass) packets[++packet_count] = $1; best(alone, $4); best(with_reading, $5); next }
+$1 == "reset" { best(reset, $4); next }
+
+$1 ~ /^packet-/ {
+    if (first_pass) packets[++packet_count] = $1
+    best(alone, $4); best(with_reading, $5); best(reference, $6); best(place, $7); best(drop, $8)
+    next
+}
 
 {
     best(read_exact, $4); best(read_full, $5); best(read_libei, $6)
     best(write_exact, $7); best(write_full, $8); best(write_libei, $9)
+    best(number, $10); best(text, $11); best(mark, $12)
 }
 
 !first_pass { next }
@@ -51,15 +58,23 @@ function writing_line(shown, n,    again) {
         write_exact[n] / (read_erlang[n] + write_erlang[n])
 }
 
-function each_line(reading,    i, shown) {
-    for (i = 1; i <= small_count; i++) {
-        shown = small[i]
-        if (reading) reading_line(shown, shown); else writing_line(shown, shown)
-    }
-    for (i = 1; i <= kind_count; i++) {
-        shown = "large-" kinds[i]
-        if (reading) reading_line(shown, name_of(kinds[i], largest[kinds[i]])); else writing_line(shown, name_of(kinds[i], largest[kinds[i]]))
-    }
+function question_line(shown, n,    slowest) {
+    slowest = number[n] > text[n] ? number[n] : text[n]
+    if (mark[n] > slowest) slowest = mark[n]
+    printf "%-22s %7.0f %10.0f %10.0f %10.0f %10.0f %9.2f %9.2f %9.2f\n", shown, bytes[n] / messages[n], read_exact[n], number[n], text[n], mark[n], \
+        number[n] / read_exact[n], text[n] / read_exact[n], mark[n] / read_exact[n]
+    if (n ~ /^small-/) worst("questions", slowest / read_exact[n], shown)
+}
+
+function line(what, shown, n) {
+    if (what == "reading") reading_line(shown, n)
+    if (what == "writing") writing_line(shown, n)
+    if (what == "questions") question_line(shown, n)
+}
+
+function each_line(what,    i) {
+    for (i = 1; i <= small_count; i++) line(what, small[i], small[i])
+    for (i = 1; i <= kind_count; i++) line(what, "large-" kinds[i], name_of(kinds[i], largest[kinds[i]]))
 }
 
 # Nanoseconds a byte from 1 KB up to the largest size, which may be smaller than its heading: 8,192 rows end it.
@@ -85,20 +100,27 @@ function sizes(what, time,    i) {
 }
 
 END {
-    limit["libei"] = 1; limit["erlang"] = 0.5; limit["Reading"] = limit["Writing"] = 1.5
+    limit["libei"] = 1; limit["erlang"] = 0.5; limit["questions"] = 3; limit["Reading"] = limit["Writing"] = 1.5
     print "Reading, nanoseconds a message"
     printf "%-22s %7s %10s %10s %10s %10s %9s %9s %9s\n", "corpus", "bytes", "ours", "ours 8192", "libei", "b_to_term", "/libei", "/b_to_t", "8192/libei"
-    each_line(1)
+    each_line("reading")
     print "\nWriting, nanoseconds a message (ours reads and writes; libei and term_to_binary write elements or a term made before)"
     printf "%-22s %7s %10s %10s %10s %10s %9s %9s %9s %9s\n", "corpus", "bytes", "ours", "ours 8192", "libei", "term_to_b", "/libei", "/ei both", "/t_to_b", "/erl both"
-    each_line(0)
-    print "\nPlain packets with headers, nanoseconds a packet (libei and Erlang's functions take none)"
-    printf "%-22s %7s %10s %18s\n", "packets", "bytes", "ik_packet", "+ ik_read_payload"
-    for (i = 1; i <= packet_count; i++)
-        printf "%-22s %7.0f %10.0f %18.0f\n", packets[i], bytes[packets[i]] / messages[packets[i]], alone[packets[i]], with_reading[packets[i]]
+    each_line("writing")
+    print "\nQuestions, nanoseconds: the number of the last row, text and mark of the last atom, and each beside reading the message"
+    printf "%-22s %7s %10s %10s %10s %10s %9s %9s %9s\n", "corpus", "bytes", "reading", "number", "text", "mark", "number", "text", "mark"
+    each_line("questions")
+    print "\nPackets, nanoseconds a packet (libei and Erlang's functions take none); a payload is read where it is whole"
+    printf "%-22s %7s %10s %18s %13s %9s %8s\n", "packets", "bytes", "ik_packet", "+ ik_read_payload", "ik_reference", "ik_place", "ik_drop"
+    for (i = 1; i <= packet_count; i++) {
+        n = packets[i]
+        printf "%-22s %7.0f %10.0f %18.0f %13.0f %9.0f %8.0f\n", n, bytes[n] / messages[n], alone[n], with_reading[n], reference[n], place[n], drop[n]
+    }
+    printf "ik_reset: %.0f\n", reset["reset"]
     sizes("Reading", read_exact)
     sizes("Writing", write_exact)
-    printf "\nno slower than libei: %d of %d; at least twice as fast as binary_to_term: %d of %d\n", held["libei"], seen["libei"], held["erlang"], seen["erlang"]
+    printf "\nno slower than libei: %d of %d; at least twice as fast as binary_to_term: %d of %d; questions on small messages at most 3 times reading: %d of %d\n", \
+        held["libei"], seen["libei"], held["erlang"], seen["erlang"], held["questions"], seen["questions"]
     bent_all = (bent["Reading"] == "" ? "" : " reading" bent["Reading"]) (bent["Writing"] == "" ? "" : " writing" bent["Writing"])
     printf "linear: %s; reading at most %.2f times libei (%s), at most %.2f times binary_to_term (%s)\n", bent_all == "" ? "yes" : "no," bent_all, \
         worst_ratio["libei"], worst_name["libei"], worst_ratio["erlang"], worst_name["erlang"]

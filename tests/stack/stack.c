@@ -110,13 +110,6 @@ static void pid_in(int count)
     PUT(88, 100, 0, 1, 'n', 0, 0, 0, 1, 0, 0, 0, 2, 0, 0, 0, 3);
 }
 static void pids(void) { pid_in(wholes - 1); }
-static void long_pids(void) /* over 1,024 bytes: the reader then has more slots for keys */
-{
-    PUT(104, 2, 109, 0, 0, 4, 0);
-    for (int i = 0; i < 1024; i++)
-        PUT(0);
-    pid_in(wholes - 2);
-}
 static void joined(void)
 {
     for (int i = 0; i < 8191; i++)
@@ -138,8 +131,7 @@ static void wide(void)
 
 static const struct { const char *name; void (*build)(void); } builds[] = {
     {"tuples", in_tuples}, {"lists", in_lists}, {"improper tails", in_tails}, {"maps by value", in_maps}, {"maps by key", in_keys},
-    {"two equal keys", equal_keys}, {"a pid in tuples", pids}, {"the same after a long binary", long_pids},
-    {"8,191 joined tails", joined}, {"13,000 lists of length 0", wrapped}, {"8,191 parts", wide},
+    {"two equal keys", equal_keys}, {"a pid in tuples", pids}, {"8,191 joined tails", joined}, {"13,000 lists of length 0", wrapped}, {"8,191 parts", wide},
 };
 static const struct { const char *name; void (*run)(void); } on_terms[] = {
     {"ik_read_*", read_it}, {"ik_write_*", write_it}, {"ik_number_*", number_it}, {"ik_text_*", text_it}, {"ik_mark_*", mark_it},
@@ -148,28 +140,71 @@ static const struct { const char *name; void (*run)(void); } on_terms[] = {
 };
 #define EACH(i, array) (size_t i = 0; i < sizeof array / sizeof *array; i++)
 
+/* Sizes of messages: at least and at most so many bytes. */
+static const struct { const char *name; size_t least, most; } classes[] = {
+    {"up to 256 bytes", 0, 256}, {"up to 1,024", 257, 1024}, {"longer", 4097, IK_MESSAGE_MOST},
+};
+enum { CLASSES = sizeof classes / sizeof *classes };
+
 static int all;
 static size_t base;
 
-/* The most that this call takes over all messages, with so many levels. */
-static size_t most_of(size_t c, int levels)
+/* A message with this term and, where it is to be longer, a binary before it in a list. */
+static void put_message(size_t b, size_t padding)
+{
+    size = 0;
+    PUT(131);
+    if (padding > 0)
+        PUT(108, 0, 0, 0, 2, 109, 0, 0, (uint8_t)(padding >> 8), (uint8_t)padding);
+    for (size_t i = 0; i < padding; i++)
+        PUT(0);
+    builds[b].build();
+    if (padding > 0)
+        PUT(106);
+}
+
+/* A message of this class with at most so many levels, as many as fit. Answers 0 where none fits. */
+static int build_message(size_t b, size_t k, int levels)
+{
+    for (int most = levels - 1; most > 1; most--) {
+        wholes = most;
+        put_message(b, 0);
+        if (size < classes[k].least) {
+            wholes = most - 1;
+            put_message(b, classes[k].least);
+        }
+        if (size <= classes[k].most)
+            return 1;
+    }
+    return 0;
+}
+
+/* The most that this call takes over all messages of a class, with so many levels. */
+static size_t most_of(size_t c, size_t k, int levels)
 {
     size_t most = 0;
-    wholes = levels - 1;
     for EACH(b, builds) {
-        size = 0;
-        PUT(131);
-        builds[b].build();
+        if (!build_message(b, k, levels))
+            continue;
         size_t s = used(on_terms[c].run) - base;
         if (all)
-            printf("  %s, %d levels, %s: %zu (refusal %d)\n", on_terms[c].name, levels, builds[b].name, s, (int)refusal);
+            printf("  %s, %s, %s: %zu bytes, %zu of stack (refusal %d)\n", on_terms[c].name, classes[k].name, builds[b].name, size, s, (int)refusal);
         most = s > most ? s : most;
     }
     return most;
 }
 
-static const char *commas(size_t number, char *text)
+/* {ack, 1, ok} */
+static size_t of_ack(size_t c)
 {
+    size = 0;
+    PUT(131, 104, 3, 119, 3, 'a', 'c', 'k', 97, 1, 119, 2, 'o', 'k');
+    return used(on_terms[c].run) - base;
+}
+
+static const char *commas(size_t number)
+{
+    static char text[40];
     if (number < 1000)
         sprintf(text, "%zu", number);
     else
@@ -177,16 +212,27 @@ static const char *commas(size_t number, char *text)
     return text;
 }
 
+static void term_line(size_t c)
+{
+    size_t most[CLASSES], fewer = most_of(c, CLASSES - 1, 54);
+    for EACH(k, classes)
+        most[k] = most_of(c, k, 64);
+    printf("| `%s` | %s ", on_terms[c].name, commas(of_ack(c)));
+    for EACH(k, classes)
+        printf("| %s ", commas(most[k]));
+    printf("| %s |\n", commas((most[CLASSES - 1] - fewer) / 10));
+}
+
 int main(int count, char **words)
 {
-    char bytes[40], each[40];
     all = count > 1 && strcmp(words[1], "-v") == 0;
     base = used(nothing);
-    printf("| call | bytes | of these for each level |\n|---|---|---|\n");
-    for EACH(c, on_terms) {
-        size_t most = most_of(c, 64), fewer = most_of(c, 54);
-        printf("| `%s` | %s | %s |\n", on_terms[c].name, commas(most, bytes), commas((most - fewer) / 10, each));
-    }
+    printf("| call | `{ack, 1, ok}`, 14 bytes ");
+    for EACH(k, classes)
+        printf("| %s ", classes[k].name);
+    printf("| of these for each level |\n|---|---|---|---|---|---|\n");
+    for EACH(c, on_terms)
+        term_line(c);
     for EACH(i, cache_lengths)
         cache_lengths[i] = 0;
     size = 0; /* a header of 255 references */
@@ -195,7 +241,8 @@ int main(int count, char **words)
         PUT(i < 127 ? 0x88 : 0x08);
     for (int i = 0; i < 255; i++)
         PUT((uint8_t)i, 3, 'a', 'b', 'c');
+    printf("\n| call | bytes |\n|---|---|\n");
     for EACH(c, on_packets)
-        printf("| `%s` | %s | |\n", on_packets[c].name, commas(used(on_packets[c].run) - base, bytes));
+        printf("| `%s` | %s |\n", on_packets[c].name, commas(used(on_packets[c].run) - base));
     return 0;
 }

@@ -21,13 +21,13 @@ pub const FEW_BYTES: usize = 256;
 
 pub const SOME_BYTES: usize = 1024;
 
-const MORE_BYTES: usize = 4096;
+const MORE_BYTES: usize = 2048;
 
 const FEW_SLOTS: usize = 128;
 
 const SOME_SLOTS: usize = 512;
 
-const MORE_SLOTS: usize = 2048;
+const MORE_SLOTS: usize = 1024;
 
 const MOST_SLOTS: usize = 8192;
 
