@@ -1,3 +1,4 @@
 mod Characters
+mod Ascii
 mod Latin1
 pub mod Valid

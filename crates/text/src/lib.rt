@@ -1,13 +1,17 @@
 // Texts: whether bytes are a text in UTF-8 or Latin-1, and Latin-1 as UTF-8.
 ghost use mathlib.Core.Path.{_≡_};
+ghost use mathlib.Core.Bool.{true};
 ghost use Prim.Native.Nat.{_+_, _*_, _≤_, _<_};
 ghost use lib.ListN.{length, take, drop};
 ghost use lib.Seq.{sets};
 ghost use Rattle.term_spec.specs.Text.{_to_, holds, utf-8, latin-1, coding-of, check, encode, encodes};
 ghost use Rattle.term_spec.specs.Text as texts;
 ghost use Rattle.text.specs.Shown.{shown, is-valid};
-ghost use Rattle.text.specs.Characters.{due, Completes, CharacterAt};
+ghost use Rattle.text.specs.Characters.{due, Completes, CharacterAt, Ascii};
 use term_spec::sizes;
+
+// The highest bit of each of 8 bytes, which no ASCII character has.
+const HIGHEST_BITS: u64 = 0x8080808080808080;
 
 // The number of a text's characters, or the offset at which it fails.
 pub enum Checked {
@@ -91,6 +95,20 @@ fn character_at(s: &[u8], at: usize) -> Character
     Character::Fails(at)
 }
 
+// Whether the 8 bytes from `at` on are 8 ASCII characters, and so many more may begin after `count`.
+fn ascii_at(s: &[u8], at: usize, count: usize) -> bool
+    requires { ⌜ (at ≤ length (now s)) × (count ≤ 255) ⌝ }
+    ensures { λ r. ⌜ (r ≡ true → (count + 8 ≤ 255) × Ascii (now (s .entry)) at 8) ⌝ }
+{
+    if s.len() - at < 8 {
+        return false;
+    }
+    if sizes::CHARACTERS_MOST - count < 8 {
+        return false;
+    }
+    octets::big8(s, at) & HIGHEST_BITS == 0
+}
+
 // Whether `s` is a text in UTF-8 of at most 255 characters.
 fn check_utf8(s: &[u8]) -> Checked
     ensures { λ r. ⌜ r ≡ shown (check utf-8 (now (s .entry))) ⌝ }
@@ -98,6 +116,11 @@ fn check_utf8(s: &[u8]) -> Checked
     let mut at = 0;
     let mut count = 0;
     while at < s.len() {
+        if ascii_at(s, at, count) {
+            at += 8;
+            count += 8;
+            continue;
+        }
         if count == sizes::CHARACTERS_MOST {
             return Checked::Bad(at);
         }
