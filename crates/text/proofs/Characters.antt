@@ -4,7 +4,7 @@ use mathlib.Core.Bool.{Bool, true, false}
 use mathlib.Core.List.{List, [], _∷_}
 use mathlib.Core.Option.{none, some}
 use Prim.Native.Nat.{ℕ, zero, suc, _+_, _-_, _≤_, _<_}
-use native.Mathlib.Nat.{add-zero}
+use native.Mathlib.Nat.{add-zero, zero-add}
 use native.Mathlib.Numerals.{add-one}
 use native.Mathlib.Omega.{arith}
 use lib.ListN.{length, getD, drop, drop-of-length-le}
@@ -19,6 +19,7 @@ use Rattle.text.specs.declared.Checked.{Checked}
 use Rattle.text.specs.declared.Checked.the-variants.{Characters, Bad}
 use Rattle.text.specs.declared.Character.{Character}
 use Rattle.text.specs.declared.Character.the-variants.{Ends, Fails}
+use Rattle.text.proofs.Ascii.{ascii-rest}
 
 -- a character that is put down is one more
 put-down : (v : ℕ) (o : text.Checked) → shown (emit (begun v []) o) ≡ more 1 (shown o)
@@ -129,12 +130,6 @@ holds-low : (b : ℕ) → b < 0x80 → holds (0x00 to 0x7F) b ≡ true
 unfolding holds
 holds-low b h = rw (le-leb 0 b (omega arith), le-leb b 0x7F (omega arith))
 
-ascii-rest : {s : List ℕ} (at n : ℕ) → Ascii s at (suc n) → Ascii s (at + 1) n
-ascii-rest {s} at n a = record {
-  inside = omega (arith, a .inside);
-  low = λ i h. let e : at + suc i ≡ at + 1 + i = omega arith in rw e at (a .low (suc i) (omega arith));
-}
-
 -- Over the characters: `count` of them stand before offset `at`.
 abbrev pub Counted : List ℕ → ℕ → ℕ → Type 0
 Counted s count at = shown (check utf-8 s) ≡ more count (text-from s (255 - count) at)
@@ -167,21 +162,23 @@ module _ (s : List ℕ) where
           let less : 255 - (count + 1) ≡ 254 - count = omega arith in
           so-far ∙ rw (room, c .text-is (254 - count), less) (more-one count (text-from s (254 - count) next))
 
-  -- n ASCII bytes are n characters
-  ascii-character : (at n : ℕ) → Ascii s at (suc n) → CharacterAt s at (Ends (at + 1))
+  -- an ASCII byte is a character, and n of them are n
+  pub ascii-character : (at : ℕ) → at < length s → getD s at 0 < 0x80 → CharacterAt s at (Ends (at + 1))
   unfolding lines
-  ascii-character at n a =
-      let low : getD s at 0 < 0x80 = rw (add-zero at) at (a .low 0 (omega arith)) in
-      let inside : at < length s = omega (arith, a .inside) in
-      in-line s at inside 0 (0 to 0x7F) [] _ _ refl refl (holds-low _ low) (completes-none s at (at + 1) (omega arith))
+  ascii-character at h low = in-line s at h 0 (0x00 to 0x7F) [] _ _ refl refl (holds-low _ low) (completes-none s at (at + 1) (omega arith))
 
   pub counted-ascii : (n count at : ℕ) → Counted s count at → count + n ≤ 255 → Ascii s at n → Counted s (count + n) (at + n)
   counted-ascii zero count at so-far few a = rw (add-zero count, add-zero at) so-far
   counted-ascii (suc n) count at so-far few a =
       let next-count : count + suc n ≡ count + 1 + n = omega arith in
       let next-at : at + suc n ≡ at + 1 + n = omega arith in
-      let one : Counted s (count + 1) (at + 1) = counted-more count at so-far (omega arith) (λ e. omega arith) (at + 1) (ascii-character at n a) in
-      rw (next-count, next-at) (counted-ascii n (count + 1) (at + 1) one (omega arith) (ascii-rest at n a))
+      let r = ascii-rest s at n a in
+      let one : Counted s (count + 1) (at + 1)
+      = counted-more count at so-far (omega arith) (λ e. omega arith) (at + 1) (ascii-character at (omega (arith, a .inside)) (r .0)) in
+      rw (next-count, next-at) (counted-ascii n (count + 1) (at + 1) one (omega arith) (r .1))
+
+  pub counted-start : (n : ℕ) → n ≤ 255 → Ascii s 0 n → Counted s n n
+  counted-start n few a = rw (zero-add n) at (counted-ascii n 0 0 counted-none (omega arith) a)
 
   pub ends-inside : (at next : ℕ) → CharacterAt s at (Ends next) → (at < next) × (next ≤ length s)
   unfolding Within

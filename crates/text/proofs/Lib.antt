@@ -1,4 +1,4 @@
-mod Characters
 mod Ascii
+mod Characters
 mod Latin1
 pub mod Valid
