@@ -4,19 +4,22 @@ use mathlib.Core.Bool.{Bool, true, false}
 use mathlib.Core.List.{List, [], _∷_}
 use mathlib.Core.Option.{none, some}
 use Prim.Native.Nat.{ℕ, zero, suc, _+_, _-_, _≤_, _<_}
+use native.Mathlib.Nat.{add-zero, zero-add}
 use native.Mathlib.Numerals.{add-one}
 use native.Mathlib.Omega.{arith}
 use lib.ListN.{length, getD, drop, drop-of-length-le}
 use lib.Seq.{drop-cons}
+use borrow.Author.Tests.{le-leb}
 use Rattle.term_spec.specs.Text as text
 use Rattle.term_spec.specs.Text.{Range, _to_, holds, Line, line, lines, begun, first, valid, invalid-at, emit, decode, utf-8, check}
 use Rattle.term_spec.proofs.Text.{decode-first, between, pending}
 use Rattle.text.specs.Shown.{shown}
-use Rattle.text.specs.Characters.{more, text-from, onward, Within, due, Completes, CharacterAt}
+use Rattle.text.specs.Characters.{more, text-from, onward, Within, due, Completes, CharacterAt, Ascii}
 use Rattle.text.specs.declared.Checked.{Checked}
 use Rattle.text.specs.declared.Checked.the-variants.{Characters, Bad}
 use Rattle.text.specs.declared.Character.{Character}
 use Rattle.text.specs.declared.Character.the-variants.{Ends, Fails}
+use Rattle.text.proofs.Ascii.{ascii-rest}
 
 -- a character that is put down is one more
 put-down : (v : ℕ) (o : text.Checked) → shown (emit (begun v []) o) ≡ more 1 (shown o)
@@ -123,6 +126,10 @@ module _ (s : List ℕ) (at : ℕ) (h : at < length s) where
   unfolding first
   no-line left = character-none s at h left
 
+holds-low : (b : ℕ) → b < 0x80 → holds (0x00 to 0x7F) b ≡ true
+unfolding holds
+holds-low b h = rw (le-leb 0 b (omega arith), le-leb b 0x7F (omega arith))
+
 -- Over the characters: `count` of them stand before offset `at`.
 abbrev pub Counted : List ℕ → ℕ → ℕ → Type 0
 Counted s count at = shown (check utf-8 s) ≡ more count (text-from s (255 - count) at)
@@ -154,6 +161,24 @@ module _ (s : List ℕ) where
       counted-more next c =
           let less : 255 - (count + 1) ≡ 254 - count = omega arith in
           so-far ∙ rw (room, c .text-is (254 - count), less) (more-one count (text-from s (254 - count) next))
+
+  -- an ASCII byte is a character, and n of them are n
+  pub ascii-character : (at : ℕ) → at < length s → getD s at 0 < 0x80 → CharacterAt s at (Ends (at + 1))
+  unfolding lines
+  ascii-character at h low = in-line s at h 0 (0x00 to 0x7F) [] _ _ refl refl (holds-low _ low) (completes-none s at (at + 1) (omega arith))
+
+  pub counted-ascii : (n count at : ℕ) → Counted s count at → count + n ≤ 255 → Ascii s at n → Counted s (count + n) (at + n)
+  counted-ascii zero count at so-far few a = rw (add-zero count, add-zero at) so-far
+  counted-ascii (suc n) count at so-far few a =
+      let next-count : count + suc n ≡ count + 1 + n = omega arith in
+      let next-at : at + suc n ≡ at + 1 + n = omega arith in
+      let r = ascii-rest s at n a in
+      let one : Counted s (count + 1) (at + 1)
+      = counted-more count at so-far (omega arith) (λ e. omega arith) (at + 1) (ascii-character at (omega (arith, a .inside)) (r .0)) in
+      rw (next-count, next-at) (counted-ascii n (count + 1) (at + 1) one (omega arith) (r .1))
+
+  pub counted-start : (n : ℕ) → n ≤ 255 → Ascii s 0 n → Counted s n n
+  counted-start n few a = rw (zero-add n) at (counted-ascii n 0 0 counted-none (omega arith) a)
 
   pub ends-inside : (at next : ℕ) → CharacterAt s at (Ends next) → (at < next) × (next ≤ length s)
   unfolding Within

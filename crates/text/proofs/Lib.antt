@@ -1,3 +1,4 @@
+mod Ascii
 mod Characters
 mod Latin1
 pub mod Valid

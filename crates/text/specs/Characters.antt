@@ -2,8 +2,8 @@
 -- About the code alone, proved against the definitions of term_spec: nothing here has to be believed.
 use mathlib.Core.Path.{_≡_}
 use mathlib.Core.List.{List, [], _∷_}
-use Prim.Native.Nat.{ℕ, zero, suc, _+_, _≤_}
-use lib.ListN.{length, drop}
+use Prim.Native.Nat.{ℕ, zero, suc, _+_, _≤_, _<_}
+use lib.ListN.{length, getD, drop}
 use Rattle.term_spec.specs.Text.{Range, _to_, begun, emit, decode}
 use Rattle.text.specs.Shown.{shown}
 use Rattle.text.specs.declared.Checked.{Checked}
@@ -44,3 +44,8 @@ pub record Completes (s : List ℕ) (lead at : ℕ) (rs : List Range) (c : Chara
 pub record CharacterAt (s : List ℕ) (at : ℕ) (c : Character) : Type 0 where
   pub text-is : (room : ℕ) → text-from s (suc room) at ≡ onward s room c
   pub inside : Within s (at + 1) c
+
+-- the n bytes from offset `at` on are ASCII characters
+pub record Ascii (s : List ℕ) (at n : ℕ) : Type 0 where
+  pub inside : at + n ≤ length s
+  pub low : (i : ℕ) → i < n → getD s (at + i) 0 < 0x80

@@ -1,13 +1,17 @@
 // Texts: whether bytes are a text in UTF-8 or Latin-1, and Latin-1 as UTF-8.
 ghost use mathlib.Core.Path.{_≡_};
+ghost use mathlib.Core.Bool.{true};
 ghost use Prim.Native.Nat.{_+_, _*_, _≤_, _<_};
 ghost use lib.ListN.{length, take, drop};
 ghost use lib.Seq.{sets};
 ghost use Rattle.term_spec.specs.Text.{_to_, holds, utf-8, latin-1, coding-of, check, encode, encodes};
 ghost use Rattle.term_spec.specs.Text as texts;
 ghost use Rattle.text.specs.Shown.{shown, is-valid};
-ghost use Rattle.text.specs.Characters.{due, Completes, CharacterAt};
+ghost use Rattle.text.specs.Characters.{due, Completes, CharacterAt, Ascii};
 use term_spec::sizes;
+
+// The highest bits of 8 bytes: an ASCII character has none.
+const HIGHEST_BITS: u64 = 0x8080808080808080;
 
 // The number of a text's characters, or the offset at which it fails.
 pub enum Checked {
@@ -91,15 +95,52 @@ fn character_at(s: &[u8], at: usize) -> Character
     Character::Fails(at)
 }
 
+// Whether the 8 bytes from `at` on are ASCII characters: as one number, the first byte the lowest, they have no highest bit.
+fn ascii8(s: &[u8], at: usize) -> bool
+    requires { ⌜ at + 8 ≤ length (now s) ⌝ }
+    ensures { λ r. ⌜ (r ≡ true → Ascii (now (s .entry)) at 8) ⌝ }
+{
+    let mut word: u64 = 0;
+    let mut left = 8;
+    while 0 < left {
+        left -= 1;
+        word = word * 256 + s[at + left] as u64;
+    }
+    word & HIGHEST_BITS == 0
+}
+
+// The number of ASCII characters that stand from `at` on eight by eight, where `count` characters stand before them.
+fn ascii_run(s: &[u8], at: usize, count: usize) -> usize
+    requires { ⌜ (at ≤ length (now s)) × (count ≤ 255) ⌝ }
+    ensures { λ r. ⌜ (count + r ≤ 255) × Ascii (now (s .entry)) at r ⌝ }
+{
+    let mut n = 0;
+    while 8 <= s.len() - at - n {
+        if sizes::CHARACTERS_MOST - count - n < 8 {
+            return n;
+        }
+        if !ascii8(s, at + n) {
+            return n;
+        }
+        n += 8;
+    }
+    n
+}
+
 // Whether `s` is a text in UTF-8 of at most 255 characters.
 fn check_utf8(s: &[u8]) -> Checked
     ensures { λ r. ⌜ r ≡ shown (check utf-8 (now (s .entry))) ⌝ }
 {
-    let mut at = 0;
-    let mut count = 0;
+    let mut at = ascii_run(s, 0, 0);
+    let mut count = at;
     while at < s.len() {
         if count == sizes::CHARACTERS_MOST {
             return Checked::Bad(at);
+        }
+        if s[at] < 0x80 {
+            at += 1;
+            count += 1;
+            continue;
         }
         match character_at(s, at) {
             Character::Ends(next) => {
@@ -110,6 +151,9 @@ fn check_utf8(s: &[u8]) -> Checked
             }
         }
         count += 1;
+        let run = ascii_run(s, at, count);
+        at += run;
+        count += run;
     }
     Checked::Characters(count)
 }
