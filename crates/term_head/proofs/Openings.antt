@@ -36,10 +36,10 @@ module _ (m : List ℕ) (p : ℕ) where
   empty-count n h e f = rw (le-leb 5 (length m - p) h, eq-eqb (getD m p 0) 108 e, f)
 
   -- a 108 with n elements stands here
-  pub record List-of (n : ℕ) : Type 0 where
-    pub there : 5 ≤ length m - p
-    pub tag-is : getD m p 0 ≡ 108
-    pub count-is : n ≡ big-endian (take 4 (drop (p + 1) m))
+  record List-of (n : ℕ) : Type 0 where
+    there : 5 ≤ length m - p
+    tag-is : getD m p 0 ≡ 108
+    count-is : n ≡ big-endian (take 4 (drop (p + 1) m))
 
   empty-is : empty-at m p ≡ true → List-of 0
   unfolding empty-at
@@ -108,15 +108,20 @@ module _ (m : List ℕ) (p : ℕ) where
 
   -- ---- `elements_at`
 
+  no-elements : ((n : ℕ) → List-of n → n ≡ 0) → Elements-at m p 0
+  no-elements f =
+      record { inside = λ more. absurd (more refl); some = λ more. absurd (more refl); none = λ _ atoms rows k t e. f k (list-only atoms rows .known (elements k) t e k refl) }
+
   pub elements-short : length m - p < 5 → Elements-at m p 0
-  elements-short h = record { some = λ more. absurd (more refl); none = λ _ atoms rows k t e. let i = list-only atoms rows .known (elements k) t e k refl in absurd (omega (arith, i .there)) }
+  elements-short h = no-elements (λ n i. absurd (omega (arith, i .there)))
 
   pub elements-other : (getD m p 0 ≡ 108 → ⊥) → Elements-at m p 0
-  elements-other f = record { some = λ more. absurd (more refl); none = λ _ atoms rows k t e. absurd (f (list-only atoms rows .known (elements k) t e k refl .tag-is)) }
+  elements-other f = no-elements (λ n i. absurd (f (i .tag-is)))
 
   pub elements-count : (n : ℕ) → 5 ≤ length m - p → getD m p 0 ≡ 108 → n ≡ big-endian (take 4 (drop (p + 1) m)) → Elements-at m p n
   elements-count n h e f =
       record {
+        inside = λ _. omega arith;
         some = λ _ atoms rows. list-head atoms rows n (record { there = h; tag-is = e; count-is = f });
         none = λ z atoms rows k t d. list-only atoms rows .known (elements k) t d k refl .count-is ∙ sym f ∙ z;
       }
@@ -165,14 +170,25 @@ unfolding opened-at head-of opening-of
 opened-is at (good x) = opened-head at (x .0) (x .1 .at)
 opened-is at (refused n p) = refl
 
+-- past 108s of length 0 the first head is the opening
+module _ (atoms : Atoms) (m : List ℕ) (at place rows : ℕ) (s : Skipped m at place) where
+  pub skipped-head : Holds (term-head atoms any (at-offset m place rows)) (λ h _. empty-108 h ≡ false)
+  skipped-head = head-full m place atoms rows (s .stops)
+
+  pub skipped-opens : opening atoms (drop at m) any (at-offset m at rows) ≡ after (term-head atoms any (at-offset m place rows)) (λ h. done (place, h))
+  skipped-opens =
+      let x = s .opens atoms rows (drop at m) (simp length-drop (omega arith)) in
+      x .2 ∙ plain-opening atoms m place rows any (x .0) (x .1) skipped-head
+
+pub skipped-here : (m : List ℕ) (at place : ℕ) → Skipped m at place → Skipped m place place
+skipped-here m at place s = record { from = omega arith; inside = s .inside; stops = s .stops; opens = passed-none m place }
+
 module _ (atoms : Atoms) (m : List ℕ) (at rows : ℕ) (hd : Head) (r : Opening) where
   pub opening-any : (w : Wanted) (place : ℕ) → w ≡ Any → Skipped m at place → hd ≡ head-of (term-head atoms (wanted-of Any) (at-offset m place rows)) → r ≡ opened-at place hd
       → r ≡ opening-of (opening atoms (drop at m) (wanted-of w) (at-offset m at rows))
   unfolding wanted-of
   opening-any w place e s f g =
-      let x = s .opens atoms rows (drop at m) (simp length-drop (omega arith)) in
-      let y = plain-opening atoms m place rows any (x .0) (x .1) (head-full m place atoms rows (s .stops)) in
-      rw (e, g, f) (opened-is place (term-head atoms any (at-offset m place rows)) ∙ ap opening-of (sym (x .2 ∙ y)))
+      rw (e, g, f) (opened-is place (term-head atoms any (at-offset m place rows)) ∙ ap opening-of (sym (skipped-opens atoms m at place rows s)))
 
   pub opening-only : (w : Wanted) → allowed w 108 ≡ false → hd ≡ head-of (term-head atoms (wanted-of w) (at-offset m at rows)) → r ≡ opened-at at hd
       → r ≡ opening-of (opening atoms (drop at m) (wanted-of w) (at-offset m at rows))

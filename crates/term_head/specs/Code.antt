@@ -94,6 +94,7 @@ empty-at m at = leb 5 (length m - at) && eqb (getD m at 0) 108 && eqb (big-endia
 
 -- the number n of elements of a 108 that stands at an offset, 0 of any other term
 pub record Elements-at (m : List ℕ) (at n : ℕ) : Type 0 where
+  pub inside : (n ≡ 0 → ⊥) → at + 5 ≤ length m
   pub some : (n ≡ 0 → ⊥) → (atoms : head-spec.Atoms) (rows : ℕ) → term-head atoms any (at-offset m at rows) ≡ good (elements n, at-offset m (at + 5) rows)
   pub none : n ≡ 0 → (atoms : head-spec.Atoms) (rows k : ℕ) (t : Position) → term-head atoms any (at-offset m at rows) ≡ good (elements k, t) → k ≡ 0
 
