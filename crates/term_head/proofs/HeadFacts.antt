@@ -86,7 +86,7 @@ plain (new-reference-ext w) = true
 plain (atom-ext c w) = true
 plain (port-ext v w) = true
 
--- every head but that of a 108
+-- every head but a 108's
 abbrev pub no-108 : head-spec.Head → Bool
 no-108 (parts ws n l) = true
 no-108 (characters cs) = true

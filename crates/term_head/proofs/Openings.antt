@@ -1,4 +1,4 @@
--- A term's opening, from the 108s of length 0 that the code skips.
+-- A term's opening, from the 108s of length 0 that the code skips; the head of a list's tail, from its bytes.
 use mathlib.Core.Path.{_≡_, refl, sym, ap, _∙_}
 use mathlib.Core.Bool.{Bool, true, false, _&&_}
 use mathlib.Core.List.{List, [], _∷_}
@@ -52,13 +52,14 @@ module _ (m : List ℕ) (p : ℕ) where
   empty-inside e = let i = empty-is e in omega (arith, i .there)
 
   module _ (atoms : Atoms) (rows : ℕ) where
-    pub nil-head : p < length m → eqb (getD m p 0) 106 ≡ true → term-head atoms any (at-offset m p rows) ≡ good (characters [], at-offset m (p + 1) rows)
+    -- the head of a 106, and of a 108
+    pub nil-here : p < length m → eqb (getD m p 0) 106 ≡ true → term-head atoms any (at-offset m p rows) ≡ good (characters [], at-offset m (p + 1) rows)
     unfolding term-head form form-or form-in forms fields
-    nil-head inside e = rw (byte-at m p p rows inside, eqb-true (getD m p 0) 106 e)
+    nil-here inside e = rw (byte-at m p p rows inside, eqb-true (getD m p 0) 106 e)
 
-    list-head : (n : ℕ) → List-of n → term-head atoms any (at-offset m p rows) ≡ good (elements n, at-offset m (p + 5) rows)
+    list-here : (n : ℕ) → List-of n → term-head atoms any (at-offset m p rows) ≡ good (elements n, at-offset m (p + 5) rows)
     unfolding term-head form form-or form-in forms fields
-    list-head n i =
+    list-here n i =
         let there : 5 ≤ length m - p = i .there in
         rw (byte-at m p p rows (omega arith), i .tag-is, number-at m p 4 (p + 1) rows (omega arith), ← i .count-is)
         (ap (λ (k : ℕ). good (elements n, at-offset m k rows)) (omega arith))
@@ -68,9 +69,9 @@ module _ (m : List ℕ) (p : ℕ) where
         → (rest : List ℕ) × (length m - (p + 5) ≤ length rest) × (opening atoms bound any (at-offset m p rows) ≡ opening atoms rest any (at-offset m (p + 5) rows))
     unfolding opening
     empty-step [] h e = let i = empty-is e in absurd (omega (arith, i .there))
-    empty-step (b ∷ bound) h e = (bound, omega arith, rw (list-head 0 (empty-is e)))
+    empty-step (b ∷ bound) h e = (bound, omega arith, rw (list-here 0 (empty-is e)))
 
-    -- elements are those of a 108
+    -- no other head has elements
     list-only : Holds (term-head atoms any (at-offset m p rows)) (λ h _. (n : ℕ) → h ≡ elements n → List-of n)
     unfolding wanted-of term-head form form-or form-in forms fields
     list-only = go (eqb (getD m p 0) 108) refl
@@ -108,21 +109,21 @@ module _ (m : List ℕ) (p : ℕ) where
 
   -- ---- `elements_at`
 
-  no-elements : ((n : ℕ) → List-of n → n ≡ 0) → Elements-at m p 0
-  no-elements f =
+  elements-none : ((n : ℕ) → List-of n → n ≡ 0) → Elements-at m p 0
+  elements-none f =
       record { inside = λ more. absurd (more refl); some = λ more. absurd (more refl); none = λ _ atoms rows k t e. f k (list-only atoms rows .known (elements k) t e k refl) }
 
   pub elements-short : length m - p < 5 → Elements-at m p 0
-  elements-short h = no-elements (λ n i. absurd (omega (arith, i .there)))
+  elements-short h = elements-none (λ n i. absurd (omega (arith, i .there)))
 
   pub elements-other : (getD m p 0 ≡ 108 → ⊥) → Elements-at m p 0
-  elements-other f = no-elements (λ n i. absurd (f (i .tag-is)))
+  elements-other f = elements-none (λ n i. absurd (f (i .tag-is)))
 
   pub elements-count : (n : ℕ) → 5 ≤ length m - p → getD m p 0 ≡ 108 → n ≡ big-endian (take 4 (drop (p + 1) m)) → Elements-at m p n
   elements-count n h e f =
       record {
         inside = λ _. omega arith;
-        some = λ _ atoms rows. list-head atoms rows n (record { there = h; tag-is = e; count-is = f });
+        some = λ _ atoms rows. list-here atoms rows n (record { there = h; tag-is = e; count-is = f });
         none = λ z atoms rows k t d. list-only atoms rows .known (elements k) t d k refl .count-is ∙ sym f ∙ z;
       }
 

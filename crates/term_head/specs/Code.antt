@@ -92,7 +92,7 @@ allowed Arity tag = one-of tag (97 ∷ [])
 unfoldable pub empty-at : List ℕ → ℕ → Bool
 empty-at m at = leb 5 (length m - at) && eqb (getD m at 0) 108 && eqb (big-endian (take 4 (drop (at + 1) m))) 0
 
--- the number n of elements of a 108 that stands at an offset, 0 of any other term
+-- the number n of elements of the 108 that stands at an offset, or 0
 pub record Elements-at (m : List ℕ) (at n : ℕ) : Type 0 where
   pub inside : (n ≡ 0 → ⊥) → at + 5 ≤ length m
   pub some : (n ≡ 0 → ⊥) → (atoms : head-spec.Atoms) (rows : ℕ) → term-head atoms any (at-offset m at rows) ≡ good (elements n, at-offset m (at + 5) rows)

@@ -749,7 +749,7 @@ pub fn nil_at(msg: &[u8], at: usize) -> bool
     msg[at] == tags::NIL_EXT
 }
 
-// The number of elements of a 108 that stands here, 0 of any other term.
+// The number of elements of the 108 that stands here, or 0.
 pub fn elements_at(msg: &[u8], at: usize) -> usize
     requires { ⌜ at ≤ length (now msg) ⌝ }
     ensures { λ r. ⌜ Elements-at (now (msg .entry)) at r ⌝ }

@@ -68,7 +68,7 @@ pub record Head-read (m : List ℕ) (place : ℕ) (head : code.Head) : Type 0 wh
   pub is : head ≡ head-at h next
   pub sound : Sound-head m place next h
 
--- no 108 opens at an offset
+-- no 108 opens at an offset: a tail there is joined no further
 pub record Last-at (m : List ℕ) (at : ℕ) : Type 0 where
   pub no-elements : (atoms : Atoms) (rows place n : ℕ) (t : Position) → opening atoms (drop at m) any (at-offset m at rows) ≡ good ((place, elements n), t) → ⊥
 
@@ -164,7 +164,7 @@ module _ (m : List ℕ) (list : AtomList) (cap left at row whole : ℕ) (T S : L
     pub rows-stored : PartsDone m before cap row whole T (list-tail (atoms-of list) cap left (body (atoms-of list) cap left) (drop at m) (at-offset m at row)) r T′
     pub keys-kept : Keeps S S′
 
-  -- the same where no 108 opens, so that no tail is joined on: as far as the bytes left bound them
+  -- the same of a tail that is joined no further, by any bound as long as the bytes left
   pub record Last-read (before : ℕ) (r : Parts) (T′ S′ : List ℕ) : Type 0 where
     pub rows-stored : (bound : List ℕ) → length m - at ≤ length bound
         → PartsDone m before cap row whole T (list-tail (atoms-of list) cap left (body (atoms-of list) cap left) bound (at-offset m at row)) r T′
