@@ -2,12 +2,12 @@
 -- Whoever holds a row (an offset) can find its label from the message: keys are compared, and terms written, by this.
 use mathlib.Core.Path.{_≡_, refl, sym, _∙_, ap, subst}
 use mathlib.Core.Logic.{_⊎_, inl, inr}
-use mathlib.Core.Bool.{Bool, true, false, _&&_, _||_, not}
+use mathlib.Core.Bool.{Bool, true, false, _||_, not}
 use mathlib.Core.List.{List, [], _∷_}
 use mathlib.Core.Option.{Option, some}
 use Prim.Native.Nat.{ℕ, zero, suc, _+_, _<_}
 use native.Mathlib.Omega.{arith}
-use lib.Dec.{eqb, leb, ltb}
+use lib.Dec.{eqb, ltb}
 use borrow.Author.Tests.{eqb-true}
 use lib.IntN.{pos}
 use lib.ListN.{length, getD, drop}
@@ -15,10 +15,10 @@ use Rattle.term_spec.specs.Tree.{Forest, node, empty, _▹_, _▹▹_}
 use Rattle.term_spec.specs.Term.{Label, Term, integer, atom, list, improper-list, map}
 use Rattle.term_spec.specs.Equal.{among}
 use Rattle.term_spec.specs.Answer.{Answer, good, refused, Position, Reading, after, done, rule, byte, first-of, bytes, number}
-use Rattle.term_spec.specs.Head.{Atoms, Wanted, any, tagged, an-atom, one-of, leaf, Form, small-integer-ext, integer-ext, big-ext, new-float-ext, atom-ext, atom-cache-ref, tuple-ext, nil-ext, string-ext, list-ext, binary-ext, bit-binary-ext, map-ext, pid-ext, port-ext, new-reference-ext, reference-ext, export-ext, form, form-in, forms, form-or, fields, Head, parts, characters, elements, pairs, later, term-head, finite, bits-rule, text-or}
+use Rattle.term_spec.specs.Head.{Atoms, Wanted, any, tagged, an-atom, one-of, leaf, Form, atom-ext, atom-cache-ref, form, form-in, forms, form-or, fields, Head, parts, characters, elements, pairs, later, term-head, text-or}
 use Rattle.term_spec.specs.Text.{Coding, latin-1, utf-8, check}
 use Rattle.term_spec.specs.Reading.{Offset, tag-at, character-at, Located, meaning, empty-108, opening, one-term, row, body, contents, term, each, run, entries, string, list-tail}
-use Rattle.term_spec.proofs.Holds.{Holds, both, next, done-holds, refused-holds, weaken, skip}
+use Rattle.term_spec.proofs.Holds.{Holds, both, next, done-holds, refused-holds, weaken, skip, characters-hold}
 use Rattle.term_spec.proofs.Invariant.{In-step, on-byte, later-in-step, rule-in-step, head-in-step, row-in-step}
 
 -- the answer itself may be kept
@@ -164,28 +164,11 @@ module _ (message : List ℕ) (cap : ℕ) (atoms : Atoms) where
   On-chars p (pairs n) = Unit {0}
 
   fields-chars : (p : ℕ) (f : Form) (s : Position) → In-step message cap s → s .at ≡ p + 1 → Holds (fields atoms p f s) (λ h t. On-chars p h)
-  unfolding fields
-  fields-chars p small-integer-ext s i e = skip (number p 1 s) λ n t. done-holds _ t tt
-  fields-chars p integer-ext s i e = skip (number p 4 s) λ n t. done-holds _ t tt
-  fields-chars p new-float-ext s i e = skip (number p 8 s) λ n t. skip (rule (finite n) 4 p t) λ _ t. done-holds _ t tt
-  fields-chars p atom-cache-ref s i e = skip (number p 1 s) λ n t. skip (rule (ltb n (atoms .n)) 6 p t) λ _ t. skip (text-or (atoms .text n) 14 0 t) λ cs t. done-holds _ t tt
-  fields-chars p nil-ext s i e = done-holds _ s tt
-  fields-chars p string-ext s i e =
-      next (λ _ t. In-step message cap t × (t .at ≡ s .at + 2)) (number-moves p 2 s i) λ n t k.
-      next (λ bs u. In-step message cap u × Chars-at (t .at) bs) (bytes-are-there p n t (k .0)) λ bs u k′.
-      done-holds _ u (subst (λ (x : ℕ). Chars-at x bs) (omega (arith, k .1)) (k′ .1))
-  fields-chars p list-ext s i e = skip (number p 4 s) λ n t. done-holds _ t tt
-  fields-chars p binary-ext s i e = skip (number p 4 s) λ n t. skip (bytes p n t) λ bs t. done-holds _ t tt
-  fields-chars p bit-binary-ext s i e = skip (number p 4 s) λ n t. skip (number p 1 t) λ bits t. skip (bytes p n t) λ bs t. skip (rule (bits-rule n bits) 4 p t) λ _ t. done-holds _ t tt
-  fields-chars p map-ext s i e = skip (number p 4 s) λ n t. done-holds _ t tt
-  fields-chars p reference-ext s i e = done-holds _ s tt
-  fields-chars p export-ext s i e = done-holds _ s tt
-  fields-chars p (big-ext w) s i e = skip (number p w s) λ n t. skip (number p 1 t) λ sign t. skip (bytes p n t) λ ds t. skip (rule (leb sign 1) 4 p t) λ _ t. done-holds _ t tt
-  fields-chars p (atom-ext coding w) s i e = skip (number p w s) λ n t. skip (bytes p n t) λ bs t. skip (text-or (check coding bs) 5 p t) λ cs t. done-holds _ t tt
-  fields-chars p (tuple-ext w) s i e = skip (number p w s) λ n t. done-holds _ t tt
-  fields-chars p (pid-ext w) s i e = done-holds _ s tt
-  fields-chars p (new-reference-ext w) s i e = skip (number p 2 s) λ n t. skip (rule (leb 1 n && leb n 3) 4 p t) λ _ t. done-holds _ t tt
-  fields-chars p (port-ext v w) s i e = done-holds _ s tt
+  fields-chars p f s i e =
+      characters-hold atoms (λ h t. On-chars p h) (λ _ _ _ _. tt) (λ _ _. tt) (λ _ _. tt) p f s tt
+      (weaken (λ _ t. In-step message cap t × (t .at ≡ s .at + 2)) (number-moves p 2 s i) λ n t k.
+      weaken (λ bs u. In-step message cap u × Chars-at (t .at) bs) (bytes-are-there p n t (k .0)) λ bs u k′.
+      subst (λ (x : ℕ). Chars-at x bs) (omega (arith, k .1)) (k′ .1))
 
   head-chars : (w : Wanted) (s : Position) → In-step message cap s → Holds (term-head atoms w s) (λ h t. On-chars (s .at) h)
   unfolding term-head

@@ -47,7 +47,7 @@ module _ (cap : ℕ) (I : Position → Type 0)
   bytes-kept p zero s i = end [] s i
   bytes-kept p (suc n) s i = step (byte-kept p s i) λ b t i. step (bytes-kept p n t i) λ bs t i. end _ t i
 
-  number-kept : (p n : ℕ) (s : Position) → I s → Kept (number p n s)
+  pub number-kept : (p n : ℕ) (s : Position) → I s → Kept (number p n s)
   unfolding number
   number-kept p n s i = step (bytes-kept p n s i) λ bs t i. end _ t i
 
@@ -124,7 +124,7 @@ module _ (cap : ℕ) (I : Position → Type 0)
     unfolding term-head
     head-kept w s i = step (byte-kept (s .at) s i) λ tag t i. step (form-kept (s .at) w tag t i) λ f t i. fields-kept (s .at) f t i
 
-    pub opening-kept : (bound : List ℕ) (w : Wanted) (s : Position) → I s → Kept (opening atoms bound w s)
+    opening-kept : (bound : List ℕ) (w : Wanted) (s : Position) → I s → Kept (opening atoms bound w s)
     unfolding opening
     opening-kept [] w s i = no 2 _
     opening-kept (b ∷ bound) w s i = step (head-kept w s i) λ h t i. go h t i (empty-108 h) (opening-kept bound any t i)
