@@ -27,40 +27,40 @@ use Rattle.queries.specs.Promises.{Locate-call}
 use Rattle.queries.proofs.Numbers.{float-exact}
 use Rattle.queries.proofs.Rows.{bits-answered, numbers-are, texts-are}
 
+-- with a table that reads the message as one of 8,192 rows does
 module _ (framing : Framing) (list : AtomList) (m : List ℕ) (few : list .n ≤ 255) (under : Under 256 m) (lent : ℕ) (T : List ℕ) (r : ReadAnswer)
-    (all-rows : lent ≡ 8192) (answer : r ≡ read-answer (read framing list lent m)) (table : T ≡ table-after lent (read framing list lent m)) where
-  answer-is : r ≡ read-answer (read framing list 8192 m)
-  answer-is = rw all-rows at answer
-
-  table-is : T ≡ table-after 8192 (read framing list 8192 m)
-  table-is = rw all-rows at table
-
+    (same : read framing list lent m ≡ read framing list 8192 m) (call : r ≡ read-answer (read framing list lent m)) (table : T ≡ table-after lent (read framing list lent m)) where
   -- a row's number
   pub number-told : (row : ℕ) (x : NumberAnswer) → x ≡ numbered m (list .places) (list .lengths) T r row → x ≡ number-answer (number-in framing list m row)
   unfolding number-in number-answer row-number numbered read-answer
   number-told row x e =
       e
-      ∙ ap₂ (λ (t : List ℕ) (q : ReadAnswer). numbered m (list .places) (list .lengths) t q row) table-is answer-is
-      ∙ go (read framing list 8192 m) refl
+      ∙ ap₂ (λ (t : List ℕ) (q : ReadAnswer). numbered m (list .places) (list .lengths) t q row) table call
+      ∙ go (read framing list lent m) refl
+      ∙ ap (λ (o : Answer Terms). number-answer (row-number row o)) same
     where
-      go : (o : Answer Terms) → read framing list 8192 m ≡ o
-          → numbered m (list .places) (list .lengths) (table-after 8192 o) (read-answer o) row ≡ number-answer (row-number row o)
-      go (good ts) f = numbers-are list m ts few under (accepted-message framing list 8192 m under ts f) row
+      go : (o : Answer Terms) → read framing list lent m ≡ o
+          → numbered m (list .places) (list .lengths) (table-after lent o) (read-answer o) row ≡ number-answer (row-number row o)
+      go (good ts) f = numbers-are list m ts few under lent (accepted-message framing list lent m under ts f) row
       go (refused n p) f = refl
 
   -- where an atom's text stands
   pub text-told : (at : ℕ) (x : TextAt) → x ≡ located m (list .places) (list .lengths) T r at → Locate-call framing list m at x
   unfolding text-in atom-text text-at located read-answer Text-inside
   text-told at x e =
-      let f : x ≡ located m (list .places) (list .lengths) (table-after 8192 (read framing list 8192 m)) (read-answer (read framing list 8192 m)) at
-      = e ∙ ap₂ (λ (t : List ℕ) (q : ReadAnswer). located m (list .places) (list .lengths) t q at) table-is answer-is in
-      let k = go (read framing list 8192 m) refl in
-      record { text-located = f ∙ k .0; text-inside = subst (Text-inside m (list .places)) (sym f) (k .1) }
+      let f : x ≡ found (read framing list lent m)
+      = e ∙ ap₂ (λ (t : List ℕ) (q : ReadAnswer). located m (list .places) (list .lengths) t q at) table call in
+      let k = go (read framing list lent m) refl in
+      record {
+        text-located = f ∙ k .0 ∙ ap (λ (o : Answer Terms). text-at (atom-text m list at o)) same;
+        text-inside = subst (Text-inside m (list .places)) (sym f) (k .1);
+      }
     where
-      go : (o : Answer Terms) → read framing list 8192 m ≡ o
-          → (located m (list .places) (list .lengths) (table-after 8192 o) (read-answer o) at ≡ text-at (atom-text m list at o))
-          × Text-inside m (list .places) (located m (list .places) (list .lengths) (table-after 8192 o) (read-answer o) at)
-      go (good ts) f = texts-are list m ts few under (accepted-message framing list 8192 m under ts f) at
+      found : Answer Terms → TextAt
+      found o = located m (list .places) (list .lengths) (table-after lent o) (read-answer o) at
+
+      go : (o : Answer Terms) → read framing list lent m ≡ o → (found o ≡ text-at (atom-text m list at o)) × Text-inside m (list .places) (found o)
+      go (good ts) f = texts-are list m ts few under lent (accepted-message framing list lent m under ts f) at
       go (refused n p) f = (refl, tt)
 
 -- for the reader of the promise, used by no proof: the float that a row's number answers has exactly the 64 bits of its term, as encoded back

@@ -176,9 +176,9 @@ module _ (at : ℕ) where
         by-kind true f false g k ih = ih k
         by-kind false f u g k ih = ih k
 
--- ---- over an accepted message
+-- ---- over a message that is accepted with `most` rows lent
 
-module _ (list : AtomList) (m : List ℕ) (ts : Terms) (few : list .n ≤ 255) (under : Under 256 m) (a : Accepted-message list 8192 m ts) where
+module _ (list : AtomList) (m : List ℕ) (ts : Terms) (few : list .n ≤ 255) (under : Under 256 m) (most : ℕ) (a : Accepted-message list most m ts) where
   lent : Lent list m
   lent = record { sized = a .sized; few = few; under = under }
 
@@ -186,13 +186,13 @@ module _ (list : AtomList) (m : List ℕ) (ts : Terms) (few : list .n ≤ 255) (
   all = rows option.none 0 ts
 
   abbrev T : List ℕ
-  T = table-after 8192 (good ts)
+  T = table-after most (good ts)
 
-  held : Rows-in-table m (min 8192 8192) (atoms-of list) T option.none 0 ts
-  held = held-rows list 8192 m ts a
+  held : Rows-in-table m (min 8192 most) (atoms-of list) T option.none 0 ts
+  held = held-rows list most m ts a
 
-  all-backed : Each-row (Backed-row m (min 8192 8192) (atoms-of list)) all
-  all-backed = backed-rows m (min 8192 8192) (atoms-of list) option.none 0 ts (held .all-backed)
+  all-backed : Each-row (Backed-row m (min 8192 most) (atoms-of list)) all
+  all-backed = backed-rows m (min 8192 most) (atoms-of list) option.none 0 ts (held .all-backed)
 
   abbrev found-at : ℕ → Content
   found-at w = content-of m (list .places) (list .lengths) (kind-in w) (offset-in w)
@@ -204,13 +204,13 @@ module _ (list : AtomList) (m : List ℕ) (ts : Terms) (few : list .n ≤ 255) (
       let r : Row = getD all i d in
       let k : i < length all = rw (length-rows option.none 0 ts) h in
       let small : Small-row r = each-row-at Small-row all i d k (held .all-small) in
-      let backed : Backed-row m (min 8192 8192) (atoms-of list) r = each-row-at (Backed-row m (min 8192 8192) (atoms-of list)) all i d k all-backed in
+      let backed : Backed-row m (min 8192 most) (atoms-of list) r = each-row-at (Backed-row m (min 8192 most) (atoms-of list)) all i d k all-backed in
       let fit : Bits-fit (r .label) = each-row-at (λ q. Bits-fit (q .label)) all i d k (fit-rows option.none 0 ts (allowed-valid (meanings ts) (a .known .all-allowed))) in
       let w : Word-of r (word r) = word-packed r small in
       let kind : ℕ = kind-at (r .label) (r .place) in
       let c : Content = content-of m (list .places) (list .lengths) kind (offset-of (r .place)) in
-      let says : Says list m kind (offset-of (r .place)) (r .label) = content-says list m lent (min 8192 8192) (r .label) (r .place) backed in
-      let same : found-at (getD T i 0) ≡ c = ap found-at (table-row 8192 ts i d h) ∙ ap₂ (content-of m (list .places) (list .lengths)) (w .kind-is) (w .offset-is) in
+      let says : Says list m kind (offset-of (r .place)) (r .label) = content-says list m lent (min 8192 most) (r .label) (r .place) backed in
+      let same : found-at (getD T i 0) ≡ c = ap found-at (table-row most ts i d h) ∙ ap₂ (content-of m (list .places) (list .lengths)) (w .kind-is) (w .offset-is) in
       number-within i all d k
       ∙ ap number-of (sym (says .means))
       ∙ content-is list m kind c (says .sound) (λ bits e. fit bits (sym (says .means) ∙ e) .1)
@@ -233,9 +233,9 @@ module _ (list : AtomList) (m : List ℕ) (ts : Terms) (few : list .n ≤ 255) (
   atom-says : (at : ℕ) → atom-at at all ≡ true → (said at ≡ text-at (good (text-of m list at))) × Text-inside m (list .places) (said at)
   unfolding text-at kind-at offset-of kind-of
   atom-says at e =
-      let b = atom-backed at (λ p l. Label-at m (min 8192 8192) (atoms-of list) p l) all all-backed e in
-      let s : Says list m 3 at (atom (b .0)) = content-says list m lent (min 8192 8192) (atom (b .0)) (tag-at at) (b .1) in
-      let t = atom-tag list m (min 8192 8192) (atom (b .0)) at (b .1) refl in
+      let b = atom-backed at (λ p l. Label-at m (min 8192 most) (atoms-of list) p l) all all-backed e in
+      let s : Says list m 3 at (atom (b .0)) = content-says list m lent (min 8192 most) (atom (b .0)) (tag-at at) (b .1) in
+      let t = atom-tag list m (min 8192 most) (atom (b .0)) at (b .1) refl in
       (content-stands list m (b .0) at (t .0) (t .1) (s .means), said-inside m (list .places) at _ (s .sound))
 
   pub texts-are : (at : ℕ) → (located m (list .places) (list .lengths) T (read-answer (good ts)) at ≡ text-at (atom-text m list at (good ts)))

@@ -1,15 +1,20 @@
 // Two questions on a message: a row's number, and an atom's text with its mark.
 ghost use mathlib.Core.Path.{_≡_};
-ghost use Prim.Native.Nat.{_<_};
+ghost use Prim.Native.Nat.{_≤_, _<_};
 ghost use lib.IntN.{pos, negsuc};
+ghost use lib.ListN.{length};
 ghost use Rattle.term_spec.specs.Answers.{number-case};
 ghost use Rattle.term_spec.specs.Message.{standalone, payload};
+ghost use Rattle.reader.specs.Code.{framing-of};
 ghost use Rattle.queries.specs.Code.{signed-number, float-number, content-number, numbered, atom-row, atom-among, text-said, located, mark-at, bytes-at};
 ghost use Rattle.queries.specs.Promises.{Text-inside, Number-call, Locate-call, Text-call, Mark-call};
 ghost use Rattle.term_spec.specs.AtomList.{lent-list};
 use map_keys::row_at;
-use reader::read_payload;
-use reader::read_standalone;
+use reader::FEW_BYTES;
+use reader::Framing;
+use reader::SOME_BYTES;
+use reader::read_few;
+use reader::read_larger;
 use row::kind_in;
 use row::offset_in;
 use row_fields::Content;
@@ -240,6 +245,108 @@ fn bytes_at<'a>(msg: &'a [u8], places: &'a [u8], t: TextAt) -> &'a [u8]
     }
 }
 
+// The number of a row of a message of at most FEW_BYTES, with a table of a row for each byte.
+fn number_few(
+    msg: &[u8],
+    n: u8,
+    places: &[u8],
+    lengths: &[u16],
+    row: usize,
+    framing: Framing,
+) -> NumberAnswer
+    requires { ⌜ length (now msg) ≤ 256 ⌝ }
+    ensures { λ r. ⌜ Number-call (framing-of framing) (lent-list n (now (places .entry)) (now (lengths .entry))) (now (msg .entry)) row r ⌝ }
+{
+    let mut table = [0u64; FEW_BYTES];
+    let read = read_few(msg, n, places, lengths, &mut table, framing);
+    numbered(msg, places, lengths, &table, read, row)
+}
+
+// The number of a row of a message of at most SOME_BYTES, with a table of a row for each byte.
+fn number_some(
+    msg: &[u8],
+    n: u8,
+    places: &[u8],
+    lengths: &[u16],
+    row: usize,
+    framing: Framing,
+) -> NumberAnswer
+    requires { ⌜ length (now msg) ≤ 1024 ⌝ }
+    ensures { λ r. ⌜ Number-call (framing-of framing) (lent-list n (now (places .entry)) (now (lengths .entry))) (now (msg .entry)) row r ⌝ }
+{
+    let mut table = [0u64; SOME_BYTES];
+    let read = read_larger(msg, n, places, lengths, &mut table, framing);
+    numbered(msg, places, lengths, &table, read, row)
+}
+
+// The number of a row of a message of any length, with a table of 8,192 rows.
+fn number_many(
+    msg: &[u8],
+    n: u8,
+    places: &[u8],
+    lengths: &[u16],
+    row: usize,
+    framing: Framing,
+) -> NumberAnswer
+    ensures { λ r. ⌜ Number-call (framing-of framing) (lent-list n (now (places .entry)) (now (lengths .entry))) (now (msg .entry)) row r ⌝ }
+{
+    let mut table = [0u64; sizes::ROWS_MOST];
+    let read = read_larger(msg, n, places, lengths, &mut table, framing);
+    numbered(msg, places, lengths, &table, read, row)
+}
+
+// Where the text stands of the atom at this offset of a message of at most FEW_BYTES, with a table of a row for each byte.
+fn locate_few(
+    msg: &[u8],
+    n: u8,
+    places: &[u8],
+    lengths: &[u16],
+    at: usize,
+    framing: Framing,
+) -> TextAt
+    requires { ⌜ length (now msg) ≤ 256 ⌝ }
+    ensures { λ r. ⌜ Locate-call (framing-of framing) (lent-list n (now (places .entry)) (now (lengths .entry))) (now (msg .entry)) at r ⌝ }
+{
+    let mut table = [0u64; FEW_BYTES];
+    let read = read_few(msg, n, places, lengths, &mut table, framing);
+    located(msg, places, lengths, &table, read, at)
+}
+
+// Where the text stands of the atom at this offset of a message of at most SOME_BYTES, with a table of a row for each byte.
+fn locate_some(
+    msg: &[u8],
+    n: u8,
+    places: &[u8],
+    lengths: &[u16],
+    at: usize,
+    framing: Framing,
+) -> TextAt
+    requires { ⌜ length (now msg) ≤ 1024 ⌝ }
+    ensures { λ r. ⌜ Locate-call (framing-of framing) (lent-list n (now (places .entry)) (now (lengths .entry))) (now (msg .entry)) at r ⌝ }
+{
+    let mut table = [0u64; SOME_BYTES];
+    let read = read_larger(msg, n, places, lengths, &mut table, framing);
+    located(msg, places, lengths, &table, read, at)
+}
+
+// Where the text stands of the atom at this offset of a message of any length, with a table of 8,192 rows.
+fn locate_many(
+    msg: &[u8],
+    n: u8,
+    places: &[u8],
+    lengths: &[u16],
+    at: usize,
+    framing: Framing,
+) -> TextAt
+    ensures { λ r. ⌜ Locate-call (framing-of framing) (lent-list n (now (places .entry)) (now (lengths .entry))) (now (msg .entry)) at r ⌝ }
+{
+    let mut table = [0u64; sizes::ROWS_MOST];
+    let read = read_larger(msg, n, places, lengths, &mut table, framing);
+    located(msg, places, lengths, &table, read, at)
+}
+
+// Each public call picks the size itself: what has two callers stays a function of its own, and a small message has a small stack.
+
 // The number of a row of a standalone term, with this atom list.
 pub fn number_standalone(
     msg: &[u8],
@@ -250,18 +357,26 @@ pub fn number_standalone(
 ) -> NumberAnswer
     ensures { λ r. ⌜ Number-call standalone (lent-list n (now (places .entry)) (now (lengths .entry))) (now (msg .entry)) row r ⌝ }
 {
-    let mut table = [0u64; sizes::ROWS_MOST];
-    let read = read_standalone(msg, n, places, lengths, &mut table);
-    numbered(msg, places, lengths, &table, read, row)
+    if msg.len() <= FEW_BYTES {
+        return number_few(msg, n, places, lengths, row, Framing::Standalone);
+    }
+    if msg.len() <= SOME_BYTES {
+        return number_some(msg, n, places, lengths, row, Framing::Standalone);
+    }
+    number_many(msg, n, places, lengths, row, Framing::Standalone)
 }
 
 // Where the text stands of the atom whose tag is at this offset of a standalone term.
 pub fn locate_standalone(msg: &[u8], n: u8, places: &[u8], lengths: &[u16], at: usize) -> TextAt
     ensures { λ r. ⌜ Locate-call standalone (lent-list n (now (places .entry)) (now (lengths .entry))) (now (msg .entry)) at r ⌝ }
 {
-    let mut table = [0u64; sizes::ROWS_MOST];
-    let read = read_standalone(msg, n, places, lengths, &mut table);
-    located(msg, places, lengths, &table, read, at)
+    if msg.len() <= FEW_BYTES {
+        return locate_few(msg, n, places, lengths, at, Framing::Standalone);
+    }
+    if msg.len() <= SOME_BYTES {
+        return locate_some(msg, n, places, lengths, at, Framing::Standalone);
+    }
+    locate_many(msg, n, places, lengths, at, Framing::Standalone)
 }
 
 // The text of the atom whose tag is at this offset of a standalone term, empty where refused.
@@ -288,18 +403,26 @@ pub fn mark_standalone(msg: &[u8], n: u8, places: &[u8], lengths: &[u16], at: us
 pub fn number_payload(msg: &[u8], n: u8, places: &[u8], lengths: &[u16], row: usize) -> NumberAnswer
     ensures { λ r. ⌜ Number-call payload (lent-list n (now (places .entry)) (now (lengths .entry))) (now (msg .entry)) row r ⌝ }
 {
-    let mut table = [0u64; sizes::ROWS_MOST];
-    let read = read_payload(msg, n, places, lengths, &mut table);
-    numbered(msg, places, lengths, &table, read, row)
+    if msg.len() <= FEW_BYTES {
+        return number_few(msg, n, places, lengths, row, Framing::Payload);
+    }
+    if msg.len() <= SOME_BYTES {
+        return number_some(msg, n, places, lengths, row, Framing::Payload);
+    }
+    number_many(msg, n, places, lengths, row, Framing::Payload)
 }
 
 // Where the text stands of the atom whose tag is at this offset of a payload.
 pub fn locate_payload(msg: &[u8], n: u8, places: &[u8], lengths: &[u16], at: usize) -> TextAt
     ensures { λ r. ⌜ Locate-call payload (lent-list n (now (places .entry)) (now (lengths .entry))) (now (msg .entry)) at r ⌝ }
 {
-    let mut table = [0u64; sizes::ROWS_MOST];
-    let read = read_payload(msg, n, places, lengths, &mut table);
-    located(msg, places, lengths, &table, read, at)
+    if msg.len() <= FEW_BYTES {
+        return locate_few(msg, n, places, lengths, at, Framing::Payload);
+    }
+    if msg.len() <= SOME_BYTES {
+        return locate_some(msg, n, places, lengths, at, Framing::Payload);
+    }
+    locate_many(msg, n, places, lengths, at, Framing::Payload)
 }
 
 // The text of the atom whose tag is at this offset of a payload, empty where refused.

@@ -1,37 +1,37 @@
 -- `locate_standalone` meets its contract.
-use mathlib.Core.Path.{refl}
-use native.Mathlib.Omega.{arith}
 use borrow.Author.Needs.{needs}
-use Rattle.term_spec.specs.Message.{standalone}
-use Rattle.term_spec.proofs.Text.{under-all}
-use Rattle.queries.proofs.Calls.{text-told}
+use Rattle.reader.specs.Code.{framing-of}
 use Rattle.queries.proofs.locate_standalone.Statement.{statement}
-use Rattle.term_spec.specs.AtomList.{lent-list}
 use Rattle.queries.proofs.locate_standalone.Tie as tie
 
-slice-aggregate-read-standalone : tie.Need-slice-aggregate-read-standalone
-slice-aggregate-read-standalone c = search needs
-
-read-standalone-requires : tie.Need-read-standalone-requires
-read-standalone-requires c κs = search needs
-
-slice-aggregate-located : tie.Need-slice-aggregate-located
-slice-aggregate-located c = search needs
-
-located-requires : tie.Need-located-requires
-located-requires c κs = search needs
+locate-few-requires : tie.Need-locate-few-requires
+locate-few-requires c κs = c .if1 .taken
 
 returns : tie.Need-returns
-returns c =
-    let a = c .before .before .before .before .before .before .before .before .args in
-    text-told standalone (lent-list (a .n) (a .places .now) (a .lengths .now)) (a .msg .now) (omega arith) (under-all (a .msg .now) (λ i _. omega (arith, c .before .before .before .before .before .before .before .shared-slice-known .given i))) _ _ _ refl (c .before .before .before .read-standalone .ensures .read-answered) (c .before .before .before .read-standalone .ensures .table-left) _ _ (c .located .ensures)
+unfolding framing-of
+returns c = c .locate-few .ensures
+
+locate-some-requires : tie.Need-locate-some-requires
+locate-some-requires c κs = c .if2 .taken
+
+returns-2 : tie.Need-returns-2
+unfolding framing-of
+returns-2 c = c .locate-some .ensures
+
+locate-many-requires : tie.Need-locate-many-requires
+locate-many-requires c κs = search needs
+
+returns-3 : tie.Need-returns-3
+unfolding framing-of
+returns-3 c = c .locate-many .ensures
 
 pub locate-standalone-spec : {M : Type 1} → statement M
 locate-standalone-spec =
     tie.close
     (tie.spec
-    slice-aggregate-read-standalone
-    read-standalone-requires
-    slice-aggregate-located
-    located-requires
-    returns)
+    locate-few-requires
+    returns
+    locate-some-requires
+    returns-2
+    locate-many-requires
+    returns-3)
