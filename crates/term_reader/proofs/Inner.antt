@@ -306,7 +306,7 @@ module _ (atoms : Atoms) (cap deep : ℕ) (m : List ℕ) (at row : ℕ) where
         )
 
     -- characters end a proper list
-    pub tail-string : (bound : List ℕ) → length m - at ≤ length bound → (cs : List ℕ) → o .h ≡ characters cs
+    tail-string : (bound : List ℕ) → length m - at ≤ length bound → (cs : List ℕ) → o .h ≡ characters cs
         → Tail bound ≡ inner atoms cap deep place (characters cs) (at-offset m (o .next) row)
     unfolding list-tail inner wanted-of
     tail-string [] h cs e =
@@ -315,7 +315,7 @@ module _ (atoms : Atoms) (cap deep : ℕ) (m : List ℕ) (at row : ℕ) where
     tail-string (b ∷ bound) h cs e = rw (o .is, e)
 
     -- any other tail is the last part
-    pub tail-other : (bound : List ℕ) → length m - at ≤ length bound → ((n : ℕ) → o .h ≡ elements n → ⊥) → ((cs : List ℕ) → o .h ≡ characters cs → ⊥)
+    tail-other : (bound : List ℕ) → length m - at ≤ length bound → ((n : ℕ) → o .h ≡ elements n → ⊥) → ((cs : List ℕ) → o .h ≡ characters cs → ⊥)
         → Tail bound ≡ after (body atoms cap deep place (o .h) (at-offset m (o .next) row)) (λ t. done (t ▹ empty, improper-list))
     unfolding list-tail wanted-of
     tail-other [] h no-list no-string =
@@ -429,33 +429,32 @@ module _ (atoms : Atoms) (cap deep : ℕ) (m : List ℕ) (at row whole before : 
   unfolding Done
   last-none R n p U e f bound h = rw (tail-refused atoms cap deep m at row bound n p h (opened-refused atoms m at row (wanted-of Any) R n p e f))
 
-  module _ {place : ℕ} {head : code.Head} (o : Opened-at atoms m at row (wanted-of Any) place head) where
-    module _ (no : Last-at m at) (other : (n next : ℕ) → head ≡ heads.Characters n next → ⊥) (r : Step) (T′ : List ℕ)
-        (d : TermDone m cap row whole T (body atoms cap deep place (o .h) (at-offset m (o .next) row)) r T′) where
-      last-is : (bound : List ℕ) → length m - at ≤ length bound
-          → list-tail atoms cap deep (body atoms cap deep) bound (at-offset m at row) ≡ after (body atoms cap deep place (o .h) (at-offset m (o .next) row)) (λ t. done (t ▹ empty, improper-list))
-      unfolding head-at wanted-of
-      last-is bound h =
-          tail-other atoms cap deep m at row o bound h
-          (λ n e. no .no-elements atoms row place n (at-offset m (o .next) row) (o .is ∙ ap (λ (x : Head). good ((place, x), at-offset m (o .next) row)) e))
-          (λ cs e. other (length cs) (o .next) (o .head-is ∙ ap (λ (x : Head). head-at x (o .next)) e))
+  module _ {place : ℕ} {head : code.Head} (o : Opened-at atoms m at row (wanted-of Any) place head) (no : Last-at m at) (other : (n next : ℕ) → head ≡ heads.Characters n next → ⊥) (r : Step) (T′ : List ℕ)
+      (d : TermDone m cap row whole T (body atoms cap deep place (o .h) (at-offset m (o .next) row)) r T′) where
+    last-is : (bound : List ℕ) → length m - at ≤ length bound
+        → list-tail atoms cap deep (body atoms cap deep) bound (at-offset m at row) ≡ after (body atoms cap deep place (o .h) (at-offset m (o .next) row)) (λ t. done (t ▹ empty, improper-list))
+    unfolding head-at wanted-of
+    last-is bound h =
+        tail-other atoms cap deep m at row o bound h
+        (λ n e. no .no-elements atoms row place n (at-offset m (o .next) row) (o .is ∙ ap (λ (x : Head). good ((place, x), at-offset m (o .next) row)) e))
+        (λ cs e. other (length cs) (o .next) (o .head-is ∙ ap (λ (x : Head). head-at x (o .next)) e))
 
-      pub last-refused : (k p : ℕ) (U : List ℕ) → r ≡ step.Refused k p → Last-done (parts-of.Refused k p) U
-      unfolding Done
-      last-refused k p U e bound h = rw (last-is bound h, step-refused _ _ _ m cap row T (body atoms cap deep place (o .h) (at-offset m (o .next) row)) r T′ k p e d)
+    pub last-refused : (k p : ℕ) (U : List ℕ) → r ≡ step.Refused k p → Last-done (parts-of.Refused k p) U
+    unfolding Done
+    last-refused k p U e bound h = rw (last-is bound h, step-refused _ _ _ m cap row T (body atoms cap deep place (o .h) (at-offset m (o .next) row)) r T′ k p e d)
 
-      pub last-got : (next end : ℕ) → r ≡ step.Got next end → Last-done (parts-of.Got next end (before + 1) 6) T′
-      unfolding Done rows Each-node kind-of
-      last-got next end e bound h =
-          let f = step-found size (λ t. row-words (tree-rows (whole-of whole) row t)) (Each-node (Placed 65536)) m cap row T (body atoms cap deep place (o .h) (at-offset m (o .next) row)) r T′ next end e d in
-          let a : end ≡ row + (size (f .x) + 0) = omega (arith, f .rows-are) in
-          rw (last-is bound h, f .is) (
-            ap (λ (k : ℕ). parts-of.Got next k (before + 1) 6) a,
-            record {
-              table-is = f .table-is ∙ ap (λ (rs : List Row). sets T row (row-words rs)) (sym (append-nil (tree-rows (whole-of whole) row (f .x))));
-              stands = ap (λ (k : ℕ). at-offset m next k) a;
-              near = f .near;
-              room = omega (arith, f .room);
-              from = (f .from, tt);
-            },
-          )
+    pub last-got : (next end : ℕ) → r ≡ step.Got next end → Last-done (parts-of.Got next end (before + 1) 6) T′
+    unfolding Done rows Each-node kind-of
+    last-got next end e bound h =
+        let f = step-found size (λ t. row-words (tree-rows (whole-of whole) row t)) (Each-node (Placed 65536)) m cap row T (body atoms cap deep place (o .h) (at-offset m (o .next) row)) r T′ next end e d in
+        let a : end ≡ row + (size (f .x) + 0) = omega (arith, f .rows-are) in
+        rw (last-is bound h, f .is) (
+          ap (λ (k : ℕ). parts-of.Got next k (before + 1) 6) a,
+          record {
+            table-is = f .table-is ∙ ap (λ (rs : List Row). sets T row (row-words rs)) (sym (append-nil (tree-rows (whole-of whole) row (f .x))));
+            stands = ap (λ (k : ℕ). at-offset m next k) a;
+            near = f .near;
+            room = omega (arith, f .room);
+            from = (f .from, tt);
+          },
+        )
