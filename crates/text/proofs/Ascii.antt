@@ -15,7 +15,7 @@ module _ (s : List ℕ) where
   ascii-none at h = record { inside = omega arith; low = λ i l. absurd (omega arith) }
 
   -- one more in front, or taken off
-  pub ascii-first : (at n : ℕ) → getD s at 0 < 0x80 → at < length s → Ascii s (at + 1) n → Ascii s at (suc n)
+  ascii-first : (at n : ℕ) → getD s at 0 < 0x80 → at < length s → Ascii s (at + 1) n → Ascii s at (suc n)
   ascii-first at n h k a = record { inside = omega (arith, a .inside); low = go }
     where
       go : (i : ℕ) → i < suc n → getD s (at + i) 0 < 0x80
@@ -40,7 +40,7 @@ module _ (s : List ℕ) where
       rw f (ascii-first at (n + m) (r .0) (omega (arith, a .inside)) (ascii-join n (at + 1) m (r .1) (rw e at b)))
 
 -- the highest bit of each of n bytes
-abbrev pub highest : ℕ → ℕ
+abbrev highest : ℕ → ℕ
 highest zero = 0
 highest (suc n) = highest n * 256 + 0x80
 

@@ -95,7 +95,7 @@ fn character_at(s: &[u8], at: usize) -> Character
     Character::Fails(at)
 }
 
-// Whether the 8 bytes from `at` on are ASCII characters: as one number, the first byte the lowest, they have no highest bit.
+// Whether the 8 bytes from `at` on are ASCII characters. They are one number, the first byte the lowest, which is loaded at once.
 fn ascii8(s: &[u8], at: usize) -> bool
     requires { ⌜ at + 8 ≤ length (now s) ⌝ }
     ensures { λ r. ⌜ (r ≡ true → Ascii (now (s .entry)) at 8) ⌝ }
@@ -109,7 +109,7 @@ fn ascii8(s: &[u8], at: usize) -> bool
     word & HIGHEST_BITS == 0
 }
 
-// The number of ASCII characters that stand from `at` on eight by eight, where `count` characters stand before them.
+// The number of ASCII characters that stand from `at` on, eight by eight; with the `count` before them at most 255.
 fn ascii_run(s: &[u8], at: usize, count: usize) -> usize
     requires { ⌜ (at ≤ length (now s)) × (count ≤ 255) ⌝ }
     ensures { λ r. ⌜ (count + r ≤ 255) × Ascii (now (s .entry)) at r ⌝ }
