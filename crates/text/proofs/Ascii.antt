@@ -31,13 +31,16 @@ module _ (s : List ℕ) where
     },
   )
 
-  pub ascii-join : (n at m : ℕ) → Ascii s at n → Ascii s (at + n) m → Ascii s at (n + m)
+  ascii-join : (n at m : ℕ) → Ascii s at n → Ascii s (at + n) m → Ascii s at (n + m)
   ascii-join zero at m a b = rw (zero-add m) (rw (add-zero at) at b)
   ascii-join (suc n) at m a b =
       let e : at + suc n ≡ at + 1 + n = omega arith in
       let f : suc n + m ≡ suc (n + m) = omega arith in
       let r = ascii-rest at n a in
       rw f (ascii-first at (n + m) (r .0) (omega (arith, a .inside)) (ascii-join n (at + 1) m (r .1) (rw e at b)))
+
+  pub ascii-more : (n m : ℕ) → Ascii s 0 n → Ascii s n m → Ascii s 0 (n + m)
+  ascii-more n m a b = ascii-join n 0 m a (rw (zero-add n) b)
 
 -- the highest bit of each of n bytes
 abbrev highest : ℕ → ℕ
