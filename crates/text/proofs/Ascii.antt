@@ -15,7 +15,7 @@ module _ (s : List ℕ) where
   ascii-none at h = record { inside = omega arith; low = λ i l. absurd (omega arith) }
 
   -- one more in front, or taken off
-  pub ascii-first : (at n : ℕ) → getD s at 0 < 0x80 → at < length s → Ascii s (at + 1) n → Ascii s at (suc n)
+  ascii-first : (at n : ℕ) → getD s at 0 < 0x80 → at < length s → Ascii s (at + 1) n → Ascii s at (suc n)
   ascii-first at n h k a = record { inside = omega (arith, a .inside); low = go }
     where
       go : (i : ℕ) → i < suc n → getD s (at + i) 0 < 0x80
@@ -31,7 +31,7 @@ module _ (s : List ℕ) where
     },
   )
 
-  pub ascii-join : (n at m : ℕ) → Ascii s at n → Ascii s (at + n) m → Ascii s at (n + m)
+  ascii-join : (n at m : ℕ) → Ascii s at n → Ascii s (at + n) m → Ascii s at (n + m)
   ascii-join zero at m a b = rw (zero-add m) (rw (add-zero at) at b)
   ascii-join (suc n) at m a b =
       let e : at + suc n ≡ at + 1 + n = omega arith in
@@ -39,8 +39,11 @@ module _ (s : List ℕ) where
       let r = ascii-rest at n a in
       rw f (ascii-first at (n + m) (r .0) (omega (arith, a .inside)) (ascii-join n (at + 1) m (r .1) (rw e at b)))
 
+  pub ascii-more : (n m : ℕ) → Ascii s 0 n → Ascii s n m → Ascii s 0 (n + m)
+  ascii-more n m a b = ascii-join n 0 m a (rw (zero-add n) b)
+
 -- the highest bit of each of n bytes
-abbrev pub highest : ℕ → ℕ
+abbrev highest : ℕ → ℕ
 highest zero = 0
 highest (suc n) = highest n * 256 + 0x80
 

@@ -163,11 +163,11 @@ module _ (s : List ℕ) where
           so-far ∙ rw (room, c .text-is (254 - count), less) (more-one count (text-from s (254 - count) next))
 
   -- an ASCII byte is a character, and n of them are n
-  pub ascii-character : (at : ℕ) → at < length s → getD s at 0 < 0x80 → CharacterAt s at (Ends (at + 1))
+  ascii-character : (at : ℕ) → at < length s → getD s at 0 < 0x80 → CharacterAt s at (Ends (at + 1))
   unfolding lines
   ascii-character at h low = in-line s at h 0 (0x00 to 0x7F) [] _ _ refl refl (holds-low _ low) (completes-none s at (at + 1) (omega arith))
 
-  pub counted-ascii : (n count at : ℕ) → Counted s count at → count + n ≤ 255 → Ascii s at n → Counted s (count + n) (at + n)
+  counted-ascii : (n count at : ℕ) → Counted s count at → count + n ≤ 255 → Ascii s at n → Counted s (count + n) (at + n)
   counted-ascii zero count at so-far few a = rw (add-zero count, add-zero at) so-far
   counted-ascii (suc n) count at so-far few a =
       let next-count : count + suc n ≡ count + 1 + n = omega arith in

@@ -95,7 +95,7 @@ fn character_at(s: &[u8], at: usize) -> Character
     Character::Fails(at)
 }
 
-// Whether the 8 bytes from `at` on are ASCII characters: as one number, the first byte the lowest, they have no highest bit.
+// Whether the 8 bytes from `at` on are ASCII characters. They are one number, the first byte the lowest, which is loaded at once.
 fn ascii8(s: &[u8], at: usize) -> bool
     requires { ⌜ at + 8 ≤ length (now s) ⌝ }
     ensures { λ r. ⌜ (r ≡ true → Ascii (now (s .entry)) at 8) ⌝ }
@@ -109,17 +109,16 @@ fn ascii8(s: &[u8], at: usize) -> bool
     word & HIGHEST_BITS == 0
 }
 
-// The number of ASCII characters that stand from `at` on eight by eight, where `count` characters stand before them.
-fn ascii_run(s: &[u8], at: usize, count: usize) -> usize
-    requires { ⌜ (at ≤ length (now s)) × (count ≤ 255) ⌝ }
-    ensures { λ r. ⌜ (count + r ≤ 255) × Ascii (now (s .entry)) at r ⌝ }
+// The number of ASCII characters that `s` begins with, counted eight by eight; at most 255.
+fn ascii_start(s: &[u8]) -> usize
+    ensures { λ r. ⌜ (r ≤ 255) × Ascii (now (s .entry)) 0 r ⌝ }
 {
     let mut n = 0;
-    while 8 <= s.len() - at - n {
-        if sizes::CHARACTERS_MOST - count - n < 8 {
+    while 8 <= s.len() - n {
+        if sizes::CHARACTERS_MOST - n < 8 {
             return n;
         }
-        if !ascii8(s, at + n) {
+        if !ascii8(s, n) {
             return n;
         }
         n += 8;
@@ -131,16 +130,11 @@ fn ascii_run(s: &[u8], at: usize, count: usize) -> usize
 fn check_utf8(s: &[u8]) -> Checked
     ensures { λ r. ⌜ r ≡ shown (check utf-8 (now (s .entry))) ⌝ }
 {
-    let mut at = ascii_run(s, 0, 0);
+    let mut at = ascii_start(s);
     let mut count = at;
     while at < s.len() {
         if count == sizes::CHARACTERS_MOST {
             return Checked::Bad(at);
-        }
-        if s[at] < 0x80 {
-            at += 1;
-            count += 1;
-            continue;
         }
         match character_at(s, at) {
             Character::Ends(next) => {
@@ -151,9 +145,6 @@ fn check_utf8(s: &[u8]) -> Checked
             }
         }
         count += 1;
-        let run = ascii_run(s, at, count);
-        at += run;
-        count += run;
     }
     Checked::Characters(count)
 }
