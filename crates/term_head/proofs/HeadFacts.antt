@@ -86,13 +86,26 @@ plain (new-reference-ext w) = true
 plain (atom-ext c w) = true
 plain (port-ext v w) = true
 
+-- every head but that of a 108
+abbrev pub no-108 : head-spec.Head → Bool
+no-108 (parts ws n l) = true
+no-108 (characters cs) = true
+no-108 (elements n) = false
+no-108 (pairs n) = true
+
+filled-108 : (h : head-spec.Head) → no-108 h ≡ true → empty-108 h ≡ false
+filled-108 (parts ws n l) e = refl
+filled-108 (characters cs) e = refl
+filled-108 (elements n) e = let z : _≡_ {A = ℕ} 0 1 = cc in absurd (omega arith)
+filled-108 (pairs n) e = refl
+
 record Shape (p : Bool) (h : head-spec.Head) : Type 0 where
   wanting : Wanting h
-  filled : p ≡ true → empty-108 h ≡ false
+  other : p ≡ true → no-108 h ≡ true
 
 full : (l : List head-spec.Wanted) (n : ℕ) (x : head-spec.Later) → Wants l → Shape true (parts l n x)
 unfolding Wanting
-full l n x w = record { wanting = w; filled = λ _. refl }
+full l n x w = record { wanting = w; other = λ _. refl }
 
 module _ (atoms : Atoms) (p : ℕ) where
   shape : (f : Form) (s : Position) → Holds (fields atoms p f s) (λ h _. Shape (plain f) h)
@@ -103,14 +116,14 @@ module _ (atoms : Atoms) (p : ℕ) where
   shape atom-cache-ref s =
       skip (number p 1 s) λ n t. skip (rule (ltb n (atoms .n)) 6 p t) λ _ t. skip (text-or (atoms .text n) 14 0 t) λ cs t.
       done-holds _ t (full _ _ _ no-part)
-  shape nil-ext s = done-holds _ s (record { wanting = tt; filled = λ _. refl })
-  shape string-ext s = skip (number p 2 s) λ n t. skip (bytes p n t) λ bs t. done-holds _ t (record { wanting = tt; filled = λ _. refl })
-  shape list-ext s = skip (number p 4 s) λ n t. done-holds _ t (record { wanting = tt; filled = λ e. let z : _≡_ {A = ℕ} 0 1 = cc in absurd (omega arith) })
+  shape nil-ext s = done-holds _ s (record { wanting = tt; other = λ _. refl })
+  shape string-ext s = skip (number p 2 s) λ n t. skip (bytes p n t) λ bs t. done-holds _ t (record { wanting = tt; other = λ _. refl })
+  shape list-ext s = skip (number p 4 s) λ n t. done-holds _ t (record { wanting = tt; other = λ e. let z : _≡_ {A = ℕ} 0 1 = cc in absurd (omega arith) })
   shape binary-ext s = skip (number p 4 s) λ n t. skip (bytes p n t) λ bs t. done-holds _ t (full _ _ _ no-part)
   shape bit-binary-ext s =
       skip (number p 4 s) λ n t. skip (number p 1 t) λ b t. skip (bytes p n t) λ bs t. skip (rule (bits-rule n b) 4 p t) λ _ t.
       done-holds _ t (full _ _ _ no-part)
-  shape map-ext s = skip (number p 4 s) λ n t. done-holds _ t (record { wanting = tt; filled = λ _. refl })
+  shape map-ext s = skip (number p 4 s) λ n t. done-holds _ t (record { wanting = tt; other = λ _. refl })
   shape reference-ext s = done-holds _ s (full _ _ _ one-node)
   shape export-ext s = done-holds _ s (full _ _ _ a-function)
   shape (big-ext w) s =
@@ -149,20 +162,23 @@ only-108 (x ∷ fs) tag h r f e = go (eqb (x .0) 108) refl (plain (x .1)) refl r
     go false i false j r c k e ih = let z : _≡_ {A = ℕ} 0 1 = cc in absurd (omega arith)
 
 module _ (atoms : Atoms) (m : List ℕ) (at rows : ℕ) where
-  -- no 108 of length 0: where its tag is not there or not allowed
+  -- no 108: where its tag is not there or not allowed
   found-form : (tag : ℕ) → (tag ≡ 108 → ⊥) → (o : Option Form) → form-in forms tag ≡ o → (s : Position)
-      → Holds (after (form-or 3 at o s) (fields atoms at)) (λ h _. empty-108 h ≡ false)
+      → Holds (after (form-or 3 at o s) (fields atoms at)) (λ h _. no-108 h ≡ true)
   unfolding form-or forms rows-plain plain
   found-form tag f none e s = refused-holds 3 at
-  found-form tag f (some x) e s = weaken (λ h _. Shape (plain x) h) (shape atoms at x s) (λ h _ y. y .filled (only-108 forms tag f refl x e))
+  found-form tag f (some x) e s = weaken (λ h _. Shape (plain x) h) (shape atoms at x s) (λ h _ y. y .other (only-108 forms tag f refl x e))
 
-  pub not-108 : (w : Wanted) → (allowed w (getD m at 0) ≡ true → getD m at 0 ≡ 108 → ⊥) → Holds (term-head atoms (wanted-of w) (at-offset m at rows)) (λ h _. empty-108 h ≡ false)
+  pub other-tag : (w : Wanted) → (allowed w (getD m at 0) ≡ true → getD m at 0 ≡ 108 → ⊥) → Holds (term-head atoms (wanted-of w) (at-offset m at rows)) (λ h _. no-108 h ≡ true)
   unfolding term-head
-  not-108 w f =
+  other-tag w f =
       by-less at (length m)
       (λ inside. rw (byte-at m at at rows inside) (go (allowed w (getD m at 0)) refl))
       (λ over. rw (byte-end m at at rows over) (refused-holds 2 at))
     where
-      go : (b : Bool) → allowed w (getD m at 0) ≡ b → Holds (after (form at (wanted-of w) (getD m at 0) (at-offset m (at + 1) rows)) (fields atoms at)) (λ h _. empty-108 h ≡ false)
+      go : (b : Bool) → allowed w (getD m at 0) ≡ b → Holds (after (form at (wanted-of w) (getD m at 0) (at-offset m (at + 1) rows)) (fields atoms at)) (λ h _. no-108 h ≡ true)
       go true e = rw (stands at (getD m at 0) (at-offset m (at + 1) rows) w e) (found-form (getD m at 0) (f e) (form-in forms (getD m at 0)) refl (at-offset m (at + 1) rows))
       go false e = rw (fails at (getD m at 0) (at-offset m (at + 1) rows) w e) (refused-holds 4 at)
+
+  pub not-108 : (w : Wanted) → (allowed w (getD m at 0) ≡ true → getD m at 0 ≡ 108 → ⊥) → Holds (term-head atoms (wanted-of w) (at-offset m at rows)) (λ h _. empty-108 h ≡ false)
+  not-108 w f = weaken (λ h _. no-108 h ≡ true) (other-tag w f) (λ h _ x. filled-108 h x)

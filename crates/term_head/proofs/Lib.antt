@@ -4,7 +4,7 @@ mod Texts
 mod LaterFields
 mod Tags
 pub mod HeadFacts
-mod Openings
+pub mod Openings
 pub mod OpeningFacts
 mod Words
 pub mod Common

@@ -9,18 +9,18 @@ use lib.ListN.{length, getD, take, drop, length-drop}
 use borrow.Author.Tests.{eqb-true, eqb-false, leb-true, le-leb, lt-leb, eq-eqb, ne-eqb}
 use Rattle.term_spec.specs.Numbers.{big-endian}
 use Rattle.term_spec.specs.Answer.{Answer, good, refused, Position, at-offset, Reading, after, done}
-use Rattle.term_spec.specs.Head.{Atoms, any, forms, form-in, form-or, form, fields, list-ext, term-head, parts, characters, elements, pairs}
+use Rattle.term_spec.specs.Head.{Atoms, any, forms, form-in, form-or, form, fields, term-head, parts, characters, elements, pairs}
 use Rattle.term_spec.specs.Head as head-spec
 use Rattle.term_spec.specs.Reading.{empty-108, opening}
 use Rattle.term_spec.proofs.Bridge.{byte-at, byte-end, number-at, number-end}
-use Rattle.term_spec.proofs.Holds.{Holds, done-holds, refused-holds}
+use Rattle.term_spec.proofs.Holds.{Holds, weaken, done-holds, refused-holds}
 use Rattle.term_spec.proofs.Tests.{both-true, by-less}
 use Rattle.term_head.specs.declared.Wanted.{Wanted}
 use Rattle.term_head.specs.declared.Wanted.the-variants.{Any}
 use Rattle.term_head.specs.declared.Head.{Head}
 use Rattle.term_head.specs.declared.Opening.{Opening}
-use Rattle.term_head.specs.Code.{head-of, head-at, opening-of, opened-at, wanted-of, allowed, empty-at, Skipped}
-use Rattle.term_head.proofs.HeadFacts.{not-108}
+use Rattle.term_head.specs.Code.{head-of, head-at, opening-of, opened-at, wanted-of, allowed, empty-at, Elements-at, Skipped}
+use Rattle.term_head.proofs.HeadFacts.{no-108, other-tag, not-108}
 
 module _ (m : List ℕ) (p : ℕ) where
   pub empty-short : length m - p < 5 → false ≡ empty-at m p
@@ -35,64 +35,96 @@ module _ (m : List ℕ) (p : ℕ) where
   unfolding empty-at
   empty-count n h e f = rw (le-leb 5 (length m - p) h, eq-eqb (getD m p 0) 108 e, f)
 
-  -- what such a 108 is
-  record Empty : Type 0 where
+  -- a 108 with n elements stands here
+  record List-of (n : ℕ) : Type 0 where
     there : 5 ≤ length m - p
     tag-is : getD m p 0 ≡ 108
-    none-is : big-endian (take 4 (drop (p + 1) m)) ≡ 0
+    count-is : n ≡ big-endian (take 4 (drop (p + 1) m))
 
-  empty-is : empty-at m p ≡ true → Empty
+  empty-is : empty-at m p ≡ true → List-of 0
   unfolding empty-at
   empty-is e =
       let b = both-true (leb 5 (length m - p) && eqb (getD m p 0) 108) (eqb (big-endian (take 4 (drop (p + 1) m))) 0) e in
       let c = both-true (leb 5 (length m - p)) (eqb (getD m p 0) 108) (b .0) in
-      record { there = leb-true 5 (length m - p) (c .0); tag-is = eqb-true _ _ (c .1); none-is = eqb-true _ _ (b .1) }
+      record { there = leb-true 5 (length m - p) (c .0); tag-is = eqb-true _ _ (c .1); count-is = sym (eqb-true _ _ (b .1)) }
 
   pub empty-inside : empty-at m p ≡ true → p + 5 ≤ length m
   empty-inside e = let i = empty-is e in omega (arith, i .there)
 
   module _ (atoms : Atoms) (rows : ℕ) where
-    empty-head : empty-at m p ≡ true → term-head atoms any (at-offset m p rows) ≡ good (elements 0, at-offset m (p + 5) rows)
+    pub nil-head : p < length m → eqb (getD m p 0) 106 ≡ true → term-head atoms any (at-offset m p rows) ≡ good (characters [], at-offset m (p + 1) rows)
     unfolding term-head form form-or form-in forms fields
-    empty-head e =
-        let i = empty-is e in
+    nil-head inside e = rw (byte-at m p p rows inside, eqb-true (getD m p 0) 106 e)
+
+    list-head : (n : ℕ) → List-of n → term-head atoms any (at-offset m p rows) ≡ good (elements n, at-offset m (p + 5) rows)
+    unfolding term-head form form-or form-in forms fields
+    list-head n i =
         let there : 5 ≤ length m - p = i .there in
-        rw (byte-at m p p rows (omega arith), i .tag-is, number-at m p 4 (p + 1) rows (omega arith), i .none-is)
-        (ap (λ (k : ℕ). good (elements 0, at-offset m k rows)) (omega arith))
+        rw (byte-at m p p rows (omega arith), i .tag-is, number-at m p 4 (p + 1) rows (omega arith), ← i .count-is)
+        (ap (λ (k : ℕ). good (elements n, at-offset m k rows)) (omega arith))
 
     -- one such 108 is passed
     empty-step : (bound : List ℕ) → length m - p ≤ length bound → empty-at m p ≡ true
         → (rest : List ℕ) × (length m - (p + 5) ≤ length rest) × (opening atoms bound any (at-offset m p rows) ≡ opening atoms rest any (at-offset m (p + 5) rows))
     unfolding opening
     empty-step [] h e = let i = empty-is e in absurd (omega (arith, i .there))
-    empty-step (b ∷ bound) h e = (bound, omega arith, rw (empty-head e))
+    empty-step (b ∷ bound) h e = (bound, omega arith, rw (list-head 0 (empty-is e)))
 
-    list-full : empty-at m p ≡ false → getD m p 0 ≡ 108 → p < length m → Holds (fields atoms p list-ext (at-offset m (p + 1) rows)) (λ h _. empty-108 h ≡ false)
-    unfolding fields
-    list-full e t inside =
-        by-less (length m) (p + 5)
-        (λ short. rw (number-end m p 4 (p + 1) rows (omega arith) (omega arith)) (refused-holds 2 p))
-        (λ long.
-        rw (number-at m p 4 (p + 1) rows (omega arith))
-        (done-holds _ _ (some-elements (big-endian (take 4 (drop (p + 1) m))) (λ z.
-        let d : true ≡ empty-at m p = sym (eq-eqb (big-endian (take 4 (drop (p + 1) m))) 0 z) ∙ empty-count (big-endian (take 4 (drop (p + 1) m))) (omega arith) t refl in
-        let y : _≡_ {A = ℕ} 0 1 = cc in omega arith))))
+    -- elements are those of a 108
+    list-only : Holds (term-head atoms any (at-offset m p rows)) (λ h _. (n : ℕ) → h ≡ elements n → List-of n)
+    unfolding wanted-of term-head form form-or form-in forms fields
+    list-only = go (eqb (getD m p 0) 108) refl
       where
-        some-elements : (n : ℕ) → (n ≡ 0 → ⊥) → empty-108 (elements n) ≡ false
-        some-elements zero f = absurd (f refl)
-        some-elements (suc n) f = refl
+        go : (b : Bool) → eqb (getD m p 0) 108 ≡ b → Holds (term-head atoms any (at-offset m p rows)) (λ h _. (n : ℕ) → h ≡ elements n → List-of n)
+        go true t =
+            let tag : getD m p 0 ≡ 108 = eqb-true (getD m p 0) 108 t in
+            by-less p (length m)
+            (λ inside.
+            by-less (length m) (p + 5)
+            (λ short. rw (byte-at m p p rows inside, tag, number-end m p 4 (p + 1) rows (omega arith) (omega arith)) (refused-holds 2 p))
+            (λ long.
+            rw (byte-at m p p rows inside, tag, number-at m p 4 (p + 1) rows (omega arith))
+            (done-holds _ _ (λ n e. record { there = omega arith; tag-is = tag; count-is = cc }))))
+            (λ over. rw (byte-end m p p rows over) (refused-holds 2 p))
+        go false t =
+            weaken (λ h _. no-108 h ≡ true) (other-tag atoms m p rows Any (λ _. eqb-false (getD m p 0) 108 t))
+            (λ h _ x n e.
+            let y : no-108 (elements n) ≡ true = rw e at x in
+            let z : _≡_ {A = ℕ} 0 1 = cc in absurd (omega arith))
 
     -- no such 108
     head-full : empty-at m p ≡ false → Holds (term-head atoms any (at-offset m p rows)) (λ h _. empty-108 h ≡ false)
-    unfolding wanted-of term-head form form-or form-in forms
-    head-full e = go (eqb (getD m p 0) 108) refl
+    head-full e = weaken (λ h _. (n : ℕ) → h ≡ elements n → List-of n) list-only (λ h _ told. go h told)
       where
-        go : (b : Bool) → eqb (getD m p 0) 108 ≡ b → Holds (term-head atoms any (at-offset m p rows)) (λ h _. empty-108 h ≡ false)
-        go true t =
-            by-less p (length m)
-            (λ inside. rw (byte-at m p p rows inside, eqb-true (getD m p 0) 108 t) (list-full e (eqb-true (getD m p 0) 108 t) inside))
-            (λ over. rw (byte-end m p p rows over) (refused-holds 2 p))
-        go false t = not-108 atoms m p rows Any (λ _. eqb-false (getD m p 0) 108 t)
+        go : (h : head-spec.Head) → ((n : ℕ) → h ≡ elements n → List-of n) → empty-108 h ≡ false
+        go (parts ws n l) told = refl
+        go (characters cs) told = refl
+        go (elements zero) told =
+            let i = told 0 refl in
+            let d : true ≡ empty-at m p = empty-count 0 (i .there) (i .tag-is) (i .count-is) in
+            let y : _≡_ {A = ℕ} 0 1 = cc in absurd (omega arith)
+        go (elements (suc n)) told = refl
+        go (pairs n) told = refl
+
+  -- ---- `elements_at`
+
+  no-elements : ((n : ℕ) → List-of n → n ≡ 0) → Elements-at m p 0
+  no-elements f =
+      record { inside = λ more. absurd (more refl); some = λ more. absurd (more refl); none = λ _ atoms rows k t e. f k (list-only atoms rows .known (elements k) t e k refl) }
+
+  pub elements-short : length m - p < 5 → Elements-at m p 0
+  elements-short h = no-elements (λ n i. absurd (omega (arith, i .there)))
+
+  pub elements-other : (getD m p 0 ≡ 108 → ⊥) → Elements-at m p 0
+  elements-other f = no-elements (λ n i. absurd (f (i .tag-is)))
+
+  pub elements-count : (n : ℕ) → 5 ≤ length m - p → getD m p 0 ≡ 108 → n ≡ big-endian (take 4 (drop (p + 1) m)) → Elements-at m p n
+  elements-count n h e f =
+      record {
+        inside = λ _. omega arith;
+        some = λ _ atoms rows. list-head atoms rows n (record { there = h; tag-is = e; count-is = f });
+        none = λ z atoms rows k t d. list-only atoms rows .known (elements k) t d k refl .count-is ∙ sym f ∙ z;
+      }
 
 -- 108s of length 0 from `at` on are passed up to `place`
 abbrev pub Passed : List ℕ → ℕ → ℕ → Type 0
@@ -138,14 +170,25 @@ unfolding opened-at head-of opening-of
 opened-is at (good x) = opened-head at (x .0) (x .1 .at)
 opened-is at (refused n p) = refl
 
+-- past 108s of length 0 the first head is the opening
+module _ (atoms : Atoms) (m : List ℕ) (at place rows : ℕ) (s : Skipped m at place) where
+  pub skipped-head : Holds (term-head atoms any (at-offset m place rows)) (λ h _. empty-108 h ≡ false)
+  skipped-head = head-full m place atoms rows (s .stops)
+
+  pub skipped-opens : opening atoms (drop at m) any (at-offset m at rows) ≡ after (term-head atoms any (at-offset m place rows)) (λ h. done (place, h))
+  skipped-opens =
+      let x = s .opens atoms rows (drop at m) (simp length-drop (omega arith)) in
+      x .2 ∙ plain-opening atoms m place rows any (x .0) (x .1) skipped-head
+
+pub skipped-here : (m : List ℕ) (at place : ℕ) → Skipped m at place → Skipped m place place
+skipped-here m at place s = record { from = omega arith; inside = s .inside; stops = s .stops; opens = passed-none m place }
+
 module _ (atoms : Atoms) (m : List ℕ) (at rows : ℕ) (hd : Head) (r : Opening) where
   pub opening-any : (w : Wanted) (place : ℕ) → w ≡ Any → Skipped m at place → hd ≡ head-of (term-head atoms (wanted-of Any) (at-offset m place rows)) → r ≡ opened-at place hd
       → r ≡ opening-of (opening atoms (drop at m) (wanted-of w) (at-offset m at rows))
   unfolding wanted-of
   opening-any w place e s f g =
-      let x = s .opens atoms rows (drop at m) (simp length-drop (omega arith)) in
-      let y = plain-opening atoms m place rows any (x .0) (x .1) (head-full m place atoms rows (s .stops)) in
-      rw (e, g, f) (opened-is place (term-head atoms any (at-offset m place rows)) ∙ ap opening-of (sym (x .2 ∙ y)))
+      rw (e, g, f) (opened-is place (term-head atoms any (at-offset m place rows)) ∙ ap opening-of (sym (skipped-opens atoms m at place rows s)))
 
   pub opening-only : (w : Wanted) → allowed w 108 ≡ false → hd ≡ head-of (term-head atoms (wanted-of w) (at-offset m at rows)) → r ≡ opened-at at hd
       → r ≡ opening-of (opening atoms (drop at m) (wanted-of w) (at-offset m at rows))

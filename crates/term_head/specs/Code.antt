@@ -10,7 +10,7 @@ use Rattle.term_spec.specs.Answer.{Answer, good, refused, Position, at-offset, 
 use Rattle.term_spec.specs.Term.{Label}
 use Rattle.term_spec.specs.Head.{any, an-atom, an-arity, parts, characters, elements, pairs, known, pid-fields, port-fields, reference-fields, old-reference-fields}
 use Rattle.term_spec.specs.Head as head-spec
-use Rattle.term_spec.specs.Head.{bits-rule, bits-meaning, fields, later, form-or, form-in, forms, one-of}
+use Rattle.term_spec.specs.Head.{bits-rule, bits-meaning, fields, later, form-or, form-in, forms, one-of, term-head}
 use Rattle.term_spec.specs.Numbers.{big-endian}
 use Rattle.term_spec.specs.Reading.{opening}
 use Rattle.term_spec.specs.Rows.{kind-of}
@@ -92,8 +92,15 @@ allowed Arity tag = one-of tag (97 ∷ [])
 unfoldable pub empty-at : List ℕ → ℕ → Bool
 empty-at m at = leb 5 (length m - at) && eqb (getD m at 0) 108 && eqb (big-endian (take 4 (drop (at + 1) m))) 0
 
+-- the number n of elements of a 108 that stands at an offset, 0 of any other term
+pub record Elements-at (m : List ℕ) (at n : ℕ) : Type 0 where
+  pub inside : (n ≡ 0 → ⊥) → at + 5 ≤ length m
+  pub some : (n ≡ 0 → ⊥) → (atoms : head-spec.Atoms) (rows : ℕ) → term-head atoms any (at-offset m at rows) ≡ good (elements n, at-offset m (at + 5) rows)
+  pub none : n ≡ 0 → (atoms : head-spec.Atoms) (rows k : ℕ) (t : Position) → term-head atoms any (at-offset m at rows) ≡ good (elements k, t) → k ≡ 0
+
 -- the bytes left bound the 108s of length 0 as long as they are as many as those of the message
 pub record Skipped (m : List ℕ) (at place : ℕ) : Type 0 where
+  pub from : at ≤ place
   pub inside : place ≤ length m
   pub stops : empty-at m place ≡ false
   pub opens : (atoms : head-spec.Atoms) (rows : ℕ) (bound : List ℕ) → length m - at ≤ length bound

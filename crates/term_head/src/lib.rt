@@ -13,16 +13,16 @@ ghost use lib.ListN.{length, take, drop};
 ghost use Rattle.term_spec.specs.Numbers.{big-endian};
 ghost use Rattle.term_spec.specs.Text.{coding-of};
 ghost use Rattle.term_spec.specs.Term.{integer};
-ghost use Rattle.term_spec.specs.Answer.{after, done, at-offset};
+ghost use Rattle.term_spec.specs.Answer.{good, after, done, at-offset};
 ghost use Rattle.term_spec.specs.Answer as answer;
 ghost use Rattle.term_spec.specs.Head.{Atoms, leaf, tuple-ext, list-ext, map-ext, string-ext, binary-ext, bit-binary-ext, big-ext, new-float-ext, new-reference-ext, atom-ext, atom-cache-ref};
-ghost use Rattle.term_spec.specs.Head.{pid-fields, port-fields, reference-fields, old-reference-fields, creation-rule, words-rule, one-of, term-head};
+ghost use Rattle.term_spec.specs.Head.{pid-fields, port-fields, reference-fields, old-reference-fields, creation-rule, words-rule, one-of, any, characters, term-head};
 ghost use Rattle.term_spec.specs.Head as head-spec;
 ghost use Rattle.term_spec.specs.Reading.{opening};
 ghost use Rattle.term_spec.specs.AtomList.{of-size, atoms-of, lent-list};
 ghost use Rattle.term_head.specs.Quick.{fit, quick-later, quick-word};
 ghost use Rattle.octets.specs.Parts.{Width, words-at};
-ghost use Rattle.term_head.specs.Code.{Bits, head-of, fields-of, later-of, step-of, later-fields, tag-fields, allowed, wanted-of, empty-at, Skipped, opened-at, opening-of};
+ghost use Rattle.term_head.specs.Code.{Bits, head-of, fields-of, later-of, step-of, later-fields, tag-fields, allowed, wanted-of, empty-at, Elements-at, Skipped, opened-at, opening-of};
 
 // An exponent of all ones, and what a float's bits are divided by to find its 11 bits of exponent.
 const EXPONENT_ONES: u64 = 2047;
@@ -44,6 +44,8 @@ const FIRST_WORDS: usize = 262144;
 const LENGTH_MOST: u16 = 32;
 // The most words of a reference.
 const WORDS_MOST: usize = 3;
+// The bytes of a 108 before its elements.
+pub const LIST_HEAD: usize = 5;
 
 // The head of a common term in one word: a kind, the offset past the head, the number of parts, each below its bound here.
 pub const WORD_KINDS: usize = 16;
@@ -736,12 +738,37 @@ fn read_head(msg: &[u8], n: u8, places: &[u8], lengths: &[u16], at: usize, wante
     by_tag(msg, n, places, lengths, at, tag)
 }
 
+// Whether a 106 stands here.
+pub fn nil_at(msg: &[u8], at: usize) -> bool
+    requires { ⌜ at ≤ length (now msg) ⌝ }
+    ensures { λ r. ⌜ (r ≡ true → (atoms : Atoms) (rows : ℕ) → term-head atoms any (at-offset (now (msg .entry)) at rows) ≡ good (characters [], at-offset (now (msg .entry)) (at + 1) rows)) ⌝ }
+{
+    if msg.len() <= at {
+        return false;
+    }
+    msg[at] == tags::NIL_EXT
+}
+
+// The number of elements of a 108 that stands here, 0 of any other term.
+pub fn elements_at(msg: &[u8], at: usize) -> usize
+    requires { ⌜ at ≤ length (now msg) ⌝ }
+    ensures { λ r. ⌜ Elements-at (now (msg .entry)) at r ⌝ }
+{
+    if msg.len() - at < LIST_HEAD {
+        return 0;
+    }
+    if msg[at] != tags::LIST_EXT {
+        return 0;
+    }
+    octets::big4(msg, at + 1)
+}
+
 // Whether a 108 of length 0 stands here.
 fn empty_list_at(msg: &[u8], at: usize) -> bool
     requires { ⌜ at ≤ length (now msg) ⌝ }
     ensures { λ r. ⌜ r ≡ empty-at (now (msg .entry)) at ⌝ }
 {
-    if msg.len() - at < 5 {
+    if msg.len() - at < LIST_HEAD {
         return false;
     }
     if msg[at] != tags::LIST_EXT {
@@ -751,13 +778,13 @@ fn empty_list_at(msg: &[u8], at: usize) -> bool
 }
 
 // The offset past all 108s of length 0.
-fn skip_empty(msg: &[u8], at: usize) -> usize
+pub fn skip_empty(msg: &[u8], at: usize) -> usize
     requires { ⌜ at ≤ length (now msg) ⌝ }
     ensures { λ r. ⌜ Skipped (now (msg .entry)) at r ⌝ }
 {
     let mut place = at;
     while empty_list_at(msg, place) {
-        place += 5;
+        place += LIST_HEAD;
     }
     place
 }

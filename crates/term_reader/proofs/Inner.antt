@@ -1,5 +1,5 @@
 -- The parts of a term: one law for each way through `read_inner`, `read_parts`, `read_list`, `read_tail` and `read_last`.
-use mathlib.Core.Path.{_≡_, refl, sym, ap, ap₂, _∙_}
+use mathlib.Core.Path.{_≡_, refl, sym, ap, ap₂, _∙_, subst}
 use mathlib.Core.List.{List, [], _∷_, append-nil}
 use Prim.Native.Nat.{ℕ, _+_, _-_, _≤_, _<_}
 use native.Mathlib.Omega.{arith}
@@ -8,7 +8,7 @@ use lib.Seq.{sets}
 use Rattle.term_spec.specs.Tree.{empty, _▹_, _▹▹_, count, size, sizes, Each-node, Each-nodes}
 use Rattle.term_spec.specs.Term.{Label, list, improper-list}
 use Rattle.term_spec.specs.Answer.{Answer, good, refused, Position, at-offset, Reading, after, done}
-use Rattle.term_spec.specs.Head.{Atoms, Wanted, Head, parts, characters, elements, pairs, Later, later}
+use Rattle.term_spec.specs.Head.{Atoms, Wanted, any, Head, parts, characters, elements, pairs, Later, later, term-head}
 use Rattle.term_spec.specs.Reading.{Located, each, run, string, list-tail, opening, body, term}
 use Rattle.term_spec.specs.Message.{Terms}
 use Rattle.term_spec.specs.Rows.{Row, tree-rows, rows, kind-of, row-words, Placed}
@@ -22,16 +22,18 @@ use Rattle.term_head.specs.declared.Opening.{Opening}
 use Rattle.term_head.specs.declared.Step as later-step
 use Rattle.term_head.specs.declared.Step.the-variants as fields
 use Rattle.term_head.specs.declared.Wanted.the-variants.{Any}
-use Rattle.term_head.specs.Code.{wanted-of, kind-later, later-of, head-at, opening-of, step-of}
+use Rattle.term_head.specs.Code.{wanted-of, kind-later, later-of, head-at, opening-of, step-of, Skipped}
 use Rattle.term_reader.specs.declared.Step.{Step}
 use Rattle.term_reader.specs.declared.Step.the-variants as step
 use Rattle.term_reader.specs.declared.Parts.{Parts}
 use Rattle.term_reader.specs.declared.Parts.the-variants as parts-of
-use Rattle.term_reader.specs.Code.{whole-of, asked, Head-fits, Sound-head, Head-read, inner, last, Done, TermDone, RunDone, PartsDone}
+use Rattle.term_reader.specs.Code.{whole-of, asked, Head-fits, Sound-head, Head-read, Last-at, inner, Done, TermDone, RunDone, PartsDone}
 use Rattle.term_reader.proofs.Found.{Found, step-found, step-refused, join-parts, joined-words}
 use Rattle.term_head.proofs.HeadFacts.{Past, past-is}
 use Rattle.term_head.proofs.OpeningFacts.{later-kind}
-use Rattle.term_reader.proofs.Openings.{Opened-at, opened-refused, head-refused, later-past}
+use Rattle.term_head.proofs.Openings.{skipped-opens, skipped-here}
+use Rattle.term_reader.proofs.Openings.{Opened-at, opened-refused, head-refused, later-past, nil-opened}
+use Rattle.term_reader.proofs.Characters.{characters-none}
 use Rattle.term_reader.proofs.Runs.{run-each}
 
 -- ---- what a head promises, from the code's head
@@ -254,6 +256,13 @@ elements-are (characters cs) at n next e = let z : _≡_ {A = ℕ} 0 1 = cc in a
 elements-are (pairs k) at n next e = let z : _≡_ {A = ℕ} 0 1 = cc in absurd (omega arith)
 elements-are (elements k) at n next e = let z : k ≡ n = cc in ap elements z
 
+characters-are : (h : Head) (at n next : ℕ) → head-at h at ≡ heads.Characters n next → (cs : List ℕ) × (h ≡ characters cs) × (length cs ≡ n)
+unfolding head-at
+characters-are (parts ws k l) at n next e = let z : _≡_ {A = ℕ} 0 1 = cc in absurd (omega arith)
+characters-are (characters cs) at n next e = (cs, refl, cc)
+characters-are (elements k) at n next e = let z : _≡_ {A = ℕ} 0 1 = cc in absurd (omega arith)
+characters-are (pairs k) at n next e = let z : _≡_ {A = ℕ} 0 1 = cc in absurd (omega arith)
+
 module _ (atoms : Atoms) (cap deep : ℕ) (m : List ℕ) (at row : ℕ) where
   abbrev Tail : List ℕ → Answer ((Terms × Label) × Position)
   Tail bound = list-tail atoms cap deep (body atoms cap deep) bound (at-offset m at row)
@@ -296,26 +305,46 @@ module _ (atoms : Atoms) (cap deep : ℕ) (m : List ℕ) (at row : ℕ) where
               (run-each (term atoms cap deep) n (at-offset m next row))),
         )
 
-    -- any other is the last
-    pub tail-last : (bound : List ℕ) → length m - at ≤ length bound → ((n next : ℕ) → head ≡ heads.Elements n next → ⊥)
-        → Tail bound ≡ last atoms cap deep place (o .h) (at-offset m (o .next) row)
-    unfolding list-tail last wanted-of head-at
-    tail-last [] h other =
+    -- characters end a proper list
+    pub tail-string : (bound : List ℕ) → length m - at ≤ length bound → (cs : List ℕ) → o .h ≡ characters cs
+        → Tail bound ≡ inner atoms cap deep place (characters cs) (at-offset m (o .next) row)
+    unfolding list-tail inner wanted-of
+    tail-string [] h cs e =
         let z : _≡_ {A = Answer ((ℕ × Head) × Position)} (good ((place, o .h), at-offset m (o .next) row)) (refused 2 at) = sym (o .is) ∙ ended [] h refl in
         let w : _≡_ {A = ℕ} 0 1 = cc in absurd (omega arith)
-    tail-last (b ∷ bound) h other = rw (o .is) (go (o .h) (o .head-is))
+    tail-string (b ∷ bound) h cs e = rw (o .is, e)
+
+    -- any other tail is the last part
+    pub tail-other : (bound : List ℕ) → length m - at ≤ length bound → ((n : ℕ) → o .h ≡ elements n → ⊥) → ((cs : List ℕ) → o .h ≡ characters cs → ⊥)
+        → Tail bound ≡ after (body atoms cap deep place (o .h) (at-offset m (o .next) row)) (λ t. done (t ▹ empty, improper-list))
+    unfolding list-tail wanted-of
+    tail-other [] h no-list no-string =
+        let z : _≡_ {A = Answer ((ℕ × Head) × Position)} (good ((place, o .h), at-offset m (o .next) row)) (refused 2 at) = sym (o .is) ∙ ended [] h refl in
+        let w : _≡_ {A = ℕ} 0 1 = cc in absurd (omega arith)
+    tail-other (b ∷ bound) h no-list no-string = rw (o .is) (go (o .h) refl)
       where
-        go : (x : Head) → head ≡ head-at x (o .next)
+        go : (x : Head) → o .h ≡ x
             → (elim x as (λ _. Reading (Terms × Label)) [
               | characters cs ↦ λ t. after (string atoms cap deep place (place + 3) cs t) (λ ts. done (ts, list))
               | elements n ↦ λ t. after (run (term atoms cap deep) n t) (λ ts. λ t. after (list-tail atoms cap deep (body atoms cap deep) bound t) (λ end. done (ts ▹▹ end .0, end .1)))
               | parts ws n l ↦ λ t. after (body atoms cap deep place (parts ws n l) t) (λ u. done (u ▹ empty, improper-list))
               | pairs n ↦ λ t. after (body atoms cap deep place (pairs n) t) (λ u. done (u ▹ empty, improper-list))
-            ]) (at-offset m (o .next) row) ≡ last atoms cap deep place x (at-offset m (o .next) row)
+            ]) (at-offset m (o .next) row) ≡ after (body atoms cap deep place x (at-offset m (o .next) row)) (λ t. done (t ▹ empty, improper-list))
         go (parts ws n l) e = refl
-        go (characters cs) e = refl
-        go (elements n) e = absurd (other n (o .next) e)
+        go (characters cs) e = absurd (no-string cs e)
+        go (elements n) e = absurd (no-list n e)
         go (pairs n) e = refl
+
+-- a tail of characters, after `before` elements
+pub tail-characters : (atoms : Atoms) (cap deep : ℕ) (m : List ℕ) (at row whole before : ℕ) (T : List ℕ) {place : ℕ} {head : code.Head} (o : Opened-at atoms m at row (wanted-of Any) place head)
+    (n next : ℕ) (r : Parts) (U : List ℕ) → head ≡ heads.Characters n next
+    → ((cs : List ℕ) → length cs ≡ n → next ≤ length m → PartsDone m before cap row whole T (inner atoms cap deep place (characters cs) (at-offset m next row)) r U)
+    → (bound : List ℕ) → length m - at ≤ length bound → PartsDone m before cap row whole T (list-tail atoms cap deep (body atoms cap deep) bound (at-offset m at row)) r U
+tail-characters atoms cap deep m at row whole before T {place} {head} o n next r U e d bound h =
+    let i = characters-are (o .h) (o .next) n next (sym (o .head-is) ∙ e) in
+    let q : next ≡ o .next = ap next-of (sym e ∙ o .head-is) ∙ next-is (o .h) (o .next) in
+    rw (tail-string atoms cap deep m at row o bound h (i .0) (i .1))
+    (subst (λ (k : ℕ). PartsDone m before cap row whole T (inner atoms cap deep place (characters (i .0)) (at-offset m k row)) r U) q (d (i .0) (i .2) (omega (arith, o .sound .end))))
 
 -- terms are read forward
 run-moves : (atoms : Atoms) (cap d n : ℕ) (s : Position) → Holds (run (term atoms cap d) n s) (λ _ t. s .at ≤ t .at)
@@ -334,17 +363,26 @@ pub tailed-none : (atoms : Atoms) (cap deep : ℕ) (m : List ℕ) (at row whole 
 tailed-none atoms cap deep m at row whole T before = record { bound = drop at m; enough = simp length-drop (omega arith); goes = λ s U d. d }
 
 module _ (atoms : Atoms) (cap deep : ℕ) (m : List ℕ) (at row whole : ℕ) (T : List ℕ) (before : ℕ) (All : Parts → List ℕ → Type 0) (i : Tailed atoms cap deep m at row whole T before All) where
-  pub tailed-refused : (R : Opening) (n p : ℕ) (U : List ℕ) → ((rows : ℕ) → R ≡ opening-of (opening atoms (drop at m) (wanted-of Any) (at-offset m at rows))) → R .head ≡ heads.Refused n p → All (parts-of.Refused n p) U
-  unfolding Done
-  tailed-refused R n p U e f =
-      i .goes (parts-of.Refused n p) U (rw (tail-refused atoms cap deep m at row (i .bound) n p (i .enough) (opened-refused atoms m at row (wanted-of Any) R n p e f)))
+  -- 108s of length 0 are passed
+  pub tailed-skipped : (place : ℕ) → Skipped m at place → Tailed atoms cap deep m place row whole T before All
+  unfolding list-tail
+  tailed-skipped place s = record { bound = i .bound; enough = omega (arith, s .from, i .enough); goes = λ r U d. i .goes r U (rw (same (i .bound) (i .enough)) d) }
+    where
+      same : (bound : List ℕ) → length m - at ≤ length bound
+          → list-tail atoms cap deep (body atoms cap deep) bound (at-offset m at row) ≡ list-tail atoms cap deep (body atoms cap deep) bound (at-offset m place row)
+      same [] h = ap (refused 2) (omega (arith, s .from, s .inside))
+      same (b ∷ bound) h = rw (skipped-opens atoms m at place row s, skipped-opens atoms m place place row (skipped-here m at place s))
+
+  pub tailed-nil : Skipped m at at → term-head atoms any (at-offset m at row) ≡ good (characters [], at-offset m (at + 1) row) → row ≤ cap → All (parts-of.Got (at + 1) row before 5) T
+  tailed-nil s e low =
+      i .goes _ T (tail-characters atoms cap deep m at row whole before T (nil-opened atoms m at row s e) 0 (at + 1) _ T refl
+      (λ cs z near. characters-none atoms m cs before cap row whole deep at (at + 1) T T 0 z refl near low refl) (i .bound) (i .enough))
+
+  pub tailed-last : (r : Parts) (U : List ℕ)
+      → ((bound : List ℕ) → length m - at ≤ length bound → PartsDone m before cap row whole T (list-tail atoms cap deep (body atoms cap deep) bound (at-offset m at row)) r U) → All r U
+  tailed-last r U d = i .goes r U (d (i .bound) (i .enough))
 
   module _ {place : ℕ} {head : code.Head} (o : Opened-at atoms m at row (wanted-of Any) place head) where
-    pub tailed-last : (r : Parts) (U : List ℕ) → ((n next : ℕ) → head ≡ heads.Elements n next → ⊥)
-        → ((h : Head) (next : ℕ) → head ≡ head-at h next → Sound-head m place next h → PartsDone m before cap row whole T (last atoms cap deep place h (at-offset m next row)) r U) → All r U
-    tailed-last r U other d =
-        i .goes r U (rw (tail-last atoms cap deep m at row o (i .bound) (i .enough) other) (d (o .h) (o .next) (o .head-is) (o .sound)))
-
     module _ (n next : ℕ) (e : head ≡ heads.Elements n next) (r : Step) (T′ : List ℕ)
         (d : RunDone m n cap row whole T (each (term atoms cap deep) (replicate n (wanted-of Any)) (at-offset m next row)) r T′) where
       pub tailed-run-refused : (k p : ℕ) (U : List ℕ) → r ≡ step.Refused k p → All (parts-of.Refused k p) U
@@ -382,50 +420,42 @@ module _ (atoms : Atoms) (cap deep : ℕ) (m : List ℕ) (at row whole : ℕ) (T
 
 -- ---- `read_last`
 
--- the tail of a list that is no 107 and no empty list is its last part
-module _ (atoms : Atoms) (cap deep : ℕ) (m : List ℕ) (place row whole before : ℕ) (T : List ℕ) (head : code.Head) where
-  abbrev Last-done : Head → ℕ → Parts → List ℕ → Type 0
-  Last-done h next r U = PartsDone m before cap row whole T (last atoms cap deep place h (at-offset m next row)) r U
+module _ (atoms : Atoms) (cap deep : ℕ) (m : List ℕ) (at row whole before : ℕ) (T : List ℕ) where
+  abbrev Last-done : Parts → List ℕ → Type 0
+  Last-done r U = (bound : List ℕ) → length m - at ≤ length bound → PartsDone m before cap row whole T (list-tail atoms cap deep (body atoms cap deep) bound (at-offset m at row)) r U
 
-  pub last-characters : (n at : ℕ) (r : Parts) (U : List ℕ) → head ≡ heads.Characters n at
-      → ((cs : List ℕ) → length cs ≡ n → at ≤ length m → PartsDone m before cap row whole T (inner atoms cap deep place (characters cs) (at-offset m at row)) r U)
-      → (h : Head) (next : ℕ) → head ≡ head-at h next → Sound-head m place next h → Last-done h next r U
-  unfolding head-at inner last
-  last-characters n at r U e d (parts ws k l) next f s = let z : _≡_ {A = ℕ} 0 1 = cc in absurd (omega arith)
-  last-characters n at r U e d (elements k) next f s = let z : _≡_ {A = ℕ} 0 1 = cc in absurd (omega arith)
-  last-characters n at r U e d (pairs k) next f s = let z : _≡_ {A = ℕ} 0 1 = cc in absurd (omega arith)
-  last-characters n at r U e d (characters cs) next f s =
-      let c : length cs ≡ n = cc in
-      let q : at ≡ next = cc in
-      rw q at (d cs c (omega (arith, s .end)))
+  pub last-none : (R : Opening) (n p : ℕ) (U : List ℕ) → ((rows : ℕ) → R ≡ opening-of (opening atoms (drop at m) (wanted-of Any) (at-offset m at rows))) → R .head ≡ heads.Refused n p
+      → Last-done (parts-of.Refused n p) U
+  unfolding Done
+  last-none R n p U e f bound h = rw (tail-refused atoms cap deep m at row bound n p h (opened-refused atoms m at row (wanted-of Any) R n p e f))
 
-  module _ (other : (n next : ℕ) → head ≡ heads.Characters n next → ⊥) (h : Head) (next : ℕ) (is : head ≡ head-at h next) where
-    last-is : last atoms cap deep place h (at-offset m next row) ≡ after (body atoms cap deep place h (at-offset m next row)) (λ t. done (t ▹ empty, improper-list))
-    unfolding last head-at
-    last-is = go h is
-      where
-        go : (x : Head) → head ≡ head-at x next → last atoms cap deep place x (at-offset m next row) ≡ after (body atoms cap deep place x (at-offset m next row)) (λ t. done (t ▹ empty, improper-list))
-        go (parts ws n l) e = refl
-        go (characters cs) e = absurd (other (length cs) next e)
-        go (elements n) e = refl
-        go (pairs n) e = refl
+  module _ {place : ℕ} {head : code.Head} (o : Opened-at atoms m at row (wanted-of Any) place head) where
+    module _ (no : Last-at m at) (other : (n next : ℕ) → head ≡ heads.Characters n next → ⊥) (r : Step) (T′ : List ℕ)
+        (d : TermDone m cap row whole T (body atoms cap deep place (o .h) (at-offset m (o .next) row)) r T′) where
+      last-is : (bound : List ℕ) → length m - at ≤ length bound
+          → list-tail atoms cap deep (body atoms cap deep) bound (at-offset m at row) ≡ after (body atoms cap deep place (o .h) (at-offset m (o .next) row)) (λ t. done (t ▹ empty, improper-list))
+      unfolding head-at wanted-of
+      last-is bound h =
+          tail-other atoms cap deep m at row o bound h
+          (λ n e. no .no-elements atoms row place n (at-offset m (o .next) row) (o .is ∙ ap (λ (x : Head). good ((place, x), at-offset m (o .next) row)) e))
+          (λ cs e. other (length cs) (o .next) (o .head-is ∙ ap (λ (x : Head). head-at x (o .next)) e))
 
-    pub last-refused : (r : Step) (T′ : List ℕ) (k p : ℕ) (U : List ℕ) → r ≡ step.Refused k p → TermDone m cap row whole T (body atoms cap deep place h (at-offset m next row)) r T′ → Last-done h next (parts-of.Refused k p) U
-    unfolding Done
-    last-refused r T′ k p U e d = rw (last-is, step-refused _ _ _ m cap row T (body atoms cap deep place h (at-offset m next row)) r T′ k p e d)
+      pub last-refused : (k p : ℕ) (U : List ℕ) → r ≡ step.Refused k p → Last-done (parts-of.Refused k p) U
+      unfolding Done
+      last-refused k p U e bound h = rw (last-is bound h, step-refused _ _ _ m cap row T (body atoms cap deep place (o .h) (at-offset m (o .next) row)) r T′ k p e d)
 
-    pub last-got : (r : Step) (T′ : List ℕ) (at end : ℕ) → r ≡ step.Got at end → TermDone m cap row whole T (body atoms cap deep place h (at-offset m next row)) r T′ → Last-done h next (parts-of.Got at end (before + 1) 6) T′
-    unfolding Done rows Each-node kind-of
-    last-got r T′ at end e d =
-        let f = step-found size (λ t. row-words (tree-rows (whole-of whole) row t)) (Each-node (Placed 65536)) m cap row T (body atoms cap deep place h (at-offset m next row)) r T′ at end e d in
-        let a : end ≡ row + (size (f .x) + 0) = omega (arith, f .rows-are) in
-        rw (last-is, f .is) (
-          ap (λ (k : ℕ). parts-of.Got at k (before + 1) 6) a,
-          record {
-            table-is = f .table-is ∙ ap (λ (rs : List Row). sets T row (row-words rs)) (sym (append-nil (tree-rows (whole-of whole) row (f .x))));
-            stands = ap (λ (k : ℕ). at-offset m at k) a;
-            near = f .near;
-            room = omega (arith, f .room);
-            from = (f .from, tt);
-          },
-        )
+      pub last-got : (next end : ℕ) → r ≡ step.Got next end → Last-done (parts-of.Got next end (before + 1) 6) T′
+      unfolding Done rows Each-node kind-of
+      last-got next end e bound h =
+          let f = step-found size (λ t. row-words (tree-rows (whole-of whole) row t)) (Each-node (Placed 65536)) m cap row T (body atoms cap deep place (o .h) (at-offset m (o .next) row)) r T′ next end e d in
+          let a : end ≡ row + (size (f .x) + 0) = omega (arith, f .rows-are) in
+          rw (last-is bound h, f .is) (
+            ap (λ (k : ℕ). parts-of.Got next k (before + 1) 6) a,
+            record {
+              table-is = f .table-is ∙ ap (λ (rs : List Row). sets T row (row-words rs)) (sym (append-nil (tree-rows (whole-of whole) row (f .x))));
+              stands = ap (λ (k : ℕ). at-offset m next k) a;
+              near = f .near;
+              room = omega (arith, f .room);
+              from = (f .from, tt);
+            },
+          )

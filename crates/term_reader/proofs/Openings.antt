@@ -1,12 +1,13 @@
 -- What the code's opening says of the definition's.
 use mathlib.Core.Path.{_≡_, refl, sym, ap, ap₂, _∙_, subst}
+use mathlib.Core.Bool.{false}
 use mathlib.Core.List.{List, [], _∷_}
 use Prim.Native.Nat.{ℕ, _+_, _≤_, _<_}
 use native.Mathlib.Omega.{arith}
 use lib.ListN.{length, drop}
-use Rattle.term_spec.specs.Answer.{Answer, good, refused, Position, at-offset}
-use Rattle.term_spec.specs.Head.{Atoms, Wanted, Head, parts, characters, elements, pairs, Later, later}
-use Rattle.term_spec.specs.Reading.{opening}
+use Rattle.term_spec.specs.Answer.{Answer, good, refused, Position, at-offset, after, done}
+use Rattle.term_spec.specs.Head.{Atoms, Wanted, any, Head, parts, characters, elements, pairs, Later, later, term-head}
+use Rattle.term_spec.specs.Reading.{empty-108, opening}
 use Rattle.term_spec.proofs.Backed.{Chars-at, On-chars, opening-backed}
 use Rattle.term_spec.proofs.Backed as backing
 use Rattle.term_spec.proofs.Holds.{Holds}
@@ -14,11 +15,13 @@ use Rattle.term_spec.proofs.Invariant.{later-kept}
 use Rattle.term_head.specs.declared.Head as code
 use Rattle.term_head.specs.declared.Head.the-variants as heads
 use Rattle.term_head.specs.declared.Opening.{Opening}
-use Rattle.term_head.specs.Code.{head-at, opening-of}
+use Rattle.term_head.specs.declared.Wanted.the-variants.{Any}
+use Rattle.term_head.specs.Code.{wanted-of, head-at, opening-of, Elements-at, Skipped}
 use Rattle.term_head.proofs.HeadFacts.{Past, past-byte, past-row, past-is, Wants, no-part, one-node, a-function, Wanting}
+use Rattle.term_head.proofs.Openings.{skipped-head, skipped-opens}
 use Rattle.term_head.proofs.OpeningFacts.{opening-opens, refused-found}
 use Rattle.term_head.proofs.OpeningFacts as facts
-use Rattle.term_reader.specs.Code.{asked, Head-fits, Sound-head, Head-read}
+use Rattle.term_reader.specs.Code.{asked, Head-fits, Sound-head, Head-read, Last-at}
 
 -- later fields end in the message too, with no row taken
 pub later-past : (m : List ℕ) (r p : ℕ) (l : Later) (from : ℕ) → from ≤ length m → Holds (later p l (at-offset m from r)) (λ x t. Past m from r t)
@@ -91,3 +94,35 @@ module _ (atoms : Atoms) (m : List ℕ) (at row : ℕ) (w : Wanted) where
 
   pub opens : {place : ℕ} {head′ : code.Head} → Opened-at place head′ → Head-read m place head′
   opens o = record { h = o .h; next = o .next; is = o .head-is; sound = o .sound }
+
+-- ---- a list's tail, past 108s of length 0
+
+module _ (atoms : Atoms) (m : List ℕ) (at row : ℕ) (s : Skipped m at at) where
+  head-opened : (h : Head) (next : ℕ) → term-head atoms any (at-offset m at row) ≡ good (h, at-offset m next row) → Opened-at atoms m at row any at (head-at h next)
+  unfolding opening-of
+  head-opened h next e =
+      opened-by atoms m at row any (good ((at, h), at-offset m next row)) (record { place = at; head = head-at h next })
+      (skipped-opens atoms m at at row s ∙ ap (λ (o : Answer (Head × Position)). after o (λ x. done (at, x))) e)
+      refl (λ n p f. head-refused h next n p f) (s .inside)
+
+  pub nil-opened : term-head atoms any (at-offset m at row) ≡ good (characters [], at-offset m (at + 1) row) → Opened-at atoms m at row (wanted-of Any) at (heads.Characters 0 (at + 1))
+  unfolding wanted-of head-at
+  nil-opened e = head-opened (characters []) (at + 1) e
+
+  pub elements-opened : (n : ℕ) → (n ≡ 0 → ⊥) → Elements-at m at n → Opened-at atoms m at row (wanted-of Any) at (heads.Elements n (at + 5))
+  unfolding wanted-of head-at
+  elements-opened n more e = head-opened (elements n) (at + 5) (e .some more atoms row)
+
+pub last-at : (m : List ℕ) (at : ℕ) → Skipped m at at → (n : ℕ) → n ≡ 0 → Elements-at m at n → Last-at m at
+last-at m at s n z i = record { no-elements = λ atoms rows place k t e. go atoms rows place k t (term-head atoms any (at-offset m at rows)) refl (sym (skipped-opens atoms m at at rows s) ∙ e) }
+  where
+    go : (atoms : Atoms) (rows place k : ℕ) (t : Position) (o : Answer (Head × Position)) → term-head atoms any (at-offset m at rows) ≡ o
+        → _≡_ {A = Answer ((ℕ × Head) × Position)} (after o (λ h. done (at, h))) (good ((place, elements k), t)) → ⊥
+    go atoms rows place k t (refused c p) f e = let z : _≡_ {A = ℕ} 0 1 = cc in omega arith
+    go atoms rows place k t (good x) f e =
+        let q : _≡_ {A = (ℕ × Head) × Position} ((at, x .0), x .1) ((place, elements k), t) = cc in
+        let h : x .0 ≡ elements k = ap (λ (y : (ℕ × Head) × Position). y .0 .1) q in
+        let y : k ≡ 0 = i .none z atoms rows k (x .1) (f ∙ ap (λ (w : Head). good (w, x .1)) h) in
+        let full : empty-108 (x .0) ≡ false = skipped-head atoms m at at rows s .known (x .0) (x .1) f in
+        let none : empty-108 (elements 0) ≡ false = rw (h, y) at full in
+        let w : _≡_ {A = ℕ} 0 1 = cc in omega arith

@@ -7,12 +7,12 @@ use mathlib.Core.Option.{Option, none, some}
 use Prim.Native.Nat.{ℕ, zero, suc, _+_, _-_, _≤_, _<_, min}
 use lib.ListN.{length, drop, replicate}
 use lib.Seq.{sets}
-use Rattle.term_spec.specs.Tree.{Forest, _▹_, _▹▹_, count, size, sizes, Each-node, Each-nodes}
-use Rattle.term_spec.specs.Term.{Label, list, improper-list, map}
+use Rattle.term_spec.specs.Tree.{_▹▹_, count, size, sizes, Each-node, Each-nodes}
+use Rattle.term_spec.specs.Term.{Label, list, map}
 use Rattle.term_spec.specs.Answer.{_>>=_, Answer, good, refused, Position, at-offset, Reading, done}
-use Rattle.term_spec.specs.Head.{Atoms, Wanted, an-atom, an-arity, Head, parts, characters, elements, pairs, Later, later}
+use Rattle.term_spec.specs.Head.{Atoms, Wanted, any, an-atom, an-arity, Head, parts, characters, elements, pairs, Later, later}
 use Rattle.term_spec.specs.AtomList.{AtomList, of-size, atoms-of}
-use Rattle.term_spec.specs.Reading.{Located, bytes-left, each, run, entries, string, list-tail, body, term}
+use Rattle.term_spec.specs.Reading.{Located, bytes-left, each, run, entries, string, list-tail, opening, body, term}
 use Rattle.term_spec.specs.Message.{Terms}
 use Rattle.term_spec.specs.Rows.{tree-rows, rows, kind-of, pack, row-words, Placed}
 use Rattle.term_head.specs.declared.Head as code
@@ -68,6 +68,10 @@ pub record Head-read (m : List ℕ) (place : ℕ) (head : code.Head) : Type 0 wh
   pub is : head ≡ head-at h next
   pub sound : Sound-head m place next h
 
+-- no 108 opens at an offset
+pub record Last-at (m : List ℕ) (at : ℕ) : Type 0 where
+  pub no-elements : (atoms : Atoms) (rows place n : ℕ) (t : Position) → opening atoms (drop at m) any (at-offset m at rows) ≡ good ((place, elements n), t) → ⊥
+
 -- With `deep` levels left for the parts:
 module _ (atoms : Atoms) (cap deep : ℕ) where
   -- the parts of the term at p, and its label
@@ -88,21 +92,6 @@ module _ (atoms : Atoms) (cap deep : ℕ) where
   inner p (pairs n) = do
     ts ← entries (term atoms cap deep) [] n
     done (ts, map)
-
-  -- the tail of a list, a term that is joined no further
-  unfoldable pub last : ℕ → Head → Reading (Terms × Label)
-  last p (parts ws n l) = do
-    t ← body atoms cap deep p (parts ws n l)
-    done (t ▹ Forest.empty, improper-list)
-  last p (characters cs) = do
-    ts ← string atoms cap deep p (p + 3) cs
-    done (ts, list)
-  last p (elements n) = do
-    t ← body atoms cap deep p (elements n)
-    done (t ▹ Forest.empty, improper-list)
-  last p (pairs n) = do
-    t ← body atoms cap deep p (pairs n)
-    done (t ▹ Forest.empty, improper-list)
 
 -- What a reader leaves: T′ is T with the words of what was read stored from `row` on, and reading goes on at an offset of m
 module _ {X : Type 0} (size-of : X → ℕ) (as-rows : X → List ℕ) (From : X → Type 0) (m : List ℕ) (cap row : ℕ) (T : List ℕ) where
@@ -175,10 +164,10 @@ module _ (m : List ℕ) (list : AtomList) (cap left at row whole : ℕ) (T S : L
     pub rows-stored : PartsDone m before cap row whole T (list-tail (atoms-of list) cap left (body (atoms-of list) cap left) (drop at m) (at-offset m at row)) r T′
     pub keys-kept : Keeps S S′
 
-  -- the tail of a list, a term at `at` that is joined no further, after `before` elements
-  pub record Last-read (before : ℕ) (head : code.Head) (r : Parts) (T′ S′ : List ℕ) : Type 0 where
-    pub rows-stored : (h : Head) (next : ℕ) → head ≡ head-at h next → Sound-head m at next h
-        → PartsDone m before cap row whole T (last (atoms-of list) cap left at h (at-offset m next row)) r T′
+  -- the same where no 108 opens, so that no tail is joined on: as far as the bytes left bound them
+  pub record Last-read (before : ℕ) (r : Parts) (T′ S′ : List ℕ) : Type 0 where
+    pub rows-stored : (bound : List ℕ) → length m - at ≤ length bound
+        → PartsDone m before cap row whole T (list-tail (atoms-of list) cap left (body (atoms-of list) cap left) bound (at-offset m at row)) r T′
     pub keys-kept : Keeps S S′
 
 -- the parts of a term whose head is in a word

@@ -16,7 +16,7 @@ ghost use Rattle.term_spec.specs.Head.{characters, elements, pairs, term-head};
 ghost use Rattle.term_spec.specs.Answer.{at-offset};
 ghost use Rattle.term_head.specs.Code.{wanted-of, head-of};
 ghost use Rattle.term_head.specs.Quick.{quick-word};
-ghost use Rattle.term_reader.specs.Code.{asked, character-words, Room, Head-read, inner, PartsDone, Term-read, Run-read, Body-read, Inner-read, Parts-read, Many-read, Tail-read, Last-read, Common-read};
+ghost use Rattle.term_reader.specs.Code.{asked, character-words, Room, Head-read, Last-at, inner, PartsDone, Term-read, Run-read, Body-read, Inner-read, Parts-read, Many-read, Tail-read, Last-read, Common-read};
 
 // Of the parts that are wanted, so many are atoms at most.
 const WANTED_ATOMS: usize = 2;
@@ -754,55 +754,58 @@ fn read_tail(
     let mut row_now = row;
     let mut sum = before;
     loop {
-        let opening = term_head::read_opening(msg, n, places, lengths, at_now, Wanted::Any);
-        let place = opening.place;
-        let head = opening.head;
-        match head {
-            Head::Elements { count, next } => match read_run(
+        let place = term_head::skip_empty(msg, at_now);
+        if term_head::nil_at(msg, place) {
+            return Parts::Got {
+                next: place + 1,
+                rows: row_now,
+                parts: sum,
+                kind: kinds::LIST,
+            };
+        }
+        let count = term_head::elements_at(msg, place);
+        if count == 0 {
+            return read_last(
                 msg,
                 n,
                 places,
                 lengths,
                 table,
                 seen,
-                next,
+                place,
                 row_now,
                 whole,
                 deep,
                 cap,
-                Wanted::Any,
-                count,
-            ) {
-                Step::Refused { number, place } => return Parts::Refused { number, place },
-                Step::Got { next, rows } => {
-                    at_now = next;
-                    row_now = rows;
-                    sum += count;
-                }
-            },
-            Head::Refused { number, place } => return Parts::Refused { number, place },
-            _ => {
-                return read_last(
-                    msg,
-                    n,
-                    places,
-                    lengths,
-                    table,
-                    seen,
-                    place,
-                    head,
-                    row_now,
-                    whole,
-                    deep,
-                    cap,
-                    sum,
-                )
+                sum,
+            );
+        }
+        match read_run(
+            msg,
+            n,
+            places,
+            lengths,
+            table,
+            seen,
+            place + term_head::LIST_HEAD,
+            row_now,
+            whole,
+            deep,
+            cap,
+            Wanted::Any,
+            count,
+        ) {
+            Step::Refused { number, place } => return Parts::Refused { number, place },
+            Step::Got { next, rows } => {
+                at_now = next;
+                row_now = rows;
+                sum += count;
             }
         }
     }
 }
 
-// The tail of a list, a term at `place` that is joined no further: the empty list or a 107 ends a proper list.
+// The tail of a list that is joined no further: the empty list or a 107 ends a proper list.
 fn read_last(
     msg: &[u8],
     n: u8,
@@ -810,19 +813,22 @@ fn read_last(
     lengths: &[u16],
     table: &mut [u64],
     seen: &mut [u16],
-    place: usize,
-    head: Head,
+    at: usize,
     row: usize,
     whole: usize,
     deep: usize,
     cap: usize,
     before: usize,
 ) -> Parts
-    requires { ⌜ Room (now msg) (lent-list n (now places) (now lengths)) (now table) cap place row whole × Head-read (now msg) place head × (before ≤ row) ⌝ }
+    requires { ⌜ Room (now msg) (lent-list n (now places) (now lengths)) (now table) cap at row whole × Last-at (now msg) at × (before ≤ row) ⌝ }
     requires { ⌜ 0 < length (now seen) ⌝ }
-    ensures { λ r. ⌜ Last-read (now (msg .entry)) (lent-list n (now (places .entry)) (now (lengths .entry))) cap deep place row whole (now (table .entry)) (now (seen .entry)) before head r (now (table .exit)) (now (seen .exit)) ⌝ }
+    ensures { λ r. ⌜ Last-read (now (msg .entry)) (lent-list n (now (places .entry)) (now (lengths .entry))) cap deep at row whole (now (table .entry)) (now (seen .entry)) before r (now (table .exit)) (now (seen .exit)) ⌝ }
 {
+    let opening = term_head::read_opening(msg, n, places, lengths, at, Wanted::Any);
+    let place = opening.place;
+    let head = opening.head;
     match head {
+        Head::Refused { number, place } => Parts::Refused { number, place },
         Head::Characters { count, next } => {
             read_characters(table, place, count, next, row, whole, deep, cap, before)
         }

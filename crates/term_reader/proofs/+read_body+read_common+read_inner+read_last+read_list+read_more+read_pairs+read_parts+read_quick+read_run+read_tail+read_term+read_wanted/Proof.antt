@@ -1,10 +1,11 @@
 -- The functions of the reader that call each other meet their contracts: each level of depth counts 8, and a function that calls another at its own level counts more.
 use Rattle.term_reader.proofs.Entries.{Entered, entered-none, entries-many, entries-end, key-refused, key-twice, value-refused, entered-more, keys-told, term-inside}
-use Rattle.term_reader.proofs.Inner.{opens-near, opens-place, opens-span, inner-refused, inner-parts, inner-characters, inner-elements, inner-pairs, parts-first, parts-second, parts-later-refused, parts-got, run-many, list-first, list-then, Tailed, tailed-none, tailed-refused, tailed-last, tailed-run-refused, tailed-further, tailed-more, last-characters, last-refused, last-got}
+use Rattle.term_reader.proofs.Inner.{opens-near, opens-place, opens-span, inner-refused, inner-parts, inner-characters, inner-elements, inner-pairs, parts-first, parts-second, parts-later-refused, parts-got, run-many, list-first, list-then, Tailed, tailed-none, tailed-skipped, tailed-nil, tailed-last, tailed-run-refused, tailed-further, tailed-more, tail-characters, last-none, last-refused, last-got}
 use Rattle.term_reader.proofs.Bodies.{term-refused, term-opened, body-deep, body-full, body-refused, body-got, body-small, parts-past, room-inside, room-at}
 use Rattle.term_reader.proofs.Quick.{told-next, common-leaf, common-list, common-pairs, common-refused, common-got, opened-quickly, quick-near, quick-inside, quick-term, quick-leaf, leaf-small}
 use Rattle.term_reader.proofs.Runs.{room-after, run-none, run-refused, run-more, run-one, wanted-refused, wanted-more}
-use Rattle.term_reader.proofs.Openings.{opened, opens}
+use Rattle.term_reader.proofs.Openings.{opened, opens, elements-opened, last-at}
+use Rattle.term_head.proofs.Openings.{skipped-here}
 use Rattle.term_reader.specs.Code.{Room, RunDone, PartsDone}
 use Rattle.term_reader.specs.declared.Step.{Step}
 use Rattle.map_keys.specs.KeySet.{Keeps}
@@ -61,10 +62,13 @@ use Rattle.term_reader.proofs.+read_body+read_common+read_inner+read_la
 use Rattle.term_reader.proofs.read_wanted.Reads as read-wanted
 use Rattle.term_reader.proofs.read_wanted.Kinds as read-wanted-kinds
 use Rattle.term_reader.proofs.+read_body+read_common+read_inner+read_last+read_list+read_more+read_pairs+read_parts+read_quick+read_run+read_tail+read_term+read_wanted.Lts-read_wanted as read-wanted-lts
+use Rattle.term_head.proofs.elements_at.Reads as elements-at-reads
 use Rattle.term_head.proofs.leaf_at.Reads as leaf-at-reads
+use Rattle.term_head.proofs.nil_at.Reads as nil-at-reads
 use Rattle.term_head.proofs.quick_at.Reads as quick-at-reads
 use Rattle.term_head.proofs.read_later.Reads as read-later-reads
 use Rattle.term_head.proofs.read_opening.Reads as read-opening-reads
+use Rattle.term_head.proofs.skip_empty.Reads as skip-empty-reads
 use Rattle.map_keys.proofs.contains_or_insert.Reads as insert-reads
 use Rattle.row.proofs.pack.Reads as pack-reads
 use Rattle.term_reader.proofs.at_most.Reads as at-most-reads
@@ -87,7 +91,7 @@ abbrev μ-read-inner : Measures 5 read-inner-kinds.ps ℕ
 μ-read-inner κs a = a .1 .1 .1 .1 .1 .1 .1 .1 .1 .0 * 8 + 6
 
 abbrev μ-read-last : Measures 5 read-last-kinds.ps ℕ
-μ-read-last κs a = a .1 .1 .1 .1 .1 .1 .1 .1 .1 .1 .0 * 8 + 1
+μ-read-last κs a = a .1 .1 .1 .1 .1 .1 .1 .1 .1 .0 * 8 + 1
 
 abbrev μ-read-list : Measures 5 read-list-kinds.ps ℕ
 μ-read-list κs a = a .1 .1 .1 .1 .1 .1 .1 .1 .0 * 8 + 4
@@ -221,7 +225,7 @@ abbrev read-inner-calls : ℕ → read-inner-lts.Claims
 read-inner-calls t = (read-parts-below t, read-parts.Post, read-characters-reads.Asked, read-characters-reads.Learnt, read-list-below t, read-list.Post, read-pairs-below t, read-pairs.Post)
 
 abbrev read-last-calls : ℕ → read-last-lts.Claims
-read-last-calls t = (read-characters-reads.Asked, read-characters-reads.Learnt, read-body-below t, read-body.Post)
+read-last-calls t = (read-opening-reads.Asked, read-opening-reads.Learnt, read-characters-reads.Asked, read-characters-reads.Learnt, read-body-below t, read-body.Post)
 
 abbrev read-list-calls : ℕ → read-list-lts.Claims
 read-list-calls t = (read-run-below t, read-run.Post, read-tail-below t, read-tail.Post)
@@ -242,7 +246,7 @@ abbrev read-run-calls : ℕ → read-run-lts.Claims
 read-run-calls t = (leaf-at-reads.Asked, leaf-at-reads.Learnt, is-leaf-reads.Asked, is-leaf-reads.Learnt, pack-reads.Asked, pack-reads.Learnt, read-term-below t, read-term.Post)
 
 abbrev read-tail-calls : ℕ → read-tail-lts.Claims
-read-tail-calls t = (read-opening-reads.Asked, read-opening-reads.Learnt, read-run-below t, read-run.Post, read-last-below t, read-last.Post)
+read-tail-calls t = (skip-empty-reads.Asked, skip-empty-reads.Learnt, nil-at-reads.Asked, nil-at-reads.Learnt, elements-at-reads.Asked, elements-at-reads.Learnt, read-last-below t, read-last.Post, read-run-below t, read-run.Post)
 
 abbrev read-term-calls : ℕ → read-term-lts.Claims
 read-term-calls t = (quick-at-reads.Asked, quick-at-reads.Learnt, read-quick-below t, read-quick.Post, read-opening-reads.Asked, read-opening-reads.Learnt, read-body-below t, read-body.Post)
@@ -364,14 +368,22 @@ read-inner-same-length-7 t c = c .before .before .before .before .read-pairs .ke
 read-inner-returns-5 : (t : ℕ) → read-inner-lts.Need-returns-5 (read-inner-calls t) (read-inner-at t) read-inner.Post
 read-inner-returns-5 t c = record { rows-stored = inner-pairs _ _ _ _ _ _ _ _ _ _ _ _ (c .before .before .before .before .before .before .before .before .head5 .given .1) (c .before .before .before .before .read-pairs .ensures .rows-stored _); keys-kept = c .before .before .before .before .read-pairs .ensures .keys-kept }
 
+read-last-read-opening-requires : (t : ℕ) → read-last-lts.Need-read-opening-requires (read-last-calls t) (read-last-at t) read-last.Post
+read-last-read-opening-requires t c κs = (c .before .before .before .before .before .pre .1 .0 .0 .near, c .before .before .before .before .before .pre .1 .0 .0 .short, c .before .before .before .before .before .pre .1 .0 .0 .sized)
+
 read-last-enum-known-head : (t : ℕ) → read-last-lts.Need-enum-known-head (read-last-calls t) (read-last-at t) read-last.Post
 read-last-enum-known-head t c = search needs
 
+read-last-enum-known-head-2 : (t : ℕ) → read-last-lts.Need-enum-known-head-2 (read-last-calls t) (read-last-at t) read-last.Post
+read-last-enum-known-head-2 t c = search needs
+
 read-last-read-characters-requires : (t : ℕ) → read-last-lts.Need-read-characters-requires (read-last-calls t) (read-last-at t) read-last.Post
-read-last-read-characters-requires t c κs = (omega arith, omega arith, omega arith, omega arith, omega arith, opens-span _ _ _ _ _ (c .before .before .before .before .before .before .before .before .before .pre .1 .0 .1) (c .before .before .head .given .1) (c .before .before .before .before .before .before .before .before .before .pre .1 .0 .0 .short))
+read-last-read-characters-requires t c κs = (omega arith, omega arith, omega arith, omega arith, omega arith, opens-span _ _ _ _ _ (opens _ _ _ _ _ (opened _ _ _ (c .before .before .before .before .before .before .before .before .before .before .args .row) _ _ (c .before .before .before .before .read-opening .ensures) (λ k p e. miss (2 ∷ []) 0 tt (rw e at (c .before .before .before .match .keys2))) (c .before .before .before .before .before .before .before .before .before .before .pre .1 .0 .0 .near))) (c .before .before .head2 .given .1) (c .before .before .before .before .before .before .before .before .before .before .pre .1 .0 .0 .short))
 
 read-last-read-body-requires : (t : ℕ) → read-last-lts.Need-read-body-requires (read-last-calls t) (read-last-at t) read-last.Post
-read-last-read-body-requires t c κs = (omega (arith, c .before .before .before .before .before .before .before .before .pre .0), ((c .before .before .before .before .before .before .before .before .pre .1 .0 .0, c .before .before .before .before .before .before .before .before .pre .1 .0 .1), c .before .before .before .before .before .before .before .before .pre .1 .1))
+read-last-read-body-requires t c κs =
+    let o = (opened _ _ _ (c .before .before .before .before .before .before .before .before .before .args .row) _ _ (c .before .before .before .read-opening .ensures) (λ k p e. miss (1 ∷ 3 ∷ 4 ∷ []) 0 tt (rw e at (c .before .before .match .keys3))) (c .before .before .before .before .before .before .before .before .before .pre .1 .0 .0 .near)) in
+    (omega (arith, c .before .before .before .before .before .before .before .before .before .pre .0), ((room-at _ _ _ _ _ _ _ _ (c .before .before .before .before .before .before .before .before .before .pre .1 .0 .0) (omega (arith, o .sound .before, o .sound .end)), opens _ _ _ _ _ o), c .before .before .before .before .before .before .before .before .before .pre .1 .1))
 
 read-last-enum-known-number : (t : ℕ) → read-last-lts.Need-enum-known-number (read-last-calls t) (read-last-at t) read-last.Post
 read-last-enum-known-number t c = search needs
@@ -379,14 +391,17 @@ read-last-enum-known-number t c = search needs
 read-last-enum-known-next : (t : ℕ) → read-last-lts.Need-enum-known-next (read-last-calls t) (read-last-at t) read-last.Post
 read-last-enum-known-next t c = search needs
 
-read-last-add-t29 : (t : ℕ) → read-last-lts.Need-add-t29 (read-last-calls t) (read-last-at t) read-last.Post
-read-last-add-t29 t c = omega arith
+read-last-add-t34 : (t : ℕ) → read-last-lts.Need-add-t34 (read-last-calls t) (read-last-at t) read-last.Post
+read-last-add-t34 t c = omega (arith, c .before .before .before .before .before .before .before .before .before .before .before .before .before .before .before .before .before .pre .1 .0 .2, c .before .before .before .before .before .before .before .before .before .before .before .before .before .before .before .before .before .pre .1 .0 .0 .low, c .before .before .before .before .before .before .before .before .before .before .before .before .before .before .before .before .before .pre .1 .0 .0 .few)
+
+read-last-returns : (t : ℕ) → read-last-lts.Need-returns (read-last-calls t) (read-last-at t) read-last.Post
+read-last-returns t c = record { rows-stored = last-none _ _ _ _ _ _ _ _ _ _ _ _ _ (c .before .before .before .read-opening .ensures) (c .before .head .given .1); keys-kept = keeps-refl _ }
 
 read-last-same-length : (t : ℕ) → read-last-lts.Need-same-length (read-last-calls t) (read-last-at t) read-last.Post
 read-last-same-length t c = c .before .before .read-characters .kept .0
 
-read-last-returns : (t : ℕ) → read-last-lts.Need-returns (read-last-calls t) (read-last-at t) read-last.Post
-read-last-returns t c = record { rows-stored = last-characters _ _ _ _ _ _ _ _ _ _ _ _ _ _ (c .before .before .before .before .before .head .given .1) (λ cs e near. c .before .before .read-characters .ensures _ _ cs e near); keys-kept = keeps-refl _ }
+read-last-returns-2 : (t : ℕ) → read-last-lts.Need-returns-2 (read-last-calls t) (read-last-at t) read-last.Post
+read-last-returns-2 t c = record { rows-stored = tail-characters _ _ _ _ _ _ _ _ _ (opened _ _ _ (c .before .before .before .before .before .before .before .before .before .before .before .before .before .args .row) _ _ (c .before .before .before .before .before .before .before .read-opening .ensures) (λ k p e. miss (2 ∷ []) 0 tt (rw e at (c .before .before .before .before .before .before .match .keys2))) (c .before .before .before .before .before .before .before .before .before .before .before .before .before .pre .1 .0 .0 .near)) _ _ _ _ (c .before .before .before .before .before .head2 .given .1) (λ cs e near. c .before .before .read-characters .ensures _ _ cs e near); keys-kept = keeps-refl _ }
 
 read-last-same-length-2 : (t : ℕ) → read-last-lts.Need-same-length-2 (read-last-calls t) (read-last-at t) read-last.Post
 read-last-same-length-2 t c = c .before .before .before .before .before .before .before .read-body .kept .1 .1 .1 .1 .0
@@ -394,8 +409,10 @@ read-last-same-length-2 t c = c .before .before .before .before .before .before 
 read-last-same-length-3 : (t : ℕ) → read-last-lts.Need-same-length-3 (read-last-calls t) (read-last-at t) read-last.Post
 read-last-same-length-3 t c = c .before .before .before .before .before .before .before .read-body .kept .1 .1 .1 .1 .1 .0
 
-read-last-returns-2 : (t : ℕ) → read-last-lts.Need-returns-2 (read-last-calls t) (read-last-at t) read-last.Post
-read-last-returns-2 t c = record { rows-stored = λ h next e s. last-refused _ _ _ _ _ _ _ _ _ _ (λ k p e. miss (0 ∷ 1 ∷ 3 ∷ 4 ∷ []) 2 tt (rw e at (c .before .before .before .before .before .before .before .before .before .before .match .keys2))) h next e _ _ _ _ _ (c .before .number .given .1) (c .before .before .before .before .before .before .before .read-body .ensures .rows-stored h next e s); keys-kept = c .before .before .before .before .before .before .before .read-body .ensures .keys-kept }
+read-last-returns-3 : (t : ℕ) → read-last-lts.Need-returns-3 (read-last-calls t) (read-last-at t) read-last.Post
+read-last-returns-3 t c =
+    let o = (opened _ _ _ (c .before .before .before .before .before .before .before .before .before .before .before .before .before .before .before .before .before .args .row) _ _ (c .before .before .before .before .before .before .before .before .before .before .before .read-opening .ensures) (λ k p e. miss (1 ∷ 3 ∷ 4 ∷ []) 0 tt (rw e at (c .before .before .before .before .before .before .before .before .before .before .match .keys3))) (c .before .before .before .before .before .before .before .before .before .before .before .before .before .before .before .before .before .pre .1 .0 .0 .near)) in
+    record { rows-stored = last-refused _ _ _ _ _ _ _ _ _ o (c .before .before .before .before .before .before .before .before .before .before .before .before .before .before .before .before .before .pre .1 .0 .1) (λ k p e. miss (1 ∷ 3 ∷ 4 ∷ []) 2 tt (rw e at (c .before .before .before .before .before .before .before .before .before .before .match .keys3))) _ _ (c .before .before .before .before .before .before .before .read-body .ensures .rows-stored (o .h) (o .next) (o .head-is) (o .sound)) _ _ _ (c .before .number .given .1); keys-kept = c .before .before .before .before .before .before .before .read-body .ensures .keys-kept }
 
 read-last-same-length-4 : (t : ℕ) → read-last-lts.Need-same-length-4 (read-last-calls t) (read-last-at t) read-last.Post
 read-last-same-length-4 t c = c .before .before .before .before .before .before .before .read-body .kept .1 .1 .1 .1 .0
@@ -403,8 +420,10 @@ read-last-same-length-4 t c = c .before .before .before .before .before .before 
 read-last-same-length-5 : (t : ℕ) → read-last-lts.Need-same-length-5 (read-last-calls t) (read-last-at t) read-last.Post
 read-last-same-length-5 t c = c .before .before .before .before .before .before .before .read-body .kept .1 .1 .1 .1 .1 .0
 
-read-last-returns-3 : (t : ℕ) → read-last-lts.Need-returns-3 (read-last-calls t) (read-last-at t) read-last.Post
-read-last-returns-3 t c = record { rows-stored = λ h next e s. last-got _ _ _ _ _ _ _ _ _ _ (λ k p e. miss (0 ∷ 1 ∷ 3 ∷ 4 ∷ []) 2 tt (rw e at (c .before .before .before .before .before .before .before .before .before .before .match .keys2))) h next e _ _ _ _ (c .before .next .given .1) (c .before .before .before .before .before .before .before .read-body .ensures .rows-stored h next e s); keys-kept = c .before .before .before .before .before .before .before .read-body .ensures .keys-kept }
+read-last-returns-4 : (t : ℕ) → read-last-lts.Need-returns-4 (read-last-calls t) (read-last-at t) read-last.Post
+read-last-returns-4 t c =
+    let o = (opened _ _ _ (c .before .before .before .before .before .before .before .before .before .before .before .before .before .before .before .before .before .args .row) _ _ (c .before .before .before .before .before .before .before .before .before .before .before .read-opening .ensures) (λ k p e. miss (1 ∷ 3 ∷ 4 ∷ []) 0 tt (rw e at (c .before .before .before .before .before .before .before .before .before .before .match .keys3))) (c .before .before .before .before .before .before .before .before .before .before .before .before .before .before .before .before .before .pre .1 .0 .0 .near)) in
+    record { rows-stored = last-got _ _ _ _ _ _ _ _ _ o (c .before .before .before .before .before .before .before .before .before .before .before .before .before .before .before .before .before .pre .1 .0 .1) (λ k p e. miss (1 ∷ 3 ∷ 4 ∷ []) 2 tt (rw e at (c .before .before .before .before .before .before .before .before .before .before .match .keys3))) _ _ (c .before .before .before .before .before .before .before .read-body .ensures .rows-stored (o .h) (o .next) (o .head-is) (o .sound)) _ _ (c .before .next .given .1); keys-kept = c .before .before .before .before .before .before .before .read-body .ensures .keys-kept }
 
 read-list-read-run-requires : (t : ℕ) → read-list-lts.Need-read-run-requires (read-list-calls t) (read-list-at t) read-list.Post
 read-list-read-run-requires t c κs = (omega (arith, c .before .before .before .before .before .before .before .pre .0), (c .before .before .before .before .before .before .before .pre .1 .0, c .before .before .before .before .before .before .before .pre .1 .1))
@@ -727,64 +746,79 @@ read-tail-μ-loop msg n places lengths table₀ seen₀ at row whole deep cap be
 read-tail-loop-holds : (t : ℕ) → read-tail-lts.Need-loop-holds (read-tail-calls t) (read-tail-at t) read-tail.Post read-tail-Inv-loop read-tail-μ-loop
 read-tail-loop-holds t c = (c .before .before .before .before .before .pre .1 .0 .0, refl, c .before .before .before .before .before .pre .1 .0 .1, tailed-none _ _ _ _ _ _ _ _ _, keeps-refl _)
 
-read-tail-read-opening-requires : (t : ℕ) → read-tail-lts.Need-read-opening-requires (read-tail-calls t) (read-tail-at t) read-tail.Post read-tail-Inv-loop read-tail-μ-loop
-read-tail-read-opening-requires t c κs = (c .loop .inv .0 .near, c .loop .inv .0 .short, c .loop .inv .0 .sized)
+read-tail-skip-empty-requires : (t : ℕ) → read-tail-lts.Need-skip-empty-requires (read-tail-calls t) (read-tail-at t) read-tail.Post read-tail-Inv-loop read-tail-μ-loop
+read-tail-skip-empty-requires t c κs = c .loop .inv .0 .near
 
-read-tail-enum-known-head : (t : ℕ) → read-tail-lts.Need-enum-known-head (read-tail-calls t) (read-tail-at t) read-tail.Post read-tail-Inv-loop read-tail-μ-loop
-read-tail-enum-known-head t c = search needs
+read-tail-nil-at-requires : (t : ℕ) → read-tail-lts.Need-nil-at-requires (read-tail-calls t) (read-tail-at t) read-tail.Post read-tail-Inv-loop read-tail-μ-loop
+read-tail-nil-at-requires t c κs = c .skip-empty .ensures .inside
+
+read-tail-add-t23 : (t : ℕ) → read-tail-lts.Need-add-t23 (read-tail-calls t) (read-tail-at t) read-tail.Post read-tail-Inv-loop read-tail-μ-loop
+read-tail-add-t23 t c = omega (arith, c .before .before .skip-empty .ensures .inside, c .before .before .before .loop .inv .0 .short)
+
+read-tail-same-length : (t : ℕ) → read-tail-lts.Need-same-length (read-tail-calls t) (read-tail-at t) read-tail.Post read-tail-Inv-loop read-tail-μ-loop
+read-tail-same-length t c = c .before .before .before .loop .inv .1
+
+read-tail-same-length-2 : (t : ℕ) → read-tail-lts.Need-same-length-2 (read-tail-calls t) (read-tail-at t) read-tail.Post read-tail-Inv-loop read-tail-μ-loop
+read-tail-same-length-2 t c = c .before .before .before .loop .inv .4 .as-many
+
+read-tail-returns : (t : ℕ) → read-tail-lts.Need-returns (read-tail-calls t) (read-tail-at t) read-tail.Post read-tail-Inv-loop read-tail-μ-loop
+read-tail-returns t c = record { rows-stored = tailed-nil _ _ _ _ _ _ _ _ _ _ (tailed-skipped _ _ _ _ _ _ _ _ _ _ (c .before .before .before .loop .inv .3) _ (c .before .before .skip-empty .ensures)) (skipped-here _ _ _ (c .before .before .skip-empty .ensures)) (c .before .nil-at .ensures (c .if1 .taken) _ _) (c .before .before .before .loop .inv .0 .low); keys-kept = c .before .before .before .loop .inv .4 }
+
+read-tail-elements-at-requires : (t : ℕ) → read-tail-lts.Need-elements-at-requires (read-tail-calls t) (read-tail-at t) read-tail.Post read-tail-Inv-loop read-tail-μ-loop
+read-tail-elements-at-requires t c κs = c .before .before .skip-empty .ensures .inside
+
+read-tail-read-last-requires : (t : ℕ) → read-tail-lts.Need-read-last-requires (read-tail-calls t) (read-tail-at t) read-tail.Post read-tail-Inv-loop read-tail-μ-loop
+read-tail-read-last-requires t c κs = (omega (arith, c .before .before .before .before .before .before .before .before .before .before .before .before .before .pre .0), ((room-at _ _ _ _ _ _ _ _ (c .before .before .before .before .before .before .before .loop .inv .0) (c .before .before .before .before .before .before .skip-empty .ensures .inside), last-at _ _ (skipped-here _ _ _ (c .before .before .before .before .before .before .skip-empty .ensures)) _ (c .before .before .if2 .taken) (c .before .before .before .elements-at .ensures), c .before .before .before .before .before .before .before .loop .inv .2), omega (arith, c .before .before .before .before .before .before .before .before .before .before .before .before .before .pre .1 .1, c .before .before .before .before .before .before .before .loop .inv .4 .as-many)))
+
+read-tail-same-length-3 : (t : ℕ) → read-tail-lts.Need-same-length-3 (read-tail-calls t) (read-tail-at t) read-tail.Post read-tail-Inv-loop read-tail-μ-loop
+read-tail-same-length-3 t c = c .before .before .before .before .read-last .kept .1 .1 .1 .1 .0 ∙ c .before .before .before .before .before .before .before .before .before .before .before .before .loop .inv .1
+
+read-tail-same-length-4 : (t : ℕ) → read-tail-lts.Need-same-length-4 (read-tail-calls t) (read-tail-at t) read-tail.Post read-tail-Inv-loop read-tail-μ-loop
+read-tail-same-length-4 t c = c .before .before .before .before .read-last .kept .1 .1 .1 .1 .1 .0 ∙ c .before .before .before .before .before .before .before .before .before .before .before .before .loop .inv .4 .as-many
+
+read-tail-returns-2 : (t : ℕ) → read-tail-lts.Need-returns-2 (read-tail-calls t) (read-tail-at t) read-tail.Post read-tail-Inv-loop read-tail-μ-loop
+read-tail-returns-2 t c = record { rows-stored = tailed-last _ _ _ _ _ _ _ _ _ _ (tailed-skipped _ _ _ _ _ _ _ _ _ _ (c .before .before .before .before .before .before .before .before .before .before .before .before .loop .inv .3) _ (c .before .before .before .before .before .before .before .before .before .before .before .skip-empty .ensures)) _ _ (c .before .before .before .before .read-last .ensures .rows-stored); keys-kept = keeps-trans (c .before .before .before .before .before .before .before .before .before .before .before .before .loop .inv .4) (c .before .before .before .before .read-last .ensures .keys-kept) }
+
+read-tail-add-read-run : (t : ℕ) → read-tail-lts.Need-add-read-run (read-tail-calls t) (read-tail-at t) read-tail.Post read-tail-Inv-loop read-tail-μ-loop
+read-tail-add-read-run t c = omega (arith, c .before .before .before .before .before .before .skip-empty .ensures .inside, c .before .before .before .before .before .before .before .loop .inv .0 .short)
 
 read-tail-read-run-requires : (t : ℕ) → read-tail-lts.Need-read-run-requires (read-tail-calls t) (read-tail-at t) read-tail.Post read-tail-Inv-loop read-tail-μ-loop
-read-tail-read-run-requires t c κs = (omega (arith, c .before .before .before .before .before .before .before .before .before .before .before .before .pre .0), (room-at _ _ _ _ _ _ _ _ (c .before .before .before .before .before .before .loop .inv .0) (opens-near _ _ _ _ (opens _ _ _ _ _ (opened _ _ _ (c .before .before .before .before .before .before .loop .row-now) _ _ (c .before .before .before .before .before .read-opening .ensures) (λ k p e. miss (3 ∷ []) 0 tt (rw e at (c .before .before .before .before .match .keys1))) (c .before .before .before .before .before .before .loop .inv .0 .near))) (c .before .before .before .head .given .1)), omega (arith, c .before .before .before .before .before .before .before .before .before .before .before .before .pre .1 .1, c .before .before .before .before .before .before .loop .inv .4 .as-many)))
+read-tail-read-run-requires t c κs = (omega (arith, c .before .before .before .before .before .before .before .before .before .before .before .before .before .pre .0), ((room-at _ _ _ _ _ _ _ _ (c .before .before .before .before .before .before .before .loop .inv .0) (c .before .before .before .elements-at .ensures .inside (c .before .before .if2 .left))), omega (arith, c .before .before .before .before .before .before .before .before .before .before .before .before .before .pre .1 .1, c .before .before .before .before .before .before .before .loop .inv .4 .as-many)))
 
 read-tail-enum-known-number : (t : ℕ) → read-tail-lts.Need-enum-known-number (read-tail-calls t) (read-tail-at t) read-tail.Post read-tail-Inv-loop read-tail-μ-loop
 read-tail-enum-known-number t c = search needs
 
-read-tail-same-length : (t : ℕ) → read-tail-lts.Need-same-length (read-tail-calls t) (read-tail-at t) read-tail.Post read-tail-Inv-loop read-tail-μ-loop
-read-tail-same-length t c = c .before .before .before .before .before .before .before .read-run .kept .1 .1 .1 .1 .0 ∙ c .before .before .before .before .before .before .before .before .before .before .before .before .before .before .loop .inv .1
+read-tail-same-length-5 : (t : ℕ) → read-tail-lts.Need-same-length-5 (read-tail-calls t) (read-tail-at t) read-tail.Post read-tail-Inv-loop read-tail-μ-loop
+read-tail-same-length-5 t c = c .before .before .before .before .before .before .before .read-run .kept .1 .1 .1 .1 .0 ∙ c .before .before .before .before .before .before .before .before .before .before .before .before .before .before .before .loop .inv .1
 
-read-tail-same-length-2 : (t : ℕ) → read-tail-lts.Need-same-length-2 (read-tail-calls t) (read-tail-at t) read-tail.Post read-tail-Inv-loop read-tail-μ-loop
-read-tail-same-length-2 t c = c .before .before .before .before .before .before .before .read-run .kept .1 .1 .1 .1 .1 .0 ∙ c .before .before .before .before .before .before .before .before .before .before .before .before .before .before .loop .inv .4 .as-many
+read-tail-same-length-6 : (t : ℕ) → read-tail-lts.Need-same-length-6 (read-tail-calls t) (read-tail-at t) read-tail.Post read-tail-Inv-loop read-tail-μ-loop
+read-tail-same-length-6 t c = c .before .before .before .before .before .before .before .read-run .kept .1 .1 .1 .1 .1 .0 ∙ c .before .before .before .before .before .before .before .before .before .before .before .before .before .before .before .loop .inv .4 .as-many
 
-read-tail-returns : (t : ℕ) → read-tail-lts.Need-returns (read-tail-calls t) (read-tail-at t) read-tail.Post read-tail-Inv-loop read-tail-μ-loop
-read-tail-returns t c = record { rows-stored = tailed-run-refused _ _ _ _ _ _ _ _ _ _ (c .before .before .before .before .before .before .before .before .before .before .before .before .before .before .loop .inv .3) (opened _ _ _ (c .before .before .before .before .before .before .before .before .before .before .before .before .before .before .loop .row-now) _ _ (c .before .before .before .before .before .before .before .before .before .before .before .before .before .read-opening .ensures) (λ k p e. miss (3 ∷ []) 0 tt (rw e at (c .before .before .before .before .before .before .before .before .before .before .before .before .match .keys1))) (c .before .before .before .before .before .before .before .before .before .before .before .before .before .before .loop .inv .0 .near)) _ _ (c .before .before .before .before .before .before .before .before .before .before .before .head .given .1) _ _ (c .before .before .before .before .before .before .before .read-run .ensures .rows-stored) _ _ _ (c .before .number .given .1); keys-kept = keeps-trans (c .before .before .before .before .before .before .before .before .before .before .before .before .before .before .loop .inv .4) (c .before .before .before .before .before .before .before .read-run .ensures .keys-kept) }
+read-tail-returns-3 : (t : ℕ) → read-tail-lts.Need-returns-3 (read-tail-calls t) (read-tail-at t) read-tail.Post read-tail-Inv-loop read-tail-μ-loop
+read-tail-returns-3 t c = record { rows-stored = tailed-run-refused _ _ _ _ _ _ _ _ _ _ (tailed-skipped _ _ _ _ _ _ _ _ _ _ (c .before .before .before .before .before .before .before .before .before .before .before .before .before .before .before .loop .inv .3) _ (c .before .before .before .before .before .before .before .before .before .before .before .before .before .before .skip-empty .ensures)) (elements-opened _ _ _ (c .before .before .before .before .before .before .before .before .before .before .before .before .before .before .before .loop .row-now) (skipped-here _ _ _ (c .before .before .before .before .before .before .before .before .before .before .before .before .before .before .skip-empty .ensures)) _ (c .before .before .before .before .before .before .before .before .before .before .if2 .left) (c .before .before .before .before .before .before .before .before .before .before .before .elements-at .ensures)) _ _ refl _ _ (c .before .before .before .before .before .before .before .read-run .ensures .rows-stored) _ _ _ (c .before .number .given .1); keys-kept = keeps-trans (c .before .before .before .before .before .before .before .before .before .before .before .before .before .before .before .loop .inv .4) (c .before .before .before .before .before .before .before .read-run .ensures .keys-kept) }
 
 read-tail-enum-known-next : (t : ℕ) → read-tail-lts.Need-enum-known-next (read-tail-calls t) (read-tail-at t) read-tail.Post read-tail-Inv-loop read-tail-μ-loop
 read-tail-enum-known-next t c = search needs
 
 read-tail-add-sum : (t : ℕ) → read-tail-lts.Need-add-sum (read-tail-calls t) (read-tail-at t) read-tail.Post read-tail-Inv-loop read-tail-μ-loop
-read-tail-add-sum t c = let a = run-many _ _ _ _ _ _ _ _ _ _ _ (c .before .before .before .before .before .before .before .read-run .ensures .rows-stored) (c .before .next .given .1) in let b = room-after _ _ _ _ _ _ _ _ _ _ _ _ _ _ _ (room-at _ _ _ _ _ _ _ _ (c .before .before .before .before .before .before .before .before .before .before .before .before .before .before .loop .inv .0) (opens-near _ _ _ _ (opens _ _ _ _ _ (opened _ _ _ (c .before .before .before .before .before .before .before .before .before .before .before .before .before .before .loop .row-now) _ _ (c .before .before .before .before .before .before .before .before .before .before .before .before .before .read-opening .ensures) (λ k p e. miss (3 ∷ []) 0 tt (rw e at (c .before .before .before .before .before .before .before .before .before .before .before .before .match .keys1))) (c .before .before .before .before .before .before .before .before .before .before .before .before .before .before .loop .inv .0 .near))) (c .before .before .before .before .before .before .before .before .before .before .before .head .given .1))) (c .before .before .before .before .before .before .before .read-run .ensures .rows-stored) (c .before .next .given .1) (c .before .before .before .before .before .before .before .read-run .kept .1 .1 .1 .1 .0) in omega arith
+read-tail-add-sum t c =
+    let a = run-many _ _ _ _ _ _ _ _ _ _ _ (c .before .before .before .before .before .before .before .read-run .ensures .rows-stored) (c .before .next .given .1) in
+    let b = room-after _ _ _ _ _ _ _ _ _ _ _ _ _ _ _ (room-at _ _ _ _ _ _ _ _ (c .before .before .before .before .before .before .before .before .before .before .before .before .before .before .before .loop .inv .0) (c .before .before .before .before .before .before .before .before .before .before .before .elements-at .ensures .inside (c .before .before .before .before .before .before .before .before .before .before .if2 .left))) (c .before .before .before .before .before .before .before .read-run .ensures .rows-stored) (c .before .next .given .1) (c .before .before .before .before .before .before .before .read-run .kept .1 .1 .1 .1 .0) in
+    omega arith
 
 read-tail-loop-less : (t : ℕ) → read-tail-lts.Need-loop-less (read-tail-calls t) (read-tail-at t) read-tail.Post read-tail-Inv-loop read-tail-μ-loop
-read-tail-loop-less t c = let a = tailed-further _ _ _ _ _ _ _ _ _ _ (c .before .before .before .before .before .before .before .before .before .before .before .before .before .before .loop .inv .3) (opened _ _ _ (c .before .before .before .before .before .before .before .before .before .before .before .before .before .before .loop .row-now) _ _ (c .before .before .before .before .before .before .before .before .before .before .before .before .before .read-opening .ensures) (λ k p e. miss (3 ∷ []) 0 tt (rw e at (c .before .before .before .before .before .before .before .before .before .before .before .before .match .keys1))) (c .before .before .before .before .before .before .before .before .before .before .before .before .before .before .loop .inv .0 .near)) _ _ (c .before .before .before .before .before .before .before .before .before .before .before .head .given .1) _ _ (c .before .before .before .before .before .before .before .read-run .ensures .rows-stored) _ _ (c .before .next .given .1) in omega (arith, run-many _ _ _ _ _ _ _ _ _ _ _ (c .before .before .before .before .before .before .before .read-run .ensures .rows-stored) (c .before .next .given .1) .1)
+read-tail-loop-less t c =
+    let a = tailed-further _ _ _ _ _ _ _ _ _ _ (tailed-skipped _ _ _ _ _ _ _ _ _ _ (c .before .before .before .before .before .before .before .before .before .before .before .before .before .before .before .loop .inv .3) _ (c .before .before .before .before .before .before .before .before .before .before .before .before .before .before .skip-empty .ensures)) (elements-opened _ _ _ (c .before .before .before .before .before .before .before .before .before .before .before .before .before .before .before .loop .row-now) (skipped-here _ _ _ (c .before .before .before .before .before .before .before .before .before .before .before .before .before .before .skip-empty .ensures)) _ (c .before .before .before .before .before .before .before .before .before .before .if2 .left) (c .before .before .before .before .before .before .before .before .before .before .before .elements-at .ensures)) _ _ refl _ _ (c .before .before .before .before .before .before .before .read-run .ensures .rows-stored) _ _ (c .before .next .given .1) in
+    omega (arith, run-many _ _ _ _ _ _ _ _ _ _ _ (c .before .before .before .before .before .before .before .read-run .ensures .rows-stored) (c .before .next .given .1) .1, c .before .before .before .before .before .before .before .before .before .before .before .before .before .before .skip-empty .ensures .from)
 
 read-tail-loop-again : (t : ℕ) → read-tail-lts.Need-loop-again (read-tail-calls t) (read-tail-at t) read-tail.Post read-tail-Inv-loop read-tail-μ-loop
-read-tail-loop-again t c = (room-after _ _ _ _ _ _ _ _ _ _ _ _ _ _ _ (room-at _ _ _ _ _ _ _ _ (c .before .before .before .before .before .before .before .before .before .before .before .before .before .before .loop .inv .0) (opens-near _ _ _ _ (opens _ _ _ _ _ (opened _ _ _ (c .before .before .before .before .before .before .before .before .before .before .before .before .before .before .loop .row-now) _ _ (c .before .before .before .before .before .before .before .before .before .before .before .before .before .read-opening .ensures) (λ k p e. miss (3 ∷ []) 0 tt (rw e at (c .before .before .before .before .before .before .before .before .before .before .before .before .match .keys1))) (c .before .before .before .before .before .before .before .before .before .before .before .before .before .before .loop .inv .0 .near))) (c .before .before .before .before .before .before .before .before .before .before .before .head .given .1))) (c .before .before .before .before .before .before .before .read-run .ensures .rows-stored) (c .before .next .given .1) (c .before .before .before .before .before .before .before .read-run .kept .1 .1 .1 .1 .0), c .before .before .before .before .before .before .before .read-run .kept .1 .1 .1 .1 .0 ∙ c .before .before .before .before .before .before .before .before .before .before .before .before .before .before .loop .inv .1, omega (arith, run-many _ _ _ _ _ _ _ _ _ _ _ (c .before .before .before .before .before .before .before .read-run .ensures .rows-stored) (c .before .next .given .1) .0), tailed-more _ _ _ _ _ _ _ _ _ _ (c .before .before .before .before .before .before .before .before .before .before .before .before .before .before .loop .inv .3) (opened _ _ _ (c .before .before .before .before .before .before .before .before .before .before .before .before .before .before .loop .row-now) _ _ (c .before .before .before .before .before .before .before .before .before .before .before .before .before .read-opening .ensures) (λ k p e. miss (3 ∷ []) 0 tt (rw e at (c .before .before .before .before .before .before .before .before .before .before .before .before .match .keys1))) (c .before .before .before .before .before .before .before .before .before .before .before .before .before .before .loop .inv .0 .near)) _ _ (c .before .before .before .before .before .before .before .before .before .before .before .head .given .1) _ _ (c .before .before .before .before .before .before .before .read-run .ensures .rows-stored) _ _ (c .before .next .given .1), keeps-trans (c .before .before .before .before .before .before .before .before .before .before .before .before .before .before .loop .inv .4) (c .before .before .before .before .before .before .before .read-run .ensures .keys-kept))
-
-read-tail-enum-known-head-2 : (t : ℕ) → read-tail-lts.Need-enum-known-head-2 (read-tail-calls t) (read-tail-at t) read-tail.Post read-tail-Inv-loop read-tail-μ-loop
-read-tail-enum-known-head-2 t c = search needs
-
-read-tail-same-length-3 : (t : ℕ) → read-tail-lts.Need-same-length-3 (read-tail-calls t) (read-tail-at t) read-tail.Post read-tail-Inv-loop read-tail-μ-loop
-read-tail-same-length-3 t c = c .before .before .before .before .loop .inv .1
-
-read-tail-same-length-4 : (t : ℕ) → read-tail-lts.Need-same-length-4 (read-tail-calls t) (read-tail-at t) read-tail.Post read-tail-Inv-loop read-tail-μ-loop
-read-tail-same-length-4 t c = c .before .before .before .before .loop .inv .4 .as-many
-
-read-tail-returns-2 : (t : ℕ) → read-tail-lts.Need-returns-2 (read-tail-calls t) (read-tail-at t) read-tail.Post read-tail-Inv-loop read-tail-μ-loop
-read-tail-returns-2 t c = record { rows-stored = tailed-refused _ _ _ _ _ _ _ _ _ _ (c .before .before .before .before .loop .inv .3) _ _ _ _ (c .before .before .before .read-opening .ensures) (c .before .head2 .given .1); keys-kept = c .before .before .before .before .loop .inv .4 }
-
-read-tail-read-last-requires : (t : ℕ) → read-tail-lts.Need-read-last-requires (read-tail-calls t) (read-tail-at t) read-tail.Post read-tail-Inv-loop read-tail-μ-loop
-read-tail-read-last-requires t c κs =
-    let o = (opened _ _ _ (c .before .before .before .before .loop .row-now) _ _ (c .before .before .before .read-opening .ensures) (λ k p e. miss (1 ∷ 2 ∷ 4 ∷ []) 0 tt (rw e at (c .before .before .match .keys3))) (c .before .before .before .before .loop .inv .0 .near)) in
-    (omega (arith, c .before .before .before .before .before .before .before .before .before .before .pre .0), ((room-at _ _ _ _ _ _ _ _ (c .before .before .before .before .loop .inv .0) (omega (arith, o .sound .before, o .sound .end)), opens _ _ _ _ _ o, c .before .before .before .before .loop .inv .2), omega (arith, c .before .before .before .before .before .before .before .before .before .before .pre .1 .1, c .before .before .before .before .loop .inv .4 .as-many)))
-
-read-tail-same-length-5 : (t : ℕ) → read-tail-lts.Need-same-length-5 (read-tail-calls t) (read-tail-at t) read-tail.Post read-tail-Inv-loop read-tail-μ-loop
-read-tail-same-length-5 t c = c .before .before .before .before .read-last .kept .1 .1 .1 .1 .0 ∙ c .before .before .before .before .before .before .before .before .before .loop .inv .1
-
-read-tail-same-length-6 : (t : ℕ) → read-tail-lts.Need-same-length-6 (read-tail-calls t) (read-tail-at t) read-tail.Post read-tail-Inv-loop read-tail-μ-loop
-read-tail-same-length-6 t c = c .before .before .before .before .read-last .kept .1 .1 .1 .1 .1 .0 ∙ c .before .before .before .before .before .before .before .before .before .loop .inv .4 .as-many
-
-read-tail-returns-3 : (t : ℕ) → read-tail-lts.Need-returns-3 (read-tail-calls t) (read-tail-at t) read-tail.Post read-tail-Inv-loop read-tail-μ-loop
-read-tail-returns-3 t c = record { rows-stored = tailed-last _ _ _ _ _ _ _ _ _ _ (c .before .before .before .before .before .before .before .before .before .loop .inv .3) (opened _ _ _ (c .before .before .before .before .before .before .before .before .before .loop .row-now) _ _ (c .before .before .before .before .before .before .before .before .read-opening .ensures) (λ k p e. miss (1 ∷ 2 ∷ 4 ∷ []) 0 tt (rw e at (c .before .before .before .before .before .before .before .match .keys3))) (c .before .before .before .before .before .before .before .before .before .loop .inv .0 .near)) _ _ (λ k p e. miss (1 ∷ 2 ∷ 4 ∷ []) 3 tt (rw e at (c .before .before .before .before .before .before .before .match .keys3))) (c .before .before .before .before .read-last .ensures .rows-stored); keys-kept = keeps-trans (c .before .before .before .before .before .before .before .before .before .loop .inv .4) (c .before .before .before .before .read-last .ensures .keys-kept) }
+read-tail-loop-again t c = (
+  room-after _ _ _ _ _ _ _ _ _ _ _ _ _ _ _ (room-at _ _ _ _ _ _ _ _ (c .before .before .before .before .before .before .before .before .before .before .before .before .before .before .before .loop .inv .0) (c .before .before .before .before .before .before .before .before .before .before .before .elements-at .ensures .inside (c .before .before .before .before .before .before .before .before .before .before .if2 .left))) (c .before .before .before .before .before .before .before .read-run .ensures .rows-stored) (c .before .next .given .1) (c .before .before .before .before .before .before .before .read-run .kept .1 .1 .1 .1 .0),
+  c .before .before .before .before .before .before .before .read-run .kept .1 .1 .1 .1 .0 ∙ c .before .before .before .before .before .before .before .before .before .before .before .before .before .before .before .loop .inv .1,
+  omega (arith, run-many _ _ _ _ _ _ _ _ _ _ _ (c .before .before .before .before .before .before .before .read-run .ensures .rows-stored) (c .before .next .given .1) .0),
+  tailed-more _ _ _ _ _ _ _ _ _ _ (tailed-skipped _ _ _ _ _ _ _ _ _ _ (c .before .before .before .before .before .before .before .before .before .before .before .before .before .before .before .loop .inv .3) _ (c .before .before .before .before .before .before .before .before .before .before .before .before .before .before .skip-empty .ensures)) (elements-opened _ _ _ (c .before .before .before .before .before .before .before .before .before .before .before .before .before .before .before .loop .row-now) (skipped-here _ _ _ (c .before .before .before .before .before .before .before .before .before .before .before .before .before .before .skip-empty .ensures)) _ (c .before .before .before .before .before .before .before .before .before .before .if2 .left) (c .before .before .before .before .before .before .before .before .before .before .before .elements-at .ensures)) _ _ refl _ _ (c .before .before .before .before .before .before .before .read-run .ensures .rows-stored) _ _ (c .before .next .given .1),
+  keeps-trans (c .before .before .before .before .before .before .before .before .before .before .before .before .before .before .before .loop .inv .4) (c .before .before .before .before .before .before .before .read-run .ensures .keys-kept),
+)
 
 read-wanted-at-most-requires : (t : ℕ) → read-wanted-lts.Need-at-most-requires (read-wanted-calls t) (read-wanted-at t) read-wanted.Post
 read-wanted-at-most-requires t c κs = search needs
@@ -1046,20 +1080,23 @@ pub +read-body+read-common+read-inner+read-last+read-list+read-more+read-pairs+r
     (read-inner-returns-5 t))
     (λ t. read-last-lts.spec (read-last-calls t) (read-last-at t)
     read-last.Post
+    (read-last-read-opening-requires t)
     (read-last-enum-known-head t)
+    (read-last-enum-known-head-2 t)
     (read-last-read-characters-requires t)
     (read-last-read-body-requires t)
     (read-last-enum-known-number t)
     (read-last-enum-known-next t)
-    (read-last-add-t29 t)
-    (read-last-same-length t)
+    (read-last-add-t34 t)
     (read-last-returns t)
+    (read-last-same-length t)
+    (read-last-returns-2 t)
     (read-last-same-length-2 t)
     (read-last-same-length-3 t)
-    (read-last-returns-2 t)
+    (read-last-returns-3 t)
     (read-last-same-length-4 t)
     (read-last-same-length-5 t)
-    (read-last-returns-3 t))
+    (read-last-returns-4 t))
     (λ t. read-list-lts.spec (read-list-calls t) (read-list-at t)
     read-list.Post
     (read-list-read-run-requires t)
@@ -1181,25 +1218,27 @@ pub +read-body+read-common+read-inner+read-last+read-list+read-more+read-pairs+r
     read-tail-Inv-loop
     read-tail-μ-loop
     (read-tail-loop-holds t)
-    (read-tail-read-opening-requires t)
-    (read-tail-enum-known-head t)
-    (read-tail-read-run-requires t)
-    (read-tail-enum-known-number t)
+    (read-tail-skip-empty-requires t)
+    (read-tail-nil-at-requires t)
+    (read-tail-add-t23 t)
     (read-tail-same-length t)
     (read-tail-same-length-2 t)
     (read-tail-returns t)
-    (read-tail-enum-known-next t)
-    (read-tail-add-sum t)
-    (read-tail-loop-less t)
-    (read-tail-loop-again t)
-    (read-tail-enum-known-head-2 t)
+    (read-tail-elements-at-requires t)
+    (read-tail-read-last-requires t)
     (read-tail-same-length-3 t)
     (read-tail-same-length-4 t)
     (read-tail-returns-2 t)
-    (read-tail-read-last-requires t)
+    (read-tail-add-read-run t)
+    (read-tail-read-run-requires t)
+    (read-tail-enum-known-number t)
     (read-tail-same-length-5 t)
     (read-tail-same-length-6 t)
-    (read-tail-returns-3 t))
+    (read-tail-returns-3 t)
+    (read-tail-enum-known-next t)
+    (read-tail-add-sum t)
+    (read-tail-loop-less t)
+    (read-tail-loop-again t))
     (λ t. read-term-lts.spec (read-term-calls t) (read-term-at t)
     read-term.Post
     (read-term-quick-at-requires t)
