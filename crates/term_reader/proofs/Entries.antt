@@ -100,6 +100,7 @@ module _ (atoms : Atoms) (cap deep : ℕ) (m places lengths : List ℕ) (start f
     pub goes : all-entries
         ≡ after (Part any (at-offset m at row)) (λ v. λ u. after (entries Part (meaning key ∷ earlier) more u) (λ us. done ((ts ▹▹ (key ▹ empty)) ▹▹ (v ▹ us))))
 
+  -- how far the reading has come
   pub data Reached (at row parts : ℕ) (T L : List ℕ) : Type 0 where
     before-key : Before-key at row parts T L → Reached at row parts T L
     before-value : Before-value at row parts T L → Reached at row parts T L
@@ -121,6 +122,9 @@ module _ (atoms : Atoms) (cap deep : ℕ) (m places lengths : List ℕ) (start f
 
   abbrev Map-done : ℕ → Parts → List ℕ → Type 0
   Map-done place r U = PartsDone m 0 cap first first T₀ (inner atoms cap deep place (pairs all) (at-offset m start first)) r U
+
+  abbrev then-value : List Term → ℕ → Located → Reading Terms
+  then-value earlier more k = λ s. after (Part any s) (λ v. λ u. after (entries Part (meaning k ∷ earlier) more u) (λ us. done (k ▹ v ▹ us)))
 
   module _ (at row parts : ℕ) (T L : List ℕ) where
     -- before a key an even number of parts is read, before a value an odd one
@@ -153,9 +157,6 @@ module _ (atoms : Atoms) (cap deep : ℕ) (m places lengths : List ℕ) (start f
           cc,
           record { table-is = i .stored .table-is; stands = ap (λ (k : ℕ). at-offset m at k) a; near = near; room = omega arith; from = i .stored .placed },
         )
-
-    abbrev then-value : List Term → ℕ → Located → Reading Terms
-    then-value earlier more k = λ s. after (Part any s) (λ v. λ u. after (entries Part (meaning k ∷ earlier) more u) (λ us. done (k ▹ v ▹ us)))
 
     next-pair : (i : Before-key at row parts T L) → parts / 2 < all
         → entries Part (i .earlier) (i .more) (at-offset m at row)

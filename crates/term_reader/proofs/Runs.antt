@@ -12,7 +12,7 @@ use Rattle.term_spec.specs.AtomList.{AtomList}
 use Rattle.term_spec.specs.Reading.{Located, each, run}
 use Rattle.term_spec.specs.Message.{Terms}
 use Rattle.term_spec.specs.Rows.{tree-rows, rows, row-words, Placed}
-use Rattle.term_head.specs.declared.Wanted.the-variants.{Any, Atom, Arity}
+use Rattle.term_head.specs.declared.Wanted.the-variants.{Atom, Arity}
 use Rattle.term_head.specs.Code.{wanted-of}
 use Rattle.term_reader.specs.declared.Step.{Step}
 use Rattle.term_reader.specs.declared.Step.the-variants.{Got, Refused}
@@ -99,7 +99,7 @@ module _ (part : Wanted → Reading Located) (w : Wanted) (m : List ℕ) (cap ro
         (rw many at (also m cap row whole T T′ (n - 1) (f .x) end (f .table-is) (f .rows-are) (f .from) (each part (replicate (n - 1) w) (at-offset m next end)) s U rest))
 
 -- a run of one is that term
-module _ (part : Wanted → Reading Located) (m : List ℕ) (cap row whole at : ℕ) (T : List ℕ) (r : Step) (T′ : List ℕ) where
+module _ (part : Wanted → Reading Located) (w : Wanted) (m : List ℕ) (cap row whole at : ℕ) (T : List ℕ) (r : Step) (T′ : List ℕ) where
   one : (o : Answer (Located × Position)) → RunDone m 1 cap row whole T (after o (λ t. λ u. good (t ▹ empty, u))) r T′ → TermDone m cap row whole T o r T′
   unfolding Done rows row-words Each-node
   one (refused k p) d = d
@@ -116,9 +116,9 @@ module _ (part : Wanted → Reading Located) (m : List ℕ) (cap row whole at : 
         },
       )
 
-  pub run-one : RunDone m 1 cap row whole T (each part (replicate 1 (wanted-of Any)) (at-offset m at row)) r T′ → TermDone m cap row whole T (part any (at-offset m at row)) r T′
-  unfolding each wanted-of
-  run-one d = one (part any (at-offset m at row)) d
+  pub run-one : RunDone m 1 cap row whole T (each part (replicate 1 w) (at-offset m at row)) r T′ → TermDone m cap row whole T (part w (at-offset m at row)) r T′
+  unfolding each
+  run-one d = one (part w (at-offset m at row)) d
 
 -- ---- `read_wanted`: `a` atoms, then arities
 

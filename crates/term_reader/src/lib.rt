@@ -20,6 +20,8 @@ ghost use Rattle.term_reader.specs.Code.{asked, character-words, Room, H
 
 // Of the parts that are wanted, so many are atoms at most.
 const WANTED_ATOMS: usize = 2;
+// The parts of a pair: a key and its value.
+const PAIR_PARTS: usize = 2;
 // The bytes of a 107 before its characters.
 const STRING_HEAD: usize = 3;
 
@@ -857,7 +859,7 @@ fn read_last(
     }
 }
 
-// One key or value of a map: the commonest of them, without parts, are read right here.
+// A key or a value of a map: the commonest ones, without parts, are read right here.
 fn read_entry(
     msg: &[u8],
     n: u8,
@@ -900,7 +902,7 @@ fn read_entry(
     )
 }
 
-// `count` keys with their values, in turn. A key is judged before its value is read.
+// `count` keys, each with its value after it. A key is judged before its value is read.
 fn read_pairs(
     msg: &[u8],
     n: u8,
@@ -921,7 +923,7 @@ fn read_pairs(
     let mut at_now = at;
     let mut row_now = row;
     let mut parts = 0usize;
-    while parts / 2 < count {
+    while parts / PAIR_PARTS < count {
         match read_entry(
             msg,
             n,
@@ -942,7 +944,7 @@ fn read_pairs(
                 at_now = next;
                 row_now = rows;
                 parts += 1;
-                if parts % 2 == 0 {
+                if parts % PAIR_PARTS == 0 {
                     continue;
                 }
                 if map_keys::contains_or_insert(msg, places, lengths, table, seen, row, key) {

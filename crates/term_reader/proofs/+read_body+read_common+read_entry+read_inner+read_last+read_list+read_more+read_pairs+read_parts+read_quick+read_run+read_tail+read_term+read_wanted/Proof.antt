@@ -524,7 +524,8 @@ read-entry-same-length-3 : (t : ℕ) → read-entry-lts.Need-same-length-3 (read
 read-entry-same-length-3 t c = c .before .before .before .before .read-run .kept .1 .1 .1 .1 .1 .0
 
 read-entry-returns-2 : (t : ℕ) → read-entry-lts.Need-returns-2 (read-entry-calls t) (read-entry-at t) read-entry.Post
-read-entry-returns-2 t c = record { rows-stored = run-one _ _ _ _ _ _ _ _ _ (c .before .before .before .before .read-run .ensures .rows-stored); keys-kept = c .before .before .before .before .read-run .ensures .keys-kept }
+unfolding wanted-of
+read-entry-returns-2 t c = record { rows-stored = run-one _ _ _ _ _ _ _ _ _ _ (c .before .before .before .before .read-run .ensures .rows-stored); keys-kept = c .before .before .before .before .read-run .ensures .keys-kept }
 
 abbrev read-pairs-Inv-loop : read-pairs-lts.InvT-loop
 read-pairs-Inv-loop msg n places lengths table₀ seen₀ at row deep cap count at-now₀ row-now₀ parts₀ table seen at-now row-now parts =
