@@ -940,6 +940,21 @@ fn leaf_word(msg: &[u8], at: usize, tag: u8) -> usize
     }
 }
 
+// The commonest keys and values of a map, without parts.
+fn entry_word(msg: &[u8], at: usize, tag: u8) -> usize
+    requires { ⌜ (at < length (now msg)) × (length (now msg) ≤ 65536) ⌝ }
+    ensures { λ r. ⌜ ((r ≡ 0 → ⊥) → (atoms : Atoms) (rows : ℕ) → r ≡ quick-word (tag-fields atoms (now (msg .entry)) at tag rows)) ⌝ }
+{
+    match tag {
+        tags::SMALL_ATOM_UTF8_EXT => word_of(atom(msg, at, 1, true)),
+        tags::SMALL_INTEGER_EXT => word_of(integer(msg, at, 1)),
+        tags::INTEGER_EXT => word_of(integer(msg, at, 4)),
+        tags::BINARY_EXT => word_of(binary(msg, at)),
+        tags::NEW_FLOAT_EXT => word_of(float(msg, at)),
+        _ => 0,
+    }
+}
+
 // Common terms, with parts and without.
 fn common_word(msg: &[u8], n: u8, places: &[u8], lengths: &[u16], at: usize, tag: u8) -> usize
     requires { ⌜ (at < length (now msg)) × (length (now msg) ≤ 65536) × (of-size (lent-list n (now places) (now lengths)) ≡ true) ⌝ }
@@ -971,6 +986,17 @@ pub fn leaf_at(msg: &[u8], at: usize, wanted: Wanted) -> usize
         return 0;
     }
     leaf_word(msg, at, tag)
+}
+
+// The head of one of the commonest keys and values of a map, without parts, in one word; 0 of any other.
+pub fn entry_at(msg: &[u8], at: usize) -> usize
+    requires { ⌜ (at ≤ length (now msg)) × (length (now msg) ≤ 65536) ⌝ }
+    ensures { λ r. ⌜ ((r ≡ 0 → ⊥) → (atoms : Atoms) (rows : ℕ) → r ≡ quick-word (head-of (term-head atoms any (at-offset (now (msg .entry)) at rows)))) ⌝ }
+{
+    if msg.len() <= at {
+        return 0;
+    }
+    entry_word(msg, at, msg[at])
 }
 
 // The head of a common term in one word; 0 of any other, and of one that is not wanted.

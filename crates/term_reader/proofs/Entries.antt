@@ -1,8 +1,8 @@
--- Keys and their values: one law for each way through `read_pairs`.
+-- Keys and values in turn: one law for each way through `read_pairs`.
 use mathlib.Core.Path.{_≡_, refl, sym, ap, _∙_, subst}
 use mathlib.Core.Bool.{Bool, true, false, not}
 use mathlib.Core.List.{List, [], _∷_, append-nil}
-use Prim.Native.Nat.{ℕ, suc, _+_, _-_, _*_, _≤_, _<_}
+use Prim.Native.Nat.{ℕ, suc, _+_, _-_, _*_, _/_, _%_, _≤_, _<_}
 use native.Mathlib.Omega.{arith}
 use lib.ListN.{length, getD}
 use lib.Seq.{sets, length-sets}
@@ -15,16 +15,14 @@ use Rattle.term_spec.specs.AtomList.{AtomList, of-size, atoms-of, lent-list}
 use Rattle.term_spec.specs.Reading.{Located, meaning, entries, term}
 use Rattle.term_spec.specs.Message.{Terms}
 use Rattle.term_spec.specs.Rows.{Row, tree-rows, rows, kind-of, whole-code, row-words, Placed, Here}
-use Rattle.term_spec.proofs.Backed.{Backed, Backeds, term-backed}
+use Rattle.term_spec.proofs.Backed.{Backeds, term-backed}
 use Rattle.term_spec.proofs.Backed as backing
 use Rattle.term_spec.proofs.RoundTrip.{join-none}
 use Rattle.term_spec.proofs.Rows.{size-positive, each-nodes-join, sizes-join, count-join, count-le-sizes, length-rows}
 use Rattle.term_spec.proofs.Text.{under-all}
 use Rattle.term_spec.proofs.Words.{small-rows, sets-here, length-words-of}
-use Rattle.term_head.specs.declared.Wanted.the-variants.{Any}
-use Rattle.term_head.specs.Code.{wanted-of}
 use Rattle.map_keys.specs.Compare.{among-rows}
-use Rattle.map_keys.specs.KeySet.{Contains, Keeps, term-hash, Contains-before}
+use Rattle.map_keys.specs.KeySet.{Contains, Keeps, hash-row-words, Contains-before, Contains-or-insert}
 use Rattle.map_keys.proofs.Compare.{Keys-of, no-keys, one-more-key}
 use Rattle.map_keys.proofs.InTable.{Rows-in-table, last-among}
 use Rattle.map_keys.proofs.Slots.{keeps-trans, contains-as, contains-kept}
@@ -56,181 +54,236 @@ term-inside m cap row whole T o r T′ next end e d =
     let f = step-found size (λ t. row-words (tree-rows (whole-of whole) row t)) (Each-node (Placed 65536)) m cap row T o r T′ next end e d in
     omega (arith, f .rows-are, f .room, size-positive (f .x))
 
--- ts ▹▹ the two, and then the others
-two-more : (ts us : Terms) (k v : Located) → ts ▹▹ (k ▹ v ▹ us) ≡ (ts ▹▹ (k ▹ v ▹ empty)) ▹▹ us
-two-more empty us k v = refl
-two-more (t ▹ ts) us k v = ap (λ (x : Terms). t ▹ x) (two-more ts us k v)
+-- ts ▹▹ one more, and then the others
+one-more : (ts us : Terms) (t : Located) → ts ▹▹ (t ▹ us) ≡ (ts ▹▹ (t ▹ empty)) ▹▹ us
+one-more empty us t = refl
+one-more (u ▹ ts) us t = ap (λ (x : Terms). u ▹ x) (one-more ts us t)
 
--- the pairs read so far, with more to read from `at` on, in a map of `all` pairs whose parts start at the row `first` and the offset `start`
-pub record Entered (atoms : Atoms) (cap deep : ℕ) (m places lengths : List ℕ) (start first all : ℕ) (T₀ : List ℕ) (at row more : ℕ) (T L : List ℕ) : Type 0 where
-  pub ts : Terms
-  pub earlier : List Term
-  pub keys : Keys-of ts earlier
-  pub table-is : T ≡ sets T₀ first (row-words (rows (whole-of first) first ts))
-  pub rows-are : row ≡ first + sizes ts
-  pub many : count ts + more * 2 ≡ all * 2
-  pub backed : Backeds m cap atoms ts
-  pub placed : Each-nodes (Placed 65536) ts
-  pub goes : entries (term atoms cap deep) [] all (at-offset m start first) ≡ after (entries (term atoms cap deep) earlier more (at-offset m at row)) (λ us. done (ts ▹▹ us))
-  pub remembered : Contains-keys m places lengths (whole-of first) first first ts L
+-- Of a map of `all` pairs, whose parts start at the row `first` and the offset `start`; T₀ is the table before them:
+module _ (atoms : Atoms) (cap deep : ℕ) (m places lengths : List ℕ) (start first all : ℕ) (T₀ : List ℕ) where
+  abbrev Part : Wanted → Reading Located
+  Part = term atoms cap deep
 
-pub entered-none : (atoms : Atoms) (cap deep : ℕ) (m places lengths : List ℕ) (start first all : ℕ) (T L : List ℕ) → Entered atoms cap deep m places lengths start first all T start first all T L
-unfolding rows row-words Each-node
-entered-none atoms cap deep m places lengths start first all T L =
-    record {
-      ts = empty;
-      earlier = [];
-      keys = no-keys;
-      table-is = refl;
-      rows-are = omega arith;
-      many = omega arith;
-      backed = tt;
-      placed = tt;
-      goes = after-done (entries (term atoms cap deep) [] all (at-offset m start first));
-      remembered = no-key;
-    }
+  abbrev all-entries : Answer (Terms × Position)
+  all-entries = entries Part [] all (at-offset m start first)
 
-module _ (atoms : Atoms) (cap deep : ℕ) (m places lengths : List ℕ) (start first all : ℕ) (T₀ : List ℕ) (at row more : ℕ) (T L : List ℕ)
-    (i : Entered atoms cap deep m places lengths start first all T₀ at row more T L) where
+  -- so many parts are read, and their rows stand in the table up to `row`
+  pub record Stored (ts : Terms) (row parts : ℕ) (T : List ℕ) : Type 0 where
+    pub table-is : T ≡ sets T₀ first (row-words (rows (whole-of first) first ts))
+    pub rows-are : row ≡ first + sizes ts
+    pub many : parts ≡ count ts
+    pub backed : Backeds m cap atoms ts
+    pub placed : Each-nodes (Placed 65536) ts
+
+  -- pairs are read; `more` pairs are to come, the first one's key at `at`
+  pub record Before-key (at row parts : ℕ) (T L : List ℕ) : Type 0 where
+    pub ts : Terms
+    pub earlier : List Term
+    pub more : ℕ
+    pub stored : Stored ts row parts T
+    pub left : parts + more * 2 ≡ all * 2
+    pub keys : Keys-of ts earlier
+    pub remembered : Contains-keys m places lengths (whole-of first) first first ts L
+    pub goes : all-entries ≡ after (entries Part earlier more (at-offset m at row)) (λ us. done (ts ▹▹ us))
+
+  -- pairs and a key are read; its value is to come, at `at`, and then `more` pairs
+  pub record Before-value (at row parts : ℕ) (T L : List ℕ) : Type 0 where
+    pub ts : Terms
+    pub earlier : List Term
+    pub key : Located
+    pub more : ℕ
+    pub stored : Stored (ts ▹▹ (key ▹ empty)) row parts T
+    pub left : parts + 1 + more * 2 ≡ all * 2
+    pub keys : Keys-of ts earlier
+    pub remembered : Contains-keys m places lengths (whole-of first) first first ts L
+    pub contained : Contains L (hash-row-words m places lengths first (row-words (tree-rows (whole-of first) (first + sizes ts) key))) (first + sizes ts)
+    pub goes : all-entries
+        ≡ after (Part any (at-offset m at row)) (λ v. λ u. after (entries Part (meaning key ∷ earlier) more u) (λ us. done ((ts ▹▹ (key ▹ empty)) ▹▹ (v ▹ us))))
+
+  -- how far the reading has come
+  pub data Reached (at row parts : ℕ) (T L : List ℕ) : Type 0 where
+    before-key : Before-key at row parts T L → Reached at row parts T L
+    before-value : Before-value at row parts T L → Reached at row parts T L
+
+  pub reached-none : (L : List ℕ) → Reached start first 0 T₀ L
+  unfolding rows row-words Each-node
+  reached-none L =
+      before-key
+      (record {
+        ts = empty;
+        earlier = [];
+        more = all;
+        stored = record { table-is = refl; rows-are = omega arith; many = refl; backed = tt; placed = tt };
+        left = omega arith;
+        keys = no-keys;
+        remembered = no-key;
+        goes = after-done all-entries;
+      })
+
   abbrev Map-done : ℕ → Parts → List ℕ → Type 0
   Map-done place r U = PartsDone m 0 cap first first T₀ (inner atoms cap deep place (pairs all) (at-offset m start first)) r U
 
-  pub entries-many : row ≤ cap → more ≡ 0 → first + all * 2 ≤ cap
-  entries-many low e = omega (arith, i .many, i .rows-are, count-le-sizes (i .ts))
+  abbrev then-value : List Term → ℕ → Located → Reading Terms
+  then-value earlier more k = λ s. after (Part any s) (λ v. λ u. after (entries Part (meaning k ∷ earlier) more u) (λ us. done (k ▹ v ▹ us)))
 
-  pub entries-end : (place : ℕ) → more ≡ 0 → row ≤ cap → at ≤ length m → Map-done place (parts-of.Got at row (all * 2) 9) T
-  unfolding inner entries Done kind-of
-  entries-end place e low near =
-      let ts : Terms = i .ts in
-      let a : row ≡ first + sizes ts = i .rows-are in
-      let b : all * 2 ≡ 0 + count ts = omega (arith, i .many) in
-      let g : entries (term atoms cap deep) (i .earlier) more (at-offset m at row) ≡ good (empty, at-offset m at row)
-      = ap (λ (k : ℕ). entries (term atoms cap deep) (i .earlier) k (at-offset m at row)) e in
-      rw (i .goes, g, join-none ts) (
-        cc,
-        record { table-is = i .table-is; stands = ap (λ (k : ℕ). at-offset m at k) a; near = near; room = omega arith; from = i .placed },
-      )
+  module _ (at row parts : ℕ) (T L : List ℕ) where
+    -- before a key an even number of parts is read, before a value an odd one
+    pub at-key : Reached at row parts T L → ((parts + 1) % 2 ≡ 0 → ⊥) → Before-key at row parts T L
+    at-key (before-key i) odd = i
+    at-key (before-value i) odd = absurd (odd (omega (arith, i .left)))
 
-  module _ (some : more ≡ 0 → ⊥) where
-    abbrev Part : Wanted → Reading Located
-    Part = term atoms cap deep
+    pub at-value : Reached at row parts T L → (parts + 1) % 2 ≡ 0 → Before-value at row parts T L
+    at-value (before-key i) even = absurd (omega (arith, i .left))
+    at-value (before-value i) even = i
 
-    abbrev then-value : Located → Reading Terms
-    then-value k = λ s. after (Part any s) (λ v. λ u. after (entries Part (meaning k ∷ i .earlier) (more - 1) u) (λ us. done (k ▹ v ▹ us)))
+    stored-few : (ts : Terms) → Stored ts row parts T → row ≤ cap → parts ≤ cap
+    stored-few ts s low = omega (arith, s .many, s .rows-are, count-le-sizes ts)
 
-    next-pair : entries Part (i .earlier) more (at-offset m at row) ≡ after (Part any (at-offset m at row)) (λ k. λ s. after (rule (not (among (meaning k) (i .earlier))) 7 at s) (λ _. then-value k))
+    pub reached-few : Reached at row parts T L → row ≤ cap → parts ≤ cap
+    reached-few (before-key i) low = stored-few (i .ts) (i .stored) low
+    reached-few (before-value i) low = stored-few (i .ts ▹▹ (i .key ▹ empty)) (i .stored) low
+
+    pub reached-end : (place : ℕ) → Reached at row parts T L → all ≤ parts / 2 → row ≤ cap → at ≤ length m → Map-done place (parts-of.Got at row parts 9) T
+    unfolding inner entries Done kind-of
+    reached-end place (before-value i) over low near = absurd (omega (arith, i .left))
+    reached-end place (before-key i) over low near =
+        let ts : Terms = i .ts in
+        let a : row ≡ first + sizes ts = i .stored .rows-are in
+        let b : parts ≡ 0 + count ts = omega (arith, i .stored .many) in
+        let e : i .more ≡ 0 = omega (arith, i .left) in
+        let g : entries Part (i .earlier) (i .more) (at-offset m at row) ≡ good (empty, at-offset m at row)
+        = ap (λ (k : ℕ). entries Part (i .earlier) k (at-offset m at row)) e in
+        rw (i .goes, g, join-none ts) (
+          cc,
+          record { table-is = i .stored .table-is; stands = ap (λ (k : ℕ). at-offset m at k) a; near = near; room = omega arith; from = i .stored .placed },
+        )
+
+    next-pair : (i : Before-key at row parts T L) → parts / 2 < all
+        → entries Part (i .earlier) (i .more) (at-offset m at row)
+        ≡ after (Part any (at-offset m at row)) (λ k. λ s. after (rule (not (among (meaning k) (i .earlier))) 7 at s) (λ _. then-value (i .earlier) (i .more - 1) k))
     unfolding entries
-    next-pair = let e : more ≡ suc (more - 1) = omega arith in ap (λ (n : ℕ). entries Part (i .earlier) n (at-offset m at row)) e
+    next-pair i some =
+        let e : i .more ≡ suc (i .more - 1) = omega (arith, i .left) in
+        ap (λ (n : ℕ). entries Part (i .earlier) n (at-offset m at row)) e
 
-    -- one more pair is read
-    pair-read : (k v : Located) (next end next′ end′ : ℕ) → Part any (at-offset m at row) ≡ good (k, at-offset m next end) → among (meaning k) (i .earlier) ≡ false
-        → Part any (at-offset m next end) ≡ good (v, at-offset m next′ end′)
-        → entries Part [] all (at-offset m start first)
-        ≡ after (entries Part (meaning k ∷ i .earlier) (more - 1) (at-offset m next′ end′)) (λ us. done ((i .ts ▹▹ (k ▹ v ▹ empty)) ▹▹ us))
-    pair-read k v next end next′ end′ e new f =
+    -- a key is read that is new
+    key-goes : (i : Before-key at row parts T L) (k : Located) (next end : ℕ) → parts / 2 < all → Part any (at-offset m at row) ≡ good (k, at-offset m next end) → among (meaning k) (i .earlier) ≡ false
+        → all-entries
+        ≡ after (Part any (at-offset m next end)) (λ v. λ u. after (entries Part (meaning k ∷ i .earlier) (i .more - 1) u) (λ us. done ((i .ts ▹▹ (k ▹ empty)) ▹▹ (v ▹ us))))
+    key-goes i k next end some e new =
         i .goes
-        ∙ rw (next-pair, e, new, f)
-        (after-after (entries Part (meaning k ∷ i .earlier) (more - 1) (at-offset m next′ end′)) _ _
-        ∙ after-same (entries Part (meaning k ∷ i .earlier) (more - 1) (at-offset m next′ end′)) _ _ (λ us u. ap (λ (x : Terms). good (x, u)) (two-more (i .ts) us k v)))
+        ∙ rw (next-pair i some, e, new)
+        (after-after (Part any (at-offset m next end)) _ _
+        ∙ after-same (Part any (at-offset m next end)) _ _ (λ v u.
+        after-after (entries Part (meaning k ∷ i .earlier) (i .more - 1) u) _ _
+        ∙ after-same (entries Part (meaning k ∷ i .earlier) (i .more - 1) u) _ _ (λ us w. ap (λ (x : Terms). good (x, w)) (one-more (i .ts) (v ▹ us) k))))
 
-    module _ (r : Step) (T′ : List ℕ) (d : TermDone m cap row first T (Part (wanted-of Any) (at-offset m at row)) r T′) where
-      pub key-refused : (k p place : ℕ) (U : List ℕ) → r ≡ step.Refused k p → Map-done place (parts-of.Refused k p) U
-      unfolding inner Done wanted-of
-      key-refused k p place U e =
-          rw (i .goes, next-pair, step-refused _ _ _ m cap row T (Part any (at-offset m at row)) r T′ k p e d)
+    -- a value is read
+    value-goes : (i : Before-value at row parts T L) (v : Located) (next end : ℕ) → Part any (at-offset m at row) ≡ good (v, at-offset m next end)
+        → all-entries ≡ after (entries Part (meaning (i .key) ∷ i .earlier) (i .more) (at-offset m next end)) (λ us. done ((i .ts ▹▹ (i .key ▹ v ▹ empty)) ▹▹ us))
+    value-goes i v next end e =
+        i .goes
+        ∙ rw e
+        (after-same (entries Part (meaning (i .key) ∷ i .earlier) (i .more) (at-offset m next end)) _ _ (λ us u. ap (λ (x : Terms). good (x, u))
+        (one-more (i .ts ▹▹ (i .key ▹ empty)) us v ∙ ap (λ (x : Terms). x ▹▹ us) (sym (one-more (i .ts) (v ▹ empty) (i .key))))))
 
-      module _ (list : AtomList) (room : Room m list T cap at row first) (next end : ℕ) (e : r ≡ step.Got next end)
-          (tell : Told m cap atoms places lengths first)
-          (b : Bool) (L₁ : List ℕ) (kept₁ : Keeps L L₁) (judged : Contains-before m places lengths T′ first row L₁ → b ≡ among-rows m places lengths T′ first row) where
-        abbrev key : Found size (λ t. row-words (tree-rows (whole-of first) row t)) (Each-node (Placed 65536)) m cap row T (Part (wanted-of Any) (at-offset m at row)) next end T′
-        key = step-found size _ _ m cap row T (Part (wanted-of Any) (at-offset m at row)) r T′ next end e d
+    module _ (r : Step) (T′ : List ℕ) (d : TermDone m cap row first T (Part any (at-offset m at row)) r T′) where
+      pub part-refused : (k p place : ℕ) (U : List ℕ) → Reached at row parts T L → parts / 2 < all → r ≡ step.Refused k p → Map-done place (parts-of.Refused k p) U
+      unfolding inner Done
+      part-refused k p place U (before-key i) some e = rw (i .goes, next-pair i some, step-refused _ _ _ m cap row T (Part any (at-offset m at row)) r T′ k p e d)
+      part-refused k p place U (before-value i) some e = rw (i .goes, step-refused _ _ _ m cap row T (Part any (at-offset m at row)) r T′ k p e d)
 
-        backed-key : Backed m cap atoms (key .x)
-        backed-key =
-            term-backed m cap atoms deep (wanted-of Any) (at-offset m at row) (record { bytes-are = refl; inside = room .near; room = room .low }) .known (key .x) (at-offset m next end) (key .is) .1
+      module _ (list : AtomList) (room : Room m list T cap at row first) (next end : ℕ) (e : r ≡ step.Got next end) where
+        abbrev part : Found size (λ t. row-words (tree-rows (whole-of first) row t)) (Each-node (Placed 65536)) m cap row T (Part any (at-offset m at row)) next end T′
+        part = step-found size _ _ m cap row T (Part any (at-offset m at row)) r T′ next end e d
 
-        with-key : T′ ≡ sets T₀ first (row-words (rows (whole-of first) first (i .ts ▹▹ (key .x ▹ empty))))
-        unfolding rows
-        with-key =
-            key .table-is
-            ∙ ap (λ (rs : List Row). sets T row (row-words rs)) (sym (append-nil (tree-rows (whole-of first) row (key .x))))
-            ∙ joined-words m cap first first T₀ T (i .ts) row (i .table-is) (i .rows-are) (key .x ▹ empty)
-
-        placed-key : Each-nodes (Placed 65536) (i .ts ▹▹ (key .x ▹ empty))
-        unfolding Each-node
-        placed-key = each-nodes-join (Placed 65536) (i .ts) (key .x ▹ empty) (i .placed) (key .from, tt)
-
-        held : Rows-in-table m cap atoms T′ (whole-of first) first (i .ts ▹▹ (key .x ▹ empty))
-        held =
-            let us : Terms = i .ts ▹▹ (key .x ▹ empty) in
-            let ws : List ℕ = row-words (rows (whole-of first) first us) in
-            let s : sizes us ≡ sizes (i .ts) + (size (key .x) + 0) = sizes-join (i .ts) (key .x ▹ empty) in
-            let n : length ws ≡ sizes us = length-words-of (rows (whole-of first) first us) ∙ length-rows (whole-of first) first us in
-            let l : length T ≡ length T₀ = ap length (i .table-is) ∙ length-sets T₀ first (row-words (rows (whole-of first) first (i .ts))) in
-            let a : row ≡ first + sizes (i .ts) = i .rows-are in
-            let c : end ≡ row + size (key .x) = key .rows-are in
-            let w : whole-code (whole-of first) ≡ first = code-of-whole first in
-            let big : end ≤ cap = key .room in
+        stored-more : (ts : Terms) → Stored ts row parts T → Stored (ts ▹▹ (part .x ▹ empty)) end (parts + 1) T′
+        unfolding rows Each-node
+        stored-more ts s =
+            let t : Located = part .x in
+            let b = term-backed m cap atoms deep any (at-offset m at row) (record { bytes-are = refl; inside = room .near; room = room .low }) .known t (at-offset m next end) (part .is) in
             record {
-              stand = record { words = subst (λ (t : List ℕ). Here t first ws) (sym with-key) (sets-here T₀ first ws (omega (arith, room .wide))) };
-              all-small = small-rows (whole-of first) first us (omega arith) (omega (arith, room .few)) placed-key;
-              all-backed = backing.joined m cap atoms (i .ts) (key .x ▹ empty) (i .backed) (backed-key, tt);
+              table-is = part .table-is
+                  ∙ ap (λ (rs : List Row). sets T row (row-words rs)) (sym (append-nil (tree-rows (whole-of first) row t)))
+                  ∙ joined-words m cap first first T₀ T ts row (s .table-is) (s .rows-are) (t ▹ empty);
+              rows-are = omega (arith, s .rows-are, part .rows-are, sizes-join ts (t ▹ empty));
+              many = omega (arith, s .many, count-join ts (t ▹ empty));
+              backed = backing.joined m cap atoms ts (t ▹ empty) (s .backed) (b .1, tt);
+              placed = each-nodes-join (Placed 65536) ts (t ▹ empty) (s .placed) (part .from, tt);
             }
 
-        recalls-keys : Contains-before m places lengths T′ first row L₁
-        recalls-keys =
-            subst (λ (k : ℕ). Contains-before m places lengths T′ first k L₁) (sym (i .rows-are))
-            (contains-before m places lengths cap atoms (i .ts) (key .x) held (keys-kept kept₁ (i .remembered)))
+        -- the value of a key
+        pub value-entered : (L′ : List ℕ) → Keeps L L′ → Before-value at row parts T L → Reached next end (parts + 1) T′ L′
+        value-entered L′ kept i =
+            let ts : Terms = i .ts in
+            let k : Located = i .key in
+            let v : Located = part .x in
+            let j : (ts ▹▹ (k ▹ empty)) ▹▹ (v ▹ empty) ≡ ts ▹▹ (k ▹ v ▹ empty) = sym (one-more ts (v ▹ empty) k) in
+            before-key
+            (record {
+              ts = ts ▹▹ (k ▹ v ▹ empty);
+              earlier = meaning k ∷ i .earlier;
+              more = i .more;
+              stored = subst (λ (us : Terms). Stored us end (parts + 1) T′) j (stored-more (ts ▹▹ (k ▹ empty)) (i .stored));
+              left = i .left;
+              keys = one-more-key k v (i .keys);
+              remembered = keys-more k v (keys-kept kept (i .remembered)) (contains-kept kept (i .contained));
+              goes = value-goes i v next end (part .is);
+            })
 
-        is-among : b ≡ among (meaning (key .x)) (i .earlier)
-        is-among = judged recalls-keys ∙ ap (λ (k : ℕ). among-rows m places lengths T′ first k) (i .rows-are) ∙ tell T′ (i .ts) (key .x) (i .earlier) (i .keys) held
+        -- a key, which is judged, and which is among the earlier ones or not
+        module _ (i : Before-key at row parts T L) (some : parts / 2 < all) (tell : Told m cap atoms places lengths first)
+            (b : Bool) (L₁ L₂ : List ℕ) (kept : Keeps L L₁) (judged : Contains-or-insert m places lengths T′ first row L₁ b L₂) where
+          with-key : Stored (i .ts ▹▹ (part .x ▹ empty)) end (parts + 1) T′
+          with-key = stored-more (i .ts) (i .stored)
 
-        pub key-twice : (place : ℕ) (U : List ℕ) → b ≡ true → Map-done place (parts-of.Refused 7 at) U
-        unfolding inner Done wanted-of
-        key-twice place U f = rw (i .goes, next-pair, key .is, sym is-among ∙ f)
-
-        module _ (new : b ≡ false) (r′ : Step) (T″ : List ℕ) (d′ : TermDone m cap end first T′ (Part (wanted-of Any) (at-offset m next end)) r′ T″) where
-          pub value-refused : (k p place : ℕ) (U : List ℕ) → r′ ≡ step.Refused k p → Map-done place (parts-of.Refused k p) U
-          unfolding inner Done wanted-of
-          value-refused k p place U f =
-              rw (i .goes, next-pair, key .is, sym is-among ∙ new, step-refused _ _ _ m cap end T′ (Part any (at-offset m next end)) r′ T″ k p f d′)
-
-          -- the new key is remembered, and so are the others
-          remembered-key : (v : Located) (L₂ L₃ : List ℕ) → Keeps L₁ L₂ → Keeps L₂ L₃ → Contains L₂ (term-hash m places lengths T′ first row) row
-              → Contains-keys m places lengths (whole-of first) first first (i .ts ▹▹ (key .x ▹ v ▹ empty)) L₃
-          remembered-key v L₂ L₃ kept₂ kept₃ known =
-              keys-more (key .x) v (keys-kept (keeps-trans kept₁ (keeps-trans kept₂ kept₃)) (i .remembered))
-              (contains-as (hash-held m places lengths cap atoms (i .ts) (key .x) held)
-              (subst (λ (k : ℕ). Contains L₃ (term-hash m places lengths T′ first k) k) (i .rows-are) (contains-kept kept₃ known)))
-
-          pub entered-more : (next′ end′ : ℕ) → r′ ≡ step.Got next′ end′ → (L₂ L₃ : List ℕ) → Keeps L₁ L₂ → Keeps L₂ L₃ → (b ≡ false → Contains L₂ (term-hash m places lengths T′ first row) row)
-              → Entered atoms cap deep m places lengths start first all T₀ next′ end′ (more - 1) T″ L₃
-          unfolding rows Each-node wanted-of
-          entered-more next′ end′ f L₂ L₃ kept₂ kept₃ known =
-              let value : Found size (λ t. row-words (tree-rows (whole-of first) end t)) (Each-node (Placed 65536)) m cap end T′ (Part any (at-offset m next end)) next′ end′ T″
-              = step-found size _ _ m cap end T′ (Part any (at-offset m next end)) r′ T″ next′ end′ f d′ in
-              let ts : Terms = i .ts in
-              let k : Located = key .x in
-              let v : Located = value .x in
-              let a : row ≡ first + sizes ts = i .rows-are in
-              let c : end ≡ row + size k = key .rows-are in
-              let g : end′ ≡ end + size v = value .rows-are in
-              let o : end ≡ row + (size k + 0) = omega arith in
-              let tk : T′ ≡ sets T row (row-words (rows (whole-of first) row (k ▹ empty)))
-              = key .table-is ∙ ap (λ (rs : List Row). sets T row (row-words rs)) (sym (append-nil (tree-rows (whole-of first) row k))) in
-              let tv : T″ ≡ sets T′ end (row-words (rows (whole-of first) end (v ▹ empty)))
-              = value .table-is ∙ ap (λ (rs : List Row). sets T′ end (row-words rs)) (sym (append-nil (tree-rows (whole-of first) end v))) in
-              let bv : Backed m cap atoms v
-              = term-backed m cap atoms deep any (at-offset m next end) (record { bytes-are = refl; inside = key .near; room = key .room }) .known v (at-offset m next′ end′) (value .is) .1 in
+          held : Rows-in-table m cap atoms T′ (whole-of first) first (i .ts ▹▹ (part .x ▹ empty))
+          held =
+              let us : Terms = i .ts ▹▹ (part .x ▹ empty) in
+              let ws : List ℕ = row-words (rows (whole-of first) first us) in
+              let n : length ws ≡ sizes us = length-words-of (rows (whole-of first) first us) ∙ length-rows (whole-of first) first us in
+              let l : length T ≡ length T₀ = ap length (i .stored .table-is) ∙ length-sets T₀ first (row-words (rows (whole-of first) first (i .ts))) in
+              let a : end ≡ first + sizes us = with-key .rows-are in
+              let w : whole-code (whole-of first) ≡ first = code-of-whole first in
+              let big : end ≤ cap = part .room in
               record {
-                ts = ts ▹▹ (k ▹ v ▹ empty);
-                earlier = meaning k ∷ i .earlier;
-                keys = one-more-key k v (i .keys);
-                table-is = tv ∙ joined-words m cap row first T T′ (k ▹ empty) end tk o (v ▹ empty) ∙ joined-words m cap first first T₀ T ts row (i .table-is) (i .rows-are) (k ▹ v ▹ empty);
-                rows-are = omega (arith, sizes-join ts (k ▹ v ▹ empty));
-                many = omega (arith, count-join ts (k ▹ v ▹ empty), i .many);
-                backed = backing.joined m cap atoms ts (k ▹ v ▹ empty) (i .backed) (backed-key, (bv, tt));
-                placed = each-nodes-join (Placed 65536) ts (k ▹ v ▹ empty) (i .placed) (key .from, (value .from, tt));
-                goes = pair-read k v next end next′ end′ (key .is) (sym is-among ∙ new) (value .is);
-                remembered = remembered-key v L₂ L₃ kept₂ kept₃ (known new);
+                stand = record { words = subst (λ (t : List ℕ). Here t first ws) (sym (with-key .table-is)) (sets-here T₀ first ws (omega (arith, room .wide))) };
+                all-small = small-rows (whole-of first) first us (omega arith) (omega (arith, room .few)) (with-key .placed);
+                all-backed = with-key .backed;
               }
+
+          recalls-keys : Contains-before m places lengths T′ first row L₁
+          recalls-keys =
+              subst (λ (k : ℕ). Contains-before m places lengths T′ first k L₁) (sym (i .stored .rows-are))
+              (contains-before m places lengths cap atoms (i .ts) (part .x) held (keys-kept kept (i .remembered)))
+
+          is-among : b ≡ among (meaning (part .x)) (i .earlier)
+          is-among =
+              judged .judged recalls-keys
+              ∙ ap (λ (k : ℕ). among-rows m places lengths T′ first k) (i .stored .rows-are)
+              ∙ tell T′ (i .ts) (part .x) (i .earlier) (i .keys) held
+
+          pub key-twice : (place : ℕ) (U : List ℕ) → b ≡ true → Map-done place (parts-of.Refused 7 at) U
+          unfolding inner Done
+          key-twice place U f = rw (i .goes, next-pair i some, part .is, sym is-among ∙ f)
+
+          pub key-entered : b ≡ false → Reached next end (parts + 1) T′ L₂
+          key-entered new =
+              let ts : Terms = i .ts in
+              let k : Located = part .x in
+              let more : ℕ = i .more - 1 in
+              let known : Contains L₂ (hash-row-words m places lengths first (row-words (tree-rows (whole-of first) (first + sizes ts) k))) (first + sizes ts)
+              = contains-as (hash-held m places lengths cap atoms ts k held) (rw (i .stored .rows-are) at (judged .inserted new)) in
+              before-value
+              (record {
+                ts = ts;
+                earlier = i .earlier;
+                key = k;
+                more = more;
+                stored = with-key;
+                left = omega (arith, i .left);
+                keys = i .keys;
+                remembered = keys-kept (keeps-trans kept (judged .slots-kept)) (i .remembered);
+                contained = known;
+                goes = key-goes i k next end some (part .is) (sym is-among ∙ new);
+              })

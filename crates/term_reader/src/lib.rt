@@ -12,7 +12,7 @@ ghost use lib.ListN.{length, replicate};
 ghost use lib.Seq.{sets};
 ghost use Rattle.term_spec.specs.AtomList.{atoms-of, lent-list};
 ghost use Rattle.term_spec.specs.Head as head-spec;
-ghost use Rattle.term_spec.specs.Head.{characters, elements, pairs, term-head};
+ghost use Rattle.term_spec.specs.Head.{any, characters, elements, pairs, term-head};
 ghost use Rattle.term_spec.specs.Answer.{at-offset};
 ghost use Rattle.term_head.specs.Code.{wanted-of, head-of};
 ghost use Rattle.term_head.specs.Quick.{quick-word};
@@ -20,6 +20,8 @@ ghost use Rattle.term_reader.specs.Code.{asked, character-words, Room, H
 
 // Of the parts that are wanted, so many are atoms at most.
 const WANTED_ATOMS: usize = 2;
+// The parts of a pair: a key and its value.
+const PAIR_PARTS: usize = 2;
 // The bytes of a 107 before its characters.
 const STRING_HEAD: usize = 3;
 
@@ -857,7 +859,50 @@ fn read_last(
     }
 }
 
-// `count` keys with their values. A key is judged before its value is read.
+// A key or a value of a map: the commonest ones, without parts, are read right here.
+fn read_entry(
+    msg: &[u8],
+    n: u8,
+    places: &[u8],
+    lengths: &[u16],
+    table: &mut [u64],
+    seen: &mut [u16],
+    at: usize,
+    row: usize,
+    whole: usize,
+    deep: usize,
+    cap: usize,
+) -> Step
+    requires { ⌜ Room (now msg) (lent-list n (now places) (now lengths)) (now table) cap at row whole ⌝ }
+    requires { ⌜ 0 < length (now seen) ⌝ }
+    ensures { λ r. ⌜ Term-read (now (msg .entry)) (lent-list n (now (places .entry)) (now (lengths .entry))) cap deep at row whole (now (table .entry)) (now (seen .entry)) any r (now (table .exit)) (now (seen .exit)) ⌝ }
+{
+    let word = term_head::entry_at(msg, at);
+    if is_leaf(word, deep, row, cap) {
+        table[row] = row::pack(word % term_head::WORD_KINDS, at, whole, 0, 1);
+        return Step::Got {
+            next: word / term_head::WORD_KINDS,
+            rows: row + 1,
+        };
+    }
+    read_run(
+        msg,
+        n,
+        places,
+        lengths,
+        table,
+        seen,
+        at,
+        row,
+        whole,
+        deep,
+        cap,
+        Wanted::Any,
+        1,
+    )
+}
+
+// `count` keys, each with its value after it. A key is judged before its value is read.
 fn read_pairs(
     msg: &[u8],
     n: u8,
@@ -877,9 +922,9 @@ fn read_pairs(
 {
     let mut at_now = at;
     let mut row_now = row;
-    let mut more = count;
-    while more > 0 {
-        match read_run(
+    let mut parts = 0usize;
+    while parts / PAIR_PARTS < count {
+        match read_entry(
             msg,
             n,
             places,
@@ -891,46 +936,30 @@ fn read_pairs(
             row,
             deep,
             cap,
-            Wanted::Any,
-            1,
         ) {
             Step::Refused { number, place } => return Parts::Refused { number, place },
             Step::Got { next, rows } => {
-                if map_keys::contains_or_insert(msg, places, lengths, table, seen, row, row_now) {
+                let start = at_now;
+                let key = row_now;
+                at_now = next;
+                row_now = rows;
+                parts += 1;
+                if parts % PAIR_PARTS == 0 {
+                    continue;
+                }
+                if map_keys::contains_or_insert(msg, places, lengths, table, seen, row, key) {
                     return Parts::Refused {
                         number: refusals::KEY,
-                        place: at_now,
+                        place: start,
                     };
-                }
-                match read_run(
-                    msg,
-                    n,
-                    places,
-                    lengths,
-                    table,
-                    seen,
-                    next,
-                    rows,
-                    row,
-                    deep,
-                    cap,
-                    Wanted::Any,
-                    1,
-                ) {
-                    Step::Refused { number, place } => return Parts::Refused { number, place },
-                    Step::Got { next, rows } => {
-                        at_now = next;
-                        row_now = rows;
-                    }
                 }
             }
         }
-        more -= 1;
     }
     Parts::Got {
         next: at_now,
         rows: row_now,
-        parts: count * 2,
+        parts,
         kind: kinds::MAP,
     }
 }

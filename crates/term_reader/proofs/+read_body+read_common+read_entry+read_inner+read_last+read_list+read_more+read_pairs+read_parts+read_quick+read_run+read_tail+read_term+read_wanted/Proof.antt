@@ -1,5 +1,5 @@
 -- The functions of the reader that call each other meet their contracts: each level of depth counts 8, and a function that calls another at its own level counts more.
-use Rattle.term_reader.proofs.Entries.{Entered, entered-none, entries-many, entries-end, key-refused, key-twice, value-refused, entered-more, keys-told, term-inside}
+use Rattle.term_reader.proofs.Entries.{Reached, reached-none, reached-few, reached-end, at-key, at-value, part-refused, value-entered, key-twice, key-entered, keys-told, term-inside}
 use Rattle.term_reader.proofs.Inner.{opens-near, opens-place, opens-span, inner-refused, inner-parts, inner-characters, inner-elements, inner-pairs, parts-first, parts-second, parts-later-refused, parts-got, run-many, list-first, list-then, Tailed, tailed-none, tailed-skipped, tailed-nil, tailed-last, tailed-run-refused, tailed-further, tailed-more, tail-characters, last-none, last-refused, last-got}
 use Rattle.term_reader.proofs.Bodies.{term-refused, term-opened, body-deep, body-full, body-refused, body-got, body-small, parts-past, room-inside, room-at}
 use Rattle.term_reader.proofs.Quick.{told-next, common-leaf, common-list, common-pairs, common-refused, common-got, opened-quickly, quick-near, quick-inside, quick-term, quick-leaf, leaf-small}
@@ -20,49 +20,53 @@ use mathlib.Core.List.{List, [], _∷_}
 use mathlib.Core.Path.{_≡_, refl, _∙_}
 use native.Mathlib.Omega.{arith}
 use borrow.Author.Needs.{needs}
-use Prim.Native.Nat.{ℕ, _+_, _-_, _*_, _≤_, _<_}
+use Prim.Native.Nat.{ℕ, _+_, _-_, _*_, _/_, _≤_, _<_}
 use borrow.Fn.Kinds.{In}
 use borrow.Fn.PlainCycle.{Measures, is, falls, and}
 use Rattle.term_reader.proofs.read_body.Reads as read-body
 use Rattle.term_reader.proofs.read_body.Kinds as read-body-kinds
-use Rattle.term_reader.proofs.+read_body+read_common+read_inner+read_last+read_list+read_more+read_pairs+read_parts+read_quick+read_run+read_tail+read_term+read_wanted.Lts-read_body as read-body-lts
+use Rattle.term_reader.proofs.+read_body+read_common+read_entry+read_inner+read_last+read_list+read_more+read_pairs+read_parts+read_quick+read_run+read_tail+read_term+read_wanted.Lts-read_body as read-body-lts
 use Rattle.term_reader.proofs.read_common.Reads as read-common
 use Rattle.term_reader.proofs.read_common.Kinds as read-common-kinds
-use Rattle.term_reader.proofs.+read_body+read_common+read_inner+read_last+read_list+read_more+read_pairs+read_parts+read_quick+read_run+read_tail+read_term+read_wanted.Lts-read_common as read-common-lts
+use Rattle.term_reader.proofs.+read_body+read_common+read_entry+read_inner+read_last+read_list+read_more+read_pairs+read_parts+read_quick+read_run+read_tail+read_term+read_wanted.Lts-read_common as read-common-lts
+use Rattle.term_reader.proofs.read_entry.Reads as read-entry
+use Rattle.term_reader.proofs.read_entry.Kinds as read-entry-kinds
+use Rattle.term_reader.proofs.+read_body+read_common+read_entry+read_inner+read_last+read_list+read_more+read_pairs+read_parts+read_quick+read_run+read_tail+read_term+read_wanted.Lts-read_entry as read-entry-lts
 use Rattle.term_reader.proofs.read_inner.Reads as read-inner
 use Rattle.term_reader.proofs.read_inner.Kinds as read-inner-kinds
-use Rattle.term_reader.proofs.+read_body+read_common+read_inner+read_last+read_list+read_more+read_pairs+read_parts+read_quick+read_run+read_tail+read_term+read_wanted.Lts-read_inner as read-inner-lts
+use Rattle.term_reader.proofs.+read_body+read_common+read_entry+read_inner+read_last+read_list+read_more+read_pairs+read_parts+read_quick+read_run+read_tail+read_term+read_wanted.Lts-read_inner as read-inner-lts
 use Rattle.term_reader.proofs.read_last.Reads as read-last
 use Rattle.term_reader.proofs.read_last.Kinds as read-last-kinds
-use Rattle.term_reader.proofs.+read_body+read_common+read_inner+read_last+read_list+read_more+read_pairs+read_parts+read_quick+read_run+read_tail+read_term+read_wanted.Lts-read_last as read-last-lts
+use Rattle.term_reader.proofs.+read_body+read_common+read_entry+read_inner+read_last+read_list+read_more+read_pairs+read_parts+read_quick+read_run+read_tail+read_term+read_wanted.Lts-read_last as read-last-lts
 use Rattle.term_reader.proofs.read_list.Reads as read-list
 use Rattle.term_reader.proofs.read_list.Kinds as read-list-kinds
-use Rattle.term_reader.proofs.+read_body+read_common+read_inner+read_last+read_list+read_more+read_pairs+read_parts+read_quick+read_run+read_tail+read_term+read_wanted.Lts-read_list as read-list-lts
+use Rattle.term_reader.proofs.+read_body+read_common+read_entry+read_inner+read_last+read_list+read_more+read_pairs+read_parts+read_quick+read_run+read_tail+read_term+read_wanted.Lts-read_list as read-list-lts
 use Rattle.term_reader.proofs.read_more.Reads as read-more
 use Rattle.term_reader.proofs.read_more.Kinds as read-more-kinds
-use Rattle.term_reader.proofs.+read_body+read_common+read_inner+read_last+read_list+read_more+read_pairs+read_parts+read_quick+read_run+read_tail+read_term+read_wanted.Lts-read_more as read-more-lts
+use Rattle.term_reader.proofs.+read_body+read_common+read_entry+read_inner+read_last+read_list+read_more+read_pairs+read_parts+read_quick+read_run+read_tail+read_term+read_wanted.Lts-read_more as read-more-lts
 use Rattle.term_reader.proofs.read_pairs.Reads as read-pairs
 use Rattle.term_reader.proofs.read_pairs.Kinds as read-pairs-kinds
-use Rattle.term_reader.proofs.+read_body+read_common+read_inner+read_last+read_list+read_more+read_pairs+read_parts+read_quick+read_run+read_tail+read_term+read_wanted.Lts-read_pairs as read-pairs-lts
+use Rattle.term_reader.proofs.+read_body+read_common+read_entry+read_inner+read_last+read_list+read_more+read_pairs+read_parts+read_quick+read_run+read_tail+read_term+read_wanted.Lts-read_pairs as read-pairs-lts
 use Rattle.term_reader.proofs.read_parts.Reads as read-parts
 use Rattle.term_reader.proofs.read_parts.Kinds as read-parts-kinds
-use Rattle.term_reader.proofs.+read_body+read_common+read_inner+read_last+read_list+read_more+read_pairs+read_parts+read_quick+read_run+read_tail+read_term+read_wanted.Lts-read_parts as read-parts-lts
+use Rattle.term_reader.proofs.+read_body+read_common+read_entry+read_inner+read_last+read_list+read_more+read_pairs+read_parts+read_quick+read_run+read_tail+read_term+read_wanted.Lts-read_parts as read-parts-lts
 use Rattle.term_reader.proofs.read_quick.Reads as read-quick
 use Rattle.term_reader.proofs.read_quick.Kinds as read-quick-kinds
-use Rattle.term_reader.proofs.+read_body+read_common+read_inner+read_last+read_list+read_more+read_pairs+read_parts+read_quick+read_run+read_tail+read_term+read_wanted.Lts-read_quick as read-quick-lts
+use Rattle.term_reader.proofs.+read_body+read_common+read_entry+read_inner+read_last+read_list+read_more+read_pairs+read_parts+read_quick+read_run+read_tail+read_term+read_wanted.Lts-read_quick as read-quick-lts
 use Rattle.term_reader.proofs.read_run.Reads as read-run
 use Rattle.term_reader.proofs.read_run.Kinds as read-run-kinds
-use Rattle.term_reader.proofs.+read_body+read_common+read_inner+read_last+read_list+read_more+read_pairs+read_parts+read_quick+read_run+read_tail+read_term+read_wanted.Lts-read_run as read-run-lts
+use Rattle.term_reader.proofs.+read_body+read_common+read_entry+read_inner+read_last+read_list+read_more+read_pairs+read_parts+read_quick+read_run+read_tail+read_term+read_wanted.Lts-read_run as read-run-lts
 use Rattle.term_reader.proofs.read_tail.Reads as read-tail
 use Rattle.term_reader.proofs.read_tail.Kinds as read-tail-kinds
-use Rattle.term_reader.proofs.+read_body+read_common+read_inner+read_last+read_list+read_more+read_pairs+read_parts+read_quick+read_run+read_tail+read_term+read_wanted.Lts-read_tail as read-tail-lts
+use Rattle.term_reader.proofs.+read_body+read_common+read_entry+read_inner+read_last+read_list+read_more+read_pairs+read_parts+read_quick+read_run+read_tail+read_term+read_wanted.Lts-read_tail as read-tail-lts
 use Rattle.term_reader.proofs.read_term.Reads as read-term
 use Rattle.term_reader.proofs.read_term.Kinds as read-term-kinds
-use Rattle.term_reader.proofs.+read_body+read_common+read_inner+read_last+read_list+read_more+read_pairs+read_parts+read_quick+read_run+read_tail+read_term+read_wanted.Lts-read_term as read-term-lts
+use Rattle.term_reader.proofs.+read_body+read_common+read_entry+read_inner+read_last+read_list+read_more+read_pairs+read_parts+read_quick+read_run+read_tail+read_term+read_wanted.Lts-read_term as read-term-lts
 use Rattle.term_reader.proofs.read_wanted.Reads as read-wanted
 use Rattle.term_reader.proofs.read_wanted.Kinds as read-wanted-kinds
-use Rattle.term_reader.proofs.+read_body+read_common+read_inner+read_last+read_list+read_more+read_pairs+read_parts+read_quick+read_run+read_tail+read_term+read_wanted.Lts-read_wanted as read-wanted-lts
+use Rattle.term_reader.proofs.+read_body+read_common+read_entry+read_inner+read_last+read_list+read_more+read_pairs+read_parts+read_quick+read_run+read_tail+read_term+read_wanted.Lts-read_wanted as read-wanted-lts
 use Rattle.term_head.proofs.elements_at.Reads as elements-at-reads
+use Rattle.term_head.proofs.entry_at.Reads as entry-at-reads
 use Rattle.term_head.proofs.leaf_at.Reads as leaf-at-reads
 use Rattle.term_head.proofs.nil_at.Reads as nil-at-reads
 use Rattle.term_head.proofs.quick_at.Reads as quick-at-reads
@@ -74,10 +78,10 @@ use Rattle.row.proofs.pack.Reads as pack-reads
 use Rattle.term_reader.proofs.at_most.Reads as at-most-reads
 use Rattle.term_reader.proofs.is_leaf.Reads as is-leaf-reads
 use Rattle.term_reader.proofs.read_characters.Reads as read-characters-reads
-use Rattle.term_reader.proofs.+read_body+read_common+read_inner+read_last+read_list+read_more+read_pairs+read_parts+read_quick+read_run+read_tail+read_term+read_wanted.{
+use Rattle.term_reader.proofs.+read_body+read_common+read_entry+read_inner+read_last+read_list+read_more+read_pairs+read_parts+read_quick+read_run+read_tail+read_term+read_wanted.{
   statement,
 }
-use Rattle.term_reader.proofs.+read_body+read_common+read_inner+read_last+read_list+read_more+read_pairs+read_parts+read_quick+read_run+read_tail+read_term+read_wanted.Tie.{
+use Rattle.term_reader.proofs.+read_body+read_common+read_entry+read_inner+read_last+read_list+read_more+read_pairs+read_parts+read_quick+read_run+read_tail+read_term+read_wanted.Tie.{
   close,
 }
 
@@ -86,6 +90,9 @@ abbrev μ-read-body : Measures 5 read-body-kinds.ps ℕ
 
 abbrev μ-read-common : Measures 5 read-common-kinds.ps ℕ
 μ-read-common κs a = a .1 .1 .1 .1 .1 .1 .1 .0 * 8 + 5
+
+abbrev μ-read-entry : Measures 5 read-entry-kinds.ps ℕ
+μ-read-entry κs a = a .1 .1 .1 .1 .1 .1 .1 .1 .1 .0 * 8 + 3
 
 abbrev μ-read-inner : Measures 5 read-inner-kinds.ps ℕ
 μ-read-inner κs a = a .1 .1 .1 .1 .1 .1 .1 .1 .1 .0 * 8 + 6
@@ -100,7 +107,7 @@ abbrev μ-read-more : Measures 5 read-more-kinds.ps ℕ
 μ-read-more κs a = a .1 .1 .1 .1 .1 .1 .1 .1 .1 .0 * 8 + 3
 
 abbrev μ-read-pairs : Measures 5 read-pairs-kinds.ps ℕ
-μ-read-pairs κs a = a .1 .1 .1 .1 .1 .1 .1 .1 .0 * 8 + 3
+μ-read-pairs κs a = a .1 .1 .1 .1 .1 .1 .1 .1 .0 * 8 + 4
 
 abbrev μ-read-parts : Measures 5 read-parts-kinds.ps ℕ
 μ-read-parts κs a = a .1 .1 .1 .1 .1 .1 .1 .1 .1 .0 * 8 + 5
@@ -133,6 +140,13 @@ read-common-at t = and 5 read-common-kinds.ps (is 5 read-common-kinds.ps μ-read
 abbrev read-common-below : ℕ → In 5 read-common-kinds.ps
 read-common-below t =
     and 5 read-common-kinds.ps (falls 5 read-common-kinds.ps _<_ μ-read-common t) read-common.Pre
+
+abbrev read-entry-at : ℕ → In 5 read-entry-kinds.ps
+read-entry-at t = and 5 read-entry-kinds.ps (is 5 read-entry-kinds.ps μ-read-entry t) read-entry.Pre
+
+abbrev read-entry-below : ℕ → In 5 read-entry-kinds.ps
+read-entry-below t =
+    and 5 read-entry-kinds.ps (falls 5 read-entry-kinds.ps _<_ μ-read-entry t) read-entry.Pre
 
 abbrev read-inner-at : ℕ → In 5 read-inner-kinds.ps
 read-inner-at t =
@@ -221,6 +235,9 @@ read-body-calls t = (read-inner-below t, read-inner.Post, pack-reads.Asked, pack
 abbrev read-common-calls : ℕ → read-common-lts.Claims
 read-common-calls t = (read-list-below t, read-list.Post, read-pairs-below t, read-pairs.Post, read-run-below t, read-run.Post)
 
+abbrev read-entry-calls : ℕ → read-entry-lts.Claims
+read-entry-calls t = (entry-at-reads.Asked, entry-at-reads.Learnt, is-leaf-reads.Asked, is-leaf-reads.Learnt, pack-reads.Asked, pack-reads.Learnt, read-run-below t, read-run.Post)
+
 abbrev read-inner-calls : ℕ → read-inner-lts.Claims
 read-inner-calls t = (read-parts-below t, read-parts.Post, read-characters-reads.Asked, read-characters-reads.Learnt, read-list-below t, read-list.Post, read-pairs-below t, read-pairs.Post)
 
@@ -234,7 +251,7 @@ abbrev read-more-calls : ℕ → read-more-lts.Claims
 read-more-calls t = (read-run-below t, read-run.Post)
 
 abbrev read-pairs-calls : ℕ → read-pairs-lts.Claims
-read-pairs-calls t = (read-run-below t, read-run.Post, insert-reads.Asked, insert-reads.Learnt)
+read-pairs-calls t = (read-entry-below t, read-entry.Post, insert-reads.Asked, insert-reads.Learnt)
 
 abbrev read-parts-calls : ℕ → read-parts-lts.Claims
 read-parts-calls t = (read-wanted-below t, read-wanted.Post, read-more-below t, read-more.Post, read-later-reads.Asked, read-later-reads.Learnt)
@@ -470,106 +487,126 @@ read-more-same-length-2 t c = c .before .before .before .before .read-run .kept 
 read-more-returns-2 : (t : ℕ) → read-more-lts.Need-returns-2 (read-more-calls t) (read-more-at t) read-more.Post
 read-more-returns-2 t c = c .before .before .before .before .read-run .ensures
 
+read-entry-entry-at-requires : (t : ℕ) → read-entry-lts.Need-entry-at-requires (read-entry-calls t) (read-entry-at t) read-entry.Post
+read-entry-entry-at-requires t c κs = (c .before .before .before .before .before .pre .1 .0 .near, c .before .before .before .before .before .pre .1 .0 .short)
+
+read-entry-is-leaf-requires : (t : ℕ) → read-entry-lts.Need-is-leaf-requires (read-entry-calls t) (read-entry-at t) read-entry.Post
+read-entry-is-leaf-requires t c κs = search needs
+
+read-entry-pack-requires : (t : ℕ) → read-entry-lts.Need-pack-requires (read-entry-calls t) (read-entry-at t) read-entry.Post
+read-entry-pack-requires t c κs = let f = c .before .is-leaf .ensures (c .if1 .taken) in let w = c .before .before .entry-at .ensures (f .0) in leaf-small _ _ _ _ _ _ _ _ (c .before .before .before .before .before .before .before .before .pre .1 .0) (quick-inside _ _ _ _ (c .before .before .before .before .before .before .before .before .args .row) _ (f .0) (w (atoms-of (lent-list 0 [] [])) (c .before .before .before .before .before .before .before .before .args .row)))
+
+read-entry-mul-table : (t : ℕ) → read-entry-lts.Need-mul-table (read-entry-calls t) (read-entry-at t) read-entry.Post
+read-entry-mul-table t c = omega arith
+
+read-entry-slice-write-table : (t : ℕ) → read-entry-lts.Need-slice-write-table (read-entry-calls t) (read-entry-at t) read-entry.Post
+read-entry-slice-write-table t c = let f = c .before .before .is-leaf .ensures (c .before .if1 .taken) in omega (arith, f .3, c .before .before .before .before .before .before .before .before .before .pre .1 .0 .wide)
+
+read-entry-add-t16 : (t : ℕ) → read-entry-lts.Need-add-t16 (read-entry-calls t) (read-entry-at t) read-entry.Post
+read-entry-add-t16 t c = let f = c .before .before .is-leaf .ensures (c .before .if1 .taken) in omega (arith, f .3, c .before .before .before .before .before .before .before .before .before .pre .1 .0 .few)
+
+read-entry-same-length : (t : ℕ) → read-entry-lts.Need-same-length (read-entry-calls t) (read-entry-at t) read-entry.Post
+read-entry-same-length t c = length-set {A = ℕ} (c .before .before .before .before .before .before .before .before .before .args .table .now) (c .before .before .before .before .before .before .before .before .before .args .row) (c .pack .result)
+
+read-entry-returns : (t : ℕ) → read-entry-lts.Need-returns (read-entry-calls t) (read-entry-at t) read-entry.Post
+read-entry-returns t c =
+    let f = c .before .before .is-leaf .ensures (c .before .if1 .taken) in
+    let w = c .before .before .before .entry-at .ensures (f .0) in
+    record { rows-stored = quick-leaf _ _ _ _ (c .before .before .before .before .before .before .before .before .before .args .row) _ (f .0) (w _ (c .before .before .before .before .before .before .before .before .before .args .row)) _ _ _ _ (f .1) (f .2) (f .3) (omega (arith, quick-inside _ _ _ _ (c .before .before .before .before .before .before .before .before .before .args .row) _ (f .0) (w (atoms-of (lent-list 0 [] [])) (c .before .before .before .before .before .before .before .before .before .args .row)), c .before .before .before .before .before .before .before .before .before .pre .1 .0 .short)) _ (c .pack .ensures); keys-kept = keeps-refl _ }
+
+read-entry-read-run-requires : (t : ℕ) → read-entry-lts.Need-read-run-requires (read-entry-calls t) (read-entry-at t) read-entry.Post
+read-entry-read-run-requires t c κs = (omega (arith, c .before .before .before .before .before .before .before .before .before .before .pre .0), (c .before .before .before .before .before .before .before .before .before .before .pre .1 .0, c .before .before .before .before .before .before .before .before .before .before .pre .1 .1))
+
+read-entry-same-length-2 : (t : ℕ) → read-entry-lts.Need-same-length-2 (read-entry-calls t) (read-entry-at t) read-entry.Post
+read-entry-same-length-2 t c = c .before .before .before .before .read-run .kept .1 .1 .1 .1 .0
+
+read-entry-same-length-3 : (t : ℕ) → read-entry-lts.Need-same-length-3 (read-entry-calls t) (read-entry-at t) read-entry.Post
+read-entry-same-length-3 t c = c .before .before .before .before .read-run .kept .1 .1 .1 .1 .1 .0
+
+read-entry-returns-2 : (t : ℕ) → read-entry-lts.Need-returns-2 (read-entry-calls t) (read-entry-at t) read-entry.Post
+unfolding wanted-of
+read-entry-returns-2 t c = record { rows-stored = run-one _ _ _ _ _ _ _ _ _ _ (c .before .before .before .before .read-run .ensures .rows-stored); keys-kept = c .before .before .before .before .read-run .ensures .keys-kept }
+
 abbrev read-pairs-Inv-loop : read-pairs-lts.InvT-loop
-read-pairs-Inv-loop msg n places lengths table₀ seen₀ at row deep cap count at-now₀ row-now₀ more₀ table seen at-now row-now more =
+read-pairs-Inv-loop msg n places lengths table₀ seen₀ at row deep cap count at-now₀ row-now₀ parts₀ table seen at-now row-now parts =
     Room msg (lent-list n places lengths) table cap at-now row-now row
     × (length table ≡ length table₀)
-    × Entered (atoms-of (lent-list n places lengths)) cap deep msg places lengths at row count table₀ at-now row-now more table seen
+    × Reached (atoms-of (lent-list n places lengths)) cap deep msg places lengths at row count table₀ at-now row-now parts table seen
     × Keeps seen₀ seen
 
 abbrev read-pairs-μ-loop : read-pairs-lts.MeasureT-loop
-read-pairs-μ-loop msg n places lengths table₀ seen₀ at row deep cap count at-now₀ row-now₀ more₀ table seen at-now row-now more =
-    more
+read-pairs-μ-loop msg n places lengths table₀ seen₀ at row deep cap count at-now₀ row-now₀ parts₀ table seen at-now row-now parts =
+    count * 2 - parts
 
 read-pairs-loop-holds : (t : ℕ) → read-pairs-lts.Need-loop-holds (read-pairs-calls t) (read-pairs-at t) read-pairs.Post read-pairs-Inv-loop read-pairs-μ-loop
-read-pairs-loop-holds t c = (c .before .before .before .before .before .pre .1 .0, refl, entered-none _ _ _ _ _ _ _ _ _ _ _, keeps-refl _)
+read-pairs-loop-holds t c = (c .before .before .before .before .before .pre .1 .0, refl, reached-none _ _ _ _ _ _ _ _ _ _ _, keeps-refl _)
 
-read-pairs-read-run-requires : (t : ℕ) → read-pairs-lts.Need-read-run-requires (read-pairs-calls t) (read-pairs-at t) read-pairs.Post read-pairs-Inv-loop read-pairs-μ-loop
-read-pairs-read-run-requires t c κs = (omega (arith, c .before .before .before .before .before .before .before .before .before .pre .0), (c .before .before .before .loop .inv .0, omega (arith, c .before .before .before .before .before .before .before .before .before .pre .1 .1, c .before .before .before .loop .inv .3 .as-many)))
+read-pairs-read-entry-requires : (t : ℕ) → read-pairs-lts.Need-read-entry-requires (read-pairs-calls t) (read-pairs-at t) read-pairs.Post read-pairs-Inv-loop read-pairs-μ-loop
+read-pairs-read-entry-requires t c κs = (omega (arith, c .before .before .before .before .before .before .before .before .before .pre .0), (c .before .before .before .loop .inv .0, omega (arith, c .before .before .before .before .before .before .before .before .before .pre .1 .1, c .before .before .before .loop .inv .3 .as-many)))
 
 read-pairs-enum-known-number : (t : ℕ) → read-pairs-lts.Need-enum-known-number (read-pairs-calls t) (read-pairs-at t) read-pairs.Post read-pairs-Inv-loop read-pairs-μ-loop
 read-pairs-enum-known-number t c = search needs
 
 read-pairs-same-length : (t : ℕ) → read-pairs-lts.Need-same-length (read-pairs-calls t) (read-pairs-at t) read-pairs.Post read-pairs-Inv-loop read-pairs-μ-loop
-read-pairs-same-length t c = c .before .before .before .before .before .before .before .read-run .kept .1 .1 .1 .1 .0 ∙ c .before .before .before .before .before .before .before .before .before .before .before .loop .inv .1
+read-pairs-same-length t c = c .before .before .before .before .before .before .before .read-entry .kept .1 .1 .1 .1 .0 ∙ c .before .before .before .before .before .before .before .before .before .before .before .loop .inv .1
 
 read-pairs-same-length-2 : (t : ℕ) → read-pairs-lts.Need-same-length-2 (read-pairs-calls t) (read-pairs-at t) read-pairs.Post read-pairs-Inv-loop read-pairs-μ-loop
-read-pairs-same-length-2 t c = c .before .before .before .before .before .before .before .read-run .kept .1 .1 .1 .1 .1 .0 ∙ c .before .before .before .before .before .before .before .before .before .before .before .loop .inv .3 .as-many
+read-pairs-same-length-2 t c = c .before .before .before .before .before .before .before .read-entry .kept .1 .1 .1 .1 .1 .0 ∙ c .before .before .before .before .before .before .before .before .before .before .before .loop .inv .3 .as-many
 
 read-pairs-returns : (t : ℕ) → read-pairs-lts.Need-returns (read-pairs-calls t) (read-pairs-at t) read-pairs.Post read-pairs-Inv-loop read-pairs-μ-loop
 read-pairs-returns t c =
     let i = c .before .before .before .before .before .before .before .before .before .before .before .loop in
-    let e : i .more ≡ 0 → ⊥ = omega (arith, c .before .before .before .before .before .before .before .before .before .before .loop-test .taken) in
-    record { rows-stored = λ place. key-refused _ _ _ _ _ _ _ _ _ _ _ _ _ _ _ (i .inv .2) e _ _ (run-one _ _ _ _ _ _ _ _ _ _ (c .before .before .before .before .before .before .before .read-run .ensures .rows-stored)) _ _ place _ (c .before .number .given .1); keys-kept = keeps-trans (c .before .before .before .before .before .before .before .before .before .before .before .loop .inv .3) (c .before .before .before .before .before .before .before .read-run .ensures .keys-kept) }
+    let e : i .parts / 2 < c .before .before .before .before .before .before .before .before .before .before .before .before .before .before .before .before .before .args .count = omega (arith, c .before .before .before .before .before .before .before .before .before .before .loop-test .taken) in
+    record { rows-stored = λ place. part-refused _ _ _ _ _ _ _ _ _ _ _ _ _ _ _ _ _ (c .before .before .before .before .before .before .before .read-entry .ensures .rows-stored) _ _ place _ (i .inv .2) e (c .before .number .given .1); keys-kept = keeps-trans (i .inv .3) (c .before .before .before .before .before .before .before .read-entry .ensures .keys-kept) }
 
 read-pairs-enum-known-next : (t : ℕ) → read-pairs-lts.Need-enum-known-next (read-pairs-calls t) (read-pairs-at t) read-pairs.Post read-pairs-Inv-loop read-pairs-μ-loop
 read-pairs-enum-known-next t c = search needs
 
-read-pairs-contains-or-insert-requires : (t : ℕ) → read-pairs-lts.Need-contains-or-insert-requires (read-pairs-calls t) (read-pairs-at t) read-pairs.Post read-pairs-Inv-loop read-pairs-μ-loop
-read-pairs-contains-or-insert-requires t c κs = (omega (arith, c .before .before .before .before .before .before .before .before .before .before .before .before .before .before .before .before .before .before .before .pre .1 .1, c .before .before .before .before .before .before .before .before .before .before .before .before .before .loop .inv .3 .as-many, c .before .before .before .before .before .before .before .before .before .read-run .ensures .keys-kept .as-many), omega (arith, term-inside _ _ _ _ _ _ _ _ _ _ (c .before .before .before .next .given .1) (run-one _ _ _ _ _ _ _ _ _ _ (c .before .before .before .before .before .before .before .before .before .read-run .ensures .rows-stored)), c .before .before .before .before .before .before .before .before .before .before .before .before .before .loop .inv .0 .few))
-
-read-pairs-same-length-3 : (t : ℕ) → read-pairs-lts.Need-same-length-3 (read-pairs-calls t) (read-pairs-at t) read-pairs.Post read-pairs-Inv-loop read-pairs-μ-loop
-read-pairs-same-length-3 t c = c .before .before .before .before .before .before .before .before .before .before .before .before .before .read-run .kept .1 .1 .1 .1 .0 ∙ c .before .before .before .before .before .before .before .before .before .before .before .before .before .before .before .before .before .loop .inv .1
-
-read-pairs-same-length-4 : (t : ℕ) → read-pairs-lts.Need-same-length-4 (read-pairs-calls t) (read-pairs-at t) read-pairs.Post read-pairs-Inv-loop read-pairs-μ-loop
-read-pairs-same-length-4 t c = c .before .before .before .contains-or-insert .kept .1 .1 .1 .1 .0 ∙ c .before .before .before .before .before .before .before .before .before .before .before .before .before .read-run .kept .1 .1 .1 .1 .1 .0 ∙ c .before .before .before .before .before .before .before .before .before .before .before .before .before .before .before .before .before .loop .inv .3 .as-many
-
-read-pairs-returns-2 : (t : ℕ) → read-pairs-lts.Need-returns-2 (read-pairs-calls t) (read-pairs-at t) read-pairs.Post read-pairs-Inv-loop read-pairs-μ-loop
-read-pairs-returns-2 t c =
-    let i = c .before .before .before .before .before .before .before .before .before .before .before .before .before .before .before .before .before .loop in
-    let e : i .more ≡ 0 → ⊥ = omega (arith, c .before .before .before .before .before .before .before .before .before .before .before .before .before .before .before .before .loop-test .taken) in
-    record { rows-stored = λ place. key-twice _ _ _ _ _ _ _ _ _ _ _ _ _ _ _ (i .inv .2) e _ _ (run-one _ _ _ _ _ _ _ _ _ _ (c .before .before .before .before .before .before .before .before .before .before .before .before .before .read-run .ensures .rows-stored)) _ (i .inv .0) _ _ (c .before .before .before .before .before .before .before .next .given .1) (keys-told _ _ _ _ _ _ (i .inv .0 .sized) (omega (arith, c .before .before .before .before .before .before .before .before .before .before .before .before .before .before .before .before .before .before .before .before .before .before .before .fits .n)) (λ j. omega (arith, c .before .before .before .before .before .before .before .before .before .before .before .before .before .before .before .before .before .before .before .before .before .before .shared-slice-known .given j))) _ _ (c .before .before .before .before .before .before .before .before .before .before .before .before .before .read-run .ensures .keys-kept) (c .before .before .before .contains-or-insert .ensures .judged) place _ (c .if1 .taken); keys-kept = keeps-trans (keeps-trans (c .before .before .before .before .before .before .before .before .before .before .before .before .before .before .before .before .before .loop .inv .3) (c .before .before .before .before .before .before .before .before .before .before .before .before .before .read-run .ensures .keys-kept)) (c .before .before .before .contains-or-insert .ensures .slots-kept) }
-
-read-pairs-read-run-requires-2 : (t : ℕ) → read-pairs-lts.Need-read-run-requires-2 (read-pairs-calls t) (read-pairs-at t) read-pairs.Post read-pairs-Inv-loop read-pairs-μ-loop
-read-pairs-read-run-requires-2 t c κs = (omega (arith, c .before .before .before .before .before .before .before .before .before .before .before .before .before .before .before .before .before .before .before .before .before .before .before .before .before .pre .0), (room-after _ _ _ _ _ _ _ _ _ _ _ _ _ _ _ (c .before .before .before .before .before .before .before .before .before .before .before .before .before .before .before .before .before .before .before .loop .inv .0) (run-one _ _ _ _ _ _ _ _ _ _ (c .before .before .before .before .before .before .before .before .before .before .before .before .before .before .before .read-run .ensures .rows-stored)) (c .before .before .before .before .before .before .before .before .before .next .given .1) (c .before .before .before .before .before .before .before .before .before .before .before .before .before .before .before .read-run .kept .1 .1 .1 .1 .0), omega (arith, c .before .before .before .before .before .before .before .before .before .before .before .before .before .before .before .before .before .before .before .before .before .before .before .before .before .pre .1 .1, c .before .before .before .before .before .before .before .before .before .before .before .before .before .before .before .before .before .before .before .loop .inv .3 .as-many, c .before .before .before .before .before .before .before .before .before .before .before .before .before .before .before .read-run .ensures .keys-kept .as-many, c .before .before .before .before .before .contains-or-insert .ensures .slots-kept .as-many)))
-
-read-pairs-enum-known-number-2 : (t : ℕ) → read-pairs-lts.Need-enum-known-number-2 (read-pairs-calls t) (read-pairs-at t) read-pairs.Post read-pairs-Inv-loop read-pairs-μ-loop
-read-pairs-enum-known-number-2 t c = search needs
-
-read-pairs-same-length-5 : (t : ℕ) → read-pairs-lts.Need-same-length-5 (read-pairs-calls t) (read-pairs-at t) read-pairs.Post read-pairs-Inv-loop read-pairs-μ-loop
-read-pairs-same-length-5 t c = c .before .before .before .before .before .before .before .read-run2 .kept .1 .1 .1 .1 .0 ∙ c .before .before .before .before .before .before .before .before .before .before .before .before .before .before .before .before .before .before .before .before .before .before .before .read-run .kept .1 .1 .1 .1 .0 ∙ c .before .before .before .before .before .before .before .before .before .before .before .before .before .before .before .before .before .before .before .before .before .before .before .before .before .before .before .loop .inv .1
-
-read-pairs-same-length-6 : (t : ℕ) → read-pairs-lts.Need-same-length-6 (read-pairs-calls t) (read-pairs-at t) read-pairs.Post read-pairs-Inv-loop read-pairs-μ-loop
-read-pairs-same-length-6 t c = c .before .before .before .before .before .before .before .read-run2 .kept .1 .1 .1 .1 .1 .0 ∙ c .before .before .before .before .before .before .before .before .before .before .before .before .before .contains-or-insert .kept .1 .1 .1 .1 .0 ∙ c .before .before .before .before .before .before .before .before .before .before .before .before .before .before .before .before .before .before .before .before .before .before .before .read-run .kept .1 .1 .1 .1 .1 .0 ∙ c .before .before .before .before .before .before .before .before .before .before .before .before .before .before .before .before .before .before .before .before .before .before .before .before .before .before .before .loop .inv .3 .as-many
-
-read-pairs-returns-3 : (t : ℕ) → read-pairs-lts.Need-returns-3 (read-pairs-calls t) (read-pairs-at t) read-pairs.Post read-pairs-Inv-loop read-pairs-μ-loop
-read-pairs-returns-3 t c =
-    let i = c .before .before .before .before .before .before .before .before .before .before .before .before .before .before .before .before .before .before .before .before .before .before .before .before .before .before .before .loop in
-    let e : i .more ≡ 0 → ⊥ = omega (arith, c .before .before .before .before .before .before .before .before .before .before .before .before .before .before .before .before .before .before .before .before .before .before .before .before .before .before .loop-test .taken) in
-    record { rows-stored = λ place. value-refused _ _ _ _ _ _ _ _ _ _ _ _ _ _ _ (i .inv .2) e _ _ (run-one _ _ _ _ _ _ _ _ _ _ (c .before .before .before .before .before .before .before .before .before .before .before .before .before .before .before .before .before .before .before .before .before .before .before .read-run .ensures .rows-stored)) _ (i .inv .0) _ _ (c .before .before .before .before .before .before .before .before .before .before .before .before .before .before .before .before .before .next .given .1) (keys-told _ _ _ _ _ _ (i .inv .0 .sized) (omega (arith, c .before .before .before .before .before .before .before .before .before .before .before .before .before .before .before .before .before .before .before .before .before .before .before .before .before .before .before .before .before .before .before .before .before .fits .n)) (λ j. omega (arith, c .before .before .before .before .before .before .before .before .before .before .before .before .before .before .before .before .before .before .before .before .before .before .before .before .before .before .before .before .before .before .before .before .shared-slice-known .given j))) _ _ (c .before .before .before .before .before .before .before .before .before .before .before .before .before .before .before .before .before .before .before .before .before .before .before .read-run .ensures .keys-kept) (c .before .before .before .before .before .before .before .before .before .before .before .before .before .contains-or-insert .ensures .judged) (c .before .before .before .before .before .before .before .before .before .before .if1 .left) _ _ (run-one _ _ _ _ _ _ _ _ _ _ (c .before .before .before .before .before .before .before .read-run2 .ensures .rows-stored)) _ _ place _ (c .before .number2 .given .1); keys-kept = keeps-trans (keeps-trans (keeps-trans (c .before .before .before .before .before .before .before .before .before .before .before .before .before .before .before .before .before .before .before .before .before .before .before .before .before .before .before .loop .inv .3) (c .before .before .before .before .before .before .before .before .before .before .before .before .before .before .before .before .before .before .before .before .before .before .before .read-run .ensures .keys-kept)) (c .before .before .before .before .before .before .before .before .before .before .before .before .before .contains-or-insert .ensures .slots-kept)) (c .before .before .before .before .before .before .before .read-run2 .ensures .keys-kept) }
-
-read-pairs-enum-known-next-2 : (t : ℕ) → read-pairs-lts.Need-enum-known-next-2 (read-pairs-calls t) (read-pairs-at t) read-pairs.Post read-pairs-Inv-loop read-pairs-μ-loop
-read-pairs-enum-known-next-2 t c = search needs
-
-read-pairs-sub-more : (t : ℕ) → read-pairs-lts.Need-sub-more (read-pairs-calls t) (read-pairs-at t) read-pairs.Post read-pairs-Inv-loop read-pairs-μ-loop
-read-pairs-sub-more t c = omega (arith, c .before .before .before .before .before .before .before .before .before .before .before .before .before .before .before .before .before .before .before .before .before .before .before .before .before .before .loop-test .taken)
+read-pairs-add-parts : (t : ℕ) → read-pairs-lts.Need-add-parts (read-pairs-calls t) (read-pairs-at t) read-pairs.Post read-pairs-Inv-loop read-pairs-μ-loop
+read-pairs-add-parts t c = let i = c .before .before .before .before .before .before .before .before .before .before .before .loop in omega (arith, reached-few _ _ _ _ _ _ _ _ _ _ _ _ _ _ _ (i .inv .2) (i .inv .0 .low), i .inv .0 .few)
 
 read-pairs-loop-less : (t : ℕ) → read-pairs-lts.Need-loop-less (read-pairs-calls t) (read-pairs-at t) read-pairs.Post read-pairs-Inv-loop read-pairs-μ-loop
-read-pairs-loop-less t c = omega (arith, c .before .before .before .before .before .before .before .before .before .before .before .before .before .before .before .before .before .before .before .before .before .before .before .before .before .before .loop-test .taken)
+read-pairs-loop-less t c = omega (arith, c .before .before .before .before .before .before .before .before .before .before .before .loop-test .taken)
 
 read-pairs-loop-again : (t : ℕ) → read-pairs-lts.Need-loop-again (read-pairs-calls t) (read-pairs-at t) read-pairs.Post read-pairs-Inv-loop read-pairs-μ-loop
 read-pairs-loop-again t c =
-    let i = c .before .before .before .before .before .before .before .before .before .before .before .before .before .before .before .before .before .before .before .before .before .before .before .before .before .before .before .loop in
-    let e : i .more ≡ 0 → ⊥ = omega (arith, c .before .before .before .before .before .before .before .before .before .before .before .before .before .before .before .before .before .before .before .before .before .before .before .before .before .before .loop-test .taken) in
-    (room-after _ _ _ _ _ _ _ _ _ _ _ _ _ _ _ (room-after _ _ _ _ _ _ _ _ _ _ _ _ _ _ _ (i .inv .0) (run-one _ _ _ _ _ _ _ _ _ _ (c .before .before .before .before .before .before .before .before .before .before .before .before .before .before .before .before .before .before .before .before .before .before .before .read-run .ensures .rows-stored)) (c .before .before .before .before .before .before .before .before .before .before .before .before .before .before .before .before .before .next .given .1) (c .before .before .before .before .before .before .before .before .before .before .before .before .before .before .before .before .before .before .before .before .before .before .before .read-run .kept .1 .1 .1 .1 .0)) (run-one _ _ _ _ _ _ _ _ _ _ (c .before .before .before .before .before .before .before .read-run2 .ensures .rows-stored)) (c .before .next2 .given .1) (c .before .before .before .before .before .before .before .read-run2 .kept .1 .1 .1 .1 .0), c .before .before .before .before .before .before .before .read-run2 .kept .1 .1 .1 .1 .0 ∙ c .before .before .before .before .before .before .before .before .before .before .before .before .before .before .before .before .before .before .before .before .before .before .before .read-run .kept .1 .1 .1 .1 .0 ∙ i .inv .1, entered-more _ _ _ _ _ _ _ _ _ _ _ _ _ _ _ (i .inv .2) e _ _ (run-one _ _ _ _ _ _ _ _ _ _ (c .before .before .before .before .before .before .before .before .before .before .before .before .before .before .before .before .before .before .before .before .before .before .before .read-run .ensures .rows-stored)) _ (i .inv .0) _ _ (c .before .before .before .before .before .before .before .before .before .before .before .before .before .before .before .before .before .next .given .1) (keys-told _ _ _ _ _ _ (i .inv .0 .sized) (omega (arith, c .before .before .before .before .before .before .before .before .before .before .before .before .before .before .before .before .before .before .before .before .before .before .before .before .before .before .before .before .before .before .before .before .before .fits .n)) (λ j. omega (arith, c .before .before .before .before .before .before .before .before .before .before .before .before .before .before .before .before .before .before .before .before .before .before .before .before .before .before .before .before .before .before .before .before .shared-slice-known .given j))) _ _ (c .before .before .before .before .before .before .before .before .before .before .before .before .before .before .before .before .before .before .before .before .before .before .before .read-run .ensures .keys-kept) (c .before .before .before .before .before .before .before .before .before .before .before .before .before .contains-or-insert .ensures .judged) (c .before .before .before .before .before .before .before .before .before .before .if1 .left) _ _ (run-one _ _ _ _ _ _ _ _ _ _ (c .before .before .before .before .before .before .before .read-run2 .ensures .rows-stored)) _ _ (c .before .next2 .given .1) _ _ (c .before .before .before .before .before .before .before .before .before .before .before .before .before .contains-or-insert .ensures .slots-kept) (c .before .before .before .before .before .before .before .read-run2 .ensures .keys-kept) (c .before .before .before .before .before .before .before .before .before .before .before .before .before .contains-or-insert .ensures .inserted), keeps-trans (keeps-trans (keeps-trans (c .before .before .before .before .before .before .before .before .before .before .before .before .before .before .before .before .before .before .before .before .before .before .before .before .before .before .before .loop .inv .3) (c .before .before .before .before .before .before .before .before .before .before .before .before .before .before .before .before .before .before .before .before .before .before .before .read-run .ensures .keys-kept)) (c .before .before .before .before .before .before .before .before .before .before .before .before .before .contains-or-insert .ensures .slots-kept)) (c .before .before .before .before .before .before .before .read-run2 .ensures .keys-kept))
+    let i = c .before .before .before .before .before .before .before .before .before .before .before .before .loop in
+    (room-after _ _ _ _ _ _ _ _ _ _ _ _ _ _ _ (i .inv .0) (c .before .before .before .before .before .before .before .before .read-entry .ensures .rows-stored) (c .before .before .next .given .1) (c .before .before .before .before .before .before .before .before .read-entry .kept .1 .1 .1 .1 .0), c .before .before .before .before .before .before .before .before .read-entry .kept .1 .1 .1 .1 .0 ∙ i .inv .1, value-entered _ _ _ _ _ _ _ _ _ _ _ _ _ _ _ _ _ (c .before .before .before .before .before .before .before .before .read-entry .ensures .rows-stored) _ (i .inv .0) _ _ (c .before .before .next .given .1) _ (c .before .before .before .before .before .before .before .before .read-entry .ensures .keys-kept) (at-value _ _ _ _ _ _ _ _ _ _ _ _ _ _ _ (i .inv .2) (c .if1 .taken)), keeps-trans (i .inv .3) (c .before .before .before .before .before .before .before .before .read-entry .ensures .keys-kept))
 
-read-pairs-mul-t41 : (t : ℕ) → read-pairs-lts.Need-mul-t41 (read-pairs-calls t) (read-pairs-at t) read-pairs.Post read-pairs-Inv-loop read-pairs-μ-loop
-read-pairs-mul-t41 t c =
+read-pairs-contains-or-insert-requires : (t : ℕ) → read-pairs-lts.Need-contains-or-insert-requires (read-pairs-calls t) (read-pairs-at t) read-pairs.Post read-pairs-Inv-loop read-pairs-μ-loop
+read-pairs-contains-or-insert-requires t c κs = (omega (arith, c .before .before .before .before .before .before .before .before .before .before .before .before .before .before .before .before .before .before .before .before .pre .1 .1, c .before .before .before .before .before .before .before .before .before .before .before .before .before .before .loop .inv .3 .as-many, c .before .before .before .before .before .before .before .before .before .before .read-entry .ensures .keys-kept .as-many), omega (arith, term-inside _ _ _ _ _ _ _ _ _ _ (c .before .before .before .before .next .given .1) (c .before .before .before .before .before .before .before .before .before .before .read-entry .ensures .rows-stored), c .before .before .before .before .before .before .before .before .before .before .before .before .before .before .loop .inv .0 .few))
+
+read-pairs-same-length-3 : (t : ℕ) → read-pairs-lts.Need-same-length-3 (read-pairs-calls t) (read-pairs-at t) read-pairs.Post read-pairs-Inv-loop read-pairs-μ-loop
+read-pairs-same-length-3 t c = c .before .before .before .before .before .before .before .before .before .before .before .before .before .before .read-entry .kept .1 .1 .1 .1 .0 ∙ c .before .before .before .before .before .before .before .before .before .before .before .before .before .before .before .before .before .before .loop .inv .1
+
+read-pairs-same-length-4 : (t : ℕ) → read-pairs-lts.Need-same-length-4 (read-pairs-calls t) (read-pairs-at t) read-pairs.Post read-pairs-Inv-loop read-pairs-μ-loop
+read-pairs-same-length-4 t c = c .before .before .before .contains-or-insert .kept .1 .1 .1 .1 .0 ∙ c .before .before .before .before .before .before .before .before .before .before .before .before .before .before .read-entry .kept .1 .1 .1 .1 .1 .0 ∙ c .before .before .before .before .before .before .before .before .before .before .before .before .before .before .before .before .before .before .loop .inv .3 .as-many
+
+read-pairs-returns-2 : (t : ℕ) → read-pairs-lts.Need-returns-2 (read-pairs-calls t) (read-pairs-at t) read-pairs.Post read-pairs-Inv-loop read-pairs-μ-loop
+read-pairs-returns-2 t c =
+    let i = c .before .before .before .before .before .before .before .before .before .before .before .before .before .before .before .before .before .before .loop in
+    let e : i .parts / 2 < c .before .before .before .before .before .before .before .before .before .before .before .before .before .before .before .before .before .before .before .before .before .before .before .before .args .count = omega (arith, c .before .before .before .before .before .before .before .before .before .before .before .before .before .before .before .before .before .loop-test .taken) in
+    record { rows-stored = λ place. key-twice _ _ _ _ _ _ _ _ _ _ _ _ _ _ _ _ _ (c .before .before .before .before .before .before .before .before .before .before .before .before .before .before .read-entry .ensures .rows-stored) _ (i .inv .0) _ _ (c .before .before .before .before .before .before .before .before .next .given .1) (at-key _ _ _ _ _ _ _ _ _ _ _ _ _ _ _ (i .inv .2) (c .before .before .before .before .before .before .if1 .left)) e (keys-told _ _ _ _ _ _ (i .inv .0 .sized) (omega (arith, c .before .before .before .before .before .before .before .before .before .before .before .before .before .before .before .before .before .before .before .before .before .before .before .before .fits .n)) (λ j. omega (arith, c .before .before .before .before .before .before .before .before .before .before .before .before .before .before .before .before .before .before .before .before .before .before .before .shared-slice-known .given j))) _ _ _ (c .before .before .before .before .before .before .before .before .before .before .before .before .before .before .read-entry .ensures .keys-kept) (c .before .before .before .contains-or-insert .ensures) place _ (c .if2 .taken); keys-kept = keeps-trans (keeps-trans (i .inv .3) (c .before .before .before .before .before .before .before .before .before .before .before .before .before .before .read-entry .ensures .keys-kept)) (c .before .before .before .contains-or-insert .ensures .slots-kept) }
+
+read-pairs-loop-less-2 : (t : ℕ) → read-pairs-lts.Need-loop-less-2 (read-pairs-calls t) (read-pairs-at t) read-pairs.Post read-pairs-Inv-loop read-pairs-μ-loop
+read-pairs-loop-less-2 t c = omega (arith, c .before .before .before .before .before .before .before .before .before .before .before .before .before .before .before .before .before .loop-test .taken)
+
+read-pairs-loop-again-2 : (t : ℕ) → read-pairs-lts.Need-loop-again-2 (read-pairs-calls t) (read-pairs-at t) read-pairs.Post read-pairs-Inv-loop read-pairs-μ-loop
+read-pairs-loop-again-2 t c =
+    let i = c .before .before .before .before .before .before .before .before .before .before .before .before .before .before .before .before .before .before .loop in
+    let e : i .parts / 2 < c .before .before .before .before .before .before .before .before .before .before .before .before .before .before .before .before .before .before .before .before .before .before .before .before .args .count = omega (arith, c .before .before .before .before .before .before .before .before .before .before .before .before .before .before .before .before .before .loop-test .taken) in
+    (room-after _ _ _ _ _ _ _ _ _ _ _ _ _ _ _ (i .inv .0) (c .before .before .before .before .before .before .before .before .before .before .before .before .before .before .read-entry .ensures .rows-stored) (c .before .before .before .before .before .before .before .before .next .given .1) (c .before .before .before .before .before .before .before .before .before .before .before .before .before .before .read-entry .kept .1 .1 .1 .1 .0), c .before .before .before .before .before .before .before .before .before .before .before .before .before .before .read-entry .kept .1 .1 .1 .1 .0 ∙ i .inv .1, key-entered _ _ _ _ _ _ _ _ _ _ _ _ _ _ _ _ _ (c .before .before .before .before .before .before .before .before .before .before .before .before .before .before .read-entry .ensures .rows-stored) _ (i .inv .0) _ _ (c .before .before .before .before .before .before .before .before .next .given .1) (at-key _ _ _ _ _ _ _ _ _ _ _ _ _ _ _ (i .inv .2) (c .before .before .before .before .before .before .if1 .left)) e (keys-told _ _ _ _ _ _ (i .inv .0 .sized) (omega (arith, c .before .before .before .before .before .before .before .before .before .before .before .before .before .before .before .before .before .before .before .before .before .before .before .before .fits .n)) (λ j. omega (arith, c .before .before .before .before .before .before .before .before .before .before .before .before .before .before .before .before .before .before .before .before .before .before .before .shared-slice-known .given j))) _ _ _ (c .before .before .before .before .before .before .before .before .before .before .before .before .before .before .read-entry .ensures .keys-kept) (c .before .before .before .contains-or-insert .ensures) (c .if2 .left), keeps-trans (keeps-trans (i .inv .3) (c .before .before .before .before .before .before .before .before .before .before .before .before .before .before .read-entry .ensures .keys-kept)) (c .before .before .before .contains-or-insert .ensures .slots-kept))
+
+read-pairs-same-length-5 : (t : ℕ) → read-pairs-lts.Need-same-length-5 (read-pairs-calls t) (read-pairs-at t) read-pairs.Post read-pairs-Inv-loop read-pairs-μ-loop
+read-pairs-same-length-5 t c = c .before .loop .inv .1
+
+read-pairs-same-length-6 : (t : ℕ) → read-pairs-lts.Need-same-length-6 (read-pairs-calls t) (read-pairs-at t) read-pairs.Post read-pairs-Inv-loop read-pairs-μ-loop
+read-pairs-same-length-6 t c = c .before .loop .inv .3 .as-many
+
+read-pairs-returns-3 : (t : ℕ) → read-pairs-lts.Need-returns-3 (read-pairs-calls t) (read-pairs-at t) read-pairs.Post read-pairs-Inv-loop read-pairs-μ-loop
+read-pairs-returns-3 t c =
     let i = c .before .loop in
-    let e : i .more ≡ 0 = omega arith in
-    let a = entries-many _ _ _ _ _ _ _ _ _ _ _ _ _ _ _ (i .inv .2) (i .inv .0 .low) e in omega (arith, i .inv .0 .few)
-
-read-pairs-same-length-7 : (t : ℕ) → read-pairs-lts.Need-same-length-7 (read-pairs-calls t) (read-pairs-at t) read-pairs.Post read-pairs-Inv-loop read-pairs-μ-loop
-read-pairs-same-length-7 t c = c .before .loop .inv .1
-
-read-pairs-same-length-8 : (t : ℕ) → read-pairs-lts.Need-same-length-8 (read-pairs-calls t) (read-pairs-at t) read-pairs.Post read-pairs-Inv-loop read-pairs-μ-loop
-read-pairs-same-length-8 t c = c .before .loop .inv .3 .as-many
-
-read-pairs-returns-4 : (t : ℕ) → read-pairs-lts.Need-returns-4 (read-pairs-calls t) (read-pairs-at t) read-pairs.Post read-pairs-Inv-loop read-pairs-μ-loop
-read-pairs-returns-4 t c =
-    let i = c .before .loop in
-    let e : i .more ≡ 0 = omega arith in
-    record { rows-stored = λ place. entries-end _ _ _ _ _ _ _ _ _ _ _ _ _ _ _ (i .inv .2) place e (i .inv .0 .low) (i .inv .0 .near); keys-kept = c .before .loop .inv .3 }
+    record { rows-stored = λ place. reached-end _ _ _ _ _ _ _ _ _ _ _ _ _ _ _ place (i .inv .2) (omega (arith, c .loop-test .left)) (i .inv .0 .low) (i .inv .0 .near); keys-kept = i .inv .3 }
 
 read-parts-read-wanted-requires : (t : ℕ) → read-parts-lts.Need-read-wanted-requires (read-parts-calls t) (read-parts-at t) read-parts.Post
 read-parts-read-wanted-requires t c κs = (omega (arith, c .before .before .before .before .before .before .before .pre .0), (c .before .before .before .before .before .before .before .pre .1 .0, c .before .before .before .before .before .before .before .pre .1 .1))
@@ -999,12 +1036,13 @@ read-term-same-length-4 t c = c .before .before .before .before .read-body .kept
 read-term-returns-3 : (t : ℕ) → read-term-lts.Need-returns-3 (read-term-calls t) (read-term-at t) read-term.Post
 read-term-returns-3 t c = record { rows-stored = term-opened _ _ _ _ _ _ _ _ _ _ (opened _ _ _ (c .before .before .before .before .before .before .before .before .before .before .before .before .before .before .before .before .args .row) _ _ (c .before .before .before .before .before .before .before .before .read-opening .ensures) (λ k p e. miss (1 ∷ 2 ∷ 3 ∷ 4 ∷ []) 0 tt (rw e at (c .before .before .before .before .before .before .before .match .keys2))) (c .before .before .before .before .before .before .before .before .before .before .before .before .before .before .before .before .pre .1 .0 .near)) _ (c .before .before .before .before .read-body .ensures .rows-stored); keys-kept = c .before .before .before .before .read-body .ensures .keys-kept }
 
-pub +read-body+read-common+read-inner+read-last+read-list+read-more+read-pairs+read-parts+read-quick+read-run+read-tail+read-term+read-wanted-spec :
+pub +read-body+read-common+read-entry+read-inner+read-last+read-list+read-more+read-pairs+read-parts+read-quick+read-run+read-tail+read-term+read-wanted-spec :
     {M : Type 1} → statement M
-+read-body+read-common+read-inner+read-last+read-list+read-more+read-pairs+read-parts+read-quick+read-run+read-tail+read-term+read-wanted-spec =
++read-body+read-common+read-entry+read-inner+read-last+read-list+read-more+read-pairs+read-parts+read-quick+read-run+read-tail+read-term+read-wanted-spec =
     close
     μ-read-body
     μ-read-common
+    μ-read-entry
     μ-read-inner
     μ-read-last
     μ-read-list
@@ -1055,6 +1093,20 @@ pub +read-body+read-common+read-inner+read-last+read-list+read-more+read-pairs+r
     (read-common-same-length-7 t)
     (read-common-same-length-8 t)
     (read-common-returns-5 t))
+    (λ t. read-entry-lts.spec (read-entry-calls t) (read-entry-at t)
+    read-entry.Post
+    (read-entry-entry-at-requires t)
+    (read-entry-is-leaf-requires t)
+    (read-entry-pack-requires t)
+    (read-entry-mul-table t)
+    (read-entry-slice-write-table t)
+    (read-entry-add-t16 t)
+    (read-entry-same-length t)
+    (read-entry-returns t)
+    (read-entry-read-run-requires t)
+    (read-entry-same-length-2 t)
+    (read-entry-same-length-3 t)
+    (read-entry-returns-2 t))
     (λ t. read-inner-lts.spec (read-inner-calls t) (read-inner-at t)
     read-inner.Post
     (read-inner-enum-known-head t)
@@ -1121,29 +1173,24 @@ pub +read-body+read-common+read-inner+read-last+read-list+read-more+read-pairs+r
     read-pairs-Inv-loop
     read-pairs-μ-loop
     (read-pairs-loop-holds t)
-    (read-pairs-read-run-requires t)
+    (read-pairs-read-entry-requires t)
     (read-pairs-enum-known-number t)
     (read-pairs-same-length t)
     (read-pairs-same-length-2 t)
     (read-pairs-returns t)
     (read-pairs-enum-known-next t)
+    (read-pairs-add-parts t)
+    (read-pairs-loop-less t)
+    (read-pairs-loop-again t)
     (read-pairs-contains-or-insert-requires t)
     (read-pairs-same-length-3 t)
     (read-pairs-same-length-4 t)
     (read-pairs-returns-2 t)
-    (read-pairs-read-run-requires-2 t)
-    (read-pairs-enum-known-number-2 t)
+    (read-pairs-loop-less-2 t)
+    (read-pairs-loop-again-2 t)
     (read-pairs-same-length-5 t)
     (read-pairs-same-length-6 t)
-    (read-pairs-returns-3 t)
-    (read-pairs-enum-known-next-2 t)
-    (read-pairs-sub-more t)
-    (read-pairs-loop-less t)
-    (read-pairs-loop-again t)
-    (read-pairs-mul-t41 t)
-    (read-pairs-same-length-7 t)
-    (read-pairs-same-length-8 t)
-    (read-pairs-returns-4 t))
+    (read-pairs-returns-3 t))
     (λ t. read-parts-lts.spec (read-parts-calls t) (read-parts-at t)
     read-parts.Post
     (read-parts-read-wanted-requires t)
