@@ -31,12 +31,12 @@ characters-in (pairs n) = 0
 -- A message has no more rows than bytes: each row is taken for a byte passed before. With `total` bytes in all:
 module _ (total : ℕ) where
   -- the rows taken, those due for bytes already passed, and the bytes left are together no more
-  abbrev pub Fits : ℕ → Position → Type 0
-  Fits due s = s .rows-taken + due + length (s .left) ≤ total
+  abbrev pub Covered : ℕ → Position → Type 0
+  Covered due s = s .rows-taken + due + length (s .left) ≤ total
 
   -- and the rows taken are r
   abbrev Taken : ℕ → ℕ → Position → Type 0
-  Taken r due s = (s .rows-taken ≡ r) × Fits due s
+  Taken r due s = (s .rows-taken ≡ r) × Covered due s
 
   module _ (r : ℕ) where
     -- for a byte passed a row is due
@@ -102,7 +102,7 @@ module _ (small large total : ℕ) (less : small ≤ large) where
   -- They agree; the rows taken are `before` and as many as `cost` says of what is found, and no fewer than those taken `now`; as many as
   -- `due` says are due
   pub record Alike {A : Type 0} (cost due : A → ℕ) (before now : ℕ) (o o′ : Answer (A × Position)) : Type 0 where
-    pub rows-are : Holds o′ (λ a t. (t .rows-taken ≡ before + cost a) × (now ≤ t .rows-taken) × Fits total (due a) t)
+    pub rows-are : Holds o′ (λ a t. (t .rows-taken ≡ before + cost a) × (now ≤ t .rows-taken) × Covered total (due a) t)
     pub agree : Agree small total o o′
 
   -- from a position on, and none are due at the end
@@ -124,22 +124,22 @@ module _ (small large total : ℕ) (less : small ≤ large) where
     -- one step after another
     step : {o o′ : Answer (A × Position)} {f f′ : A → Reading B} {cost due : A → ℕ} {whole-cost whole-due : B → ℕ} {before now : ℕ}
         → Alike cost due now now o o′
-        → ((a : A) (t : Position) → t .rows-taken ≡ now + cost a → Fits total (due a) t → Alike whole-cost whole-due before (t .rows-taken) (f a t) (f′ a t))
+        → ((a : A) (t : Position) → t .rows-taken ≡ now + cost a → Covered total (due a) t → Alike whole-cost whole-due before (t .rows-taken) (f a t) (f′ a t))
         → Alike whole-cost whole-due before now (after o f) (after o′ f′)
     step {o} {o′} {f} {f′} {cost} {due} {whole-cost} {whole-due} {before} {now} h k =
         record {
           rows-are =
-              next (λ a t. (t .rows-taken ≡ now + cost a) × (now ≤ t .rows-taken) × Fits total (due a) t) (h .rows-are) λ a t i.
-              weaken (λ b u. (u .rows-taken ≡ before + whole-cost b) × (t .rows-taken ≤ u .rows-taken) × Fits total (whole-due b) u) (k a t (i .0) (i .2) .rows-are)
+              next (λ a t. (t .rows-taken ≡ now + cost a) × (now ≤ t .rows-taken) × Covered total (due a) t) (h .rows-are) λ a t i.
+              weaken (λ b u. (u .rows-taken ≡ before + whole-cost b) × (t .rows-taken ≤ u .rows-taken) × Covered total (whole-due b) u) (k a t (i .0) (i .2) .rows-are)
               λ b u j. (j .0, omega (arith, i .1, j .1), j .2);
           agree = agree-after o o′ (h .agree) λ a t e.
               let i = h .rows-are .known a t e in
               let rest : Alike whole-cost whole-due before (t .rows-taken) (f a t) (f′ a t) = k a t (i .0) (i .2) in
-              (rest .agree, weaken (λ b u. (u .rows-taken ≡ before + whole-cost b) × (t .rows-taken ≤ u .rows-taken) × Fits total (whole-due b) u) (rest .rows-are) λ b u j. j .1);
+              (rest .agree, weaken (λ b u. (u .rows-taken ≡ before + whole-cost b) × (t .rows-taken ≤ u .rows-taken) × Covered total (whole-due b) u) (rest .rows-are) λ b u j. j .1);
         }
 
   module _ {A : Type 0} where
-    end : {cost due : A → ℕ} {before : ℕ} (a : A) (t : Position) → t .rows-taken ≡ before + cost a → Fits total (due a) t
+    end : {cost due : A → ℕ} {before : ℕ} (a : A) (t : Position) → t .rows-taken ≡ before + cost a → Covered total (due a) t
         → Alike cost due before (t .rows-taken) (good (a, t)) (good (a, t))
     end a t e f = record { rows-are = done-holds a t (e, omega arith, f); agree = same refl }
 
@@ -156,28 +156,28 @@ module _ (small large total : ℕ) (less : small ≤ large) where
     unseen {due} {now} h =
         record { rows-are = weaken (λ a t. Taken total now (due a) t) h λ a t e. (omega (arith, e .0), omega (arith, e .0), e .1); agree = same refl }
 
-  rule-alike : (b : Bool) (n p : ℕ) (s : Position) → Fits total 0 s → From (λ _. 0) s (rule b n p s) (rule b n p s)
+  rule-alike : (b : Bool) (n p : ℕ) (s : Position) → Covered total 0 s → From (λ _. 0) s (rule b n p s) (rule b n p s)
   rule-alike b n p s f =
       let r : ℕ = s .rows-taken in
       unseen (rule-kept 0 (Taken total r 0) (byte-takes total r 0) (no-row total r 0) b n p s (refl, f))
 
-  later-alike : (p : ℕ) (l : Later) (s : Position) → Fits total 0 s → From (λ _. 0) s (later p l s) (later p l s)
+  later-alike : (p : ℕ) (l : Later) (s : Position) → Covered total 0 s → From (λ _. 0) s (later p l s) (later p l s)
   later-alike p l s f =
       let r : ℕ = s .rows-taken in
       unseen (later-kept 0 (Taken total r 0) (byte-takes total r 0) (no-row total r 0) p l s (refl, f))
 
-  module _ (part part′ : Wanted → Reading Located) (alike : (w : Wanted) (s : Position) → Fits total 0 s → From size s (part w s) (part′ w s)) where
-    each-alike : (ws : List Wanted) (s : Position) → Fits total 0 s → From sizes s (each part ws s) (each part′ ws s)
+  module _ (part part′ : Wanted → Reading Located) (alike : (w : Wanted) (s : Position) → Covered total 0 s → From size s (part w s) (part′ w s)) where
+    each-alike : (ws : List Wanted) (s : Position) → Covered total 0 s → From sizes s (each part ws s) (each part′ ws s)
     unfolding each
     each-alike [] s f = end empty s (omega arith) f
     each-alike (w ∷ ws) s f = step (alike w s f) λ u t i f. step (each-alike ws t f) λ us t j f. end (u ▹ us) t (omega arith) f
 
-    run-alike : (n : ℕ) (s : Position) → Fits total 0 s → From sizes s (run part n s) (run part′ n s)
+    run-alike : (n : ℕ) (s : Position) → Covered total 0 s → From sizes s (run part n s) (run part′ n s)
     unfolding run
     run-alike zero s f = end empty s (omega arith) f
     run-alike (suc n) s f = step (alike any s f) λ u t i f. step (run-alike n t f) λ us t j f. end (u ▹ us) t (omega arith) f
 
-    entries-alike : (earlier : List Term) (n : ℕ) (s : Position) → Fits total 0 s → From sizes s (entries part earlier n s) (entries part′ earlier n s)
+    entries-alike : (earlier : List Term) (n : ℕ) (s : Position) → Covered total 0 s → From sizes s (entries part earlier n s) (entries part′ earlier n s)
     unfolding entries
     entries-alike earlier zero s f = end empty s (omega arith) f
     entries-alike earlier (suc n) s f =
@@ -185,12 +185,12 @@ module _ (small large total : ℕ) (less : small ≤ large) where
         step (entries-alike (meaning k ∷ earlier) n t f) λ us t l f. end (k ▹ v ▹ us) t (omega arith) f
 
   module _ (atoms : Atoms) where
-    opening-alike : (bound : List ℕ) (w : Wanted) (s : Position) → Fits total 0 s
+    opening-alike : (bound : List ℕ) (w : Wanted) (s : Position) → Covered total 0 s
         → Alike (λ _. 0) (λ o. 1 + characters-in (o .1)) (s .rows-taken) (s .rows-taken) (opening atoms bound w s) (opening atoms bound w s)
     opening-alike bound w s f = unseen (opening-due total (s .rows-taken) atoms bound w s (refl, f))
 
     -- the step that sees the number of rows
-    row-alike : (due p : ℕ) (s : Position) → Fits total (1 + due) s
+    row-alike : (due p : ℕ) (s : Position) → Covered total (1 + due) s
         → Alike (λ _. 1) (λ _. due) (s .rows-taken) (s .rows-taken) (row atoms small p s) (row atoms large p s)
     unfolding row
     row-alike due p s f = go (ltb (s .rows-taken) small) (ltb (s .rows-taken) large) refl refl
@@ -207,7 +207,7 @@ module _ (small large total : ℕ) (less : small ≤ large) where
             record { rows-are = done-holds tt _ (refl, omega arith, omega arith); agree = short p refl (omega arith) (done-holds tt _ (omega arith)) }
         go false false e e′ = no 9 p
 
-    string-alike : (d p off : ℕ) (cs : List ℕ) (s : Position) → Fits total (length cs) s
+    string-alike : (d p off : ℕ) (cs : List ℕ) (s : Position) → Covered total (length cs) s
         → From sizes s (string atoms small d p off cs s) (string atoms large d p off cs s)
     unfolding string
     string-alike d p off [] s f = end empty s (omega arith) f
@@ -216,12 +216,12 @@ module _ (small large total : ℕ) (less : small ≤ large) where
         step (row-alike (length cs) p s (omega arith)) λ _ t i f. step (string-alike (suc d) p (off + 1) cs t f) λ ts t j f. end _ t (omega arith) f
 
     module _ (d : ℕ) (inner inner′ : ℕ → Head → Reading Located)
-        (alike : (p : ℕ) (h : Head) (s : Position) → Fits total (1 + characters-in h) s → From size s (inner p h s) (inner′ p h s)) where
-      part-alike : (w : Wanted) (s : Position) → Fits total 0 s → From size s (one-term atoms inner w s) (one-term atoms inner′ w s)
+        (alike : (p : ℕ) (h : Head) (s : Position) → Covered total (1 + characters-in h) s → From size s (inner p h s) (inner′ p h s)) where
+      part-alike : (w : Wanted) (s : Position) → Covered total 0 s → From size s (one-term atoms inner w s) (one-term atoms inner′ w s)
       unfolding one-term
       part-alike w s f = step (opening-alike (s .left) w s f) λ o t i f. counted (alike (o .0) (o .1) t f) (omega arith)
 
-      tail-alike : (bound : List ℕ) (s : Position) → Fits total 0 s
+      tail-alike : (bound : List ℕ) (s : Position) → Covered total 0 s
           → From (λ end. sizes (end .0)) s (list-tail atoms small d inner bound s) (list-tail atoms large d inner′ bound s)
       unfolding list-tail
       tail-alike [] s f = no 2 _
@@ -236,8 +236,8 @@ module _ (small large total : ℕ) (less : small ≤ large) where
                 | pairs n ↦ λ t. after (inner p (pairs n) t) (λ u. done (u ▹ empty, improper-list))
               ]
 
-          go : (p : ℕ) (x : Head) (t : Position) → Fits total (1 + characters-in x) t
-              → ((t : Position) → Fits total 0 t → From (λ end. sizes (end .0)) t (list-tail atoms small d inner bound t) (list-tail atoms large d inner′ bound t))
+          go : (p : ℕ) (x : Head) (t : Position) → Covered total (1 + characters-in x) t
+              → ((t : Position) → Covered total 0 t → From (λ end. sizes (end .0)) t (list-tail atoms small d inner bound t) (list-tail atoms large d inner′ bound t))
               → From (λ end. sizes (end .0)) t (tail-of small inner p x t) (tail-of large inner′ p x t)
           go p (characters cs) t f ih = step (string-alike d p (p + 3) cs t (omega arith)) λ us t i f. end _ t (omega arith) f
           go p (elements n) t f ih =
@@ -247,7 +247,7 @@ module _ (small large total : ℕ) (less : small ≤ large) where
           go p (pairs n) t f ih = step (alike p (pairs n) t f) λ u t i f. end _ t (omega arith) f
 
       -- the whole has taken its own row before
-      whole-alike : (p : ℕ) (h : Head) (before : ℕ) (s : Position) → s .rows-taken ≡ before + 1 → Fits total (characters-in h) s
+      whole-alike : (p : ℕ) (h : Head) (before : ℕ) (s : Position) → s .rows-taken ≡ before + 1 → Covered total (characters-in h) s
           → Alike size (λ _. 0) before (s .rows-taken) (contents atoms small d inner p h s) (contents atoms large d inner′ p h s)
       unfolding contents
       whole-alike p (parts ws n l) before s e f =
@@ -261,27 +261,27 @@ module _ (small large total : ℕ) (less : small ≤ large) where
       whole-alike p (pairs n) before s e f =
           step (entries-alike (one-term atoms inner) (one-term atoms inner′) part-alike [] n s f) λ us t i f. end _ t (omega arith) f
 
-    body-alike : (d p : ℕ) (h : Head) (s : Position) → Fits total (1 + characters-in h) s → From size s (body atoms small d p h s) (body atoms large d p h s)
+    body-alike : (d p : ℕ) (h : Head) (s : Position) → Covered total (1 + characters-in h) s → From size s (body atoms small d p h s) (body atoms large d p h s)
     unfolding body
     body-alike zero p h s f = no 8 p
     body-alike (suc d) p h s f =
         step (row-alike (characters-in h) p s f) λ _ t i f. whole-alike d (body atoms small d) (body atoms large d) (body-alike d) p h (s .rows-taken) t i f
 
-    pub term-alike : (d : ℕ) (w : Wanted) (s : Position) → Fits total 0 s → From size s (term atoms small d w s) (term atoms large d w s)
+    pub term-alike : (d : ℕ) (w : Wanted) (s : Position) → Covered total 0 s → From size s (term atoms small d w s) (term atoms large d w s)
     term-alike d w s f = part-alike d (body atoms small d) (body atoms large d) (body-alike d) w s f
 
-    version-alike : (s : Position) → Fits total 0 s → From (λ _. 0) s (version s) (version s)
+    version-alike : (s : Position) → Covered total 0 s → From (λ _. 0) s (version s) (version s)
     version-alike s f = unseen (version-holds s λ b bs e. (refl, omega (arith, ap length e)))
 
-    ending-alike : (left : List ℕ) (s : Position) → Fits total 0 s → From (λ _. 0) s (ending left s) (ending left s)
+    ending-alike : (left : List ℕ) (s : Position) → Covered total 0 s → From (λ _. 0) s (ending left s) (ending left s)
     ending-alike left s f = unseen (ending-holds left s (refl, f))
 
-    standalone-alike : (s : Position) → Fits total 0 s → From sizes s (standalone-term atoms small s) (standalone-term atoms large s)
+    standalone-alike : (s : Position) → Covered total 0 s → From sizes s (standalone-term atoms small s) (standalone-term atoms large s)
     unfolding standalone-term
     standalone-alike s f =
         step (version-alike s f) λ _ t i f. step (term-alike 64 any t f) λ u t j f. step (ending-alike (t .left) t f) λ _ t k f. end (u ▹ empty) t (omega arith) f
 
-    payload-alike : (s : Position) → Fits total 0 s → From sizes s (payload-terms atoms small s) (payload-terms atoms large s)
+    payload-alike : (s : Position) → Covered total 0 s → From sizes s (payload-terms atoms small s) (payload-terms atoms large s)
     unfolding payload-terms
     payload-alike s f = step (term-alike 64 any s f) λ u t i f. go u t i f (t .left)
       where
@@ -292,12 +292,12 @@ module _ (small large total : ℕ) (less : small ≤ large) where
               | b ∷ bs ↦ λ t. after (term atoms cap 64 any t) (λ v. λ t. after (ending (t .left) t) (λ _. done (u ▹ v ▹ empty)))
             ]
 
-        go : (u : Located) (t : Position) → t .rows-taken ≡ s .rows-taken + size u → Fits total 0 t → (left : List ℕ)
+        go : (u : Located) (t : Position) → t .rows-taken ≡ s .rows-taken + size u → Covered total 0 t → (left : List ℕ)
             → Alike sizes (λ _. 0) (s .rows-taken) (t .rows-taken) (second small u left t) (second large u left t)
         go u t i f [] = end (u ▹ empty) t (omega arith) f
         go u t i f (b ∷ bs) = step (term-alike 64 any t f) λ v t j f. step (ending-alike (t .left) t f) λ _ t k f. end (u ▹ v ▹ empty) t (omega arith) f
 
-    pub framed-alike : (framing : Framing) (s : Position) → Fits total 0 s → From sizes s (terms-framed atoms small framing s) (terms-framed atoms large framing s)
+    pub framed-alike : (framing : Framing) (s : Position) → Covered total 0 s → From sizes s (terms-framed atoms small framing s) (terms-framed atoms large framing s)
     framed-alike standalone s f = standalone-alike s f
     framed-alike payload s f = payload-alike s f
 
@@ -351,7 +351,7 @@ module _ (framing : Framing) (list : AtomList) (message : List ℕ) where
   down lent lent′ fewer ts few =
       let both = both-ways lent′ lent (omega arith) in
       with-fewer sizes _ _ (both .agree)
-      (weaken (λ us t. (t .rows-taken ≡ 0 + sizes us) × (0 ≤ t .rows-taken) × Fits (length message) 0 t) (both .rows-are) λ us t i. omega (arith, i .0)) ts (omega arith)
+      (weaken (λ us t. (t .rows-taken ≡ 0 + sizes us) × (0 ≤ t .rows-taken) × Covered (length message) 0 t) (both .rows-are) λ us t i. omega (arith, i .0)) ts (omega arith)
 
   -- What is accepted with some number of rows is accepted, as the same terms, with any number that is at least the rows that the terms have
   pub enough : (lent lent′ : ℕ) (ts : Terms) → read framing list lent message ≡ good ts → sizes ts ≤ lent′ → read framing list lent′ message ≡ good ts
