@@ -16,7 +16,7 @@ ghost use Rattle.term_spec.specs.Term.{integer};
 ghost use Rattle.term_spec.specs.Answer.{good, after, done, at-offset};
 ghost use Rattle.term_spec.specs.Answer as answer;
 ghost use Rattle.term_spec.specs.Head.{Atoms, leaf, tuple-ext, list-ext, map-ext, string-ext, binary-ext, bit-binary-ext, big-ext, new-float-ext, new-reference-ext, atom-ext, atom-cache-ref};
-ghost use Rattle.term_spec.specs.Head.{pid-fields, port-fields, reference-fields, old-reference-fields, creation-rule, words-rule, one-of, any, characters, term-head};
+ghost use Rattle.term_spec.specs.Head.{pid-fields, port-fields, reference-fields, old-reference-fields, creation-rule, words-rule, one-of, any, an-atom, characters, term-head};
 ghost use Rattle.term_spec.specs.Head as head-spec;
 ghost use Rattle.term_spec.specs.Reading.{opening};
 ghost use Rattle.term_spec.specs.AtomList.{of-size, atoms-of, lent-list};
@@ -988,7 +988,7 @@ pub fn leaf_at(msg: &[u8], at: usize, wanted: Wanted) -> usize
     leaf_word(msg, at, tag)
 }
 
-// The head of one of the commonest keys and values of a map, without parts, in one word; 0 of any other.
+// The head of one of the commonest keys and values of a map, without parts, in one word; 0 of any other. As `leaf_at`, it has one caller, so that both are inlined.
 pub fn entry_at(msg: &[u8], at: usize) -> usize
     requires { ⌜ (at ≤ length (now msg)) × (length (now msg) ≤ 65536) ⌝ }
     ensures { λ r. ⌜ ((r ≡ 0 → ⊥) → (atoms : Atoms) (rows : ℕ) → r ≡ quick-word (head-of (term-head atoms any (at-offset (now (msg .entry)) at rows)))) ⌝ }
@@ -997,6 +997,20 @@ pub fn entry_at(msg: &[u8], at: usize) -> usize
         return 0;
     }
     entry_word(msg, at, msg[at])
+}
+
+// The head of a 119, the commonest node, in one word; 0 of any other term. It has one caller, too.
+pub fn node_at(msg: &[u8], at: usize) -> usize
+    requires { ⌜ (at ≤ length (now msg)) × (length (now msg) ≤ 65536) ⌝ }
+    ensures { λ r. ⌜ ((r ≡ 0 → ⊥) → (atoms : Atoms) (rows : ℕ) → r ≡ quick-word (head-of (term-head atoms an-atom (at-offset (now (msg .entry)) at rows)))) ⌝ }
+{
+    if msg.len() <= at {
+        return 0;
+    }
+    if msg[at] != tags::SMALL_ATOM_UTF8_EXT {
+        return 0;
+    }
+    word_of(atom(msg, at, 1, true))
 }
 
 // The head of a common term in one word; 0 of any other, and of one that is not wanted.

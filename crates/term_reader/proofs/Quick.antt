@@ -1,4 +1,4 @@
--- A common term by the word of its head: one law for each way through `read_quick` and `read_common`, and for a leaf in `read_run` and `read_entry`.
+-- A common term by the word of its head: one law for each way through `read_quick` and `read_common`, and for a leaf.
 use mathlib.Core.Path.{_≡_, refl, sym, ap, _∙_}
 use mathlib.Core.List.{List, []}
 use Prim.Native.Nat.{ℕ, _+_, _-_, _/_, _%_, _≤_, _<_}
@@ -110,7 +110,7 @@ module _ (atoms : Atoms) (cap deep : ℕ) (m : List ℕ) (place row : ℕ) (T : 
           rw (it .head-is, told-kind t, told-count t)
           (rw z at (parts-got atoms cap deep m place next row T 0 (t .count) (known (it .l)) (step.Got next row) T none-wanted next row refl r T′ ran next′ end e (fields.Got next′) refl (t .kind) next′ (it .kind-is) refl))
 
--- ---- `read_quick`, and a leaf in `read_run` and `read_entry`
+-- ---- `read_quick`, and a leaf in `read_run`, `read_entry` and `read_wanted`
 
 module _ (atoms : Atoms) (w : Wanted) (m : List ℕ) (at row word : ℕ) (some : word ≡ 0 → ⊥) (is : word ≡ quick-word (head-of (term-head atoms w (at-offset m at row)))) where
   abbrev pub opened-quickly : Quickly atoms w m at row word

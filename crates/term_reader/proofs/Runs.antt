@@ -120,7 +120,17 @@ module _ (part : Wanted → Reading Located) (w : Wanted) (m : List ℕ) (cap ro
   unfolding each
   run-one d = one (part w (at-offset m at row)) d
 
--- ---- `read_wanted`: `a` atoms, then arities
+-- ---- `read_wanted`: one atom, or `a` atoms and then arities
+
+-- where one part is wanted, a term read as an atom is all of it
+pub wanted-node : (part : Wanted → Reading Located) (m : List ℕ) (cap row whole at : ℕ) (T : List ℕ) (n next end : ℕ) (T′ : List ℕ) → n ≡ 1
+    → TermDone m cap row whole T (part an-atom (at-offset m at row)) (Got next end) T′
+    → RunDone m n cap row whole T (each part (asked n) (at-offset m at row)) (Got next end) T′
+unfolding asked
+wanted-node part m cap row whole at T n next end T′ e d =
+    let f = step-found size (λ t. row-words (tree-rows (whole-of whole) row t)) (Each-node (Placed 65536)) m cap row T (part an-atom (at-offset m at row)) (Got next end) T′ next end refl d in
+    rw e (run-more part an-atom m cap row whole at T 1 (λ z. omega arith) (Got next end) T′ next end (Got next end) T′ refl d
+    (run-none part an-atom m cap end whole next T′ 0 refl (f .room) (f .near)))
 
 module _ (part : Wanted → Reading Located) (m : List ℕ) (cap row whole at : ℕ) (T : List ℕ) (n a : ℕ) (least : a ≡ min n 2) (r : Step) (T′ : List ℕ)
     (d : RunDone m a cap row whole T (each part (replicate a (wanted-of Atom)) (at-offset m at row)) r T′) where

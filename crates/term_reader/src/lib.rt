@@ -496,7 +496,7 @@ fn read_more(
     )
 }
 
-// `wanted` parts, each an atom; of three the last is an arity.
+// `wanted` parts, each an atom; of three the last is an arity. One alone is a node: most are read here, without a call for a run.
 fn read_wanted(
     msg: &[u8],
     n: u8,
@@ -515,6 +515,16 @@ fn read_wanted(
     requires { ⌜ 0 < length (now seen) ⌝ }
     ensures { λ r. ⌜ Run-read (now (msg .entry)) (lent-list n (now (places .entry)) (now (lengths .entry))) cap deep at row whole (now (table .entry)) (now (seen .entry)) wanted (asked wanted) r (now (table .exit)) (now (seen .exit)) ⌝ }
 {
+    if wanted == 1 {
+        let word = term_head::node_at(msg, at);
+        if is_leaf(word, deep, row, cap) {
+            table[row] = row::pack(word % term_head::WORD_KINDS, at, whole, 0, 1);
+            return Step::Got {
+                next: word / term_head::WORD_KINDS,
+                rows: row + 1,
+            };
+        }
+    }
     let atoms = at_most(wanted, WANTED_ATOMS);
     match read_run(
         msg,

@@ -3,7 +3,7 @@ use Rattle.term_reader.proofs.Entries.{Reached, reached-none, reached-f
 use Rattle.term_reader.proofs.Inner.{opens-near, opens-place, opens-span, inner-refused, inner-parts, inner-characters, inner-elements, inner-pairs, parts-first, parts-second, parts-later-refused, parts-got, run-many, list-first, list-then, Tailed, tailed-none, tailed-skipped, tailed-nil, tailed-last, tailed-run-refused, tailed-further, tailed-more, tail-characters, last-none, last-refused, last-got}
 use Rattle.term_reader.proofs.Bodies.{term-refused, term-opened, body-deep, body-full, body-refused, body-got, body-small, parts-past, room-inside, room-at}
 use Rattle.term_reader.proofs.Quick.{told-next, common-leaf, common-list, common-pairs, common-refused, common-got, opened-quickly, quick-near, quick-inside, quick-term, quick-leaf, leaf-small}
-use Rattle.term_reader.proofs.Runs.{room-after, run-none, run-refused, run-more, run-one, wanted-refused, wanted-more}
+use Rattle.term_reader.proofs.Runs.{room-after, run-none, run-refused, run-more, run-one, wanted-node, wanted-refused, wanted-more}
 use Rattle.term_reader.proofs.Openings.{opened, opens, elements-opened, last-at}
 use Rattle.term_head.proofs.Openings.{skipped-here}
 use Rattle.term_reader.specs.Code.{Room, RunDone, PartsDone}
@@ -69,6 +69,7 @@ use Rattle.term_head.proofs.elements_at.Reads as elements-at-reads
 use Rattle.term_head.proofs.entry_at.Reads as entry-at-reads
 use Rattle.term_head.proofs.leaf_at.Reads as leaf-at-reads
 use Rattle.term_head.proofs.nil_at.Reads as nil-at-reads
+use Rattle.term_head.proofs.node_at.Reads as node-at-reads
 use Rattle.term_head.proofs.quick_at.Reads as quick-at-reads
 use Rattle.term_head.proofs.read_later.Reads as read-later-reads
 use Rattle.term_head.proofs.read_opening.Reads as read-opening-reads
@@ -269,7 +270,7 @@ abbrev read-term-calls : ℕ → read-term-lts.Claims
 read-term-calls t = (quick-at-reads.Asked, quick-at-reads.Learnt, read-quick-below t, read-quick.Post, read-opening-reads.Asked, read-opening-reads.Learnt, read-body-below t, read-body.Post)
 
 abbrev read-wanted-calls : ℕ → read-wanted-lts.Claims
-read-wanted-calls t = (at-most-reads.Asked, at-most-reads.Learnt, read-run-below t, read-run.Post, read-more-below t, read-more.Post)
+read-wanted-calls t = (node-at-reads.Asked, node-at-reads.Learnt, is-leaf-reads.Asked, is-leaf-reads.Learnt, pack-reads.Asked, pack-reads.Learnt, at-most-reads.Asked, at-most-reads.Learnt, read-run-below t, read-run.Post, read-more-below t, read-more.Post)
 
 read-body-returns : (t : ℕ) → read-body-lts.Need-returns (read-body-calls t) (read-body-at t) read-body.Post
 read-body-returns t c = record { rows-stored = λ h next e s. body-deep _ _ _ _ _ h next _ _ _ _ (c .if1 .taken); keys-kept = keeps-refl _ }
@@ -857,11 +858,38 @@ read-tail-loop-again t c = (
   keeps-trans (c .before .before .before .before .before .before .before .before .before .before .before .before .before .before .before .loop .inv .4) (c .before .before .before .before .before .before .before .read-run .ensures .keys-kept),
 )
 
+read-wanted-node-at-requires : (t : ℕ) → read-wanted-lts.Need-node-at-requires (read-wanted-calls t) (read-wanted-at t) read-wanted.Post
+read-wanted-node-at-requires t c κs = (c .before .before .before .before .before .before .pre .1 .0 .near, c .before .before .before .before .before .before .pre .1 .0 .short)
+
+read-wanted-is-leaf-requires : (t : ℕ) → read-wanted-lts.Need-is-leaf-requires (read-wanted-calls t) (read-wanted-at t) read-wanted.Post
+read-wanted-is-leaf-requires t c κs = search needs
+
+read-wanted-pack-requires : (t : ℕ) → read-wanted-lts.Need-pack-requires (read-wanted-calls t) (read-wanted-at t) read-wanted.Post
+read-wanted-pack-requires t c κs = let f = c .before .is-leaf .ensures (c .if2 .taken) in leaf-small _ _ _ _ _ _ _ _ (c .before .before .before .before .before .before .before .before .before .pre .1 .0) (quick-inside _ _ _ _ (c .before .before .before .before .before .before .before .before .before .args .row) _ (f .0) (c .before .before .node-at .ensures (f .0) (atoms-of (lent-list 0 [] [])) (c .before .before .before .before .before .before .before .before .before .args .row)))
+
+read-wanted-mul-table : (t : ℕ) → read-wanted-lts.Need-mul-table (read-wanted-calls t) (read-wanted-at t) read-wanted.Post
+read-wanted-mul-table t c = omega arith
+
+read-wanted-slice-write-table : (t : ℕ) → read-wanted-lts.Need-slice-write-table (read-wanted-calls t) (read-wanted-at t) read-wanted.Post
+read-wanted-slice-write-table t c = let f = c .before .before .is-leaf .ensures (c .before .if2 .taken) in omega (arith, f .3, c .before .before .before .before .before .before .before .before .before .before .pre .1 .0 .wide)
+
+read-wanted-add-t23 : (t : ℕ) → read-wanted-lts.Need-add-t23 (read-wanted-calls t) (read-wanted-at t) read-wanted.Post
+read-wanted-add-t23 t c = let f = c .before .before .is-leaf .ensures (c .before .if2 .taken) in omega (arith, f .3, c .before .before .before .before .before .before .before .before .before .before .pre .1 .0 .few)
+
+read-wanted-same-length : (t : ℕ) → read-wanted-lts.Need-same-length (read-wanted-calls t) (read-wanted-at t) read-wanted.Post
+read-wanted-same-length t c = simp length-set refl
+
+read-wanted-returns : (t : ℕ) → read-wanted-lts.Need-returns (read-wanted-calls t) (read-wanted-at t) read-wanted.Post
+read-wanted-returns t c =
+    let f = c .before .before .is-leaf .ensures (c .before .if2 .taken) in
+    let d = (quick-leaf _ _ _ _ (c .before .before .before .before .before .before .before .before .before .before .args .row) _ (f .0) (c .before .before .before .node-at .ensures (f .0) _ (c .before .before .before .before .before .before .before .before .before .before .args .row)) _ _ _ _ (f .1) (f .2) (f .3) (omega (arith, quick-inside _ _ _ _ (c .before .before .before .before .before .before .before .before .before .before .args .row) _ (f .0) (c .before .before .before .node-at .ensures (f .0) (atoms-of (lent-list 0 [] [])) (c .before .before .before .before .before .before .before .before .before .before .args .row)), c .before .before .before .before .before .before .before .before .before .before .pre .1 .0 .short)) _ (c .pack .ensures)) in
+    record { rows-stored = wanted-node _ _ _ _ _ _ _ _ _ _ _ (c .before .before .before .before .if1 .taken) d; keys-kept = keeps-refl _ }
+
 read-wanted-at-most-requires : (t : ℕ) → read-wanted-lts.Need-at-most-requires (read-wanted-calls t) (read-wanted-at t) read-wanted.Post
 read-wanted-at-most-requires t c κs = search needs
 
 read-wanted-read-run-requires : (t : ℕ) → read-wanted-lts.Need-read-run-requires (read-wanted-calls t) (read-wanted-at t) read-wanted.Post
-read-wanted-read-run-requires t c κs = (omega (arith, c .before .before .before .before .before .before .before .before .pre .0), (c .before .before .before .before .before .before .before .before .pre .1 .0, c .before .before .before .before .before .before .before .before .pre .1 .1))
+read-wanted-read-run-requires t c κs = (omega (arith, c .before .before .before .before .before .before .before .before .before .pre .0), (c .before .before .before .before .before .before .before .before .before .pre .1 .0, c .before .before .before .before .before .before .before .before .before .pre .1 .1))
 
 read-wanted-enum-known-number : (t : ℕ) → read-wanted-lts.Need-enum-known-number (read-wanted-calls t) (read-wanted-at t) read-wanted.Post
 read-wanted-enum-known-number t c = search needs
@@ -873,25 +901,25 @@ read-wanted-sub-read-more : (t : ℕ) → read-wanted-lts.Need-sub-read-more (re
 read-wanted-sub-read-more t c = omega (arith, c .before .before .before .before .before .before .before .before .before .before .before .before .at-most .ensures)
 
 read-wanted-read-more-requires : (t : ℕ) → read-wanted-lts.Need-read-more-requires (read-wanted-calls t) (read-wanted-at t) read-wanted.Post
-read-wanted-read-more-requires t c κs = (omega (arith, c .before .before .before .before .before .before .before .before .before .before .before .before .before .before .before .before .before .before .pre .0), (room-after _ _ _ _ _ _ _ _ _ _ _ _ _ _ _ (c .before .before .before .before .before .before .before .before .before .before .before .before .before .before .before .before .before .before .pre .1 .0) (c .before .before .before .before .before .before .before .before .before .read-run .ensures .rows-stored) (c .before .before .before .next .given .1) (c .before .before .before .before .before .before .before .before .before .read-run .kept .1 .1 .1 .1 .0), omega (arith, c .before .before .before .before .before .before .before .before .before .before .before .before .before .before .before .before .before .before .pre .1 .1, c .before .before .before .before .before .before .before .before .before .read-run .ensures .keys-kept .as-many)))
-
-read-wanted-same-length : (t : ℕ) → read-wanted-lts.Need-same-length (read-wanted-calls t) (read-wanted-at t) read-wanted.Post
-read-wanted-same-length t c = c .before .before .before .before .before .before .before .read-run .kept .1 .1 .1 .1 .0
+read-wanted-read-more-requires t c κs = (omega (arith, c .before .before .before .before .before .before .before .before .before .before .before .before .before .before .before .before .before .before .before .pre .0), (room-after _ _ _ _ _ _ _ _ _ _ _ _ _ _ _ (c .before .before .before .before .before .before .before .before .before .before .before .before .before .before .before .before .before .before .before .pre .1 .0) (c .before .before .before .before .before .before .before .before .before .read-run .ensures .rows-stored) (c .before .before .before .next .given .1) (c .before .before .before .before .before .before .before .before .before .read-run .kept .1 .1 .1 .1 .0), omega (arith, c .before .before .before .before .before .before .before .before .before .before .before .before .before .before .before .before .before .before .before .pre .1 .1, c .before .before .before .before .before .before .before .before .before .read-run .ensures .keys-kept .as-many)))
 
 read-wanted-same-length-2 : (t : ℕ) → read-wanted-lts.Need-same-length-2 (read-wanted-calls t) (read-wanted-at t) read-wanted.Post
-read-wanted-same-length-2 t c = c .before .before .before .before .before .before .before .read-run .kept .1 .1 .1 .1 .1 .0
-
-read-wanted-returns : (t : ℕ) → read-wanted-lts.Need-returns (read-wanted-calls t) (read-wanted-at t) read-wanted.Post
-read-wanted-returns t c = record { rows-stored = wanted-refused _ _ _ _ _ _ _ _ _ (c .before .before .before .before .before .before .before .before .before .before .at-most .ensures) _ _ (c .before .before .before .before .before .before .before .read-run .ensures .rows-stored) _ _ _ (c .before .number .given .1); keys-kept = c .before .before .before .before .before .before .before .read-run .ensures .keys-kept }
+read-wanted-same-length-2 t c = c .before .before .before .before .before .before .before .read-run .kept .1 .1 .1 .1 .0
 
 read-wanted-same-length-3 : (t : ℕ) → read-wanted-lts.Need-same-length-3 (read-wanted-calls t) (read-wanted-at t) read-wanted.Post
-read-wanted-same-length-3 t c = c .before .before .before .before .read-more .kept .1 .1 .1 .1 .0 ∙ c .before .before .before .before .before .before .before .before .before .before .before .before .before .before .read-run .kept .1 .1 .1 .1 .0
-
-read-wanted-same-length-4 : (t : ℕ) → read-wanted-lts.Need-same-length-4 (read-wanted-calls t) (read-wanted-at t) read-wanted.Post
-read-wanted-same-length-4 t c = c .before .before .before .before .read-more .kept .1 .1 .1 .1 .1 .0 ∙ c .before .before .before .before .before .before .before .before .before .before .before .before .before .before .read-run .kept .1 .1 .1 .1 .1 .0
+read-wanted-same-length-3 t c = c .before .before .before .before .before .before .before .read-run .kept .1 .1 .1 .1 .1 .0
 
 read-wanted-returns-2 : (t : ℕ) → read-wanted-lts.Need-returns-2 (read-wanted-calls t) (read-wanted-at t) read-wanted.Post
-read-wanted-returns-2 t c = record { rows-stored = wanted-more _ _ _ _ _ _ _ _ _ (c .before .before .before .before .before .before .before .before .before .before .before .before .before .before .before .before .before .at-most .ensures) _ _ (c .before .before .before .before .before .before .before .before .before .before .before .before .before .before .read-run .ensures .rows-stored) _ _ _ _ (c .before .before .before .before .before .before .before .before .next .given .1) (c .before .before .before .before .read-more .ensures .rows-stored); keys-kept = keeps-trans (c .before .before .before .before .before .before .before .before .before .before .before .before .before .before .read-run .ensures .keys-kept) (c .before .before .before .before .read-more .ensures .keys-kept) }
+read-wanted-returns-2 t c = record { rows-stored = wanted-refused _ _ _ _ _ _ _ _ _ (c .before .before .before .before .before .before .before .before .before .before .at-most .ensures) _ _ (c .before .before .before .before .before .before .before .read-run .ensures .rows-stored) _ _ _ (c .before .number .given .1); keys-kept = c .before .before .before .before .before .before .before .read-run .ensures .keys-kept }
+
+read-wanted-same-length-4 : (t : ℕ) → read-wanted-lts.Need-same-length-4 (read-wanted-calls t) (read-wanted-at t) read-wanted.Post
+read-wanted-same-length-4 t c = c .before .before .before .before .read-more .kept .1 .1 .1 .1 .0 ∙ c .before .before .before .before .before .before .before .before .before .before .before .before .before .before .read-run .kept .1 .1 .1 .1 .0
+
+read-wanted-same-length-5 : (t : ℕ) → read-wanted-lts.Need-same-length-5 (read-wanted-calls t) (read-wanted-at t) read-wanted.Post
+read-wanted-same-length-5 t c = c .before .before .before .before .read-more .kept .1 .1 .1 .1 .1 .0 ∙ c .before .before .before .before .before .before .before .before .before .before .before .before .before .before .read-run .kept .1 .1 .1 .1 .1 .0
+
+read-wanted-returns-3 : (t : ℕ) → read-wanted-lts.Need-returns-3 (read-wanted-calls t) (read-wanted-at t) read-wanted.Post
+read-wanted-returns-3 t c = record { rows-stored = wanted-more _ _ _ _ _ _ _ _ _ (c .before .before .before .before .before .before .before .before .before .before .before .before .before .before .before .before .before .at-most .ensures) _ _ (c .before .before .before .before .before .before .before .before .before .before .before .before .before .before .read-run .ensures .rows-stored) _ _ _ _ (c .before .before .before .before .before .before .before .before .next .given .1) (c .before .before .before .before .read-more .ensures .rows-stored); keys-kept = keeps-trans (c .before .before .before .before .before .before .before .before .before .before .before .before .before .before .read-run .ensures .keys-kept) (c .before .before .before .before .read-more .ensures .keys-kept) }
 
 read-common-returns : (t : ℕ) → read-common-lts.Need-returns (read-common-calls t) (read-common-at t) read-common.Post
 read-common-returns t c = record { rows-stored = λ place h next told. common-leaf _ _ _ _ place _ _ _ told (c .if1 .taken) (omega (arith, told-next told, c .before .before .before .before .before .before .pre .1 .0 .near)) (c .before .before .before .before .before .before .pre .1 .0 .low); keys-kept = keeps-refl _ }
@@ -1302,15 +1330,23 @@ pub +read-body+read-common+read-entry+read-inner+read-last+read-list+read-more+r
     (read-term-returns-3 t))
     λ t. read-wanted-lts.spec (read-wanted-calls t) (read-wanted-at t)
     read-wanted.Post
+    (read-wanted-node-at-requires t)
+    (read-wanted-is-leaf-requires t)
+    (read-wanted-pack-requires t)
+    (read-wanted-mul-table t)
+    (read-wanted-slice-write-table t)
+    (read-wanted-add-t23 t)
+    (read-wanted-same-length t)
+    (read-wanted-returns t)
     (read-wanted-at-most-requires t)
     (read-wanted-read-run-requires t)
     (read-wanted-enum-known-number t)
     (read-wanted-enum-known-next t)
     (read-wanted-sub-read-more t)
     (read-wanted-read-more-requires t)
-    (read-wanted-same-length t)
     (read-wanted-same-length-2 t)
-    (read-wanted-returns t)
     (read-wanted-same-length-3 t)
-    (read-wanted-same-length-4 t)
     (read-wanted-returns-2 t)
+    (read-wanted-same-length-4 t)
+    (read-wanted-same-length-5 t)
+    (read-wanted-returns-3 t)
