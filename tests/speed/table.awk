@@ -100,7 +100,7 @@ function sizes(what, time,    i) {
 }
 
 END {
-    limit["libei"] = 1; limit["erlang"] = 0.5; limit["questions"] = 3; limit["Reading"] = limit["Writing"] = 1.5
+    limit["libei"] = 1; limit["erlang"] = 0.5; limit["questions"] = 3; limit["Reading"] = limit["Writing"] = 2
     print "Reading, nanoseconds a message"
     printf "%-22s %7s %10s %10s %10s %10s %9s %9s %9s\n", "corpus", "bytes", "ours", "ours 8192", "libei", "b_to_term", "/libei", "/b_to_t", "8192/libei"
     each_line("reading")

@@ -16,18 +16,18 @@ ghost use Rattle.octets.specs.Cleared.{cleared};
 ghost use Rattle.term_reader.specs.Code.{Room};
 ghost use Rattle.reader.specs.Code.{first-refusal, rows-in, framing-of, Outermost-read, Message-read};
 
-// Messages of few, some and more bytes, each with as many slots as its keys may need and half as many again; a longer one has MOST_SLOTS.
+// Messages of at most few, some and more bytes, each with as many slots as its keys may need and half as many again; a longer one has MOST_SLOTS.
 pub const FEW_BYTES: usize = 256;
 
 pub const SOME_BYTES: usize = 1024;
 
-const MORE_BYTES: usize = 2048;
+const MORE_BYTES: usize = 4096;
 
 const FEW_SLOTS: usize = 128;
 
 const SOME_SLOTS: usize = 512;
 
-const MORE_SLOTS: usize = 1024;
+const MORE_SLOTS: usize = 2048;
 
 const MOST_SLOTS: usize = 8192;
 
@@ -233,7 +233,53 @@ pub fn read_few(
     read_with(msg, n, places, lengths, table, &mut seen, framing)
 }
 
-// Reads a message with the slots that a longer one needs. Small messages do not come here, so their stack is free of them.
+// Reads a message with the slots that one of at most SOME_BYTES needs.
+fn read_some(
+    msg: &[u8],
+    n: u8,
+    places: &[u8],
+    lengths: &[u16],
+    table: &mut [u64],
+    framing: Framing,
+) -> ReadAnswer
+    ensures { λ r. ⌜ Read-call (framing-of framing) (lent-list n (now (places .entry)) (now (lengths .entry))) (now (msg .entry)) (now (table .entry)) r (now (table .exit)) ⌝ }
+{
+    let mut seen = [0u16; SOME_SLOTS];
+    read_with(msg, n, places, lengths, table, &mut seen, framing)
+}
+
+// Reads a message with the slots that one of at most MORE_BYTES needs.
+fn read_more(
+    msg: &[u8],
+    n: u8,
+    places: &[u8],
+    lengths: &[u16],
+    table: &mut [u64],
+    framing: Framing,
+) -> ReadAnswer
+    ensures { λ r. ⌜ Read-call (framing-of framing) (lent-list n (now (places .entry)) (now (lengths .entry))) (now (msg .entry)) (now (table .entry)) r (now (table .exit)) ⌝ }
+{
+    let mut seen = [0u16; MORE_SLOTS];
+    read_with(msg, n, places, lengths, table, &mut seen, framing)
+}
+
+// Reads a message with the slots that the longest needs.
+fn read_most(
+    msg: &[u8],
+    n: u8,
+    places: &[u8],
+    lengths: &[u16],
+    table: &mut [u64],
+    framing: Framing,
+) -> ReadAnswer
+    ensures { λ r. ⌜ Read-call (framing-of framing) (lent-list n (now (places .entry)) (now (lengths .entry))) (now (msg .entry)) (now (table .entry)) r (now (table .exit)) ⌝ }
+{
+    let mut seen = [0u16; MOST_SLOTS];
+    read_with(msg, n, places, lengths, table, &mut seen, framing)
+}
+
+// Reads a message with the slots that one of more than FEW_BYTES needs. A smaller one does not come here, so that its stack is free of them. A list that is not of
+// its size is refused with few; looked at here, its two slices are handed on as numbers, which is quicker than a copy of what was just stored.
 pub fn read_larger(
     msg: &[u8],
     n: u8,
@@ -244,16 +290,16 @@ pub fn read_larger(
 ) -> ReadAnswer
     ensures { λ r. ⌜ Read-call (framing-of framing) (lent-list n (now (places .entry)) (now (lengths .entry))) (now (msg .entry)) (now (table .entry)) r (now (table .exit)) ⌝ }
 {
+    if !atom_list::list_fits(places, lengths) {
+        return read_few(msg, n, places, lengths, table, framing);
+    }
     if msg.len() <= SOME_BYTES {
-        let mut seen = [0u16; SOME_SLOTS];
-        return read_with(msg, n, places, lengths, table, &mut seen, framing);
+        return read_some(msg, n, places, lengths, table, framing);
     }
     if msg.len() <= MORE_BYTES {
-        let mut seen = [0u16; MORE_SLOTS];
-        return read_with(msg, n, places, lengths, table, &mut seen, framing);
+        return read_more(msg, n, places, lengths, table, framing);
     }
-    let mut seen = [0u16; MOST_SLOTS];
-    read_with(msg, n, places, lengths, table, &mut seen, framing)
+    read_most(msg, n, places, lengths, table, framing)
 }
 
 // Reads a standalone term into the table, with this atom list.
