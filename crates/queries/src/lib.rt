@@ -32,6 +32,11 @@ const SIGN_BIT: u64 = 9223372036854775808;
 // The bits of a float's infinity.
 const INFINITY: u64 = 9218868437227405312;
 
+// The rows of the tables for messages of at most FEW_BYTES and SOME_BYTES: a message has no more rows than bytes.
+const FEW_ROWS: usize = FEW_BYTES;
+
+const SOME_ROWS: usize = SOME_BYTES;
+
 // Where an atom's text stands: in the message, or in the list's places.
 pub enum TextAt {
     Message {
@@ -257,7 +262,7 @@ fn number_few(
     requires { ⌜ length (now msg) ≤ 256 ⌝ }
     ensures { λ r. ⌜ Number-call (framing-of framing) (lent-list n (now (places .entry)) (now (lengths .entry))) (now (msg .entry)) row r ⌝ }
 {
-    let mut table = [0u64; FEW_BYTES];
+    let mut table = [0u64; FEW_ROWS];
     let read = read_few(msg, n, places, lengths, &mut table, framing);
     numbered(msg, places, lengths, &table, read, row)
 }
@@ -274,7 +279,7 @@ fn number_some(
     requires { ⌜ length (now msg) ≤ 1024 ⌝ }
     ensures { λ r. ⌜ Number-call (framing-of framing) (lent-list n (now (places .entry)) (now (lengths .entry))) (now (msg .entry)) row r ⌝ }
 {
-    let mut table = [0u64; SOME_BYTES];
+    let mut table = [0u64; SOME_ROWS];
     let read = read_larger(msg, n, places, lengths, &mut table, framing);
     numbered(msg, places, lengths, &table, read, row)
 }
@@ -307,7 +312,7 @@ fn locate_few(
     requires { ⌜ length (now msg) ≤ 256 ⌝ }
     ensures { λ r. ⌜ Locate-call (framing-of framing) (lent-list n (now (places .entry)) (now (lengths .entry))) (now (msg .entry)) at r ⌝ }
 {
-    let mut table = [0u64; FEW_BYTES];
+    let mut table = [0u64; FEW_ROWS];
     let read = read_few(msg, n, places, lengths, &mut table, framing);
     located(msg, places, lengths, &table, read, at)
 }
@@ -324,7 +329,7 @@ fn locate_some(
     requires { ⌜ length (now msg) ≤ 1024 ⌝ }
     ensures { λ r. ⌜ Locate-call (framing-of framing) (lent-list n (now (places .entry)) (now (lengths .entry))) (now (msg .entry)) at r ⌝ }
 {
-    let mut table = [0u64; SOME_BYTES];
+    let mut table = [0u64; SOME_ROWS];
     let read = read_larger(msg, n, places, lengths, &mut table, framing);
     located(msg, places, lengths, &table, read, at)
 }
