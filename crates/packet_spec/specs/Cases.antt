@@ -5,7 +5,7 @@ use Prim.Native.Nat.{ℕ}
 use native.Mathlib.Decide.{ℕ-discrete}
 use lib.ListN.{take, replicate}
 use Rattle.term_spec.specs.Numbers.{big-endian, in-bytes, little-endian, digits-within, digits, signed32, with-sign}
-use Rattle.term_spec.specs.Text.{utf-8, holds, lines, first, emit, decode, check, is-character, encode, encodes}
+use Rattle.term_spec.specs.Text.{utf-8, holds, lines, marker, first, emit, decode, check, is-character, encode, encodes}
 use Rattle.term_spec.specs.Equal.{list-discrete, integer-discrete, term-discrete, same, among}
 use Rattle.term_spec.specs.Answer.{Answer, good, refused, bytes, number}
 use Rattle.term_spec.specs.Head.{forms, form-in, form-or, form, text-or, finite, bits-rule, clear-low, bits-meaning, fields, term-head, creation-rule, id-words, words-rule, later}
@@ -34,7 +34,7 @@ fresh =
 -- what a packet answers with a memory, in UTF-8, and what it leaves
 -- (the definitions after `unfolding` are those that computing it goes through)
 unfoldable pub answer : Memory → List ℕ → Answer Outcome
-unfolding big-endian holds lines first emit decode check encode encodes bytes number text-or version of-size cache-of-size memory-of-size record-true empty-cache text-if held-as held flag-bytes half is-new place-at length-width named filled held-or text-field new-reference cached-reference reference references header ids packet-kind preamble payload-after rest packet judged zeros-to enter entered texts-in-places lengths-of list-of record-after told-after told left-by take-packet after-packet
+unfolding big-endian holds lines marker first emit decode check encode encodes bytes number text-or version of-size cache-of-size memory-of-size record-true empty-cache text-if held-as held flag-bytes half is-new place-at length-width named filled held-or text-field new-reference cached-reference reference references header ids packet-kind preamble payload-after rest packet judged zeros-to enter entered texts-in-places lengths-of list-of record-after told-after told left-by take-packet after-packet
 answer m bs = take-packet utf-8 m bs
 
 unfoldable pub then : Memory → List ℕ → Memory

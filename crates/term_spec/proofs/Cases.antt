@@ -8,7 +8,7 @@ use lib.Dec.{leb}
 use lib.ListN.{length, replicate}
 use native.Mathlib.Decide.{ℕ-discrete}
 use Rattle.term_spec.specs.Numbers.{big-endian, in-bytes, little-endian, digits-within, digits, signed32, with-sign}
-use Rattle.term_spec.specs.Text.{holds, lines, first, emit, decode, check, is-character, encode, encodes}
+use Rattle.term_spec.specs.Text.{holds, lines, marker, first, emit, decode, check, is-character, encode, encodes}
 use Rattle.term_spec.specs.Equal.{list-discrete, integer-discrete, term-discrete, same, among}
 use Rattle.term_spec.specs.Answer.{Answer, good, refused, bytes, number}
 use Rattle.term_spec.specs.Head.{forms, form-in, form-or, form, text-or, finite, bits-rule, clear-low, bits-meaning, fields, term-head, creation-rule, id-words, words-rule, later}
@@ -24,7 +24,7 @@ use Rattle.term_spec.proofs.Demand.{written-good, written-by, refused-b
 
 -- what the writer answers for a standalone term, with an empty list of zeros, 8,192 rows and 65,536 bytes of output
 unfoldable pub output : List ℕ → Answer Written
-unfolding ℕ-discrete big-endian in-bytes little-endian digits-within digits signed32 with-sign holds lines first emit decode check is-character encode encodes list-discrete integer-discrete term-discrete same among bytes number forms form-in form-or form text-or finite bits-rule clear-low bits-meaning fields term-head creation-rule id-words words-rule later opening each run entries row string list-tail contents body one-term of-size place-length place-bytes place-text atoms-of big-bytes integer-bytes atom-bytes tuple-bytes port-bytes words-bytes small all-small long-list list-bytes term-bytes canonical canonical-standalone standalones ending version standalone-term payload-terms read written write
+unfolding ℕ-discrete big-endian in-bytes little-endian digits-within digits signed32 with-sign holds lines marker first emit decode check is-character encode encodes list-discrete integer-discrete term-discrete same among bytes number forms form-in form-or form text-or finite bits-rule clear-low bits-meaning fields term-head creation-rule id-words words-rule later opening each run entries row string list-tail contents body one-term of-size place-length place-bytes place-text atoms-of big-bytes integer-bytes atom-bytes tuple-bytes port-bytes words-bytes small all-small long-list list-bytes term-bytes canonical canonical-standalone standalones ending version standalone-term payload-terms read written write
 output message = write standalone empty-list 8192 65536 message
 
 -- one term, and its bytes

@@ -11,7 +11,7 @@ use lib.ListN.{length, getD, length-append}
 use lib.Seq.{append-snoc}
 use borrow.Author.Tests.{ltb-true, leb-true, lt-ltb, le-ltb, le-leb, lt-leb}
 use Rattle.term_spec.specs.Numbers.{Under}
-use Rattle.term_spec.specs.Text.{Range, _to_, holds, Line, line, lines, Begun, begun, first, emit, Checked, valid, invalid-at, decode, Coding, latin-1, utf-8, check, is-character, encode, encodes, Characters}
+use Rattle.term_spec.specs.Text.{Range, _to_, holds, Line, line, utf8-tail, lines, marker, Begun, begun, first, emit, Checked, valid, invalid-at, decode, Coding, latin-1, utf-8, check, is-character, encode, encodes, Characters}
 use Rattle.term_spec.proofs.Tests.{also, by-less}
 
 within : (from last b : ℕ) → from ≤ b → b ≤ last → holds (from to last) b ≡ true
@@ -23,90 +23,87 @@ unfolding holds
 beyond from last b h k = rw (le-leb from b k, lt-leb b last h)
 
 -- a first byte in a line, and beyond it
-in-line : (b from last off : ℕ) (rs : List Range) (ls : List Line) → from ≤ b → b ≤ last
-    → first b (line (from to last) off rs ∷ ls) ≡ some (begun (b - off) rs)
+in-line : (b from last : ℕ) (rs : List Range) (ls : List Line) → from ≤ b → b ≤ last
+    → first b (line (from to last) rs ∷ ls) ≡ some (begun (b - marker rs) rs)
 unfolding first
-in-line b from last off rs ls h k = rw (within from last b h k, first)
+in-line b from last rs ls h k = rw (within from last b h k, first)
 
-past-line : (b from last off : ℕ) (rs : List Range) (ls : List Line) → from ≤ b → last < b
-    → first b (line (from to last) off rs ∷ ls) ≡ first b ls
+past-line : (b from last : ℕ) (rs : List Range) (ls : List Line) → from ≤ b → last < b
+    → first b (line (from to last) rs ∷ ls) ≡ first b ls
 unfolding first
-past-line b from last off rs ls h k = rw (beyond from last b k h, first)
+past-line b from last rs ls h k = rw (beyond from last b k h, first)
 
 -- the line of each first byte
-abbrev tail : Range
-tail = 0x80 to 0xBF
-
 module _ (b : ℕ) where
   first-00 : b ≤ 0x7F → first b lines ≡ some (begun (b - 0) [])
-  unfolding lines
-  first-00 h = in-line b _ _ _ _ _ (omega arith) h
+  unfolding lines marker
+  first-00 h = in-line b _ _ _ _ (omega arith) h
 
-  first-C2 : 0xC2 ≤ b → b ≤ 0xDF → first b lines ≡ some (begun (b - 0xC0) (tail ∷ []))
-  unfolding lines
-  first-C2 h k = past-line b _ _ _ _ _ (omega arith) (omega arith) ∙ in-line b _ _ _ _ _ h k
+  first-C2 : 0xC2 ≤ b → b ≤ 0xDF → first b lines ≡ some (begun (b - 0xC0) (utf8-tail ∷ []))
+  unfolding lines marker
+  first-C2 h k = past-line b _ _ _ _ (omega arith) (omega arith) ∙ in-line b _ _ _ _ h k
 
-  first-E0 : 0xE0 ≤ b → b ≤ 0xE0 → first b lines ≡ some (begun (b - 0xE0) ((0xA0 to 0xBF) ∷ tail ∷ []))
-  unfolding lines
+  first-E0 : 0xE0 ≤ b → b ≤ 0xE0 → first b lines ≡ some (begun (b - 0xE0) ((0xA0 to 0xBF) ∷ utf8-tail ∷ []))
+  unfolding lines marker
   first-E0 h k =
-      past-line b _ _ _ _ _ (omega arith) (omega arith)
-      ∙ past-line b _ _ _ _ _ (omega arith) (omega arith)
-      ∙ in-line b _ _ _ _ _ h k
+      past-line b _ _ _ _ (omega arith) (omega arith)
+      ∙ past-line b _ _ _ _ (omega arith) (omega arith)
+      ∙ in-line b _ _ _ _ h k
 
-  first-E1 : 0xE1 ≤ b → b ≤ 0xEC → first b lines ≡ some (begun (b - 0xE0) (tail ∷ tail ∷ []))
-  unfolding lines
+  first-E1 : 0xE1 ≤ b → b ≤ 0xEC → first b lines ≡ some (begun (b - 0xE0) (utf8-tail ∷ utf8-tail ∷ []))
+  unfolding lines marker
   first-E1 h k =
-      past-line b _ _ _ _ _ (omega arith) (omega arith)
-      ∙ past-line b _ _ _ _ _ (omega arith) (omega arith)
-      ∙ past-line b _ _ _ _ _ (omega arith) (omega arith)
-      ∙ in-line b _ _ _ _ _ h k
+      past-line b _ _ _ _ (omega arith) (omega arith)
+      ∙ past-line b _ _ _ _ (omega arith) (omega arith)
+      ∙ past-line b _ _ _ _ (omega arith) (omega arith)
+      ∙ in-line b _ _ _ _ h k
 
-  first-ED : 0xED ≤ b → b ≤ 0xED → first b lines ≡ some (begun (b - 0xE0) ((0x80 to 0x9F) ∷ tail ∷ []))
-  unfolding lines
+  first-ED : 0xED ≤ b → b ≤ 0xED → first b lines ≡ some (begun (b - 0xE0) ((0x80 to 0x9F) ∷ utf8-tail ∷ []))
+  unfolding lines marker
   first-ED h k =
-      past-line b _ _ _ _ _ (omega arith) (omega arith)
-      ∙ past-line b _ _ _ _ _ (omega arith) (omega arith)
-      ∙ past-line b _ _ _ _ _ (omega arith) (omega arith)
-      ∙ past-line b _ _ _ _ _ (omega arith) (omega arith)
-      ∙ in-line b _ _ _ _ _ h k
+      past-line b _ _ _ _ (omega arith) (omega arith)
+      ∙ past-line b _ _ _ _ (omega arith) (omega arith)
+      ∙ past-line b _ _ _ _ (omega arith) (omega arith)
+      ∙ past-line b _ _ _ _ (omega arith) (omega arith)
+      ∙ in-line b _ _ _ _ h k
 
-  first-EE : 0xEE ≤ b → b ≤ 0xEF → first b lines ≡ some (begun (b - 0xE0) (tail ∷ tail ∷ []))
-  unfolding lines
+  first-EE : 0xEE ≤ b → b ≤ 0xEF → first b lines ≡ some (begun (b - 0xE0) (utf8-tail ∷ utf8-tail ∷ []))
+  unfolding lines marker
   first-EE h k =
-      past-line b _ _ _ _ _ (omega arith) (omega arith)
-      ∙ past-line b _ _ _ _ _ (omega arith) (omega arith)
-      ∙ past-line b _ _ _ _ _ (omega arith) (omega arith)
-      ∙ past-line b _ _ _ _ _ (omega arith) (omega arith)
-      ∙ past-line b _ _ _ _ _ (omega arith) (omega arith)
-      ∙ in-line b _ _ _ _ _ h k
+      past-line b _ _ _ _ (omega arith) (omega arith)
+      ∙ past-line b _ _ _ _ (omega arith) (omega arith)
+      ∙ past-line b _ _ _ _ (omega arith) (omega arith)
+      ∙ past-line b _ _ _ _ (omega arith) (omega arith)
+      ∙ past-line b _ _ _ _ (omega arith) (omega arith)
+      ∙ in-line b _ _ _ _ h k
 
   past-EF : (ls : List Line) → 0xF0 ≤ b
-      → first b (line (0x00 to 0x7F) 0x00 [] ∷ line (0xC2 to 0xDF) 0xC0 (tail ∷ [])
-      ∷ line (0xE0 to 0xE0) 0xE0 ((0xA0 to 0xBF) ∷ tail ∷ []) ∷ line (0xE1 to 0xEC) 0xE0 (tail ∷ tail ∷ [])
-      ∷ line (0xED to 0xED) 0xE0 ((0x80 to 0x9F) ∷ tail ∷ []) ∷ line (0xEE to 0xEF) 0xE0 (tail ∷ tail ∷ []) ∷ ls) ≡ first b ls
+      → first b (line (0x00 to 0x7F) [] ∷ line (0xC2 to 0xDF) (utf8-tail ∷ [])
+      ∷ line (0xE0 to 0xE0) ((0xA0 to 0xBF) ∷ utf8-tail ∷ []) ∷ line (0xE1 to 0xEC) (utf8-tail ∷ utf8-tail ∷ [])
+      ∷ line (0xED to 0xED) ((0x80 to 0x9F) ∷ utf8-tail ∷ []) ∷ line (0xEE to 0xEF) (utf8-tail ∷ utf8-tail ∷ []) ∷ ls) ≡ first b ls
   past-EF ls h =
-      past-line b _ _ _ _ _ (omega arith) (omega arith)
-      ∙ past-line b _ _ _ _ _ (omega arith) (omega arith)
-      ∙ past-line b _ _ _ _ _ (omega arith) (omega arith)
-      ∙ past-line b _ _ _ _ _ (omega arith) (omega arith)
-      ∙ past-line b _ _ _ _ _ (omega arith) (omega arith)
-      ∙ past-line b _ _ _ _ _ (omega arith) (omega arith)
+      past-line b _ _ _ _ (omega arith) (omega arith)
+      ∙ past-line b _ _ _ _ (omega arith) (omega arith)
+      ∙ past-line b _ _ _ _ (omega arith) (omega arith)
+      ∙ past-line b _ _ _ _ (omega arith) (omega arith)
+      ∙ past-line b _ _ _ _ (omega arith) (omega arith)
+      ∙ past-line b _ _ _ _ (omega arith) (omega arith)
 
-  first-F0 : 0xF0 ≤ b → b ≤ 0xF0 → first b lines ≡ some (begun (b - 0xF0) ((0x90 to 0xBF) ∷ tail ∷ tail ∷ []))
-  unfolding lines
-  first-F0 h k = past-EF _ h ∙ in-line b _ _ _ _ _ h k
+  first-F0 : 0xF0 ≤ b → b ≤ 0xF0 → first b lines ≡ some (begun (b - 0xF0) ((0x90 to 0xBF) ∷ utf8-tail ∷ utf8-tail ∷ []))
+  unfolding lines marker
+  first-F0 h k = past-EF _ h ∙ in-line b _ _ _ _ h k
 
-  first-F1 : 0xF1 ≤ b → b ≤ 0xF3 → first b lines ≡ some (begun (b - 0xF0) (tail ∷ tail ∷ tail ∷ []))
-  unfolding lines
-  first-F1 h k = past-EF _ (omega arith) ∙ past-line b _ _ _ _ _ (omega arith) (omega arith) ∙ in-line b _ _ _ _ _ h k
+  first-F1 : 0xF1 ≤ b → b ≤ 0xF3 → first b lines ≡ some (begun (b - 0xF0) (utf8-tail ∷ utf8-tail ∷ utf8-tail ∷ []))
+  unfolding lines marker
+  first-F1 h k = past-EF _ (omega arith) ∙ past-line b _ _ _ _ (omega arith) (omega arith) ∙ in-line b _ _ _ _ h k
 
-  first-F4 : 0xF4 ≤ b → b ≤ 0xF4 → first b lines ≡ some (begun (b - 0xF0) ((0x80 to 0x8F) ∷ tail ∷ tail ∷ []))
-  unfolding lines
+  first-F4 : 0xF4 ≤ b → b ≤ 0xF4 → first b lines ≡ some (begun (b - 0xF0) ((0x80 to 0x8F) ∷ utf8-tail ∷ utf8-tail ∷ []))
+  unfolding lines marker
   first-F4 h k =
       past-EF _ (omega arith)
-      ∙ past-line b _ _ _ _ _ (omega arith) (omega arith)
-      ∙ past-line b _ _ _ _ _ (omega arith) (omega arith)
-      ∙ in-line b _ _ _ _ _ h k
+      ∙ past-line b _ _ _ _ (omega arith) (omega arith)
+      ∙ past-line b _ _ _ _ (omega arith) (omega arith)
+      ∙ in-line b _ _ _ _ h k
 
 -- a first byte, and a byte that is due
 pub decode-first : (room lead at v : ℕ) (c : Begun) (b : ℕ) (bs : List ℕ) → first b lines ≡ some c
@@ -147,7 +144,7 @@ module _ (room lead at w v : ℕ) (bs : List ℕ) where
       ∙ decode-due room at (at + 1) v from last [] c bs h k
       ∙ ap (emit (begun (v * 64 + (c - 0x80)) [])) (between room at 0 _ _ 0 bs)
 
-  pub whole-3 : (b c d from last : ℕ) → first b lines ≡ some (begun v ((from to last) ∷ tail ∷ [])) → from ≤ c → c ≤ last
+  pub whole-3 : (b c d from last : ℕ) → first b lines ≡ some (begun v ((from to last) ∷ utf8-tail ∷ [])) → from ≤ c → c ≤ last
       → 0x80 ≤ d → d ≤ 0xBF
       → decode (suc room) lead at (begun w []) (b ∷ c ∷ d ∷ bs)
       ≡ emit (begun ((v * 64 + (c - 0x80)) * 64 + (d - 0x80)) []) (decode room 0 (at + 1 + 1 + 1) (begun 0 []) bs)
@@ -159,7 +156,7 @@ module _ (room lead at w v : ℕ) (bs : List ℕ) where
       ∙ decode-due room at (at + 1 + 1) _ 0x80 0xBF [] d bs h′ k′
       ∙ ap (emit (begun ((v * 64 + (c - 0x80)) * 64 + (d - 0x80)) [])) (between room at 0 _ _ 0 bs)
 
-  pub whole-4 : (b c d f from last : ℕ) → first b lines ≡ some (begun v ((from to last) ∷ tail ∷ tail ∷ [])) → from ≤ c → c ≤ last
+  pub whole-4 : (b c d f from last : ℕ) → first b lines ≡ some (begun v ((from to last) ∷ utf8-tail ∷ utf8-tail ∷ [])) → from ≤ c → c ≤ last
       → 0x80 ≤ d → d ≤ 0xBF → 0x80 ≤ f → f ≤ 0xBF
       → decode (suc room) lead at (begun w []) (b ∷ c ∷ d ∷ f ∷ bs)
       ≡ emit (begun (((v * 64 + (c - 0x80)) * 64 + (d - 0x80)) * 64 + (f - 0x80)) []) (decode room 0 (at + 1 + 1 + 1 + 1) (begun 0 []) bs)
@@ -229,14 +226,14 @@ module _ (c : ℕ) where
         (whole-2 room lead at 0 _ bs _ _ _ _ (first-C2 _ (omega arith) (omega arith)) (omega arith) (omega arith) ∙ is-c _ _ (omega arith))
 
     back-3 : (from last : ℕ) → 0x800 ≤ c → c < 0x10000
-        → first (0xE0 + c / 4096) lines ≡ some (begun (0xE0 + c / 4096 - 0xE0) ((from to last) ∷ tail ∷ []))
+        → first (0xE0 + c / 4096) lines ≡ some (begun (0xE0 + c / 4096 - 0xE0) ((from to last) ∷ utf8-tail ∷ []))
         → from ≤ 0x80 + c / 64 % 64 → 0x80 + c / 64 % 64 ≤ last → Back
     back-3 from last h k e f l =
         rw (encode-3 h k)
         (whole-3 room lead at 0 _ bs _ _ _ from last e f l (omega arith) (omega arith) ∙ is-c _ _ (omega arith))
 
     back-4 : (from last : ℕ) → 0x10000 ≤ c
-        → first (0xF0 + c / 262144) lines ≡ some (begun (0xF0 + c / 262144 - 0xF0) ((from to last) ∷ tail ∷ tail ∷ []))
+        → first (0xF0 + c / 262144) lines ≡ some (begun (0xF0 + c / 262144 - 0xF0) ((from to last) ∷ utf8-tail ∷ utf8-tail ∷ []))
         → from ≤ 0x80 + c / 4096 % 64 → 0x80 + c / 4096 % 64 ≤ last → Back
     back-4 from last h e f l =
         rw (encode-4 h)
@@ -344,10 +341,10 @@ holds-true from last b e = go (leb from b) refl (leb b last) refl e
 -- every line of the table
 abbrev All-complete : List Line → Type 0
 All-complete [] = Unit {0}
-All-complete (line (from to last) off rs ∷ ls) = ((b : ℕ) → from ≤ b → b ≤ last → Completes (b - off) rs (b ∷ [])) × All-complete ls
+All-complete (line (from to last) rs ∷ ls) = ((b : ℕ) → from ≤ b → b ≤ last → Completes (b - marker rs) rs (b ∷ [])) × All-complete ls
 
 lines-complete : All-complete lines
-unfolding lines
+unfolding lines marker
 lines-complete =
     also (λ a h i. (low-character _ (omega arith), spell-1 a (omega arith)))
     (also (λ a h i b j k. (low-character _ (omega arith), spell-2 a b (omega arith) (omega arith) (omega arith) (omega arith)))
@@ -366,12 +363,12 @@ Completed (begun v rs) w = Completes v rs w
 first-completes : (ls : List Line) (b : ℕ) (c : Begun) → All-complete ls → first b ls ≡ some c → Completed c (b ∷ [])
 unfolding first
 first-completes [] b c s e = let no-way : _≡_ {A = ℕ} 0 1 = cc in absurd (omega arith)
-first-completes (line (from to last) off rs ∷ ls) b c s e = go (holds (from to last) b) refl e (λ f. first-completes ls b c (s .1) f)
+first-completes (line (from to last) rs ∷ ls) b c s e = go (holds (from to last) b) refl e (λ f. first-completes ls b c (s .1) f)
   where
-    go : (t : Bool) → holds (from to last) b ≡ t → _≡_ {A = Option Begun} (elim t [ true ↦ some (begun (b - off) rs) | false ↦ first b ls ]) (some c)
+    go : (t : Bool) → holds (from to last) b ≡ t → _≡_ {A = Option Begun} (elim t [ true ↦ some (begun (b - marker rs) rs) | false ↦ first b ls ]) (some c)
         → (first b ls ≡ some c → Completed c (b ∷ [])) → Completed c (b ∷ [])
     go true h f ih =
-        let is : begun (b - off) rs ≡ c = cc in
+        let is : begun (b - marker rs) rs ≡ c = cc in
         let in-range : (from ≤ b) × (b ≤ last) = holds-true from last b h in
         subst (λ (x : Begun). Completed x (b ∷ [])) is (s .0 b (in-range .0) (in-range .1))
     go false h f ih = ih f

@@ -2,19 +2,20 @@
 use mathlib.Core.Path.{_≡_, refl, sym, _∙_, ap}
 use mathlib.Core.Bool.{Bool, true, false}
 use mathlib.Core.List.{List, [], _∷_}
-use mathlib.Core.Option.{none, some}
+use mathlib.Core.Option.{Option, none, some}
 use Prim.Native.Nat.{ℕ, zero, suc, _+_, _-_, _≤_, _<_}
 use native.Mathlib.Nat.{add-zero, zero-add}
 use native.Mathlib.Numerals.{add-one}
 use native.Mathlib.Omega.{arith}
 use lib.ListN.{length, getD, drop, drop-of-length-le}
 use lib.Seq.{drop-cons}
-use borrow.Author.Tests.{le-leb}
+use borrow.Author.Tests.{le-leb, ltb-true, lt-ltb, le-ltb}
 use Rattle.term_spec.specs.Text as text
-use Rattle.term_spec.specs.Text.{Range, _to_, holds, Line, line, lines, begun, first, valid, invalid-at, emit, decode, utf-8, check}
+use Rattle.term_spec.specs.Text.{Range, _to_, holds, Line, line, lines, marker, Begun, begun, first, valid, invalid-at, emit, decode, utf-8, check}
+use Rattle.term_spec.proofs.Tests.{both-true}
 use Rattle.term_spec.proofs.Text.{decode-first, between, pending}
 use Rattle.text.specs.Shown.{shown}
-use Rattle.text.specs.Characters.{more, text-from, onward, Within, due, Completes, CharacterAt, Ascii}
+use Rattle.text.specs.Characters.{more, text-from, onward, Within, due, byte-in, Completes, CharacterAt, Ascii}
 use Rattle.text.specs.declared.Checked.{Checked}
 use Rattle.text.specs.declared.Checked.the-variants.{Characters, Bad}
 use Rattle.text.specs.declared.Character.{Character}
@@ -69,62 +70,70 @@ module _ (s : List ℕ) where
         further (Ends k) w = (omega arith, w .1)
         further (Fails k) w = tt
 
-  -- the same of n bytes, by count
-  module _ (lead at n : ℕ) (r : Range) where
-    pub due-none : n ≡ 0 → at ≤ length s → Completes s lead at (due n r) (Ends at)
-    unfolding due
-    due-none e h = rw (e, due) (completes-none lead at h)
+  -- whether the byte due is there and in its range, and what becomes of the character then
+  module _ (at : ℕ) (r : Range) where
+    pub byte-missing : length s ≤ at → false ≡ byte-in s at r
+    unfolding byte-in
+    byte-missing h = rw (le-ltb at (length s) h)
 
-    module _ (some-due : 0 < n) where
-      next-due : due n r ≡ r ∷ due (n - 1) (0x80 to 0xBF)
-      unfolding due
-      next-due = go n some-due
-        where
-          go : (n : ℕ) → 0 < n → due n r ≡ r ∷ due (n - 1) (0x80 to 0xBF)
-          go zero h = absurd (omega arith)
-          go (suc n) h = let less : n ≡ suc n - 1 = omega arith in ap (λ (k : ℕ). r ∷ due k (0x80 to 0xBF)) less
+    pub byte-there : at < length s → holds r (getD s at 0) ≡ byte-in s at r
+    unfolding byte-in
+    byte-there h = rw (lt-ltb at (length s) h)
 
-      pub due-cut : length s ≤ at → Completes s lead at (due n r) (Fails lead)
-      due-cut h = rw next-due (completes-cut lead at r _ h)
+    pub byte-inside : byte-in s at r ≡ true → at < length s
+    unfolding byte-in
+    byte-inside e = ltb-true at (length s) (both-true _ _ e .0)
 
-      pub due-bad : at < length s → holds r (getD s at 0) ≡ false → Completes s lead at (due n r) (Fails at)
-      due-bad h e = rw next-due (completes-bad lead at r _ h e)
+    module _ (lead : ℕ) (rs : List Range) where
+      pub completes-broken : byte-in s at r ≡ false → at < length s → Completes s lead at (r ∷ rs) (Fails at)
+      completes-broken e h = completes-bad lead at r rs h (byte-there h ∙ e)
 
-      pub due-more : (c : Character) → at < length s → holds r (getD s at 0) ≡ true → Completes s lead (at + 1) (due (n - 1) (0x80 to 0xBF)) c
-          → Completes s lead at (due n r) c
-      due-more c h e m = rw next-due (completes-more lead at r _ c h e m)
+      pub completes-in : (c : Character) → byte-in s at r ≡ true → Completes s lead (at + 1) rs c → Completes s lead at (r ∷ rs) c
+      completes-in c e = completes-more lead at r rs c (byte-inside e) (byte-there (byte-inside e) ∙ e)
 
   -- a first byte that is in a line, or in none
   module _ (at : ℕ) (h : at < length s) where
-    character-of : (v : ℕ) (rs : List Range) (c : Character) → first (getD s at 0) lines ≡ some (begun v rs) → Completes s at (at + 1) rs c → CharacterAt s at c
-    unfolding text-from
-    character-of v rs c e m = record {
-      text-is = λ room. rw (byte-at at h) (ap shown (decode-first room 0 at 0 (begun v rs) _ _ e) ∙ m .text-is room v);
-      inside = m .inside;
-    }
+    pub character-by : (rs : List Range) (c : Character) → some rs ≡ due (first (getD s at 0) lines) → Completes s at (at + 1) rs c → CharacterAt s at c
+    unfolding text-from due
+    character-by rs c told m = go (first (getD s at 0) lines) refl told
+      where
+        go : (o : Option Begun) → first (getD s at 0) lines ≡ o → some rs ≡ due o → CharacterAt s at c
+        go (some (begun v qs)) e f =
+            let is : rs ≡ qs = cc in
+            let e′ : first (getD s at 0) lines ≡ some (begun v rs) = cc in
+            record {
+              text-is = λ room. rw (byte-at at h) (ap shown (decode-first room 0 at 0 (begun v rs) _ _ e′) ∙ m .text-is room v);
+              inside = m .inside;
+            }
+        go none e f = let no-way : _≡_ {A = ℕ} 0 1 = cc in absurd (omega arith)
 
-    character-none : first (getD s at 0) lines ≡ none → CharacterAt s at (Fails at)
-    unfolding text-from onward Within decode shown
-    character-none e = record { text-is = λ room. rw (byte-at at h, e, decode, shown); inside = tt }
+    pub character-none : none ≡ due (first (getD s at 0) lines) → CharacterAt s at (Fails at)
+    unfolding text-from onward Within decode shown due
+    character-none told = go (first (getD s at 0) lines) refl told
+      where
+        go : (o : Option Begun) → first (getD s at 0) lines ≡ o → none ≡ due o → CharacterAt s at (Fails at)
+        go none e f = record { text-is = λ room. rw (byte-at at h, e, decode, shown); inside = tt }
+        go (some (begun v qs)) e f = let no-way : _≡_ {A = ℕ} 0 1 = cc in absurd (omega arith)
 
 -- a byte is looked for in these lines of the table, past those before them
 abbrev pub Left : ℕ → List Line → Type 0
 Left b ls = first b lines ≡ first b ls
 
 -- it is past the first of them, in it, or none are left
-pub past-line : (b off : ℕ) (r : Range) (rs : List Range) (ls : List Line) {t : Bool} → Left b (line r off rs ∷ ls) → t ≡ holds r b → t ≡ false → Left b ls
-unfolding first
-past-line b off r rs ls left told e = left ∙ rw (sym told ∙ e, first)
-
-module _ (s : List ℕ) (at : ℕ) (h : at < length s) where
-  pub in-line : (off : ℕ) (r : Range) (rs : List Range) (ls : List Line) {t : Bool} (c : Character)
-      → Left (getD s at 0) (line r off rs ∷ ls) → t ≡ holds r (getD s at 0) → t ≡ true → Completes s at (at + 1) rs c → CharacterAt s at c
+module _ (b : ℕ) where
+  pub past-line : (r : Range) (rs : List Range) (ls : List Line) {t : Bool} → Left b (line r rs ∷ ls) → t ≡ holds r b → t ≡ false → Left b ls
   unfolding first
-  in-line off r rs ls c left told e = character-of s at h (getD s at 0 - off) rs c (left ∙ rw (sym told ∙ e, first))
+  past-line r rs ls left told e = left ∙ rw (sym told ∙ e, first)
 
-  pub no-line : Left (getD s at 0) [] → CharacterAt s at (Fails at)
-  unfolding first
-  no-line left = character-none s at h left
+  pub in-line : (r : Range) (rs : List Range) (ls : List Line) {t : Bool} → Left b (line r rs ∷ ls) → t ≡ holds r b → t ≡ true → some rs ≡ due (first b lines)
+  unfolding first due
+  in-line r rs ls left told e =
+      let is : first b lines ≡ some (begun (b - marker rs) rs) = left ∙ rw (sym told ∙ e, first) in
+      sym (ap due is)
+
+  pub no-line : Left b [] → none ≡ due (first b lines)
+  unfolding first due
+  no-line left = sym (ap due left)
 
 holds-low : (b : ℕ) → b < 0x80 → holds (0x00 to 0x7F) b ≡ true
 unfolding holds
@@ -165,7 +174,8 @@ module _ (s : List ℕ) where
   -- an ASCII byte is a character, and n of them are n
   ascii-character : (at : ℕ) → at < length s → getD s at 0 < 0x80 → CharacterAt s at (Ends (at + 1))
   unfolding lines
-  ascii-character at h low = in-line s at h 0 (0x00 to 0x7F) [] _ _ refl refl (holds-low _ low) (completes-none s at (at + 1) (omega arith))
+  ascii-character at h low =
+      character-by s at h [] _ (in-line (getD s at 0) (0x00 to 0x7F) [] _ refl refl (holds-low _ low)) (completes-none s at (at + 1) (omega arith))
 
   counted-ascii : (n count at : ℕ) → Counted s count at → count + n ≤ 255 → Ascii s at n → Counted s (count + n) (at + n)
   counted-ascii zero count at so-far few a = rw (add-zero count, add-zero at) so-far

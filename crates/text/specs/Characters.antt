@@ -1,13 +1,19 @@
 -- One character of a text, as the code goes over it.
 -- About the code alone, proved against the definitions of term_spec: nothing here has to be believed.
 use mathlib.Core.Path.{_≡_}
+use mathlib.Core.Bool.{Bool, _&&_}
 use mathlib.Core.List.{List, [], _∷_}
-use Prim.Native.Nat.{ℕ, zero, suc, _+_, _≤_, _<_}
+use mathlib.Core.Option.{Option, none, some}
+use Prim.Native.Nat.{ℕ, suc, _+_, _≤_, _<_}
+use lib.Dec.{ltb}
 use lib.ListN.{length, getD, drop}
-use Rattle.term_spec.specs.Text.{Range, _to_, begun, emit, decode}
+use Rattle.term_spec.specs.Text.{Range, _to_, holds, Begun, begun, emit, decode}
 use Rattle.text.specs.Shown.{shown}
 use Rattle.text.specs.declared.Checked.{Checked}
 use Rattle.text.specs.declared.Checked.the-variants.{Characters, Bad}
+use Rattle.text.specs.declared.Range as code
+use Rattle.text.specs.declared.Rule.{Rule}
+use Rattle.text.specs.declared.Rule.the-variants.{One, Two, Three, Four, None}
 use Rattle.text.specs.declared.Character.{Character}
 use Rattle.text.specs.declared.Character.the-variants.{Ends, Fails}
 
@@ -30,10 +36,26 @@ unfoldable pub Within : List ℕ → ℕ → Character → Type 0
 Within s at (Ends k) = (at ≤ k) × (k ≤ length s)
 Within s at (Fails k) = Unit {0}
 
--- the ranges of n bytes, r that of the first
-unfoldable pub due : ℕ → Range → List Range
-due zero r = []
-due (suc n) r = r ∷ due n (0x80 to 0xBF)
+-- a range as the code has it
+unfoldable pub range : code.Range → Range
+range r = r .0 to r .1
+
+-- the ranges of the bytes after a first byte, by the rule that it is in; none where it is in none
+unfoldable pub after : Rule → Option (List Range)
+after One = some []
+after (Two a) = some (range a ∷ [])
+after (Three a b) = some (range a ∷ range b ∷ [])
+after (Four a b c) = some (range a ∷ range b ∷ range c ∷ [])
+after None = none
+
+-- the same, by the line of the table
+unfoldable pub due : Option Begun → Option (List Range)
+due none = none
+due (some (begun v rs)) = some rs
+
+-- there is a byte at `at`, in the range
+unfoldable pub byte-in : List ℕ → ℕ → Range → Bool
+byte-in s at r = ltb at (length s) && holds r (getD s at 0)
 
 -- c is what becomes of the character that begins at `lead`, and whose bytes from `at` on are due in these ranges
 pub record Completes (s : List ℕ) (lead at : ℕ) (rs : List Range) (c : Character) : Type 0 where

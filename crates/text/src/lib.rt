@@ -1,13 +1,14 @@
 // Texts: whether bytes are a text in UTF-8 or Latin-1, and Latin-1 as UTF-8.
 ghost use mathlib.Core.Path.{_≡_};
-ghost use mathlib.Core.Bool.{true};
+ghost use mathlib.Core.Bool.{true, false};
+ghost use mathlib.Core.List.{List, [], _∷_};
 ghost use Prim.Native.Nat.{_+_, _*_, _≤_, _<_};
 ghost use lib.ListN.{length, take, drop};
 ghost use lib.Seq.{sets};
-ghost use Rattle.term_spec.specs.Text.{_to_, holds, utf-8, latin-1, coding-of, check, encode, encodes};
+ghost use Rattle.term_spec.specs.Text.{holds, lines, first, utf-8, latin-1, coding-of, check, encode, encodes};
 ghost use Rattle.term_spec.specs.Text as texts;
 ghost use Rattle.text.specs.Shown.{shown, is-valid};
-ghost use Rattle.text.specs.Characters.{due, Completes, CharacterAt, Ascii};
+ghost use Rattle.text.specs.Characters.{range, after, due, byte-in, Completes, CharacterAt, Ascii};
 use term_spec::sizes;
 
 // The highest bits of 8 bytes: an ASCII character has none.
@@ -25,74 +26,154 @@ enum Character {
     Fails(usize),
 }
 
-// Whether `b` is one of `from` ..= `last`.
-fn within(b: u8, from: u8, last: u8) -> bool
-    ensures { λ r. ⌜ r ≡ holds (from to last) b ⌝ }
+// The bytes from the first number to the second, both within.
+struct Range(u8, u8);
+
+// UTF8-tail = %x80-BF
+const UTF8_TAIL: Range = Range(0x80, 0xBF);
+
+// The rule that a character's first byte is in, UTF8-1 to UTF8-4, with the ranges of the bytes after it.
+enum Rule {
+    One,
+    Two(Range),
+    Three(Range, Range),
+    Four(Range, Range, Range),
+    None,
+}
+
+// Whether `b` is in the range.
+fn within(b: u8, r: Range) -> bool
+    ensures { λ is. ⌜ is ≡ holds (range r) b ⌝ }
 {
-    if b < from {
+    if b < r.0 {
         return false;
     }
-    b <= last
+    b <= r.1
 }
 
-// The n bytes after a character's first byte, which stands at `lead`: the first of them in `from` ..= `last`, the others in 0x80 ..= 0xBF.
-fn tail(s: &[u8], lead: usize, n: usize, from: u8, last: u8) -> Character
-    requires { ⌜ (lead < length (now s)) × (n ≤ 3) ⌝ }
-    ensures { λ r. ⌜ Completes (now (s .entry)) lead (lead + 1) (due n (from to last)) r ⌝ }
+// RFC 3629, section 4, rule by rule: UTF8-char = UTF8-1 / UTF8-2 / UTF8-3 / UTF8-4
+fn rule_of(b: u8) -> Rule
+    ensures { λ r. ⌜ after r ≡ due (first b lines) ⌝ }
 {
-    let mut at = lead + 1;
-    let mut left = n;
-    let mut low = from;
-    let mut high = last;
-    while 0 < left {
-        if s.len() <= at {
-            return Character::Fails(lead);
-        }
-        if !within(s[at], low, high) {
-            return Character::Fails(at);
-        }
-        at += 1;
-        left -= 1;
-        low = 0x80;
-        high = 0xBF;
+    // UTF8-1 = %x00-7F
+    if within(b, Range(0x00, 0x7F)) {
+        return Rule::One;
     }
-    Character::Ends(at)
+    // UTF8-2 = %xC2-DF UTF8-tail
+    if within(b, Range(0xC2, 0xDF)) {
+        return Rule::Two(UTF8_TAIL);
+    }
+    // UTF8-3 = %xE0 %xA0-BF UTF8-tail
+    if within(b, Range(0xE0, 0xE0)) {
+        return Rule::Three(Range(0xA0, 0xBF), UTF8_TAIL);
+    }
+    // UTF8-3 / %xE1-EC 2( UTF8-tail )
+    if within(b, Range(0xE1, 0xEC)) {
+        return Rule::Three(UTF8_TAIL, UTF8_TAIL);
+    }
+    // UTF8-3 / %xED %x80-9F UTF8-tail
+    if within(b, Range(0xED, 0xED)) {
+        return Rule::Three(Range(0x80, 0x9F), UTF8_TAIL);
+    }
+    // UTF8-3 / %xEE-EF 2( UTF8-tail )
+    if within(b, Range(0xEE, 0xEF)) {
+        return Rule::Three(UTF8_TAIL, UTF8_TAIL);
+    }
+    // UTF8-4 = %xF0 %x90-BF 2( UTF8-tail )
+    if within(b, Range(0xF0, 0xF0)) {
+        return Rule::Four(Range(0x90, 0xBF), UTF8_TAIL, UTF8_TAIL);
+    }
+    // UTF8-4 / %xF1-F3 3( UTF8-tail )
+    if within(b, Range(0xF1, 0xF3)) {
+        return Rule::Four(UTF8_TAIL, UTF8_TAIL, UTF8_TAIL);
+    }
+    // UTF8-4 / %xF4 %x80-8F 2( UTF8-tail )
+    if within(b, Range(0xF4, 0xF4)) {
+        return Rule::Four(Range(0x80, 0x8F), UTF8_TAIL, UTF8_TAIL);
+    }
+    Rule::None
 }
 
-// The character at `at`: RFC 3629, section 4, line by line.
+// Whether there is a byte at `at`, in the range.
+fn byte_in(s: &[u8], at: usize, r: Range) -> bool
+    ensures { λ is. ⌜ is ≡ byte-in (now (s .entry)) at (range r) ⌝ }
+{
+    if s.len() <= at {
+        return false;
+    }
+    within(s[at], r)
+}
+
+// The character that begins at `lead` and has no good byte at `at`: one that the text's end cuts off fails at its first byte.
+fn broken(s: &[u8], lead: usize, at: usize) -> Character
+    ensures { λ c. ⌜ ((r : texts.Range) (rs : List texts.Range) → byte-in (now (s .entry)) at r ≡ false → Completes (now (s .entry)) lead at (r ∷ rs) c) ⌝ }
+{
+    if s.len() <= at {
+        return Character::Fails(lead);
+    }
+    Character::Fails(at)
+}
+
+// The character of two bytes at `lead`, the second in the range.
+fn two_bytes(s: &[u8], lead: usize, a: Range) -> Character
+    requires { ⌜ lead < length (now s) ⌝ }
+    ensures { λ r. ⌜ Completes (now (s .entry)) lead (lead + 1) (range a ∷ []) r ⌝ }
+{
+    let second = lead + 1;
+    if !byte_in(s, second, a) {
+        return broken(s, lead, second);
+    }
+    Character::Ends(second + 1)
+}
+
+// The character of three bytes at `lead`, those after the first in the ranges.
+fn three_bytes(s: &[u8], lead: usize, a: Range, b: Range) -> Character
+    requires { ⌜ lead < length (now s) ⌝ }
+    ensures { λ r. ⌜ Completes (now (s .entry)) lead (lead + 1) (range a ∷ range b ∷ []) r ⌝ }
+{
+    let second = lead + 1;
+    if !byte_in(s, second, a) {
+        return broken(s, lead, second);
+    }
+    let third = second + 1;
+    if !byte_in(s, third, b) {
+        return broken(s, lead, third);
+    }
+    Character::Ends(third + 1)
+}
+
+// The character of four bytes at `lead`, those after the first in the ranges.
+fn four_bytes(s: &[u8], lead: usize, a: Range, b: Range, c: Range) -> Character
+    requires { ⌜ lead < length (now s) ⌝ }
+    ensures { λ r. ⌜ Completes (now (s .entry)) lead (lead + 1) (range a ∷ range b ∷ range c ∷ []) r ⌝ }
+{
+    let second = lead + 1;
+    if !byte_in(s, second, a) {
+        return broken(s, lead, second);
+    }
+    let third = second + 1;
+    if !byte_in(s, third, b) {
+        return broken(s, lead, third);
+    }
+    let fourth = third + 1;
+    if !byte_in(s, fourth, c) {
+        return broken(s, lead, fourth);
+    }
+    Character::Ends(fourth + 1)
+}
+
+// The character at `at`.
 fn character_at(s: &[u8], at: usize) -> Character
     requires { ⌜ at < length (now s) ⌝ }
     ensures { λ r. ⌜ CharacterAt (now (s .entry)) at r ⌝ }
 {
-    let b = s[at];
-    if within(b, 0x00, 0x7F) {
-        return Character::Ends(at + 1);
+    match rule_of(s[at]) {
+        Rule::One => Character::Ends(at + 1),
+        Rule::Two(a) => two_bytes(s, at, a),
+        Rule::Three(a, b) => three_bytes(s, at, a, b),
+        Rule::Four(a, b, c) => four_bytes(s, at, a, b, c),
+        Rule::None => Character::Fails(at),
     }
-    if within(b, 0xC2, 0xDF) {
-        return tail(s, at, 1, 0x80, 0xBF);
-    }
-    if within(b, 0xE0, 0xE0) {
-        return tail(s, at, 2, 0xA0, 0xBF);
-    }
-    if within(b, 0xE1, 0xEC) {
-        return tail(s, at, 2, 0x80, 0xBF);
-    }
-    if within(b, 0xED, 0xED) {
-        return tail(s, at, 2, 0x80, 0x9F);
-    }
-    if within(b, 0xEE, 0xEF) {
-        return tail(s, at, 2, 0x80, 0xBF);
-    }
-    if within(b, 0xF0, 0xF0) {
-        return tail(s, at, 3, 0x90, 0xBF);
-    }
-    if within(b, 0xF1, 0xF3) {
-        return tail(s, at, 3, 0x80, 0xBF);
-    }
-    if within(b, 0xF4, 0xF4) {
-        return tail(s, at, 3, 0x80, 0x8F);
-    }
-    Character::Fails(at)
 }
 
 // Whether the 8 bytes from `at` on are ASCII characters. They are one number, the first byte the lowest, which is loaded at once.
