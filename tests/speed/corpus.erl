@@ -56,6 +56,7 @@ kinds() ->
      {"one-bignum", {filled, <<111>>, <<0>>, 200}},
      {"floats", list(1, fun(I) -> <<70, (I / 7)/float>> end)},
      {"atoms", list(1, fun(I) -> atom_bytes(I rem 200) end)},
+     {"atoms-utf8", list(1, fun(I) -> utf8_bytes(I rem 200) end)},
      {"tuples", list(3, fun(I) -> <<104, 2, 97, I, 98, (I * 31):32>> end)},
      {"string", {string, 107}},
      {"binary", {filled, <<109>>, <<>>, 65}},
@@ -79,6 +80,8 @@ map(Key) -> {map, Key}.
 pid_bytes(I) -> <<88, ?NODE_NAME/binary, (I rem 32768):32, (I rem 100):32, 7:32>>.
 reference_bytes(I) -> <<90, 3:16, ?NODE_NAME/binary, 7:32, (I rem 262144):32, 11:32, 12:32>>.
 atom_bytes(I) -> iolist_to_binary([119, 8, io_lib:format("atom~4..0b", [I])]).
+%% characters of two, three and four bytes, then digits
+utf8_bytes(I) -> iolist_to_binary([119, 13, <<16#436/utf8, 16#4E2D/utf8, 16#1F600/utf8>>, io_lib:format("~4..0b", [I])]).
 small_map(I) -> [<<116, 4:32>>, [[atom_bytes(K), <<98, (I * K):32>>] || K <- [1, 2, 3, 4]]].
 
 %% The largest message of the kind with at most so many bytes and at most 8,192 rows.
