@@ -1,18 +1,17 @@
 -- A term's canonical form is what stands before its parts, the parts', and what stands after them; a list of small integers has its own.
-use mathlib.Core.Path.{_≡_, refl, sym, _∙_, ap}
+use mathlib.Core.Path.{_≡_, refl, sym, ap}
 use mathlib.Core.Bool.{Bool, true, false, cond}
 use mathlib.Core.List.{List, [], _∷_, _++_, append-assoc, append-nil}
 use mathlib.Core.Option.{Option, none, some}
-use Prim.Native.Nat.{ℕ, zero, suc, _^_, _≤_}
+use Prim.Native.Nat.{ℕ, zero, suc, _^_}
 use native.Mathlib.Omega.{arith}
 use lib.Dec.{ltb, leb}
 use lib.ListN.{length}
-use borrow.Author.Tests.{le-leb}
 use Rattle.term_spec.specs.Tree.{Forest, node, _▹_, count}
 use Rattle.term_spec.specs.Numbers.{in-bytes}
 use Rattle.term_spec.specs.Text.{encodes}
 use Rattle.term_spec.specs.Term.{Label, integer, float, atom, tuple, list, improper-list, binary, bitstring, map, pid, port, reference, export}
-use Rattle.term_spec.specs.Canonical.{integer-bytes, atom-bytes, tuple-bytes, port-bytes, all-small, long-list, list-bytes, term-bytes, canonical, canonicals}
+use Rattle.term_spec.specs.Canonical.{integer-bytes, atom-bytes, tuple-bytes, port-bytes, all-small, list-bytes, term-bytes, canonical, canonicals}
 use Rattle.term_spec.specs.Valid.{Fits}
 use Rattle.canonical_fields.specs.Shape.{list-start, list-end, before, after, some-small}
 
@@ -22,7 +21,7 @@ unfolding canonicals
 alone bs ts e = rw e (sym (append-nil bs))
 
 list-shape : (n : ℕ) (o : Option (List ℕ)) (parts : List ℕ) → some-small n o ≡ none → (n ≡ 0 → parts ≡ []) → list-bytes n o parts ≡ list-start n ++ (parts ++ list-end n)
-unfolding list-bytes list-start list-end some-small long-list
+unfolding list-bytes list-start list-end some-small
 list-shape zero o parts e f = ap (λ (p : List ℕ). 106 ∷ (p ++ [])) (sym (f refl))
 list-shape (suc n) none parts e f = refl
 list-shape (suc n) (some cs) parts e f = let no-way : _≡_ {A = ℕ} 0 1 = cc in absurd (omega arith)
@@ -67,15 +66,12 @@ canonical-parts (port id creation) ts f s = port-shape id creation (canonicals t
 canonical-parts (reference creation ws) ts f s = refl
 canonical-parts export ts f s = simp (append-assoc, append-nil)
 
-pub canonical-string : (ts : Forest Label) (cs : List ℕ) → some-small (count ts) (all-small ts) ≡ some cs → count ts ≤ 65535
+pub canonical-string : (ts : Forest Label) (cs : List ℕ) → some-small (count ts) (all-small ts) ≡ some cs
     → canonical (node list ts) ≡ 107 ∷ (in-bytes 2 (count ts) ++ cs)
 unfolding canonical term-bytes list-bytes some-small
-canonical-string ts cs e h = go (count ts) (all-small ts) e h
+canonical-string ts cs e = go (count ts) (all-small ts) e
   where
-    go : (n : ℕ) (o : Option (List ℕ)) → some-small n o ≡ some cs → n ≤ 65535 → list-bytes n o (canonicals ts) ≡ 107 ∷ (in-bytes 2 n ++ cs)
-    go zero o e h = let no-way : _≡_ {A = ℕ} 0 1 = cc in absurd (omega arith)
-    go (suc n) none e h = let no-way : _≡_ {A = ℕ} 0 1 = cc in absurd (omega arith)
-    go (suc n) (some ds) e h =
-        let same : ds ≡ cs = cc in
-        ap (λ (z : Bool). cond z (107 ∷ (in-bytes 2 (suc n) ++ ds)) (long-list (suc n) (canonicals ts))) (le-leb (suc n) 65535 h)
-        ∙ ap (λ (l : List ℕ). 107 ∷ (in-bytes 2 (suc n) ++ l)) same
+    go : (n : ℕ) (o : Option (List ℕ)) → some-small n o ≡ some cs → list-bytes n o (canonicals ts) ≡ 107 ∷ (in-bytes 2 n ++ cs)
+    go zero o e = let no-way : _≡_ {A = ℕ} 0 1 = cc in absurd (omega arith)
+    go (suc n) none e = let no-way : _≡_ {A = ℕ} 0 1 = cc in absurd (omega arith)
+    go (suc n) (some ds) e = let same : ds ≡ cs = cc in ap (λ (l : List ℕ). 107 ∷ (in-bytes 2 (suc n) ++ l)) same

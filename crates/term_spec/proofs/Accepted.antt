@@ -237,14 +237,14 @@ module _ (cap : ℕ) where
         go false e = refused-holds 9 p
 
     string-holds : (d p off : ℕ) (cs : List ℕ) → Under 256 cs → (r : ℕ) (s : Position) → Fine r s → r ≤ cap
-        → Holds (string atoms cap d p off cs s) (λ us t. Founds d r us t × (count (meanings us) ≡ length cs))
+        → Holds (string atoms cap d p off cs s) (Founds d r)
     unfolding string
-    string-holds d p off [] u r s g h = done-holds _ s (no-parts h g, refl)
+    string-holds d p off [] u r s g h = done-holds _ s (no-parts h g)
     string-holds zero p off (c ∷ cs) u r s g h = refused-holds 8 p
     string-holds (suc d) p off (c ∷ cs) u r s g h =
         bind (row-holds p s g λ t₁ less g₁.
-        next (λ us t. Founds (suc d) (r + 1) us t × (count (meanings us) ≡ length cs)) (string-holds (suc d) p (off + 1) cs (u .1) (r + 1) t₁ g₁ (omega arith)) λ us t fs.
-        done-holds _ t (one-more (character-found {t = t₁} c (character-at off) (u .0) (omega arith) less g₁) (fs .0), ap suc (fs .1)))
+        next (Founds (suc d) (r + 1)) (string-holds (suc d) p (off + 1) cs (u .1) (r + 1) t₁ g₁ (omega arith)) λ us t fs.
+        done-holds _ t (one-more (character-found {t = t₁} c (character-at off) (u .0) (omega arith) less g₁) fs))
 
     -- What is asked of `inner`, which reads the parts after their heads.
     abbrev Inner : ℕ → (ℕ → Head → Reading Located) → Type 0
@@ -252,7 +252,7 @@ module _ (cap : ℕ) where
         (w : Wanted) (a : Asked w) (p : ℕ) (h : Head) (r : ℕ) (s : Position) → Sound h → empty-108 h ≡ false → Suits a h → Fine r s → r ≤ cap
         → Holds (inner p h s) (λ u t. Found a d r u t × (Plain h → ¬ IsList (top (meaning u))))
 
-    module _ (true-atoms : True-atoms atoms) (few : cap < 2 ^ 32) (d : ℕ) (inner : ℕ → Head → Reading Located) (ok-inner : Inner d inner) where
+    module _ (true-atoms : True-atoms atoms) (few : cap ≤ 8192) (d : ℕ) (inner : ℕ → Head → Reading Located) (ok-inner : Inner d inner) where
       reader : (w : Wanted) (a : Asked w) (r : ℕ) (s : Position) → Fine r s → r ≤ cap → Holds (one-term atoms inner w s) (Found a d r)
       unfolding one-term
       reader w a r s g h =
@@ -277,10 +277,9 @@ module _ (cap : ℕ) where
                 | parts ws n l ↦ λ t. after (inner p (parts ws n l) t) (λ u. done (u ▹ empty, improper-list))
                 | pairs n ↦ λ t. after (inner p (pairs n) t) (λ u. done (u ▹ empty, improper-list))
               ]) t) (Ending r)
-          go p (characters cs) t (a-string us l) z g ih =
-              next (λ us t. Founds d r us t × (count (meanings us) ≡ length cs)) (string-holds d p (p + 3) cs us r t g h) λ us t fs.
-              done-holds _ t (fs .0, proper)
-          go p (elements n) t (a-list l) z g ih =
+          go p (characters cs) t (a-string us) z g ih =
+              next (Founds d r) (string-holds d p (p + 3) cs us r t g h) λ us t fs. done-holds _ t (fs, proper)
+          go p (elements n) t a-list z g ih =
               next (λ us t. Founds d r us t × (count (meanings us) ≡ n)) (run-holds d (one-term atoms inner) reader n r t g h) λ us t fs.
               next (Ending (r + sizes (meanings us))) (ih (r + sizes (meanings us)) t (fs .0 .fine) (fs .0 .room)) λ e t es.
               done-holds _ t (joined us (fs .0) (es .0), ends-join us (e .0) (es .1))
@@ -307,7 +306,7 @@ module _ (cap : ℕ) where
           }
 
       -- a list from its elements and its end
-      list-fits : (us vs : Forest (Label × Offset)) (l : Label) (r : ℕ) → r + sizes (meanings (us ▹▹ vs)) ≤ cap → 0 < count (meanings us) → Ends l (meanings vs)
+      list-fits : (us vs : Forest (Label × Offset)) (l : Label) (r : ℕ) → r + 1 + sizes (meanings (us ▹▹ vs)) ≤ cap → 0 < count (meanings us) → Ends l (meanings vs)
           → Fits l (meanings (us ▹▹ vs))
       list-fits us vs list r room some-us proper = omega (arith, count-le-sizes (meanings (us ▹▹ vs)))
       list-fits empty vs improper-list r room some-us (improper h) = absurd (omega arith)
@@ -392,24 +391,24 @@ module _ (cap : ℕ) where
       whole-holds a p r s an-old-reference z suits g less =
           named-holds a p _ r s suits g less (λ r′ s′ g′. old-holds p s′ g′ (λ x t n nl g″. (n, nl, g″)))
       whole-holds a p r s an-export z suits g less = export-holds a p r s suits g less
-      whole-holds a p r s (a-string {cs = cs} us l) z suits g less =
-          next (λ us t. Founds d (r + 1) us t × (count (meanings us) ≡ length cs)) (string-holds d p (p + 3) cs us (r + 1) s g (omega arith)) λ us t fs.
+      whole-holds a p r s (a-string {cs = cs} us) z suits g less =
+          next (Founds d (r + 1)) (string-holds d p (p + 3) cs us (r + 1) s g (omega arith)) λ us t fs.
           done-holds _ t (
-            made list (tag-at p) (fs .0) (omega (arith, fs .1))
+            made list (tag-at p) fs (omega (arith, count-le-sizes (meanings us), fs .room))
                 (elsewhere a _ _ suits (λ cs e. let z : _≡_ {A = ℕ} 0 1 = cc in omega arith) (λ n e. let z : _≡_ {A = ℕ} 0 1 = cc in omega arith)),
             λ bad. absurd bad,
           )
-      whole-holds a p r s (a-list {n = zero} l) z suits g less = absurd (let z : _≡_ {A = ℕ} 0 1 = cc in omega arith)
-      whole-holds a p r s (a-list {n = suc n} l) z suits g less =
+      whole-holds a p r s (a-list {n = zero}) z suits g less = absurd (let z : _≡_ {A = ℕ} 0 1 = cc in omega arith)
+      whole-holds a p r s (a-list {n = suc n}) z suits g less =
           next (λ us t. Founds d (r + 1) us t × (count (meanings us) ≡ suc n)) (run-holds d (one-term atoms inner) reader (suc n) (r + 1) s g (omega arith)) λ us t fs.
           next (Ending (r + 1 + sizes (meanings us))) (tail-holds (t .left) (r + 1 + sizes (meanings us)) t (fs .0 .fine) (fs .0 .room)) λ e t es.
           let all : Founds d (r + 1) (us ▹▹ e .0) t = joined us (fs .0) (es .0) in
           done-holds _ t (
-            made (e .1) (tag-at p) all (list-fits us (e .0) (e .1) (r + 1) (all .room) (omega (arith, fs .1)) (es .1))
+            made (e .1) (tag-at p) all (list-fits us (e .0) (e .1) r (all .room) (omega (arith, fs .1)) (es .1))
                 (elsewhere a _ _ suits (λ cs e. let z : _≡_ {A = ℕ} 0 1 = cc in omega arith) (λ n e. let z : _≡_ {A = ℕ} 0 1 = cc in omega arith)),
             λ bad. absurd bad,
           )
-      whole-holds a p r s (a-map {n = n} l) z suits g less =
+      whole-holds a p r s (a-map {n = n}) z suits g less =
           next (λ us t. Founds d (r + 1) us t × Keys [] (meanings us)) (entries-holds d (one-term atoms inner) reader [] n (r + 1) s g (omega arith)) λ us t fs.
           done-holds _ t (
             made map (tag-at p) (fs .0) (omega (arith, count-le-sizes (meanings us), fs .0 .room), fs .1)
@@ -417,7 +416,7 @@ module _ (cap : ℕ) where
             λ _ x. x,
           )
 
-    module _ (true-atoms : True-atoms atoms) (few : cap < 2 ^ 32) where
+    module _ (true-atoms : True-atoms atoms) (few : cap ≤ 8192) where
       body-holds : (d : ℕ) → Inner d (body atoms cap d)
       unfolding body
       body-holds zero w a p h r s ok z suits g k = refused-holds 8 p

@@ -15,7 +15,7 @@ use Rattle.term_spec.specs.Head.{forms, form-in, form-or, form, text-or,
 use Rattle.term_spec.specs.Reading.{opening, each, run, entries, row, string, list-tail, contents, body, one-term}
 use Rattle.term_spec.specs.AtomList.{AtomList, of-size, place-length, place-bytes, place-text, atoms-of, empty-list, lent-list}
 use Rattle.term_spec.specs.Message.{standalone, payload, Terms, meanings, ending, version, standalone-term, payload-terms, terms-framed, result-of, first-check, read}
-use Rattle.term_spec.specs.Canonical.{big-bytes, integer-bytes, atom-bytes, tuple-bytes, port-bytes, words-bytes, small, all-small, long-list, list-bytes, term-bytes, canonical, canonical-standalone, standalones}
+use Rattle.term_spec.specs.Canonical.{big-bytes, integer-bytes, atom-bytes, tuple-bytes, port-bytes, words-bytes, small, all-small, list-bytes, term-bytes, canonical, canonical-standalone, standalones}
 use Rattle.term_spec.specs.Writing.{Written, written, write}
 use Rattle.term_spec.specs.Tree.{count}
 use Rattle.term_spec.specs.Rows.{rows, tree-rows, kind-of, kind-at, offset-of, whole-code, pack, word, row-words, table-after}
@@ -24,7 +24,7 @@ use Rattle.term_spec.proofs.Demand.{written-good, written-by, refused-b
 
 -- what the writer answers for a standalone term, with an empty list of zeros, 8,192 rows and 65,536 bytes of output
 unfoldable pub output : List ℕ → Answer Written
-unfolding ℕ-discrete big-endian in-bytes little-endian digits-within digits signed32 with-sign holds lines marker first emit decode check is-character encode encodes list-discrete integer-discrete term-discrete same among bytes number forms form-in form-or form text-or finite bits-rule clear-low bits-meaning fields term-head creation-rule id-words words-rule later opening each run entries row string list-tail contents body one-term of-size place-length place-bytes place-text atoms-of big-bytes integer-bytes atom-bytes tuple-bytes port-bytes words-bytes small all-small long-list list-bytes term-bytes canonical canonical-standalone standalones ending version standalone-term payload-terms read written write
+unfolding ℕ-discrete big-endian in-bytes little-endian digits-within digits signed32 with-sign holds lines marker first emit decode check is-character encode encodes list-discrete integer-discrete term-discrete same among bytes number forms form-in form-or form text-or finite bits-rule clear-low bits-meaning fields term-head creation-rule id-words words-rule later opening each run entries row string list-tail contents body one-term of-size place-length place-bytes place-text atoms-of big-bytes integer-bytes atom-bytes tuple-bytes port-bytes words-bytes small all-small list-bytes term-bytes canonical canonical-standalone standalones ending version standalone-term payload-terms read written write
 output message = write standalone empty-list 8192 65536 message
 
 -- one term, and its bytes

@@ -52,9 +52,9 @@ pub data Sound : Head → Type 0 where
   a-reference : {k w : ℕ} → 1 ≤ k → k ≤ 3 → 256 ^ w ≤ 2 ^ 32 → Sound (parts (an-atom ∷ []) 0 (reference-fields k w))
   an-old-reference : Sound (parts (an-atom ∷ []) 0 old-reference-fields)
   an-export : Sound (parts (an-atom ∷ an-atom ∷ an-arity ∷ []) 0 (known export))
-  a-string : {cs : List ℕ} → Under 256 cs → length cs < 2 ^ 16 → Sound (characters cs)
-  a-list : {n : ℕ} → n < 2 ^ 32 → Sound (elements n)
-  a-map : {n : ℕ} → n < 2 ^ 32 → Sound (pairs n)
+  a-string : {cs : List ℕ} → Under 256 cs → Sound (characters cs)
+  a-list : {n : ℕ} → Sound (elements n)
+  a-map : {n : ℕ} → Sound (pairs n)
 
 -- numbers
 signed-magnitude : (n : ℕ) → n < 2 ^ 32 → magnitude (signed32 n) ≤ 2 ^ 32
@@ -164,16 +164,16 @@ module _ (atoms : Atoms) (true-atoms : True-atoms atoms) where
   fields-holds p atom-cache-ref w s g q =
       bind (number-holds p 1 s g λ i t h g. bind (rule-holds (ltb i (atoms .n)) 6 p t λ e. bind (text-holds _ 14 0 t λ cs e.
       done-holds _ t (q _ t (a-leaf {l = atom cs} (refl, true-atoms i cs e .0, true-atoms i cs e .1) (λ x. x)) (cs, refl) g))))
-  fields-holds p nil-ext w s g q = done-holds _ s (q _ s (a-string tt (lit< tt)) tt g)
+  fields-holds p nil-ext w s g q = done-holds _ s (q _ s (a-string tt) tt g)
   fields-holds p string-ext w s g q =
-      bind (number-holds p 2 s g λ n t h g. bind (bytes-holds p n t g λ bs u l us g. done-holds _ u (q _ u (a-string us (rw l h)) tt g)))
-  fields-holds p list-ext w s g q = bind (number-holds p 4 s g λ n t h g. done-holds _ t (q _ t (a-list h) tt g))
+      bind (number-holds p 2 s g λ n t h g. bind (bytes-holds p n t g λ bs u l us g. done-holds _ u (q _ u (a-string us) tt g)))
+  fields-holds p list-ext w s g q = bind (number-holds p 4 s g λ n t h g. done-holds _ t (q _ t a-list tt g))
   fields-holds p binary-ext w s g q =
       bind (number-holds p 4 s g λ n t h g. bind (bytes-holds p n t g λ bs u l us g. done-holds _ u (q _ u (a-leaf {l = binary bs} (refl, rw l h) (λ x. x)) tt g)))
   fields-holds p bit-binary-ext w s g q =
       bind (number-holds p 4 s g λ n t h g. bind (number-holds p 1 t g λ bits t k g. bind (bytes-holds p n t g λ bs u l us g.
       bind (rule-holds _ 4 p u λ e. done-holds _ u (q _ u (a-leaf (bits-fit bits bs (rw l h) k (rw l e)) (bits-no-list bits bs)) tt g)))))
-  fields-holds p map-ext w s g q = bind (number-holds p 4 s g λ n t h g. done-holds _ t (q _ t (a-map h) tt g))
+  fields-holds p map-ext w s g q = bind (number-holds p 4 s g λ n t h g. done-holds _ t (q _ t a-map tt g))
   fields-holds p reference-ext w s g q = done-holds _ s (q _ s an-old-reference tt g)
   fields-holds p export-ext w s g q = done-holds _ s (q _ s an-export tt g)
   fields-holds p (big-ext w) ok s g q =

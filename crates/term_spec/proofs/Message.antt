@@ -107,11 +107,11 @@ list-true list i cs e = go (leb (place-length list i) 32) e
     go false f = let no-way : _≡_ {A = ℕ} 0 1 = cc in absurd (omega arith)
 
 -- a good answer has passed the first checks, and has a position
-passed : {A : Type 0} (t : Bool) (n : ℕ) (o : Answer A) (a : A) → first-check t n o ≡ good a → (t ≡ true) × (o ≡ good a)
+pub passed : {A : Type 0} (t : Bool) (n : ℕ) (o : Answer A) (a : A) → first-check t n o ≡ good a → (t ≡ true) × (o ≡ good a)
 passed true n o a e = (refl, e)
 passed false n o a e = let no-way : _≡_ {A = ℕ} 0 1 = cc in absurd (omega arith)
 
-found-good : {A : Type 0} (o : Answer (A × Position)) (a : A) → result-of o ≡ good a → (s : Position) × (o ≡ good (a, s))
+pub found-good : {A : Type 0} (o : Answer (A × Position)) (a : A) → result-of o ≡ good a → (s : Position) × (o ≡ good (a, s))
 found-good (good r) a e = let is : r .0 ≡ a = cc in (r .1, ap (λ x. good (x, r .1)) is)
 found-good (refused n p) a e = let no-way : _≡_ {A = ℕ} 0 1 = cc in absurd (omega arith)
 

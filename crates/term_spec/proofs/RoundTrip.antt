@@ -6,14 +6,14 @@ use Prim.Native.Nat.{ℕ, zero, suc, _+_, _*_, _/_, _^_, _≤_, _<_}
 use native.Mathlib.Omega.{arith}
 use lib.IntN.{pos}
 use lib.ListN.{length}
-use borrow.Author.Tests.{lt-ltb, le-ltb, le-leb, lt-leb}
+use borrow.Author.Tests.{lt-ltb, le-ltb}
 use Rattle.term_spec.specs.Tree.{Forest, node, empty, _▹_, _▹▹_, size, sizes, depth, deepest, count, relabel, relabels}
 use Rattle.term_spec.specs.Numbers.{in-bytes}
 use Rattle.term_spec.specs.Term.{Label, Term, integer, float, atom, tuple, list, improper-list, binary, bitstring, map, pid, port, reference, export}
 use Rattle.term_spec.specs.Answer.{Answer, good, refused, Position, Reading}
 use Rattle.term_spec.specs.Head.{Atoms, any, an-atom, an-arity, Head, leaf, parts, characters, elements, pairs, known, pid-fields, port-fields, reference-fields, later, Later}
 use Rattle.term_spec.specs.Reading.{tag-at, Located, opening, one-term, body, contents, each, run, string, list-tail}
-use Rattle.term_spec.specs.Canonical.{all-small, put, small, list-bytes, long-list, port-bytes, words-bytes, term-bytes, canonical, canonicals}
+use Rattle.term_spec.specs.Canonical.{all-small, put, small, list-bytes, port-bytes, words-bytes, term-bytes, canonical, canonicals}
 use Rattle.term_spec.specs.Valid.{Fits, Valid, Valids, Keys, Values, Improper, IsList}
 use Rattle.term_spec.proofs.Rows.{sizes-join, count-join}
 use Rattle.term_spec.proofs.Steps.{spot}
@@ -150,13 +150,13 @@ module _ (atoms : Atoms) (cap d : ℕ) where
       }
 
   -- a list of elements, with 106 for its tail
-  long-reads : (ts : Forest Label) → count ts < 2 ^ 32 → 0 < count ts → All-readable atoms cap d ts
+  elements-read : (ts : Forest Label) → count ts ≤ 8191 → 0 < count ts → All-readable atoms cap d ts
       → (at r : ℕ) (rest : List ℕ) → r + size (node list ts) ≤ cap
-      → Reads atoms cap (suc d) any (long-list (count ts) (canonicals ts) ++ rest) rest at r (node list ts)
-  unfolding long-list contents
-  long-reads ts f k all at r rest h =
+      → Reads atoms cap (suc d) any (108 ∷ ((in-bytes 4 (count ts) ++ (canonicals ts ++ (106 ∷ []))) ++ rest)) rest at r (node list ts)
+  unfolding contents
+  elements-read ts f k all at r rest h =
       let o : Opens atoms any (108 ∷ (in-bytes 4 (count ts) ++ (canonicals ts ++ (106 ∷ rest)))) at r (elements (count ts)) (canonicals ts ++ (106 ∷ rest))
-      = Opening.list-opens atoms at r (canonicals ts ++ (106 ∷ rest)) (count ts) f k in
+      = Opening.list-opens atoms at r (canonicals ts ++ (106 ∷ rest)) (count ts) (omega arith) k in
       let inner : Runs atoms cap d (canonicals ts ++ (106 ∷ rest)) (106 ∷ rest) (o .end) (r + 1) ts
       = run-reads atoms cap d ts all (o .end) (r + 1) (106 ∷ rest) (omega arith) in
       rw (append-assoc (in-bytes 4 (count ts)) (canonicals ts ++ (106 ∷ [])) rest, append-assoc (canonicals ts) (106 ∷ []) rest)
@@ -187,11 +187,11 @@ small-count (node l us ▹ ts) cs e = go (small l) (all-small ts) refl e (λ cs�
 
 module _ (atoms : Atoms) (cap : ℕ) where
   -- a list of characters
-  short-reads : (d : ℕ) (ts : Forest Label) (cs : List ℕ) → all-small ts ≡ some cs → Valids ts → deepest ts ≤ suc d → count ts ≤ 65535
+  characters-read : (d : ℕ) (ts : Forest Label) (cs : List ℕ) → all-small ts ≡ some cs → Valids ts → deepest ts ≤ suc d → count ts ≤ 8191
       → (at r : ℕ) (rest : List ℕ) → r + size (node list ts) ≤ cap
       → Reads atoms cap (suc (suc d)) any (107 ∷ ((in-bytes 2 (count ts) ++ cs) ++ rest)) rest at r (node list ts)
   unfolding contents
-  short-reads d ts cs e ok h few at r rest k =
+  characters-read d ts cs e ok h few at r rest k =
       let same-length : length cs ≡ count ts = small-count ts cs e in
       let o : Opens atoms any (107 ∷ (in-bytes 2 (length cs) ++ (cs ++ rest))) at r (characters cs) rest
       = Opening.string-opens atoms at r rest cs (omega arith) in
@@ -221,11 +221,8 @@ module _ (atoms : Atoms) (cap : ℕ) where
     where
       go : (o : Option (List ℕ)) → all-small (t ▹ ts) ≡ o
           → Reads atoms cap (suc (suc d)) any (list-bytes (suc (count ts)) o (canonicals (t ▹ ts)) ++ rest) rest at r (node list (t ▹ ts))
-      go Option.none e = long-reads atoms cap (suc d) (t ▹ ts) f (omega arith) all at r rest k
-      go (some cs) e =
-          by-less 65535 (suc (count ts))
-          (λ many. rw (lt-leb (suc (count ts)) 65535 many) (long-reads atoms cap (suc d) (t ▹ ts) f (omega arith) all at r rest k))
-          (λ few. rw (le-leb (suc (count ts)) 65535 few) (short-reads d (t ▹ ts) cs e ok h few at r rest k))
+      go Option.none e = elements-read atoms cap (suc d) (t ▹ ts) f (omega arith) all at r rest k
+      go (some cs) e = characters-read d (t ▹ ts) cs e ok h f at r rest k
 
   -- an improper list
   All-join : (d : ℕ) (ts : Forest Label) (t : Term) → All-readable atoms cap d (ts ▹▹ (t ▹ empty)) → All-readable atoms cap d ts × Readable atoms cap d t

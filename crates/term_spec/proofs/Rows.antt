@@ -59,6 +59,18 @@ module _ {A : Type 0} where
     fewer-parts-each empty n h = tt
     fewer-parts-each (t ▹ ts) n h = (fewer-parts t n (omega arith), fewer-parts-each ts n (omega arith))
 
+  -- what follows at each node from what holds at each
+  module _ (P Q : A → Forest A → Type 0) (from : (a : A) (ts : Forest A) → P a ts → Q a ts) where
+    mutual
+      unfolding Each-node
+
+      pub each-node-map : (t : Tree A) → Each-node P t → Each-node Q t
+      each-node-map (node a ts) h = (from a ts (h .0), each-nodes-map ts (h .1))
+
+      pub each-nodes-map : (ts : Forest A) → Each-nodes P ts → Each-nodes Q ts
+      each-nodes-map empty h = tt
+      each-nodes-map (t ▹ ts) h = (each-node-map t (h .0), each-nodes-map ts (h .1))
+
   pub each-nodes-join : (P : A → Forest A → Type 0) (ts us : Forest A) → Each-nodes P ts → Each-nodes P us → Each-nodes P (ts ▹▹ us)
   unfolding Each-node
   each-nodes-join P empty us h g = g

@@ -73,15 +73,11 @@ unfoldable pub all-small : Forest Label → Option (List ℕ)
 all-small Forest.empty = some []
 all-small (node l ts ▹ us) = put (small l) (all-small us)
 
--- 108, its tail 106
-unfoldable pub long-list : ℕ → List ℕ → List ℕ
-long-list n parts = 108 ∷ (in-bytes 4 n ++ (parts ++ (106 ∷ [])))
-
--- 106; 107 for a proper list of 1 to 65,535 integers 0 .. 255, else 108
+-- 106; 107 for a proper list of one or more integers 0 .. 255, else 108, its tail 106. Of lists of at most 8,191 elements: no accepted term has a longer one (Lists)
 unfoldable pub list-bytes : ℕ → Option (List ℕ) → List ℕ → List ℕ
 list-bytes zero characters parts = 106 ∷ []
-list-bytes (suc n) none parts = long-list (suc n) parts
-list-bytes (suc n) (some cs) parts = cond (leb (suc n) 65535) (107 ∷ (in-bytes 2 (suc n) ++ cs)) (long-list (suc n) parts)
+list-bytes (suc n) none parts = 108 ∷ (in-bytes 4 (suc n) ++ (parts ++ (106 ∷ [])))
+list-bytes (suc n) (some cs) parts = 107 ∷ (in-bytes 2 (suc n) ++ cs)
 
 -- a term's bytes, from its label, its parts and the parts' bytes
 unfoldable pub term-bytes : Label → Forest Label → List ℕ → List ℕ

@@ -16,4 +16,5 @@ pub mod Look
 pub mod Answers
 pub mod Promises
 pub mod Demands
+pub mod Lists
 pub mod Cases

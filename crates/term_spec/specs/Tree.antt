@@ -52,8 +52,6 @@ module _ {A B : Type 0} (f : A → B) where
     relabels empty = empty
     relabels (t ▹ ts) = relabel t ▹ relabels ts
 
--- ---- For proofs and inner functions alone: no promise of a public call and no demand cites what follows.
-
 -- P holds of the label and the parts of each node
 module _ {A : Type 0} (P : A → Forest A → Type 0) where
   unfoldable mutual

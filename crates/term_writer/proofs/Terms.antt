@@ -46,6 +46,20 @@ pub record Strung (l : Label × Offset) (ts : Terms) : Type 0 where
   pub are : all-small (meanings ts) ≡ some characters
   pub bytes : canonical (node (l .0) (meanings ts)) ≡ 107 ∷ (in-bytes 2 (count ts) ++ characters)
 
+pub strung : {l : Label × Offset} {ts : Terms} → string-term (node l ts) ≡ true → Strung l ts
+unfolding string-term
+strung {l} {ts} e =
+    let o = some-told (as-string (l .0) (meanings ts)) e in
+    let i = as-inverse (l .0) (meanings ts) (o .0) (o .1) in
+    let k : count (meanings ts) ≡ count ts = count-meanings ts in
+    record {
+      characters = o .0;
+      are = small-is (count (meanings ts)) (all-small (meanings ts)) (o .0) (i .1);
+      bytes = ap (λ (x : Label). canonical (node x (meanings ts))) (i .0)
+          ∙ canonical-string (meanings ts) (o .0) (i .1)
+          ∙ ap (λ (n : ℕ). 107 ∷ (in-bytes 2 n ++ o .0)) k;
+    }
+
 -- a term that is written part by part, and has room
 record Parts-fit (m places lengths T : List ℕ) (row room at : ℕ) : Type 0 where
   label : Label × Offset
@@ -61,21 +75,6 @@ module _ {m places lengths T : List ℕ} {row : ℕ} where
       let c : count ts ≤ sizes ts = count-le-sizes ts in
       let f : row + suc (sizes ts) ≤ 8192 = h .few in
       omega arith
-
-  pub strung : {l : Label × Offset} {ts : Terms} → Term-in-table m places lengths T row (node l ts) → string-term (node l ts) ≡ true → Strung l ts
-  unfolding string-term
-  strung {l} {ts} h e =
-      let o = some-told (as-string (l .0) (meanings ts)) e in
-      let i = as-inverse (l .0) (meanings ts) (o .0) (o .1) in
-      let k : count (meanings ts) ≡ count ts = count-meanings ts in
-      let f = few-parts h in
-      record {
-        characters = o .0;
-        are = small-is (count (meanings ts)) (all-small (meanings ts)) (o .0) (i .1);
-        bytes = ap (λ (x : Label). canonical (node x (meanings ts))) (i .0)
-            ∙ canonical-string (meanings ts) (o .0) (i .1) (omega arith)
-            ∙ ap (λ (n : ℕ). 107 ∷ (in-bytes 2 n ++ o .0)) k;
-      }
 
   -- of one that is written part by part
   pub unstrung : {l : Label × Offset} {ts : Terms} → Term-in-table m places lengths T row (node l ts) → string-term (node l ts) ≡ false
@@ -100,7 +99,7 @@ module _ {m places lengths T : List ℕ} {row : ℕ} where
   pub string-length : (n : ℕ) → n ≡ parts-in (getD T row 0) → (t : Located) → Term-in-table m places lengths T row t → string-term t ≡ true
       → (n + 3 ≡ length (canonical (meaning t))) × (n + 3 ≤ 524288 * size t)
   string-length n e (node l ts) h s =
-      let g = strung h s in
+      let g = strung s in
       let c : count ts ≡ n = sym (held-count h) ∙ sym e in
       let k : length (g .characters) ≡ count (meanings ts) = small-count (meanings ts) (g .characters) (g .are) in
       let j : count (meanings ts) ≡ count ts = count-meanings ts in
@@ -142,7 +141,7 @@ module _ {m places lengths T : List ℕ} {row : ℕ} where
   pub string-written : {O P : List ℕ} {at r n : ℕ} → n ≡ parts-in (getD T row 0) → String-put m places lengths T (row + 1) n O at r P
       → (t : Located) → Term-in-table m places lengths T row t → string-term t ≡ true → Put O at (canonical (meaning t)) r P
   string-written {n = n} e p (node l ts) h s =
-      let g = strung h s in
+      let g = strung s in
       let c : count ts ≡ n = sym (held-count h) ∙ sym e in
       put-same (sym (g .bytes ∙ ap (λ (k : ℕ). 107 ∷ (in-bytes 2 k ++ g .characters)) c)) (p ts (g .characters) (held-parts h) c (g .are))
 
@@ -153,7 +152,7 @@ module _ {m places lengths T : List ℕ} {row : ℕ} where
       go : (t : Located) → Term-in-table m places lengths T row t → string-term t ≡ true → at + length (canonical (meaning t)) ≤ room
           → Some-small m places lengths T (row + 1) n × (at + (n + 3) ≤ room) × (n < 65536)
       go (node l ts) h s fit =
-          let g = strung h s in
+          let g = strung s in
           let c : count ts ≡ n = sym (held-count h) ∙ sym e in
           let k = string-length n e (node l ts) h s .0 in
           let f = few-parts h in

@@ -6,7 +6,9 @@ use Rattle.term_spec.specs.AtomList.{lent-list}
 use Rattle.term_spec.specs.Message.{standalone, payload}
 use Rattle.term_spec.specs.Promises.{Read-call, Write-call}
 use Rattle.term_spec.specs.Demands.{Accepted-term, Demand-3}
+use Rattle.term_spec.specs.Lists.{No-long-list}
 use Rattle.term_spec.proofs.Demand as definitions
+use Rattle.term_spec.proofs.Lists as lists
 use Rattle.reader.proofs.read_standalone.Reads as read-standalone
 use Rattle.reader.proofs.read_payload.Reads as read-payload
 use Rattle.writer.proofs.write_standalone.Reads as write-standalone
@@ -34,3 +36,7 @@ promised-read-payload κs a r s p = p
 -- For any two accepted terms, of one message or of two
 pub demand-3 : (t u : Term) (a : Accepted-term t) (b : Accepted-term u) → Demand-3 t u a b
 demand-3 = definitions.demand-3
+
+-- Of the same calls: no list that they read or write has more than 8,191 elements
+pub no-long-list : No-long-list
+no-long-list = lists.no-long-list
