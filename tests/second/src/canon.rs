@@ -169,7 +169,8 @@ fn byte(term: &Term) -> Option<u8> {
     }
 }
 
-/// "106; 107 for a proper list of 1 to 65,535 integers 0..255, else 108, its tail 106 or no list"
+/// "106; 107 for a proper list of one or more integers 0..255, else 108, its tail 106 or no list".
+/// A list here has at most 8,191 elements (#111), so a 107's 2-byte length holds them.
 fn list(out: &mut Vec<u8>, elements: &[Term], tail: Option<&Term>) {
     if elements.is_empty() {
         out.push(106);
@@ -177,7 +178,7 @@ fn list(out: &mut Vec<u8>, elements: &[Term], tail: Option<&Term>) {
     }
     let bytes: Option<Vec<u8>> = elements.iter().map(byte).collect();
     match (bytes, tail) {
-        (Some(bytes), None) if bytes.len() <= 65_535 => {
+        (Some(bytes), None) => {
             out.push(107);
             number(out, bytes.len() as u64, 2);
             out.extend_from_slice(&bytes);

@@ -12,10 +12,14 @@ fn get(driver: &mut Driver, name: &str) -> Vec<u8> {
     unhex(answer.as_bytes()).expect("hex")
 }
 
-/// The bench's line for a standalone term (empty list, 8,192 rows, 65,536 bytes of output).
-fn bench(message: &[u8]) -> String {
+/// The writer's answer with so many rows, its output in place of its length.
+fn write(form: &str, message: &[u8], rows: usize) -> String {
     let mut driver = Driver::new();
-    let answer = ask(&mut driver, &format!("write standalone empty {}", hex(message)));
+    ask(&mut driver, &format!("lend table {rows}"));
+    ask(&mut driver, "fill table a5");
+    let answer = ask(&mut driver, &format!("write {form} empty {}", hex(message)));
+    // "save the writer's scratch table, which always ends all zero"
+    assert!(get(&mut driver, "table").iter().all(|byte| *byte == 0));
     match answer.strip_prefix("ok ") {
         Some(length) => {
             let length: usize = length.parse().expect("a number");
@@ -23,6 +27,11 @@ fn bench(message: &[u8]) -> String {
         }
         None => answer,
     }
+}
+
+/// The bench's line for a standalone term (empty list, 8,192 rows, 65,536 bytes of output).
+fn bench(message: &[u8]) -> String {
+    write("standalone", message, 8_192)
 }
 
 fn ok(message: &[u8], canonical: &[u8]) {
@@ -242,6 +251,80 @@ fn joined_tails_and_wrappers_in_any_number() {
     assert_eq!(read("payload", &joined, 2), "ok 1 2");
     // A tail behind wrappers that is no list is a part.
     assert_eq!(read("payload", &join(&[&[108, 0, 0, 0, 1, 106], &wrappers, &[97, 1]]), 3), "ok 1 3");
+}
+
+#[test]
+fn lists_of_at_most_8191_elements() {
+    let characters = |n: usize| -> Vec<u8> { (0..n).map(|i| (i + i / 256) as u8).collect() };
+    let text = |bytes: &[u8]| join(&[&[107, (bytes.len() >> 8) as u8, bytes.len() as u8], bytes]);
+    let small = |bytes: &[u8]| -> Vec<u8> { bytes.iter().flat_map(|byte| [97, *byte]).collect() };
+    let list = |bytes: &[u8], tail: &[u8]| {
+        join(&[&[108, 0, 0, (bytes.len() >> 8) as u8, bytes.len() as u8], &small(bytes), tail])
+    };
+    let ones = |bytes: &[u8]| -> Vec<u8> { bytes.iter().flat_map(|byte| [108, 0, 0, 0, 1, 97, *byte]).collect() };
+    // One list of n small integers, each way with the place where 9 is judged for its last element.
+    let ways = |n: usize| {
+        let all = characters(n);
+        [
+            (text(&all), 0),
+            (list(&all, &[106]), 5 + 2 * (n - 1)),
+            (join(&[&ones(&all), &[106]]), 7 * (n - 1) + 5),
+            (list(&all[..4_000], &text(&all[4_000..])), 5 + 2 * 4_000),
+        ]
+    };
+    let accepted = |form: &str, message: &[u8], answer: &str, written: &[u8]| {
+        for rows in [8_192, 9_000] {
+            assert_eq!(read(form, message, rows), answer);
+            assert_eq!(write(form, message, rows), format!("ok {}", hex(written)));
+        }
+    };
+    let refused = |form: &str, message: &[u8], number: u8, place: usize| {
+        for rows in [8_192, 9_000] {
+            assert_eq!(read(form, message, rows), format!("refused {number} {place}"));
+            assert_eq!(write(form, message, rows), format!("refused {number} {place}"));
+        }
+    };
+    for (form, front) in [("standalone", &[131][..]), ("payload", &[])] {
+        let same = |term: &[u8], canonical: &[u8]| {
+            accepted(form, &join(&[front, term]), "ok 1 8192", &join(&[&[131], canonical]))
+        };
+        let no_row = |term: &[u8], place: usize| refused(form, &join(&[front, term]), 9, front.len() + place);
+        // The list's own row and one for each element; none for the closing empty list.
+        for (term, _) in ways(8_191) {
+            same(&term, &text(&characters(8_191)));
+        }
+        for (term, last) in ways(8_192) {
+            no_row(&term, last);
+        }
+        // In a tuple there is one row less.
+        for (term, _) in ways(8_190) {
+            same(&join(&[&[104, 1], &term]), &join(&[&[104, 1], &text(&characters(8_190))]));
+        }
+        for (term, last) in ways(8_191) {
+            no_row(&join(&[&[104, 1], &term]), 2 + last);
+        }
+        // An improper tail has a row. It, or an element that is no byte, makes a 108.
+        let improper = list(&characters(8_190), &[97, 5]);
+        same(&improper, &improper);
+        same(&join(&[&ones(&characters(8_190)), &[97, 5]]), &improper);
+        no_row(&list(&characters(8_191), &[97, 5]), 5 + 2 * 8_191);
+        let wide = join(&[&[108, 0, 0, 31, 255], &small(&characters(8_190)), &[98, 0, 0, 1, 0, 106]]);
+        same(&wide, &wide);
+        // The longest 107 that 65,536 bytes hold.
+        let longest = 65_536 - 3 - front.len();
+        no_row(&text(&characters(longest)), 0);
+        refused(form, &join(&[front, &text(&characters(longest + 1))]), 12, 0);
+    }
+    // Beside another term of a payload there is one row less too.
+    for (term, _) in ways(8_190) {
+        let canonical = text(&characters(8_190));
+        accepted("payload", &join(&[&term, &[106]]), "ok 2 8192", &join(&[&[131], &canonical, &[131, 106]]));
+        accepted("payload", &join(&[&[106], &term]), "ok 2 8192", &join(&[&[131, 106, 131], &canonical]));
+    }
+    for (term, last) in ways(8_191) {
+        refused("payload", &join(&[&term, &[106]]), 9, term.len());
+        refused("payload", &join(&[&[106], &term]), 9, 1 + last);
+    }
 }
 
 #[test]
