@@ -73,7 +73,7 @@ def tuples():
 
 
 def lists():
-    """106; 107 for a proper list of 1 to 65,535 integers 0..255, else 108, its tail 106 or no list."""
+    """106; 107 for a proper list of one or more integers 0..255, else 108, its tail 106 or no list; of at most 8,191 elements (#111)."""
     nil, empty = b'\x6a', b'\x6c' + big(4, 0)
     for tail in (nil, b'\x6b\x00\x00', empty + nil):
         yield tail, nil
@@ -82,7 +82,12 @@ def lists():
         yield b'\x6c' + big(4, 2) + integer(255) + integer(256) + tail, b'\x6c' + big(4, 2) + integer(255) + integer(256) + nil
         yield b'\x6c' + big(4, 2) + integer(0) + integer(-1) + tail, b'\x6c' + big(4, 2) + integer(0) + integer(-1) + nil
         yield b'\x6c' + big(4, 1) + nil + tail, b'\x6c' + big(4, 1) + nil + nil
-    yield b'\x6b' + big(2, 8191) + b'\xff' * 8191, b'\x6b' + big(2, 8191) + b'\xff' * 8191
+    # 8,191 elements: by a 107, by joined 108s of one element each, by a 108 and a 107; an improper list of as many parts
+    for message in (b'\x6b' + big(2, 8191) + b'\xff' * 8191, (b'\x6c' + big(4, 1) + integer(255)) * 8191 + nil,
+                    b'\x6c' + big(4, 4000) + integer(255) * 4000 + b'\x6b' + big(2, 4191) + b'\xff' * 4191):
+        yield message, b'\x6b' + big(2, 8191) + b'\xff' * 8191
+    improper = b'\x6c' + big(4, 8190) + integer(255) * 8190 + integer(7)
+    yield improper, improper
     # the meaning counts: 98, 110 and 111 for 7 are integers 0..255
     sevens = b'\x61\x07' + b'\x62\x00\x00\x00\x07' + b'\x6e\x01\x00\x07' + b'\x6f\x00\x00\x00\x02\x00\x07\x00'
     yield b'\x6c' + big(4, 4) + sevens + nil, b'\x6b\x00\x04\x07\x07\x07\x07'

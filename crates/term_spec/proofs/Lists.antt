@@ -1,5 +1,5 @@
 -- No list in an accepted term has more than 8,191 elements: it has a row of its own and one or more for each element, and rows are at most 8,192.
-use mathlib.Core.Path.{_≡_, refl, sym, _∙_, ap, subst}
+use mathlib.Core.Path.{_≡_, refl, sym, _∙_, subst}
 use mathlib.Core.Logic.{inl, inr}
 use mathlib.Core.Bool.{Bool, true, false}
 use mathlib.Core.List.{List}
@@ -7,7 +7,7 @@ use Prim.Native.Nat.{ℕ, _<_}
 use native.Mathlib.Omega.{arith}
 use lib.Dec.{leb}
 use lib.ListN.{length}
-use Rattle.term_spec.specs.Tree.{Forest, empty, _▹_, count, sizes, Each-node, Each-nodes}
+use Rattle.term_spec.specs.Tree.{Forest, empty, _▹_, count, Each-node, Each-nodes}
 use Rattle.term_spec.specs.Term.{Label, Term}
 use Rattle.term_spec.specs.Answer.{Answer, good, refused}
 use Rattle.term_spec.specs.AtomList.{AtomList}
@@ -15,12 +15,9 @@ use Rattle.term_spec.specs.Message.{Framing, Terms, meanings, read}
 use Rattle.term_spec.specs.Canonical.{standalones}
 use Rattle.term_spec.specs.Writing.{Written, written, write}
 use Rattle.term_spec.specs.Answers.{read-answer, write-answer}
-use Rattle.term_spec.specs.Promises.{Read-call, Write-call}
-use Rattle.term_spec.specs.Demands.{One-of, Accepted-term}
+use Rattle.term_spec.specs.Demands.{One-of}
 use Rattle.term_spec.specs.Lists.{Short-list, Short-lists, No-long-list}
-use Rattle.term_spec.specs.declared.ReadAnswer.{ReadAnswer}
 use Rattle.term_spec.specs.declared.ReadAnswer.the-variants as reads
-use Rattle.term_spec.specs.declared.WriteAnswer.{WriteAnswer}
 use Rattle.term_spec.specs.declared.WriteAnswer.the-variants as writes
 use Rattle.term_spec.proofs.Rows.{fewer-parts-each, each-nodes-map, sizes-meanings}
 use Rattle.term_spec.proofs.Capacity.{rows-lent}

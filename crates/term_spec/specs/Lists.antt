@@ -4,7 +4,7 @@ use mathlib.Core.Logic.{_⊎_}
 use mathlib.Core.List.{List}
 use Prim.Native.Nat.{ℕ, _≤_}
 use lib.ListN.{length}
-use Rattle.term_spec.specs.Tree.{Forest, count, sizes, Each-node, Each-nodes}
+use Rattle.term_spec.specs.Tree.{Forest, count, Each-node, Each-nodes}
 use Rattle.term_spec.specs.Term.{Label, Term, list, improper-list}
 use Rattle.term_spec.specs.Answer.{good}
 use Rattle.term_spec.specs.AtomList.{AtomList}

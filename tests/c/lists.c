@@ -1,0 +1,174 @@
+/* Lists of 8,191 elements, the most that 8,192 rows hold, in every layout: read and written. */
+#include "messages.h"
+
+enum layout { STRING, ELEMENTS, JOINED, JOINED_STRING, LAYOUTS };
+
+/* Neither two neighbours nor two that are 256 apart are alike. */
+static uint8_t character(size_t i) { return (uint8_t)(i + i / 256); }
+
+/* A tag, and a number in so many bytes after it. */
+static size_t put(uint8_t *to, uint8_t tag, size_t width, size_t number)
+{
+    to[0] = tag;
+    for (size_t i = 0; i < width; i++)
+        to[1 + i] = (uint8_t)(number >> 8 * (width - 1 - i));
+    return 1 + width;
+}
+
+/* The list of n characters: by a 107, by a 108, by joined 108s of one element each, by a 108 and a 107 for its tail.
+ * 9 for its last element is judged at `last`. */
+static size_t characters(uint8_t *to, enum layout layout, size_t n, size_t *last)
+{
+    size_t size = 0, strung = layout == STRING ? n : layout == JOINED_STRING ? n / 2 : 0;
+    for (size_t i = 0; i < n - strung; i++) {
+        if (i == 0 || layout == JOINED)
+            size += put(to + size, 108, 4, layout == JOINED ? 1 : n - strung);
+        *last = size;
+        size += put(to + size, 97, 1, character(i));
+    }
+    if (strung == 0) {
+        to[size] = 106;
+        return size + 1;
+    }
+    *last = size;
+    size += put(to + size, 107, 2, strung);
+    for (size_t i = n - strung; i < n; i++)
+        to[size++] = character(i);
+    return size;
+}
+
+struct lent {
+    uint64_t *table;
+    size_t rows;
+    uint8_t *output;
+    struct ik_read_reply read;
+    struct ik_write_reply written;
+    int read_clean; /* whether all past the rows is zero after reading */
+};
+
+enum { ROOM = 65536 };
+
+/* Reads the message into the table, then writes it with the same words for scratch. */
+static struct lent both(enum form form, const uint8_t *bytes, size_t size, size_t rows)
+{
+    struct lent l = {lend(8 * rows, 0xa5), rows, lend(ROOM, 0x5a), {0}, {0}, 0};
+    struct list list = empty_list();
+    const uint8_t *message = lend_copy(bytes, size);
+    l.read = (form == STANDALONE ? ik_read_standalone : ik_read_payload)(message, size, LIST(list), l.table, rows);
+    l.read_clean = all(l.table + l.read.rows, 8 * (rows - l.read.rows), 0);
+    l.written = (form == STANDALONE ? ik_write_standalone : ik_write_payload)(message, size, LIST(list), l.table, rows, l.output, ROOM);
+    return l;
+}
+
+/* 8,192 rows, and this output; with a table of so many words and of more. */
+static void accepted(enum form form, const uint8_t *bytes, size_t size, unsigned terms, const uint8_t *canonical, size_t length)
+{
+    for (size_t rows = 8192; rows <= 9000; rows += 808) {
+        struct lent l = both(form, bytes, size, rows);
+        SAME(l.read.refusal, 0);
+        SAME(l.read.terms, terms);
+        SAME(l.read.rows, 8192);
+        CHECK(l.read_clean);
+        SAME(l.written.refusal, 0);
+        SAME(l.written.terms, terms);
+        SAME(l.written.length, length);
+        CHECK(memcmp(l.output, canonical, length) == 0);
+        CHECK(all(l.output + length, ROOM - length, 0x5a));
+        CHECK(all(l.table, 8 * rows, 0));
+        CHECK(guards_stand());
+    }
+}
+
+static void no_row(enum form form, const uint8_t *bytes, size_t size, size_t place)
+{
+    for (size_t rows = 8192; rows <= 9000; rows += 808) {
+        struct lent l = both(form, bytes, size, rows);
+        SAME(l.read.refusal, 9);
+        SAME(l.read.place, place);
+        SAME(l.read.rows, 0);
+        CHECK(l.read_clean);
+        SAME(l.written.refusal, 9);
+        SAME(l.written.place, place);
+        CHECK(all(l.output, ROOM, 0x5a));
+        CHECK(all(l.table, 8 * rows, 0));
+        CHECK(guards_stand());
+    }
+}
+
+static uint8_t message[70000], canonical[70000];
+
+/* Both begin with 131; the term stands after it, or for a payload in its place. */
+static size_t front(enum form form)
+{
+    canonical[0] = message[0] = 131;
+    return form == STANDALONE;
+}
+
+static void proper(enum form form, enum layout layout)
+{
+    size_t last, base = front(form), size = characters(message + base, layout, 8191, &last);
+    size_t length = 1 + characters(canonical + 1, STRING, 8191, &(size_t){0});
+    accepted(form, message, base + size, 1, canonical, length);
+    size = characters(message + base, layout, 8192, &last);
+    no_row(form, message, base + size, base + last);
+}
+
+/* In a tuple a list has one row less. */
+static void in_tuple(enum form form, enum layout layout)
+{
+    size_t last, base = front(form);
+    base += put(message + base, 104, 1, 1);
+    size_t size = characters(message + base, layout, 8190, &last), length = 1 + put(canonical + 1, 104, 1, 1);
+    length += characters(canonical + length, STRING, 8190, &(size_t){0});
+    accepted(form, message, base + size, 1, canonical, length);
+    size = characters(message + base, layout, 8191, &last);
+    no_row(form, message, base + size, base + last);
+}
+
+/* Beside the other term of a payload too, before it and after it. */
+static void in_payload(enum layout layout)
+{
+    size_t last, size = characters(message, layout, 8190, &last), length = 1 + characters(canonical + 1, STRING, 8190, &(size_t){0});
+    message[size] = canonical[length + 1] = 106;
+    canonical[0] = canonical[length] = 131;
+    accepted(PAYLOAD, message, size + 1, 2, canonical, length + 2);
+    size = characters(message, layout, 8191, &last);
+    message[size] = 106;
+    no_row(PAYLOAD, message, size + 1, size);
+    message[0] = 106;
+    size = characters(message + 1, layout, 8191, &last);
+    no_row(PAYLOAD, message, 1 + size, 1 + last);
+}
+
+/* An improper tail, or an element that is no character, makes it a 108; the tail has a row. */
+static void long_forms(enum form form, enum layout layout)
+{
+    static const uint8_t tail[] = {97, 5}, wide[] = {98, 0, 0, 1, 0, 106};
+    size_t last, base = front(form), size = base + characters(message + base, layout, 8190, &last) - 1;
+    size_t length = characters(canonical + 1, ELEMENTS, 8190, &last);
+    memcpy(message + size, tail, sizeof tail);
+    memcpy(canonical + length, tail, sizeof tail);
+    accepted(form, message, size + sizeof tail, 1, canonical, length + sizeof tail);
+    size = base + characters(message + base, layout, 8191, &last) - 1;
+    memcpy(message + size, tail, sizeof tail);
+    no_row(form, message, size + sizeof tail, size);
+    if (layout == JOINED)
+        return;
+    length = characters(canonical + 1, ELEMENTS, 8191, &last);
+    memcpy(canonical + 1 + last, wide, sizeof wide);
+    accepted(form, canonical + !base, last + base + sizeof wide, 1, canonical, 1 + last + sizeof wide);
+}
+
+int main(void)
+{
+    for (enum form form = STANDALONE; form <= PAYLOAD; form++)
+        for (enum layout layout = STRING; layout < LAYOUTS; layout++) {
+            proper(form, layout);
+            in_tuple(form, layout);
+            if (form == PAYLOAD)
+                in_payload(layout);
+            if (layout == ELEMENTS || layout == JOINED)
+                long_forms(form, layout);
+        }
+    return ended("lists");
+}
