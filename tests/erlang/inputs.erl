@@ -117,7 +117,9 @@ nested(Level) ->
 
 many_rows() ->
     Count = pick:range(8185, 8195),
-    pick:one_of([<<131, 107, Count:16, 0:(8 * Count)>>, iolist_to_binary([<<131, 105, Count:32>>, lists:duplicate(Count, 106)])]).
+    Bytes = [Each rem 256 || Each <- lists:seq(1, Count)],
+    iolist_to_binary([131, pick:one_of([[<<107, Count:16>>, Bytes], [<<105, Count:32>>, lists:duplicate(Count, 106)],
+                                        [<<108, Count:32>>, [[97, Byte] || Byte <- Bytes], 106], [[[<<108, 1:32>>, 97, Byte] || Byte <- Bytes], 106]])]).
 
 long() -> Size = pick:range(65525, 65535), <<131, 109, Size:32, 0:(8 * Size)>>.
 
