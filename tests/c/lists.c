@@ -140,10 +140,10 @@ static void in_payload(enum layout layout)
     no_row(PAYLOAD, message, 1 + size, 1 + last);
 }
 
-/* An improper tail, or an element that is no character, makes it a 108; the tail has a row. */
-static void long_forms(enum form form, enum layout layout)
+/* An improper tail makes it a 108, and has a row. */
+static void improper(enum form form, enum layout layout)
 {
-    static const uint8_t tail[] = {97, 5}, wide[] = {98, 0, 0, 1, 0, 106};
+    static const uint8_t tail[] = {97, 5};
     size_t last, base = front(form), size = base + characters(message + base, layout, 8190, &last) - 1;
     size_t length = characters(canonical + 1, ELEMENTS, 8190, &last);
     memcpy(message + size, tail, sizeof tail);
@@ -152,23 +152,32 @@ static void long_forms(enum form form, enum layout layout)
     size = base + characters(message + base, layout, 8191, &last) - 1;
     memcpy(message + size, tail, sizeof tail);
     no_row(form, message, size + sizeof tail, size);
-    if (layout == JOINED)
-        return;
-    length = characters(canonical + 1, ELEMENTS, 8191, &last);
-    memcpy(canonical + 1 + last, wide, sizeof wide);
-    accepted(form, canonical + !base, last + base + sizeof wide, 1, canonical, 1 + last + sizeof wide);
+}
+
+/* So does one element that is no character, wherever it stands. */
+static void one_wide(enum form form, size_t wide)
+{
+    size_t base = front(form), size = 1 + put(canonical + 1, 108, 4, 8191);
+    for (size_t i = 0; i < 8191; i++)
+        size += i == wide ? put(canonical + size, 98, 4, 256) : put(canonical + size, 97, 1, character(i));
+    canonical[size++] = 106;
+    accepted(form, canonical + 1 - base, size - 1 + base, 1, canonical, size);
 }
 
 int main(void)
 {
-    for (enum form form = STANDALONE; form <= PAYLOAD; form++)
+    for (enum form form = STANDALONE; form <= PAYLOAD; form++) {
         for (enum layout layout = STRING; layout < LAYOUTS; layout++) {
             proper(form, layout);
             in_tuple(form, layout);
-            if (form == PAYLOAD)
-                in_payload(layout);
-            if (layout == ELEMENTS || layout == JOINED)
-                long_forms(form, layout);
         }
+        improper(form, ELEMENTS);
+        improper(form, JOINED);
+        one_wide(form, 0);
+        one_wide(form, 4000);
+        one_wide(form, 8190);
+    }
+    for (enum layout layout = STRING; layout < LAYOUTS; layout++)
+        in_payload(layout);
     return ended("lists");
 }
