@@ -37,62 +37,43 @@ static size_t characters(uint8_t *to, enum layout layout, size_t n, size_t *last
     return size;
 }
 
-struct lent {
-    uint64_t *table;
-    size_t rows;
-    uint8_t *output;
-    struct ik_read_reply read;
-    struct ik_write_reply written;
-    int read_clean; /* whether all past the rows is zero after reading */
-};
-
+struct answer { unsigned refusal; size_t place; unsigned terms; size_t rows; const uint8_t *canonical; size_t length; };
 enum { ROOM = 65536 };
 
-/* Reads the message into the table, then writes it with the same words for scratch. */
-static struct lent both(enum form form, const uint8_t *bytes, size_t size, size_t rows)
-{
-    struct lent l = {lend(8 * rows, 0xa5), rows, lend(ROOM, 0x5a), {0}, {0}, 0};
-    struct list list = empty_list();
-    const uint8_t *message = lend_copy(bytes, size);
-    l.read = (form == STANDALONE ? ik_read_standalone : ik_read_payload)(message, size, LIST(list), l.table, rows);
-    l.read_clean = all(l.table + l.read.rows, 8 * (rows - l.read.rows), 0);
-    l.written = (form == STANDALONE ? ik_write_standalone : ik_write_payload)(message, size, LIST(list), l.table, rows, l.output, ROOM);
-    return l;
-}
-
-/* 8,192 rows, and this output; with a table of so many words and of more. */
-static void accepted(enum form form, const uint8_t *bytes, size_t size, unsigned terms, const uint8_t *canonical, size_t length)
+/* Reads the message into a table, then writes it with the same words for scratch: with 8,192 of them and with more. */
+static void answered(enum form form, const uint8_t *bytes, size_t size, struct answer expected)
 {
     for (size_t rows = 8192; rows <= 9000; rows += 808) {
-        struct lent l = both(form, bytes, size, rows);
-        SAME(l.read.refusal, 0);
-        SAME(l.read.terms, terms);
-        SAME(l.read.rows, 8192);
-        CHECK(l.read_clean);
-        SAME(l.written.refusal, 0);
-        SAME(l.written.terms, terms);
-        SAME(l.written.length, length);
-        CHECK(memcmp(l.output, canonical, length) == 0);
-        CHECK(all(l.output + length, ROOM - length, 0x5a));
-        CHECK(all(l.table, 8 * rows, 0));
+        uint64_t *table = lend(8 * rows, 0xa5);
+        uint8_t *output = lend(ROOM, 0x5a);
+        const uint8_t *lent = lend_copy(bytes, size);
+        struct list list = empty_list();
+        struct ik_read_reply r = (form == STANDALONE ? ik_read_standalone : ik_read_payload)(lent, size, LIST(list), table, rows);
+        SAME(r.refusal, expected.refusal);
+        SAME(r.place, expected.place);
+        SAME(r.terms, expected.terms);
+        SAME(r.rows, expected.rows);
+        CHECK(all(table + expected.rows, 8 * (rows - expected.rows), 0));
+        struct ik_write_reply w = (form == STANDALONE ? ik_write_standalone : ik_write_payload)(lent, size, LIST(list), table, rows, output, ROOM);
+        SAME(w.refusal, expected.refusal);
+        SAME(w.place, expected.place);
+        SAME(w.terms, expected.terms);
+        SAME(w.length, expected.length);
+        CHECK(memcmp(output, expected.canonical, expected.length) == 0);
+        CHECK(all(output + expected.length, ROOM - expected.length, 0x5a));
+        CHECK(all(table, 8 * rows, 0));
         CHECK(guards_stand());
     }
+}
+
+static void accepted(enum form form, const uint8_t *bytes, size_t size, unsigned terms, const uint8_t *canonical, size_t length)
+{
+    answered(form, bytes, size, (struct answer){0, 0, terms, 8192, canonical, length});
 }
 
 static void no_row(enum form form, const uint8_t *bytes, size_t size, size_t place)
 {
-    for (size_t rows = 8192; rows <= 9000; rows += 808) {
-        struct lent l = both(form, bytes, size, rows);
-        SAME(l.read.refusal, 9);
-        SAME(l.read.place, place);
-        SAME(l.read.rows, 0);
-        CHECK(l.read_clean);
-        SAME(l.written.refusal, 9);
-        SAME(l.written.place, place);
-        CHECK(all(l.output, ROOM, 0x5a));
-        CHECK(all(l.table, 8 * rows, 0));
-        CHECK(guards_stand());
-    }
+    answered(form, bytes, size, (struct answer){9, place, 0, 0, bytes, 0});
 }
 
 static uint8_t message[70000], canonical[70000];
