@@ -1,5 +1,5 @@
 -- Demand 3 over the calls `write_standalone`, `write_payload`, `read_standalone` and `read_payload`: their promises are the relations `Write-call` and `Read-call`, and
--- what any calls by these relations come to is `Demand-3` (term_spec/specs/Demands).
+-- what any calls by these relations come to is `Demand-3` (term_spec/specs/Demands). `No-long-list` (term_spec/specs/Lists) is said of the same relations.
 use contract.Lifetimes.{Lfts}
 use Rattle.term_spec.specs.Term.{Term}
 use Rattle.term_spec.specs.AtomList.{lent-list}
