@@ -1,6 +1,6 @@
 %% Standalone messages from our own generator: sound ones, ones with a spoilt part, changed bytes, and the ends of the limits.
 -module(inputs).
--export([message/0, changed_bytes/1]).
+-export([message/0, changed_bytes/1, lists_of/1]).
 
 message() ->
     harmless(fun() ->
@@ -117,9 +117,17 @@ nested(Level) ->
 
 many_rows() ->
     Count = pick:range(8185, 8195),
-    Bytes = [Each rem 256 || Each <- lists:seq(1, Count)],
-    iolist_to_binary([131, pick:one_of([[<<107, Count:16>>, Bytes], [<<105, Count:32>>, lists:duplicate(Count, 106)],
-                                        [<<108, Count:32>>, [[97, Byte] || Byte <- Bytes], 106], [[[<<108, 1:32>>, 97, Byte] || Byte <- Bytes], 106]])]).
+    pick:one_of([<<131, 107, Count:16, 0:(8 * Count)>>, iolist_to_binary([<<131, 105, Count:32>>, lists:duplicate(Count, 106)])]).
+
+%% Lists of so many integers 0..255: a 107, a 108, 108s of one element each, a 108 whose tail is a 107, and a 108 with the last for an improper tail.
+lists_of(Count) ->
+    Bytes = [Each * 7 rem 256 || Each <- lists:seq(1, Count)],
+    Small = fun(Some) -> [[97, Byte] || Byte <- Some] end,
+    {Front, Back} = lists:split(4000, Bytes),
+    [iolist_to_binary([131, List]) || List <- [[<<107, Count:16>>, Bytes], [<<108, Count:32>>, Small(Bytes), 106],
+                                               [[[<<108, 1:32>>, 97, Byte] || Byte <- Bytes], 106],
+                                               [<<108, 4000:32>>, Small(Front), <<107, (Count - 4000):16>>, Back],
+                                               [<<108, (Count - 1):32>>, Small(Bytes)]]].
 
 long() -> Size = pick:range(65525, 65535), <<131, 109, Size:32, 0:(8 * Size)>>.
 

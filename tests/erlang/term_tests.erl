@@ -4,11 +4,12 @@
 
 -define(OWN, "terms of the node's term_to_binary").
 -define(OURS, "terms of our generator").
+-define(LISTS, "lists of 8,185 to 8,195 parts").
 -define(PAIRS, "pairs, canonical form against =:=").
 -define(VALUES, "values of our generator").
 -define(LISTED, "listed differences").
 
-parts() -> [?OWN, ?OURS, ?PAIRS, ?VALUES, ?LISTED].
+parts() -> [?OWN, ?OURS, ?LISTS, ?PAIRS, ?VALUES, ?LISTED].
 
 run(Program) ->
     Drive = drive_port:open(Program),
@@ -18,12 +19,21 @@ run(Program) ->
     pick:seed(2),
     [one(Drive, ?OURS, inputs:message()) || _ <- lists:seq(1, 10000)],
     tally:say(?OURS, both_accept(?OURS)),
+    long_lists(Drive),
+    tally:say(?LISTS, both_accept(?LISTS)),
     pick:seed(3),
     [pair(Drive, pick_pair()) || _ <- lists:seq(1, 5000)],
     tally:say(?PAIRS, io_lib:format("~b equal, ~b different for both", [tally:count({note, same}), tally:count({note, different})])),
     tally:say(?VALUES, "each is accepted, and its canonical form has that value"),
     say_differences(),
     drive_port:close(Drive).
+
+%% In each layout those of up to 8,191 parts are accepted, and no longer one.
+long_lists(Drive) ->
+    Messages = [{Count, Bytes} || Count <- lists:seq(8185, 8195), Bytes <- inputs:lists_of(Count)],
+    [one(Drive, ?LISTS, Bytes) || {_, Bytes} <- Messages],
+    Short = length([Count || {Count, _} <- Messages, Count =< 8191]),
+    tally:check(?LISTS, tally:count({note, {both, ?LISTS}}) =:= Short, {accepted, tally:count({note, {both, ?LISTS}}), Short}).
 
 both_accept(Part) ->
     io_lib:format("~b accepted by both, ~b by neither, ~b by one for a listed reason",

@@ -106,7 +106,6 @@ module _ {m places lengths T : List ℕ} {row : ℕ} where
       let b : length (in-bytes 2 (count ts)) ≡ 2 = length-in-bytes 2 (count ts) in
       let a = length-append (in-bytes 2 (count ts)) (g .characters) in
       let d : length (canonical (node (l .0) (meanings ts))) ≡ suc (length (in-bytes 2 (count ts) ++ g .characters)) = ap length (g .bytes) in
-      let f = few-parts h in
       let q : count ts ≤ sizes ts = count-le-sizes ts in
       (omega arith, omega arith)
 
