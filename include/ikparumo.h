@@ -54,7 +54,7 @@ enum {
     IK_LEFT_OVER = 10,          /* bytes left over */
     IK_OUTPUT = 11,             /* output shorter than the canonical form */
     IK_LONG = 12,               /* term, payload or gathered bytes over 65,536 */
-    IK_SIZE = 13,               /* a cache, list or gather buffer not of its stated size, or a place over 2,047 asked for */
+    IK_SIZE = 13,               /* a cache, list or gather buffer not of its stated size */
     IK_STATE = 14,              /* lent state false */
     IK_PACKET = 20,             /* second byte not 68, 69, 70 */
     IK_EMPTY_PLACE = 21,        /* cached place empty */
@@ -102,16 +102,15 @@ static inline uint64_t ik_row_whole(uint64_t word) /* the row of its whole, or I
 static inline uint64_t ik_row_parts(uint64_t word) { return word >> 34 & 0x1fff; }
 static inline uint64_t ik_row_size(uint64_t word) { return word >> 47 & 0x3fff; } /* the next term at this level stands so many rows on */
 
-struct ik_read_reply      { uint64_t refusal, place, terms, rows; };
-struct ik_write_reply     { uint64_t refusal, place, terms, length; };
-struct ik_number_reply    { uint64_t refusal, place, kind; int64_t integer; double real; };
-struct ik_text_reply      { uint64_t from, start, length; };
-struct ik_mark_reply      { uint64_t refusal, place, mark; };
-struct ik_pending         { uint64_t sequence, due, gathered; }; /* lent to the packet calls; due 0: none pending */
-struct ik_packet_reply    { uint64_t refusal, place, kind, offset, length, due, gathered; };
-struct ik_reference_reply { uint64_t refusal, place, cache_place; };
-struct ik_place_reply     { uint64_t refusal, place, start, length; };
-struct ik_state_reply     { uint64_t refusal, place; };
+struct ik_read_reply   { uint64_t refusal, place, terms, rows; };
+struct ik_write_reply  { uint64_t refusal, place, terms, length; };
+struct ik_number_reply { uint64_t refusal, place, kind; int64_t integer; double real; };
+struct ik_text_reply   { uint64_t from, start, length; };
+struct ik_mark_reply   { uint64_t refusal, place, mark; };
+struct ik_pending      { uint64_t sequence, due, gathered; }; /* lent to the packet calls; due 0: none pending */
+struct ik_packet_reply { uint64_t refusal, place, kind, offset, length, due, gathered; };
+struct ik_state_reply  { uint64_t refusal, place; };
+struct ik_word_reply   { uint64_t refusal, place, start, length; };
 
 /* An atom list is lent as a count n, 8,160 bytes of places and 255 lengths. The count and memory of an accepted packet's list are
  * lent as ik_packet left them; an empty list has n = 0 and the stated sizes all the same. */
@@ -192,14 +191,12 @@ struct ik_state_reply ik_drop(struct ik_pending *pending);
 struct ik_state_reply ik_reset(uint8_t *cache, size_t cache_len, uint16_t *cache_lengths, size_t cache_lengths_len,
                                struct ik_pending *pending);
 
-/* The place of the cache that reference `index` of the packet's header names.
- * Lent: the packet; nothing is written. Refusals in order: 1, 2, 20, 24 for zero, the header's 2, 22, 5, 23, then 6; all at place 0. */
-struct ik_reference_reply ik_reference(uint8_t utf8, const uint8_t *packet, size_t packet_len, size_t index);
-
-/* The text that a place of the cache holds, as a stretch of the cache's bytes.
- * Lent: the cache; nothing is written. Refusals in order: 13 (also a place over 2,047), 21, 14; all at place 0. */
-struct ik_place_reply ik_place(const uint8_t *cache, size_t cache_len, const uint16_t *cache_lengths, size_t cache_lengths_len,
-                               size_t cache_place);
+/* The word of an atom reference: the text of reference `index` of a message's header, by that message's own list (the plain list after a
+ * plain packet, the pending list up to the sequence's end), whatever the cache holds by then.
+ * Lent: the atom list; nothing is written. Answers a stretch of the list's places: start and length in bytes. An empty text is accepted,
+ * with length 0. Refusals in order: 13 (the list), 6 (index not below n), 14 (a length over 32, or a text that is not UTF-8); place 0. */
+struct ik_word_reply ik_word(uint8_t n, const uint8_t *places, size_t places_len, const uint16_t *lengths, size_t lengths_len,
+                             size_t index);
 
 #ifdef __cplusplus
 }

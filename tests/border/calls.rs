@@ -81,26 +81,18 @@ pub struct PacketReply {
 
 #[repr(C)]
 #[derive(Clone, Copy, Debug, Default, PartialEq)]
-pub struct ReferenceReply {
+pub struct StateReply {
     pub refusal: u64,
     pub place: u64,
-    pub cache_place: u64,
 }
 
 #[repr(C)]
 #[derive(Clone, Copy, Debug, Default, PartialEq)]
-pub struct PlaceReply {
+pub struct WordReply {
     pub refusal: u64,
     pub place: u64,
     pub start: u64,
     pub length: u64,
-}
-
-#[repr(C)]
-#[derive(Clone, Copy, Debug, Default, PartialEq)]
-pub struct StateReply {
-    pub refusal: u64,
-    pub place: u64,
 }
 
 /// An atom list lent for reading.
@@ -176,8 +168,7 @@ extern "C" {
     ) -> PacketReply;
     fn ik_drop(pending: *mut Pending) -> StateReply;
     fn ik_reset(cache: *mut u8, cache_len: usize, cache_lengths: *mut u16, cache_lengths_len: usize, pending: *mut Pending) -> StateReply;
-    fn ik_reference(utf8: u8, packet: *const u8, packet_len: usize, index: usize) -> ReferenceReply;
-    fn ik_place(cache: *const u8, cache_len: usize, cache_lengths: *const u16, cache_lengths_len: usize, cache_place: usize) -> PlaceReply;
+    fn ik_word(n: u8, places: *const u8, places_len: usize, lengths: *const u16, lengths_len: usize, index: usize) -> WordReply;
 }
 
 /// One of two calls on terms, with the message, the list and `$more`.
@@ -256,12 +247,7 @@ pub fn reset(cache: &mut [u8], lengths: &mut [u16], record: &mut Pending) -> Sta
     unsafe { ik_reset(cache.as_mut_ptr(), cache.len(), lengths.as_mut_ptr(), lengths.len(), record) }
 }
 
-pub fn reference(utf8: u8, packet: &[u8], index: usize) -> ReferenceReply {
-    // SAFETY: the pointer goes with its slice's length.
-    unsafe { ik_reference(utf8, packet.as_ptr(), packet.len(), index) }
-}
-
-pub fn place(cache: &[u8], lengths: &[u16], place: usize) -> PlaceReply {
+pub fn word(list: &AtomList, index: usize) -> WordReply {
     // SAFETY: each pointer goes with its slice's length.
-    unsafe { ik_place(cache.as_ptr(), cache.len(), lengths.as_ptr(), lengths.len(), place) }
+    unsafe { ik_word(list.n, list.places.as_ptr(), list.places.len(), list.lengths.as_ptr(), list.lengths.len(), index) }
 }

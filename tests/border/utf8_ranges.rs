@@ -1,7 +1,7 @@
 //! Every end of every range of bytes in section 4 of RFC 3629, and the byte beside it, in texts that go through the public calls: as
-//! atoms, and as a new reference of a header. Which texts are UTF-8 is said by Rust's own decoder.
+//! atoms, as a new reference of a header, and as a word of a list. Which texts are UTF-8 is said by Rust's own decoder.
 
-use border::{AtomList, Form, Guarded, Lent, ListOut, MarkReply, PacketReply, Pending, ReadReply, TextReply};
+use border::{AtomList, Form, Guarded, Lent, ListOut, MarkReply, PacketReply, Pending, ReadReply, TextReply, WordReply};
 use std::collections::BTreeSet;
 use std::fmt::Debug;
 
@@ -37,6 +37,7 @@ const ATOM_CACHE_REF: u8 = 82;
 
 const ACCEPTED: u64 = 0;
 const REFUSED_TEXT: u64 = 5;
+const REFUSED_STATE: u64 = 14;
 const KIND_ATOM: u64 = 3;
 const FROM_MESSAGE: u64 = 1;
 const MARK_UTF8: u64 = 2;
@@ -354,6 +355,22 @@ fn try_header(case: &Case, long_atoms: bool, before: &Memory, tally: &mut Tally)
     memory.compare(&due, case, &what, tally);
 }
 
+/// The text at a place of a list whose other texts are none; the list's last place ends at a closed page.
+fn try_word(case: &Case, index: usize, tally: &mut Tally) {
+    let mut list = Places::filled(LIST_PLACES, u16::from(FILL));
+    list.put(index, &case.text);
+    let (places, lengths) = (Guarded::holding(&list.bytes), Guarded::holding(&list.lengths));
+    let reply = border::word(&AtomList { n: LIST_PLACES as u8, places: &places, lengths: &lengths }, index);
+
+    let refused = WordReply { refusal: REFUSED_STATE, ..WordReply::default() };
+    let (start, length) = ((index * PLACE_BYTES) as u64, case.text.len() as u64);
+    let due = if case.is_good() { WordReply { start, length, ..WordReply::default() } } else { refused };
+    let what = |of: &str| format!("word {index}, {of}");
+    tally.same(case, &what("reply"), &[reply], &[due]);
+    tally.same(case, &what("places"), &places, &list.bytes);
+    tally.same(case, &what("lengths"), &lengths, &list.lengths);
+}
+
 fn main() {
     let mut tally = Tally::default();
     let ranges: Vec<_> = LINES.iter().flat_map(|line| line.ranges).collect();
@@ -367,6 +384,9 @@ fn main() {
         }
         for long_atoms in [false, true] {
             try_header(case, long_atoms, &before, &mut tally);
+        }
+        for index in [0, LIST_PLACES - 1] {
+            try_word(case, index, &mut tally);
         }
     }
     let beside: usize = ranges.iter().map(|range| at_and_beside(range).len()).sum();

@@ -1,68 +1,7 @@
-/* ik_packet, ik_drop, ik_reset, ik_reference, ik_place. */
-#include "check.h"
+/* ik_packet, ik_drop, ik_reset. */
+#include "memory.h"
 
-enum { CACHE, CACHE_LENGTHS, PLAIN_N, PLAIN_PLACES, PLAIN_LENGTHS, PENDING_N, PENDING_PLACES, PENDING_LENGTHS, RECORD, GATHER, BUFFERS };
-
-static const size_t stated[BUFFERS] = {IK_CACHE_BYTES, IK_CACHE_PLACES, 1, IK_LIST_BYTES, IK_LIST_PLACES, 1, IK_LIST_BYTES, IK_LIST_PLACES, 3, IK_GATHER_BYTES};
-static const size_t width[BUFFERS] = {1, 2, 1, 1, 2, 1, 1, 2, 8, 1};
-
-struct memory { void *at[BUFFERS]; size_t count[BUFFERS]; };
-
-/* The refusals that each call has answered, as bits. */
-static uint64_t packet_met, drop_met, reset_met, reference_met, place_met;
-
-/* All memory, every byte `fill`. */
-static struct memory lend_memory(uint8_t fill)
-{
-    struct memory m;
-    for (int i = 0; i < BUFFERS; i++) {
-        m.count[i] = stated[i];
-        m.at[i] = lend(stated[i] * width[i], fill);
-    }
-    return m;
-}
-
-static struct ik_state_reply reset(struct memory m)
-{
-    struct ik_state_reply a = ik_reset(m.at[CACHE], m.count[CACHE], m.at[CACHE_LENGTHS], m.count[CACHE_LENGTHS], m.at[RECORD]);
-    reset_met |= bit(a.refusal);
-    return a;
-}
-
-/* All memory as after a reset; lists and gather buffer every byte 0xa5. */
-static struct memory ready_memory(void)
-{
-    struct memory m = lend_memory(0xa5);
-    SAME(reset(m).refusal, 0);
-    return m;
-}
-
-static struct memory copy_of(struct memory m)
-{
-    for (int i = 0; i < BUFFERS; i++)
-        m.at[i] = lend_copy(m.at[i], m.count[i] * width[i]);
-    return m;
-}
-
-/* Which buffers differ, as bits. */
-static unsigned differing(struct memory a, struct memory b)
-{
-    unsigned bits = 0;
-    for (int i = 0; i < BUFFERS; i++)
-        if (memcmp(a.at[i], b.at[i], a.count[i] * width[i]) != 0)
-            bits |= 1u << i;
-    return bits;
-}
-
-static struct ik_packet_reply take(struct memory m, uint8_t utf8, const uint8_t *packet, size_t size)
-{
-    struct ik_packet_reply a = ik_packet(utf8, packet, size, m.at[CACHE], m.count[CACHE], m.at[CACHE_LENGTHS], m.count[CACHE_LENGTHS],
-                                   m.at[PLAIN_N], m.at[PLAIN_PLACES], m.count[PLAIN_PLACES], m.at[PLAIN_LENGTHS], m.count[PLAIN_LENGTHS],
-                                   m.at[PENDING_N], m.at[PENDING_PLACES], m.count[PENDING_PLACES], m.at[PENDING_LENGTHS], m.count[PENDING_LENGTHS],
-                                   m.at[RECORD], m.at[GATHER], m.count[GATHER]);
-    packet_met |= bit(a.refusal);
-    return a;
-}
+static uint64_t drop_met; /* as packet_met */
 
 static struct ik_state_reply drop(struct memory m)
 {
@@ -70,17 +9,6 @@ static struct ik_state_reply drop(struct memory m)
     drop_met |= bit(a.refusal);
     return a;
 }
-
-static struct ik_place_reply text_at(struct memory m, size_t place)
-{
-    struct ik_place_reply a = ik_place(m.at[CACHE], m.count[CACHE], m.at[CACHE_LENGTHS], m.count[CACHE_LENGTHS], place);
-    place_met |= bit(a.refusal);
-    return a;
-}
-
-static uint16_t *lengths(struct memory m, int which) { return m.at[which]; }
-static uint8_t *bytes(struct memory m, int which) { return m.at[which]; }
-static struct ik_pending *record(struct memory m) { return m.at[RECORD]; }
 
 static void plain_is(struct ik_packet_reply a, unsigned offset, unsigned length)
 {
@@ -111,15 +39,6 @@ static void record_is(struct memory m, uint64_t sequence, uint64_t due, uint64_t
     SAME(record(m)->gathered, gathered);
 }
 
-/* A place of the cache or a list: the text, then zeros. */
-static void place_is(struct memory m, int places, size_t place, const char *text)
-{
-    size_t length = strlen(text);
-    CHECK(memcmp(bytes(m, places) + 32 * place, text, length) == 0);
-    CHECK(all(bytes(m, places) + 32 * place + length, 32 - length, 0));
-    SAME(lengths(m, places + 1)[place], length);
-}
-
 /* A list: these texts, and zeros from there on. */
 static void list_is(struct memory m, int n, size_t count, const char *const *texts)
 {
@@ -129,7 +48,6 @@ static void list_is(struct memory m, int n, size_t count, const char *const *tex
     CHECK(all(bytes(m, n + 1) + 32 * count, IK_LIST_BYTES - 32 * count, 0));
     CHECK(all(lengths(m, n + 2) + count, 2 * (IK_LIST_PLACES - count), 0));
 }
-#define TEXTS(...) sizeof((const char *[]){__VA_ARGS__}) / sizeof(char *), (const char *const[]){__VA_ARGS__}
 
 static void refused(struct memory m, uint8_t utf8, const uint8_t *packet, size_t size, unsigned refusal, unsigned place)
 {
@@ -188,6 +106,15 @@ static void plain_packets(void)
     list_is(m, PLAIN_N, TEXTS("c", ""));
     place_is(m, CACHE, 7, "c");
     CHECK(guards_stand());
+
+    /* the cache's last place, and an empty text */
+    m = ready_memory();
+    plain_is(take(m, 1, BYTES(131, 68, 2, 0x8f, 0, 255, 2, 'o', 'k', 5, 0)), 11, 0);
+    place_is(m, CACHE, 2047, "ok");
+    place_is(m, CACHE, 5, "");
+    plain_is(take(m, 1, BYTES(131, 68, 1, 0x07, 255)), 5, 0);
+    list_is(m, PLAIN_N, TEXTS("ok"));
+    CHECK(guards_stand());
 }
 
 static void longest_texts(void)
@@ -230,8 +157,6 @@ static void refused_headers(void)
     plain_is(take(m, 1, BYTES(131, 68, 1, 0x08, 7, 0)), 6, 0);
     CHECK(guards_stand());
 }
-
-#define IDS(sequence, fragment) 0, 0, 0, 0, 0, 0, 0, sequence, 0, 0, 0, 0, 0, 0, 0, fragment
 
 static void long_payloads(void)
 {
@@ -330,11 +255,6 @@ static void wrong_sizes(void)
                 SAME(a.refusal, 13);
                 SAME(a.place, 0);
                 SAME(differing(m, before), 0);
-                struct ik_place_reply c = text_at(m, 5);
-                SAME(c.refusal, 13);
-                SAME(c.place, 0);
-                SAME(c.start, 0);
-                SAME(c.length, 0);
             } else {
                 SAME(a.refusal, 0);
                 SAME(differing(m, before), 1 << RECORD);
@@ -373,70 +293,6 @@ static void drops_and_resets(void)
     CHECK(all(m.at[CACHE_LENGTHS], 2 * IK_CACHE_PLACES, 0xff));
     record_is(m, 0, 0, 0);
     SAME(differing(m, before), WHOLE_CACHE | 1 << RECORD);
-    CHECK(guards_stand());
-}
-
-static void reference_is(uint8_t utf8, const uint8_t *packet, size_t size, size_t index, unsigned refusal, unsigned place)
-{
-    struct ik_reference_reply a = ik_reference(utf8, lend_copy(packet, size), size, index);
-    reference_met |= bit(a.refusal);
-    SAME(a.refusal, refusal);
-    SAME(a.place, 0);
-    SAME(a.cache_place, place);
-    CHECK(guards_stand());
-}
-
-static void references(void)
-{
-    reference_is(1, BYTES(131, 68, 2, 0x0c, 0, 10, 2, 'o', 'k', 5, 106), 0, 0, 1034);
-    reference_is(1, BYTES(131, 68, 2, 0x0c, 0, 10, 2, 'o', 'k', 5, 106), 1, 0, 5);
-    reference_is(1, BYTES(131, 68, 2, 0x0c, 0, 10, 2, 'o', 'k', 5, 106), 2, 6, 0);
-    reference_is(1, BYTES(131, 68, 2, 0x0c, 0, 10, 2, 'o', 'k', 5, 106), SIZE_MAX, 6, 0);
-    reference_is(1, BYTES(131, 69, IDS(7, 3), 1, 0x07, 255), 0, 0, 2047);
-    reference_is(1, BYTES(131, 70, IDS(7, 3), 1, 0x07, 255), 0, 6, 0);
-    reference_is(1, BYTES(131, 68, 0), 0, 6, 0);
-    reference_is(1, NULL, 0, 0, 1, 0);
-    reference_is(1, BYTES(130), 0, 1, 0);
-    reference_is(1, BYTES(131), 0, 2, 0);
-    reference_is(1, BYTES(131, 67), 0, 20, 0);
-    reference_is(1, BYTES(131, 70, 0, 0), 0, 2, 0);
-    reference_is(1, BYTES(131, 70, IDS(7, 0)), 0, 24, 0);
-    reference_is(1, BYTES(131, 69, IDS(7, 0), 1), 0, 24, 0);
-    reference_is(1, BYTES(131, 68, 2, 0x00, 0, 10), 0, 2, 0);
-    reference_is(1, BYTES(131, 68, 2, 0x80, 0, 10, 10, 0), 0, 22, 0);
-    reference_is(1, BYTES(131, 68, 2, 0x80, 0, 10, 11, 1, 233), 0, 5, 0);
-    reference_is(0, BYTES(131, 68, 2, 0x80, 0, 10, 11, 1, 233), 0, 0, 10);
-    uint8_t packet[64] = {131, 68, 1, 0x08, 7, 33};
-    reference_is(1, packet, 39, 0, 23, 0);
-}
-
-static void cached(struct memory m, size_t place, unsigned refusal, unsigned start, unsigned length)
-{
-    struct memory before = copy_of(m);
-    struct ik_place_reply a = text_at(m, place);
-    SAME(a.refusal, refusal);
-    SAME(a.place, 0);
-    SAME(a.start, start);
-    SAME(a.length, length);
-    SAME(differing(m, before), 0);
-    lent_count -= BUFFERS;
-    for (int i = 0; i < BUFFERS; i++)
-        free(lent_now[lent_count + i].memory);
-}
-
-static void places(void)
-{
-    struct memory m = ready_memory();
-    cached(m, 2047, 21, 0, 0);
-    cached(m, 2048, 13, 0, 0);
-    cached(m, SIZE_MAX, 13, 0, 0);
-    SAME(take(m, 1, BYTES(131, 68, 2, 0x8f, 0, 255, 2, 'o', 'k', 5, 0)).refusal, 0);
-    cached(m, 2047, 0, 2047 * 32, 2);
-    cached(m, 5, 0, 160, 0);
-    lengths(m, CACHE_LENGTHS)[6] = 33;
-    cached(m, 6, 14, 0, 0);
-    lengths(m, CACHE_LENGTHS)[6] = 1, bytes(m, CACHE)[32 * 6] = 0xff;
-    cached(m, 6, 14, 0, 0);
     CHECK(guards_stand());
 }
 
@@ -489,12 +345,8 @@ int main(void)
     fragments();
     wrong_sizes();
     drops_and_resets();
-    references();
-    places();
     SAME(packet_met, bits_of(BYTES(IK_ACCEPTED, IK_NO_VERSION, IK_CUT, IK_TEXT, IK_LONG, IK_SIZE, IK_STATE, IK_PACKET, IK_EMPTY_PLACE, IK_NAMED_AGAIN, IK_LONG_TEXT, IK_FRAGMENT, IK_SEQUENCE, IK_PENDING)));
     SAME(drop_met, bits_of(BYTES(IK_ACCEPTED, IK_STATE, IK_SEQUENCE)));
     SAME(reset_met, bits_of(BYTES(IK_ACCEPTED, IK_SIZE)));
-    SAME(reference_met, bits_of(BYTES(IK_ACCEPTED, IK_NO_VERSION, IK_CUT, IK_TEXT, IK_INDEX, IK_PACKET, IK_NAMED_AGAIN, IK_LONG_TEXT, IK_FRAGMENT)));
-    SAME(place_met, bits_of(BYTES(IK_ACCEPTED, IK_SIZE, IK_STATE, IK_EMPTY_PLACE)));
     return ended("packets");
 }

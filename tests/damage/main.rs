@@ -5,6 +5,7 @@
 
 mod generate;
 mod headers;
+mod lists;
 mod memory;
 mod messages;
 mod mutate;

@@ -1,10 +1,12 @@
 //! All that is lent to the packet call, for both implementations, and each call on it compared.
 
+use crate::lists::ListTwin;
+use crate::messages;
 use crate::random::Random;
 use crate::tally::{hex, Call, Tally};
 use crate::twin::Twin;
-use border::{Guarded, PacketReply, Pending, PlaceReply, ReferenceReply, StateReply};
-use second::packets::{self, Answer, Cache, Index, ListOut, Record};
+use border::{Guarded, PacketReply, Pending, StateReply};
+use second::packets::{self, Answer, Cache, ListOut, Record};
 use second::Refusal;
 
 pub const CACHE_BYTES: usize = 65_536;
@@ -16,8 +18,8 @@ const GATHER_BYTES: usize = 65_536;
 /// An atom list that packets write.
 pub struct List {
     n: Twin<u8>,
-    pub places: Twin<u8>,
-    pub lengths: Twin<u16>,
+    places: Twin<u8>,
+    lengths: Twin<u16>,
 }
 
 pub struct Memory {
@@ -43,8 +45,16 @@ impl List {
         List { n: Twin::new(1), places: Twin::new(LIST_BYTES + 1), lengths: Twin::new(LIST_PLACES + 1) }
     }
 
-    pub fn n(&self) -> u8 {
-        self.n.other()[0]
+    /// The list to be read.
+    pub fn twin(&self) -> ListTwin<'_> {
+        ListTwin { n: self.n.other()[0], places: &self.places, lengths: &self.lengths }
+    }
+
+    /// Its state made false.
+    pub fn falsify(&mut self, r: &mut Random) {
+        let mut n = self.n.other()[0];
+        messages::falsify(r, &mut n, &mut self.places, &mut self.lengths);
+        self.n.edit(|lent| lent[0] = n);
     }
 
     fn garbage(&mut self, r: &mut Random) {
@@ -194,33 +204,6 @@ impl Memory {
         self.compare(Call::Reset, tally, &told);
         expected.refusal == 0
     }
-
-    /// The text that a place holds.
-    pub fn place(&mut self, place: usize, tally: &mut Tally) {
-        let got = border::place(self.cache.guarded(), self.cache_lengths.guarded(), place);
-        let text = packets::text_of_place(self.cache.other(), self.cache_lengths.other(), packets::Place(place));
-        let expected = match text {
-            Ok(text) => PlaceReply { start: 32 * place as u64, length: text.len() as u64, ..PlaceReply::default() },
-            Err(Refusal { number, place }) => PlaceReply { refusal: number.into(), place, ..PlaceReply::default() },
-        };
-        tally.met(Call::Place, expected.refusal);
-        let held = |cache: &Twin<u8>| hex(cache.other().get(32 * (place & 2_047)..).map_or(&[], |held| &held[..held.len().min(32)]));
-        tally.check(Call::Place, got == expected, || format!("place {place}: {got:?}, not {expected:?}; {}", held(&self.cache)));
-        let kept = self.cache.same() && self.cache_lengths.same();
-        tally.check(Call::Place, kept, || format!("the cache changed after place {place}"));
-    }
-}
-
-/// The place that a reference of a packet's header names.
-pub fn reference(utf8: u8, packet: &Twin<u8>, index: usize, tally: &mut Tally) {
-    let got = border::reference(utf8, packet.guarded(), index);
-    let expected = match packets::place_of_reference(packet.other(), utf8 != 0, Index(index)) {
-        Ok(place) => ReferenceReply { cache_place: place.0 as u64, ..ReferenceReply::default() },
-        Err(Refusal { number, place }) => ReferenceReply { refusal: number.into(), place, ..ReferenceReply::default() },
-    };
-    tally.met(Call::Reference, expected.refusal);
-    let told = || format!("index {index}: {got:?}, not {expected:?}; utf8 {utf8} packet {}", hex(packet.other()));
-    tally.check(Call::Reference, got == expected && packet.guarded() == packet.other(), told);
 }
 
 fn packet_answer(answer: Result<Answer, Refusal>) -> PacketReply {

@@ -2,6 +2,7 @@
 
 use crate::generate::Encoded;
 use crate::headers::{self, Header};
+use crate::lists::ListTwin;
 use crate::random::Random;
 use crate::tally::Tally;
 use crate::terms::{self, Input, Room};
@@ -143,13 +144,14 @@ impl Messages {
             missize(r, &mut self.places, &mut self.lengths);
         }
         let Messages { message, places, lengths, room, .. } = self;
-        terms::compare(r, &Input { form, message, n, places, lengths, rows: made.rows }, room, tally);
+        let list = ListTwin { n, places, lengths };
+        terms::compare(r, &Input { form, message, list, rows: made.rows }, room, tally);
     }
 
     /// An accepted payload with the list that goes with it.
-    pub fn payload(&mut self, r: &mut Random, payload: &[u8], n: u8, places: &Twin<u8>, lengths: &Twin<u16>, tally: &mut Tally) {
+    pub fn payload(&mut self, r: &mut Random, payload: &[u8], list: ListTwin, tally: &mut Tally) {
         self.message.hold(payload);
-        let input = Input { form: Form::Payload, message: &self.message, n, places, lengths, rows: None };
+        let input = Input { form: Form::Payload, message: &self.message, list, rows: None };
         terms::compare(r, &input, &mut self.room, tally);
     }
 }

@@ -167,7 +167,7 @@ impl Sessions {
             match r.below(40) {
                 0 | 1 => self.drop_pending(r, &mut sender, tally),
                 2 => self.reset(r, &mut sender, tally),
-                3 | 4 => self.falsify(r, &sender),
+                3 | 4 => self.falsify(r, &sender, tally),
                 5 => self.with_false_record(r, &mut sender, messages, tally),
                 6 => self.with_wrong_size(r, &mut sender, messages, tally),
                 _ => self.send(r, &mut sender, messages, tally),
@@ -198,24 +198,27 @@ impl Sessions {
         self.memory.right_sizes();
     }
 
-    /// A filled place emptied, given a length over 32, or a text that is none; or odd leftovers in the record.
-    fn falsify(&mut self, r: &mut Random, sender: &Sender) {
+    /// A filled place emptied, given a length over 32, or a text that is none; a list false; or odd leftovers in the record.
+    fn falsify(&mut self, r: &mut Random, sender: &Sender, tally: &mut Tally) {
         let place = match sender.known.len() {
             0 => r.below(memory::CACHE_PLACES),
             count => sender.known[r.below(count)].0,
         };
         let length = r.pick(&[33, 32, 255, 65_534, 65_535]);
         let byte = r.pick(&[255, 128, 0xc3, 0xe0]);
-        match r.below(5) {
+        match r.below(7) {
             0 | 1 => self.memory.cache_lengths.edit(|lent| lent[place] = length),
             2 => self.memory.cache.edit(|lent| lent[32 * place] = byte),
             3 => self.memory.cache.edit(|lent| lent[32 * place + 31] = byte),
+            4 => self.memory.plain.falsify(r),
+            5 => self.memory.pending.falsify(r),
             _ if self.memory.record().due == 0 => {
                 let gathered = r.pick(&[1, 65_535, 65_536]);
                 self.memory.set_record(Record { sequence: r.next(), due: 0, gathered });
             }
             _ => (),
         }
+        self.look_up(r, tally);
     }
 
     /// A packet while the record is false, or gathered up to the end.
@@ -241,7 +244,7 @@ impl Sessions {
         let agreed = if r.one_in(20) { r.pick(&[0, 1]) } else { sender.utf8 };
         self.packet.hold(&step.packet.bytes);
         let answer = self.memory.packet(agreed, &self.packet, tally);
-        self.look_up(r, agreed, &step, tally);
+        self.look_up(r, tally);
         sender.sent.push(step.packet.bytes.clone());
         if answer.refusal != 0 {
             return;
@@ -251,21 +254,14 @@ impl Sessions {
             _ => (self.memory.gather.other().get(..answer.gathered as usize), &self.memory.pending),
         };
         if let (1 | 3, Some(payload)) = (answer.kind, payload) {
-            messages.payload(r, payload, list.n(), &list.places, &list.lengths, tally);
+            messages.payload(r, payload, list.twin(), tally);
         }
         sender.accepted(step, answer.kind);
     }
 
-    /// The place of a reference or two, the text of a place or two.
-    fn look_up(&mut self, r: &mut Random, agreed: u8, step: &Step, tally: &mut Tally) {
-        let count_at = if step.packet.bytes.get(1) == Some(&68) { 2 } else { 18 };
-        let n = usize::from(step.packet.bytes.get(count_at).copied().unwrap_or(0));
-        memory::reference(agreed, &self.packet, r.below(n + 1), tally);
-        let index = r.pick(&[0, 1, 254, 255, 256, n, usize::MAX]);
-        memory::reference(agreed, &self.packet, index, tally);
-        let place = r.pick(&[0, 5, 1_034, 2_047, 2_048, 2_049, 65_536, usize::MAX]);
-        self.memory.place(place, tally);
-        let filled = step.filled.first().map_or(r.below(memory::CACHE_PLACES), |(place, _)| *place);
-        self.memory.place(filled, tally);
+    /// Words by both lists.
+    fn look_up(&self, r: &mut Random, tally: &mut Tally) {
+        self.memory.plain.twin().words(r, tally);
+        self.memory.pending.twin().words(r, tally);
     }
 }

@@ -11,12 +11,11 @@ pub enum Call {
     Packet,
     Drop,
     Reset,
-    Reference,
-    Place,
+    Word,
 }
 
-const CALLS: [Call; 10] =
-    [Call::Read, Call::Write, Call::Number, Call::Text, Call::Mark, Call::Packet, Call::Drop, Call::Reset, Call::Reference, Call::Place];
+const CALLS: [Call; 9] =
+    [Call::Read, Call::Write, Call::Number, Call::Text, Call::Mark, Call::Packet, Call::Drop, Call::Reset, Call::Word];
 
 /// One over the highest refusal number.
 const NUMBERS: usize = 27;
@@ -97,8 +96,7 @@ impl Tally {
                 Call::Packet => &[0, 1, 2, 5, 12, 13, 14, 20, 21, 22, 23, 24, 25, 26],
                 Call::Drop => &[0, 14, 25],
                 Call::Reset => &[0, 13],
-                Call::Reference => &[0, 1, 2, 5, 6, 20, 22, 23, 24],
-                Call::Place => &[0, 13, 14, 21],
+                Call::Word => &[0, 6, 13, 14],
             };
             let counts = &self.cases_met[call as usize];
             unmet.extend(answers.iter().filter(|n| counts[**n] == 0).map(|n| (call, *n)));

@@ -1,12 +1,12 @@
 //! One message through reading, writing and asking, in both implementations.
 
+use crate::lists::ListTwin;
 use crate::random::Random;
 use crate::tally::{hex, Call, Tally};
 use crate::twin::Twin;
 use border::{Form, MarkReply, NumberReply, ReadReply, TextReply, WriteReply};
 use second::looks::{self, Stretch};
 use second::terms::Reading;
-use second::text::AtomList;
 use second::{canon, terms, Refusal};
 
 const ROWS_MOST: usize = 8_192;
@@ -20,22 +20,12 @@ const SEARCHED_MOST: usize = 2_000;
 pub struct Input<'a> {
     pub form: Form,
     pub message: &'a Twin<u8>,
-    pub n: u8,
-    pub places: &'a Twin<u8>,
-    pub lengths: &'a Twin<u16>,
+    pub list: ListTwin<'a>,
     /// how many rows it has, where it was made to be accepted
     pub rows: Option<usize>,
 }
 
 impl Input<'_> {
-    fn list(&self) -> border::AtomList<'_> {
-        border::AtomList { n: self.n, places: self.places.guarded(), lengths: self.lengths.guarded() }
-    }
-
-    fn other_list(&self) -> AtomList<'_> {
-        AtomList { n: self.n, texts: self.places.other(), lengths: self.lengths.other() }
-    }
-
     fn other_form(&self) -> terms::Form {
         match self.form {
             Form::Standalone => terms::Form::Standalone,
@@ -45,19 +35,7 @@ impl Input<'_> {
 
     /// The input in words, for a disagreement.
     fn told(&self) -> String {
-        let places = self.places.other();
-        let used = (32 * usize::from(self.n)).min(places.len());
-        let lengths = self.lengths.other();
-        let told_lengths = &lengths[..usize::from(self.n).min(lengths.len())];
-        format!(
-            "{:?} message {} n {} places ({}) {} lengths ({}) {told_lengths:?}",
-            self.form,
-            hex(self.message.other()),
-            self.n,
-            places.len(),
-            hex(&places[..used]),
-            lengths.len(),
-        )
+        format!("{:?} message {} {}", self.form, hex(self.message.other()), self.list.told())
     }
 }
 
@@ -110,7 +88,7 @@ fn rows_needed(input: &Input, reading: &Result<Reading, Refusal>) -> usize {
     }
     while fewest < enough {
         let rows = (fewest + enough) / 2;
-        let answer = terms::read(input.other_form(), input.message.other(), &input.other_list(), rows);
+        let answer = terms::read(input.other_form(), input.message.other(), &input.list.other(), rows);
         if answer.is_err_and(|other| other == *refused) {
             enough = rows;
         } else {
@@ -122,7 +100,7 @@ fn rows_needed(input: &Input, reading: &Result<Reading, Refusal>) -> usize {
 
 /// Compares every call on the input.
 pub fn compare(r: &mut Random, input: &Input, room: &mut Room, tally: &mut Tally) {
-    let reading = terms::read(input.other_form(), input.message.other(), &input.other_list(), ROWS_MOST);
+    let reading = terms::read(input.other_form(), input.message.other(), &input.list.other(), ROWS_MOST);
     let rows = rows_needed(input, &reading);
     let as_made = input.rows.is_none() || reading.is_ok() && input.rows == Some(rows);
     tally.check(Call::Read, as_made, || format!("made to be accepted with {:?} rows; {}", input.rows, input.told()));
@@ -136,17 +114,16 @@ pub fn compare(r: &mut Random, input: &Input, room: &mut Room, tally: &mut Tally
         let offset = offset_to_ask(r, &reading, input.message.other().len());
         text_and_mark(input, &reading, offset, tally);
     }
-    let kept = input.message.guarded() == input.message.other()
-        && input.places.guarded() == input.places.other()
-        && input.lengths.guarded() == input.lengths.other();
+    input.list.words(r, tally);
+    let kept = input.message.guarded() == input.message.other() && input.list.is_kept();
     tally.check(Call::Read, kept, || format!("a message or list changed: {}", input.told()));
 }
 
 /// Reading: the answer and every word of the table.
 fn read(r: &mut Random, input: &Input, rows: usize, room: &mut Room, tally: &mut Tally) {
     room.table.garbage(r, rows);
-    let got = border::read(input.form, input.message.guarded(), &input.list(), room.table.guarded_mut());
-    let other = terms::read_into(input.other_form(), input.message.other(), &input.other_list(), room.table.other_mut());
+    let got = border::read(input.form, input.message.guarded(), &input.list.guarded(), room.table.guarded_mut());
+    let other = terms::read_into(input.other_form(), input.message.other(), &input.list.other(), room.table.other_mut());
     let expected = match other {
         Ok((terms, rows)) => ReadReply { terms: terms as u64, rows: rows as u64, ..ReadReply::default() },
         Err(Refusal { number, place }) => ReadReply { refusal: number.into(), place, ..ReadReply::default() },
@@ -160,12 +137,12 @@ fn read(r: &mut Random, input: &Input, rows: usize, room: &mut Room, tally: &mut
 /// Writing: the answer, every byte of the output, every word of the scratch table.
 fn write(r: &mut Random, input: &Input, rows: usize, room: &mut Room, tally: &mut Tally) {
     let form = input.other_form();
-    let whole = canon::canonical(form, input.message.other(), &input.other_list(), rows);
+    let whole = canon::canonical(form, input.message.other(), &input.list.other(), rows);
     let length = output_length(r, whole.as_ref().map_or(30, Vec::len)).min(OUTPUT_MOST);
     room.table.garbage(r, rows);
     room.output.garbage(r, length);
-    let got = border::write(input.form, input.message.guarded(), &input.list(), room.table.guarded_mut(), room.output.guarded_mut());
-    let other = canon::write_into(form, input.message.other(), &input.other_list(), room.table.other_mut(), room.output.other_mut());
+    let got = border::write(input.form, input.message.guarded(), &input.list.guarded(), room.table.guarded_mut(), room.output.guarded_mut());
+    let other = canon::write_into(form, input.message.other(), &input.list.other(), room.table.other_mut(), room.output.other_mut());
     let expected = match other {
         Ok(length) => WriteReply { terms: terms_of(input), length: length as u64, ..WriteReply::default() },
         Err(Refusal { number, place }) => WriteReply { refusal: number.into(), place, ..WriteReply::default() },
@@ -180,7 +157,7 @@ fn write(r: &mut Random, input: &Input, rows: usize, room: &mut Room, tally: &mu
 
 /// How many terms an accepted message has.
 fn terms_of(input: &Input) -> u64 {
-    let reading = terms::read(input.other_form(), input.message.other(), &input.other_list(), ROWS_MOST);
+    let reading = terms::read(input.other_form(), input.message.other(), &input.list.other(), ROWS_MOST);
     reading.map_or(0, |reading| reading.terms.len() as u64)
 }
 
@@ -194,8 +171,8 @@ fn row_to_ask(r: &mut Random, rows: usize) -> usize {
 }
 
 fn number(input: &Input, row: usize, tally: &mut Tally) {
-    let got = border::number(input.form, input.message.guarded(), &input.list(), row);
-    let other = looks::number(input.other_form(), input.message.other(), &input.other_list(), row as u64);
+    let got = border::number(input.form, input.message.guarded(), &input.list.guarded(), row);
+    let other = looks::number(input.other_form(), input.message.other(), &input.list.other(), row as u64);
     let expected = match other {
         Ok(looks::Number::Whole(integer)) => NumberReply { kind: 1, integer, ..NumberReply::default() },
         Ok(looks::Number::Float(bits)) => NumberReply { kind: 2, real: f64::from_bits(bits), ..NumberReply::default() },
@@ -230,9 +207,9 @@ fn stretch(reading: &Result<Reading, Refusal>, offset: usize) -> TextReply {
 }
 
 fn text_and_mark(input: &Input, reading: &Result<Reading, Refusal>, offset: usize, tally: &mut Tally) {
-    let (message, list) = (input.message.guarded(), input.list());
+    let (message, list) = (input.message.guarded(), input.list.guarded());
     let (got_text, got) = (border::text(input.form, message, &list, offset), border::mark(input.form, message, &list, offset));
-    let other = looks::mark(input.other_form(), input.message.other(), &input.other_list(), offset as u64);
+    let other = looks::mark(input.other_form(), input.message.other(), &input.list.other(), offset as u64);
     let expected = match other {
         Ok(looks::Mark::Latin1) => MarkReply { mark: 1, ..MarkReply::default() },
         Ok(looks::Mark::Utf8) => MarkReply { mark: 2, ..MarkReply::default() },
@@ -241,7 +218,7 @@ fn text_and_mark(input: &Input, reading: &Result<Reading, Refusal>, offset: usiz
     tally.met(Call::Mark, expected.refusal);
     tally.check(Call::Mark, got == expected, || format!("offset {offset}: {got:?}, not {expected:?}; {}", input.told()));
     let expected = stretch(reading, offset);
-    let other = looks::text(input.other_form(), input.message.other(), &input.other_list(), offset as u64);
+    let other = looks::text(input.other_form(), input.message.other(), &input.list.other(), offset as u64);
     let agrees = match other {
         Stretch::Empty => got_text.length == 0,
         Stretch::Message { start, length } => got_text == TextReply { from: 1, start: start as u64, length: length as u64 },

@@ -460,32 +460,16 @@ static int do_reset(void)
     return 1;
 }
 
-static int do_reference(void)
+static int do_word(void)
 {
+    struct list l;
     uint64_t index;
-    uint8_t utf8;
-    size_t size;
-    if (!number_of(words[1], &index) || !flag_of(words[2], &utf8))
+    if (!list_named(words[1], &l) || !number_of(words[2], &index))
         return 0;
-    uint8_t *packet = bytes_of(words[3], &size);
-    if (!packet)
-        return 0;
-    struct ik_reference_reply a = ik_reference(utf8, packet, size, index);
-    free(packet);
-    if (!refused(a.refusal, a.place))
-        printf("place %llu", wide(a.cache_place));
-    return 1;
-}
-
-static int do_place(void)
-{
-    uint64_t place;
-    if (!number_of(words[1], &place))
-        return 0;
-    struct ik_place_reply a = ik_place(parts[CACHE].memory, parts[CACHE].count, numbers(LENGTHS), parts[LENGTHS].count, place);
+    struct ik_word_reply a = ik_word(l.n, l.texts, l.texts_len, l.lengths, l.lengths_len, index);
     if (!refused(a.refusal, a.place)) {
         printf("text ");
-        print_hex(parts[CACHE].memory + a.start, a.length);
+        print_hex(l.texts + a.start, a.length);
     }
     return 1;
 }
@@ -493,7 +477,7 @@ static int do_place(void)
 static const struct { const char *name; size_t words; int (*call)(void); } commands[] = {
     {"set", 4, do_set}, {"fill", 3, do_fill}, {"lend", 3, do_lend}, {"get", 2, do_get}, {"same", 1, do_same}, {"changed", 1, do_changed},
     {"read", 4, do_read}, {"kind", 2, do_kind}, {"write", 4, do_write}, {"number", 5, do_number}, {"text", 5, do_text}, {"mark", 5, do_mark},
-    {"packet", 3, do_packet}, {"drop", 1, do_drop}, {"reset", 1, do_reset}, {"reference", 4, do_reference}, {"place", 2, do_place},
+    {"packet", 3, do_packet}, {"drop", 1, do_drop}, {"reset", 1, do_reset}, {"word", 3, do_word},
 };
 
 /* Parts the line at single spaces; words past the eighth are counted, not kept. */

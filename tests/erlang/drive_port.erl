@@ -1,6 +1,6 @@
 %% The driver (tests/drive, or any program that speaks its protocol) as a port: commands in, answers out.
 -module(drive_port).
--export([open/1, close/1, ask/2, read/4, write/4, write/5, packet/2, gathered/2, reset/1, hex/1]).
+-export([open/1, close/1, ask/2, read/4, write/4, write/5, packet/2, gathered/2, list/2, reset/1, hex/1]).
 
 %% Answers are one line each; the longest is the form of 65,536 bytes in hex.
 open(Program) -> open_port({spawn_executable, Program}, [binary, {line, 300000}, use_stdio, exit_status]).
@@ -52,6 +52,14 @@ gathered(Port, Length) ->
     Bytes = front(Port, "gather", Length),
     [<<"ok">>] = ask(Port, [lend("gather", 65536)]),
     Bytes.
+
+%% The word of each reference of a list, plain or pending, and the refusal of the index after them.
+list(Port, List) ->
+    [<<Count>>] = [bytes(Hex) || Hex <- ask(Port, [["get ", List, "-count"]])],
+    [word(words(Answer)) || Answer <- ask(Port, [["word ", List, $\s, integer_to_list(I)] || I <- lists:seq(0, Count)])].
+
+word([<<"text">>, Hex]) -> bytes(Hex);
+word(Other) -> refusal(Other).
 
 %% Lends only the first Length bytes from now on, and gets them.
 front(Port, Name, Length) ->

@@ -41,18 +41,17 @@ many(Run) ->
     all_met(?MANY, Outputs, Log),
     in_order(?MANY, Outputs),
     same_cache(Run, ?MANY, Model),
-    look_up(Run, Packets),
     {Entered, Replaced, Cached} = cache_use(Packets),
     tally:check(?MANY, Entered > 2048 andalso Replaced > 0 andalso Cached > 0, {cache_use, Entered, Replaced, Cached}),
-    tally:say(?MANY, io_lib:format("~b packets, ~b texts entered, ~b of them over another text, ~b cached references",
-                                   [length(Packets), Entered, Replaced, Cached])),
+    tally:say(?MANY, io_lib:format("~b packets, ~b texts entered, ~b of them over another text, ~b cached references, ~b words",
+                                   [length(Packets), Entered, Replaced, Cached, tally:count({note, {?MANY, words}})])),
     {Packets, Log, [Output || {_, Output} <- Outputs]}.
 
 recut(Run, Packets, Log) ->
     Cut = cut(Packets, []),
     {Outputs, Model} = feed(Run, ?RECUT, Cut, Log, keep),
     all_met(?RECUT, Outputs, Log),
-    [met(?RECUT, What) || What <- [plain, plain_between, pending, complete]],
+    [met(?RECUT, What) || What <- [plain, plain_between, pending, complete, words_replaced_in_cache]],
     same_cache(Run, ?RECUT, Model),
     say(?RECUT, Cut).
 
@@ -126,7 +125,7 @@ readable(Output) ->
 
 %% One line with the kinds of answers.
 say(Part, Packets) ->
-    Kinds = [plain, plain_between, pending, complete, fun_refused | [{refused, Number} || Number <- [12, 21, 23, 24, 25, 26]]],
+    Kinds = [plain, plain_between, pending, complete, words, words_replaced_in_cache, fun_refused | [{refused, Number} || Number <- [12, 21, 23, 24, 25, 26]]],
     Met = [io_lib:format(", ~b ~tp", [Count, Kind]) || Kind <- Kinds, Count <- [tally:count({note, {Part, Kind}})], Count > 0],
     tally:say(Part, [io_lib:format("~b packets", [length(Packets)]), Met]).
 
@@ -170,8 +169,17 @@ step(#run{drive = Drive}, Part, Packet, Log, Policy, Model) ->
     {Expected, Payload, Next} = packet_model:take(Packet, Model),
     tally:check(Part, Answer =:= Expected, {packet, Packet, ours, Answer, expected, Expected}),
     tally:note({Part, kind(Answer, packet_model:pending(Model))}, 1),
+    [same_words(Drive, Part, List, Entries, packet_model:cache(Next)) || {List, Entries} <- packet_model:words(Next)],
     Outputs = [Output || Answer =:= Expected, Payload =/= none, Output <- payload(Drive, Part, Answer, Packet, Payload, Log)],
     {Outputs, after_answer(Drive, Part, Answer, Policy, Next)}.
+
+%% The words by a list are the texts of the header that wrote it, whatever packets came since.
+same_words(Drive, Part, List, Entries, Cache) ->
+    Texts = [Text || {_, Text} <- Entries],
+    Words = drive_port:list(Drive, List),
+    tally:note({Part, words}, length(Texts)),
+    tally:note({Part, words_replaced_in_cache}, length([Place || {Place, Text} <- Entries, map_get(Place, Cache) =/= Text])),
+    tally:check(Part, Words =:= Texts ++ [{refused, 6, 0}], {words, List, Words, Texts}).
 
 %% The kind of an answer, by the record before it.
 kind({refused, Number, _}, _) -> {refused, Number};
@@ -199,7 +207,7 @@ message(Drive, Part, List, Bytes, Payload, Log) ->
     tally:check(Part, Bytes =:= Payload, {payload, Bytes, Payload}),
     Read = drive_port:read(Drive, "payload", List, Bytes),
     case drive_port:write(Drive, "payload", List, Bytes, ?ROOM) of
-        {ok, Output} -> tally:guard(Part, Output, [], fun() -> compared(Drive, Part, Read, Output, Log) end);
+        {ok, Output} -> tally:guard(Part, Output, [], fun() -> compared(Drive, Part, List, Read, Output, Log) end);
         Refused -> refused(Part, Refused, Read, Bytes), []
     end.
 
@@ -208,7 +216,7 @@ refused(Part, Refused = {refused, Number, Place}, Read, Bytes) ->
     tally:note({Part, fun_refused}, 1),
     tally:check(Part, Read =:= Refused andalso Number =:= 3 andalso binary:at(Bytes, Place) =:= 112, {payload_refused, Refused, Bytes}).
 
-compared(Drive, Part, Read, Output, Log) ->
+compared(Drive, Part, List, Read, Output, Log) ->
     {Control, Used} = binary_to_term(Output, [used]),
     <<First:Used/binary, Second/binary>> = Output,
     Message = {Sender, Number, _} = binary_to_term(Second),
@@ -217,10 +225,16 @@ compared(Drive, Part, Read, Output, Log) ->
              {message, same(Message, SentMessage)},
              {own_bytes, term_tests:own_bytes(First, SentControl) andalso term_tests:own_bytes(Second, SentMessage)},
              {rows, Read =:= {ok, 2, measure:rows(SentControl) + measure:rows(SentMessage)}},
+             {words, own_words(Drive, List, [SentControl, SentMessage])},
              {fixed, fixed(Drive, First) andalso fixed(Drive, Second)}],
     Wrong = [What || {What, false} <- Found],
     tally:check(Part, Wrong =:= [], {Wrong, Read, Output, SentControl, SentMessage}),
     [{{Sender, Number}, Second}].
+
+%% Each word is an atom of the terms that were sent.
+own_words(Drive, List, Terms) ->
+    Words = [binary_to_atom(Text) || Text <- drive_port:list(Drive, List), is_binary(Text)],
+    lists:usort(Words) -- measure:atoms(Terms) =:= [].
 
 %% Written again, a term that is not too long stays as it is.
 fixed(Drive, Output) ->
@@ -251,19 +265,6 @@ same_cache(#run{drive = Drive}, Part, Model) ->
     Lengths = << <<Length:16>> || Place <- lists:seq(0, 2047), Length <- [case Texts of #{Place := Text} -> byte_size(Text); _ -> 65535 end] >>,
     Held = [binary:decode_hex(Hex) || Hex <- drive_port:ask(Drive, ["get cache", "get lengths"])],
     tally:check(Part, Held =:= [Places, Lengths], cache_differs).
-
-%% The places that references name, asked for every tenth packet; one past the last is 6.
-look_up(#run{drive = Drive}, Packets) ->
-    Tenth = [Packet || {Number, Packet} <- lists:enumerate(Packets), Number rem 10 =:= 0],
-    [tally:check(?MANY, references(Drive, Packet) =:= named_places(Packet), {references, Packet}) || Packet <- Tenth].
-
-references(Drive, Packet) ->
-    Count = length(named_places(Packet)),
-    drive_port:ask(Drive, [io_lib:format("reference ~b 1 ~s", [I, drive_port:hex(Packet)]) || I <- lists:seq(0, Count - 1)]).
-
-named_places(<<131, 68, Rest/binary>>) ->
-    {References, _} = packet_model:header(Rest),
-    [iolist_to_binary(["place ", integer_to_list(element(2, Reference))]) || Reference <- References] ++ [<<"refused 6 0">>].
 
 %% How many texts entered, how many over another, how many cached references.
 cache_use(Packets) ->

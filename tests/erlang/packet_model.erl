@@ -1,12 +1,14 @@
 %% What document 01 answers to the packets that a node sends, kept apart from the library: header, cache, fragments.
 %% Faults that a node does not make (a place named again, bad texts) are not known here and would show as a disagreement.
 -module(packet_model).
--export([new/0, take/2, drop/1, header/1, cache/1, pending/1]).
+-export([new/0, take/2, drop/1, header/1, cache/1, words/1, pending/1]).
 
--record(state, {cache = #{}, lost = #{}, sequence = 0, due = 0, gathered = <<>>, sound = true}).
+-record(state, {cache = #{}, lost = #{}, words = #{}, sequence = 0, due = 0, gathered = <<>>, sound = true}).
 
 new() -> #state{}.
 cache(#state{cache = Cache}) -> Cache.
+%% Place and text of each reference, by each list that was written since the start.
+words(#state{words = Words}) -> maps:to_list(Words).
 %% The record: sequence id, id due, gathered length.
 pending(#state{due = 0}) -> {0, 0, 0};
 pending(#state{sequence = Sequence, due = Due, gathered = Gathered}) -> {Sequence, Due, byte_size(Gathered)}.
@@ -26,11 +28,11 @@ take(<<131, 70, Sequence:64, Id:64, Payload/binary>>, State) -> continue(Sequenc
 
 plain(ok, Packet, Payload, References, State) ->
     Answer = {plain, byte_size(Packet) - byte_size(Payload), byte_size(Payload)},
-    {Answer, given(sound(References, State), Payload), fill(References, State)};
+    {Answer, given(sound(References, State), Payload), fill("plain", References, State)};
 plain(Refusal, _, _, References, State) -> refuse(Refusal, References, State).
 
 start(ok, Sequence, Id, Payload, References, State) ->
-    Begun = (fill(References, State))#state{sequence = Sequence, due = Id, gathered = <<>>, sound = sound(References, State)},
+    Begun = (fill("pending", References, State))#state{sequence = Sequence, due = Id, gathered = <<>>, sound = sound(References, State)},
     gather(Payload, Begun);
 start(Refusal, _, _, _, References, State) -> refuse(Refusal, References, State).
 
@@ -68,9 +70,12 @@ fault({new, _, Text}, _) when byte_size(Text) > 32 -> 23;
 fault({cached, Place}, Cache) when not is_map_key(Place, Cache) -> 21;
 fault(_, _) -> 0.
 
-fill(References, State = #state{cache = Cache, lost = Lost}) ->
+%% The cache and the list.
+fill(List, References, State = #state{cache = Cache, lost = Lost, words = Words}) ->
     New = maps:from_list([{Place, Text} || {new, Place, Text} <- References]),
-    State#state{cache = maps:merge(Cache, New), lost = maps:without(maps:keys(New), Lost)}.
+    Filled = maps:merge(Cache, New),
+    Entries = [{Place, maps:get(Place, Filled)} || Reference <- References, Place <- [element(2, Reference)]],
+    State#state{cache = Filled, lost = maps:without(maps:keys(New), Lost), words = Words#{List => Entries}}.
 
 %% No cached reference names a place whose latest text was refused.
 sound(References, #state{lost = Lost}) -> not lists:any(fun(Place) -> is_map_key(Place, Lost) end, [Place || {cached, Place} <- References]).

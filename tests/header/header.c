@@ -11,9 +11,8 @@ typedef ik_number_reply number_reply;
 typedef ik_text_reply text_reply;
 typedef ik_mark_reply mark_reply;
 typedef ik_packet_reply packet_reply;
-typedef ik_reference_reply reference_reply;
-typedef ik_place_reply place_reply;
 typedef ik_state_reply state_reply;
+typedef ik_word_reply word_reply;
 typedef ik_pending pending_record;
 #else
 typedef struct ik_read_reply read_reply;
@@ -22,9 +21,8 @@ typedef struct ik_number_reply number_reply;
 typedef struct ik_text_reply text_reply;
 typedef struct ik_mark_reply mark_reply;
 typedef struct ik_packet_reply packet_reply;
-typedef struct ik_reference_reply reference_reply;
-typedef struct ik_place_reply place_reply;
 typedef struct ik_state_reply state_reply;
+typedef struct ik_word_reply word_reply;
 typedef struct ik_pending pending_record;
 #endif
 
@@ -36,10 +34,9 @@ static text_reply (*const texts[])(MESSAGE, size_t) = {ik_text_standalone, ik_te
 static mark_reply (*const marks[])(MESSAGE, size_t) = {ik_mark_standalone, ik_mark_payload};
 static packet_reply (*const packet)(uint8_t, const uint8_t *, size_t, uint8_t *, size_t, uint16_t *, size_t, uint8_t *, uint8_t *, size_t, uint16_t *, size_t,
                                     uint8_t *, uint8_t *, size_t, uint16_t *, size_t, pending_record *, uint8_t *, size_t) = ik_packet;
-static reference_reply (*const reference)(uint8_t, const uint8_t *, size_t, size_t) = ik_reference;
-static place_reply (*const place)(const uint8_t *, size_t, const uint16_t *, size_t, size_t) = ik_place;
 static state_reply (*const reset)(uint8_t *, size_t, uint16_t *, size_t, pending_record *) = ik_reset;
 static state_reply (*const drop)(pending_record *) = ik_drop;
+static word_reply (*const word)(uint8_t, const uint8_t *, size_t, const uint16_t *, size_t, size_t) = ik_word;
 
 static unsigned passed, failed;
 static void check(int holds, const char *what)
@@ -77,17 +74,16 @@ static void on_the_atom(size_t i)
 
 int main(void)
 {
-    static const uint8_t header[] = {131, 68, 1, 0x08, 7, 1, 97, 82, 0};
+    static const uint8_t header[] = {131, 68, 2, 0x88, 0, 7, 1, 97, 8, 1, 98, 82, 0};
     CHECK(sizeof(read_reply) == 32 && sizeof(write_reply) == 32 && sizeof(number_reply) == 40 && sizeof(text_reply) == 24);
-    CHECK(sizeof(mark_reply) == 24 && sizeof(packet_reply) == 56 && sizeof(reference_reply) == 24 && sizeof(place_reply) == 32);
-    CHECK(sizeof(state_reply) == 16 && sizeof(pending_record) == 24);
+    CHECK(sizeof(mark_reply) == 24 && sizeof(packet_reply) == 56 && sizeof(state_reply) == 16 && sizeof(word_reply) == 32);
+    CHECK(sizeof(pending_record) == 24);
     on_the_atom(0);
     on_the_atom(1);
     CHECK(reset(cache, sizeof cache, cache_lengths, IK_CACHE_PLACES, &record).refusal == IK_ACCEPTED);
     CHECK(packet(1, header, sizeof header, cache, sizeof cache, cache_lengths, IK_CACHE_PLACES, &n, places, sizeof places, lengths, IK_LIST_PLACES,
                  &more_n, more, sizeof more, more_lengths, IK_LIST_PLACES, &record, gather, sizeof gather).kind == IK_PACKET_PLAIN);
-    CHECK(reference(1, header, sizeof header, 0).cache_place == 7);
-    CHECK(place(cache, sizeof cache, cache_lengths, IK_CACHE_PLACES, 7).start == 7 * IK_PLACE_BYTES);
+    CHECK(word(n, places, sizeof places, lengths, IK_LIST_PLACES, 1).start == IK_PLACE_BYTES);
     CHECK(drop(&record).refusal == IK_SEQUENCE);
 #ifdef __cplusplus
     printf("header as C++11: %u passed, %u failed\n", passed, failed);

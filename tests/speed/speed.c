@@ -96,11 +96,13 @@ static struct ik_read_reply read_packet(const struct message *m, uint64_t *table
 
 static void packet_alone(const struct message *m) { sink = take_packet(m).length; }
 static void packet_read(const struct message *m) { sink = read_packet(m, m->table, m->rows).rows; }
-static void packet_reference(const struct message *m) { sink = ik_reference(1, m->bytes, m->size, 0).cache_place; }
-static void packet_place(const struct message *m)
+/* The last reference by the packet's own list, which is the same for all packets of a corpus; one without references is refused. */
+static void packet_word(const struct message *m)
 {
-    (void)m;
-    sink = ik_place(cache, sizeof cache, cache_lengths, IK_CACHE_PLACES, 1).length;
+    int plain = m->bytes[1] == 68;
+    uint8_t n = plain ? plain_n : pending_n;
+    sink = ik_word(n, plain ? plain_places : pending_places, IK_LIST_BYTES, plain ? plain_lengths : pending_lengths, IK_LIST_PLACES,
+                   (size_t)n - 1).length;
 }
 static void packet_drop(const struct message *m)
 {
@@ -289,8 +291,7 @@ static void measure_file(const char *corpus, const char *written, const char *na
     load_messages(path);
     if (strncmp(name, "packet-", 7) == 0) {
         settle_packets(name);
-        measure_and_print(name, (struct work[]){{packet_alone, 0, 0}, {packet_read, 0, 0}, {packet_reference, 0, 0}, {packet_place, 0, 0},
-                                                {packet_drop, 0, 0}}, 5);
+        measure_and_print(name, (struct work[]){{packet_alone, 0, 0}, {packet_read, 0, 0}, {packet_word, 0, 0}, {packet_drop, 0, 0}}, 4);
         measure_and_print("reset", (struct work[]){{packet_reset, 0, 0}}, 1);
         return;
     }

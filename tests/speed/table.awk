@@ -12,7 +12,7 @@ $1 == "reset" { best(reset, $4); next }
 
 $1 ~ /^packet-/ {
     if (first_pass) packets[++packet_count] = $1
-    best(alone, $4); best(with_reading, $5); best(reference, $6); best(place, $7); best(drop, $8)
+    best(alone, $4); best(with_reading, $5); best(word, $6); best(drop, $7)
     next
 }
 
@@ -110,11 +110,11 @@ END {
     print "\nQuestions, nanoseconds: the number of the last row, text and mark of the last atom, and each beside reading the message"
     printf "%-22s %7s %10s %10s %10s %10s %9s %9s %9s\n", "corpus", "bytes", "reading", "number", "text", "mark", "number", "text", "mark"
     each_line("questions")
-    print "\nPackets, nanoseconds a packet (libei and Erlang's functions take none); a payload is read where it is whole"
-    printf "%-22s %7s %10s %18s %13s %9s %8s\n", "packets", "bytes", "ik_packet", "+ ik_read_payload", "ik_reference", "ik_place", "ik_drop"
+    print "\nPackets, nanoseconds a packet (libei and Erlang's functions take none); a payload is read where it is whole; ik_word of the last reference, where there is none refused"
+    printf "%-22s %7s %10s %18s %8s %8s\n", "packets", "bytes", "ik_packet", "+ ik_read_payload", "ik_word", "ik_drop"
     for (i = 1; i <= packet_count; i++) {
         n = packets[i]
-        printf "%-22s %7.0f %10.0f %18.0f %13.0f %9.0f %8.0f\n", n, bytes[n] / messages[n], alone[n], with_reading[n], reference[n], place[n], drop[n]
+        printf "%-22s %7.0f %10.0f %18.0f %8.0f %8.0f\n", n, bytes[n] / messages[n], alone[n], with_reading[n], word[n], drop[n]
     }
     printf "ik_reset: %.0f\n", reset["reset"]
     sizes("Reading", read_exact)

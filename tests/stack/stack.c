@@ -34,8 +34,7 @@ static void packet_it(void)
 }
 static void drop_it(void) { ik_drop(&record); }
 static void reset_it(void) { ik_reset(cache, sizeof cache, cache_lengths, IK_CACHE_PLACES, &record); }
-static void reference_it(void) { refusal = ik_reference(1, msg, size, 254).refusal; }
-static void place_it(void) { ik_place(cache, sizeof cache, cache_lengths, IK_CACHE_PLACES, 5); }
+static void word_it(void) { refusal = ik_word(n, places, sizeof places, lengths, 255, 254).refusal; }
 
 static void run_call(void) { call(); }
 
@@ -136,7 +135,7 @@ static const struct { const char *name; void (*build)(void); } builds[] = {
 static const struct { const char *name; void (*run)(void); } on_terms[] = {
     {"ik_read_*", read_it}, {"ik_write_*", write_it}, {"ik_number_*", number_it}, {"ik_text_*", text_it}, {"ik_mark_*", mark_it},
 }, on_packets[] = {
-    {"ik_packet", packet_it}, {"ik_reference", reference_it}, {"ik_place", place_it}, {"ik_reset", reset_it}, {"ik_drop", drop_it},
+    {"ik_packet", packet_it}, {"ik_word", word_it}, {"ik_reset", reset_it}, {"ik_drop", drop_it},
 };
 #define EACH(i, array) (size_t i = 0; i < sizeof array / sizeof *array; i++)
 
@@ -223,6 +222,20 @@ static void term_line(size_t c)
     printf("| %s |\n", commas((most[CLASSES - 1] - fewer) / 10));
 }
 
+/* A header of 255 references, the last one with 32 bytes in characters of four: the word that is asked for. */
+static void build_header(void)
+{
+    size = 0;
+    PUT(131, 68, 255);
+    for (int i = 0; i < 128; i++)
+        PUT(i < 127 ? 0x88 : 0x08);
+    for (int i = 0; i < 254; i++)
+        PUT((uint8_t)i, 3, 'a', 'b', 'c');
+    PUT(254, 32);
+    for (int i = 0; i < 8; i++)
+        PUT(0xf4, 0x8f, 0xbf, 0xbf);
+}
+
 int main(int count, char **words)
 {
     all = count > 1 && strcmp(words[1], "-v") == 0;
@@ -235,12 +248,7 @@ int main(int count, char **words)
         term_line(c);
     for EACH(i, cache_lengths)
         cache_lengths[i] = 0;
-    size = 0; /* a header of 255 references */
-    PUT(131, 68, 255);
-    for (int i = 0; i < 128; i++)
-        PUT(i < 127 ? 0x88 : 0x08);
-    for (int i = 0; i < 255; i++)
-        PUT((uint8_t)i, 3, 'a', 'b', 'c');
+    build_header();
     printf("\n| call | bytes |\n|---|---|\n");
     for EACH(c, on_packets)
         printf("| `%s` | %s |\n", on_packets[c].name, commas(used(on_packets[c].run) - base));

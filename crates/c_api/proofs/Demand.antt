@@ -1,27 +1,36 @@
 -- The promises of the calls for C, as relations: what holds after any call, with any arguments a, reply r and lent memory s after it.
 -- Those that read and write give a Read-call or a Write-call, as demand 3 (crate writer, proofs/Demand) has them, with an answer that is the reply in numbers;
--- those on packets a call of a run, as demand 2 (crate packet_spec, proofs/Demand) has it.
-use mathlib.Core.Path.{_≡_, refl, subst}
+-- those on packets a call of a run, as demand 2 (crate packet_spec, proofs/Demand) has it; the word call the reference's text, as a message's own words
+-- (crate packet_spec, proofs/OwnWords) have it.
+use mathlib.Core.Path.{_≡_, refl, _∙_, ap, subst}
 use mathlib.Core.List.{List, _∷_}
 use Prim.Native.Nat.{ℕ}
 use contract.Lifetimes.{Lfts}
 use contract.Monad.{fact}
 use borrow.Fn.World.{World}
-use Rattle.term_spec.specs.AtomList.{lent-list}
+use Rattle.term_spec.specs.AtomList.{AtomList, lent-list}
 use Rattle.term_spec.specs.Message.{standalone, payload}
 use Rattle.term_spec.specs.Text.{Coding, coding-of}
+use Rattle.term_spec.specs.Numbers.{Under}
 use Rattle.packet_spec.specs.declared.Pending.{Pending}
 use Rattle.packet_spec.specs.Memory.{Cache, Memory, cache-of, memory-of}
-use Rattle.packet_spec.specs.Runs.{Call, taking, dropping, resetting, with-state}
+use Rattle.packet_spec.specs.Header.{Reference}
+use Rattle.packet_spec.specs.Words.{own-word}
+use Rattle.packet_spec.specs.Answers.{word-answer}
+use Rattle.packet_spec.specs.Runs.{Call, taking, dropping, resetting, All-bytes, with-state}
 use Rattle.packet_spec.specs.Demands.{Ran, packet-then, drop-then, reset-then}
+use Rattle.packet_spec.specs.OwnWords.{Says, Own-words}
+use Rattle.packet_spec.proofs.OwnWords as definitions
 use Rattle.c_replies.specs.declared.PacketReply.{PacketReply}
 use Rattle.c_replies.specs.declared.StateReply.{StateReply}
-use Rattle.c_replies.specs.Packets.{flag}
-use Rattle.c_api.specs.Promises.{Read-reply, Write-reply, Packet-reply, Drop-reply, Reset-reply}
+use Rattle.c_replies.specs.declared.WordReply.{WordReply}
+use Rattle.c_replies.specs.Packets.{flag, flat-word}
+use Rattle.c_api.specs.Promises.{Read-reply, Write-reply, Packet-reply, Drop-reply, Reset-reply, Word-reply}
 use Rattle.c_api.proofs.ik_read_standalone.Reads as read-standalone
 use Rattle.c_api.proofs.ik_read_payload.Reads as read-payload
 use Rattle.c_api.proofs.ik_write_standalone.Reads as write-standalone
 use Rattle.c_api.proofs.ik_write_payload.Reads as write-payload
+use Rattle.c_api.proofs.ik_word.Reads as word-call
 use Rattle.c_api.proofs.ik_packet as packet-call
 use Rattle.c_api.proofs.ik_drop as drop-call
 use Rattle.c_api.proofs.ik_reset as reset-call
@@ -43,6 +52,10 @@ pub promised-ik-write-payload : (κs : Lfts 5) (a : _) (r : _) (s : _) → write
     → Write-reply payload (lent-list (a .1 .0) (a .1 .1 .0 .now) (a .1 .1 .1 .0 .now)) (a .0 .now) (a .1 .1 .1 .1 .0 .now) (a .1 .1 .1 .1 .1 .0 .now) r
     (s .1 .1 .1 .1 .0 .now) (s .1 .1 .1 .1 .1 .0 .now)
 promised-ik-write-payload κs a r s p = p
+
+pub promised-ik-word : (κs : Lfts 2) (a : _) (r : _) (s : _) → word-call.Post κs a r s
+    → Word-reply (lent-list (a .0) (a .1 .0 .now) (a .1 .1 .0 .now)) (a .1 .1 .1 .0) r
+promised-ik-word κs a r s p = p
 
 -- The three that lend the record by `&mut`: rt makes no `Reads` for these, so their `ensures` is named itself. At any model w it is the fact that the relation holds
 pub promised-ik-packet : (w : World) (κs : Lfts 11) (a : _) (r : _) (s : _)
@@ -82,3 +95,13 @@ pub reset-in-run : {m n : Memory} {reply : StateReply} {c′ : Cache} {p′ : Pe
     → Reset-reply (m .cache) (m .pending) reply c′ p′ → Ran (with-state m (c′, p′)) cs n → Ran m (resetting ∷ cs) n
 reset-in-run {m} {n} {c′ = c′} {cs = cs} p rest =
     reset-then (p .settled) c′ (p .called) (subst (λ (x : Pending). Ran (with-state m (c′, x)) cs n) (p .record-left) rest)
+
+-- After a packet that `ik_packet` took, whatever calls follow, the message's list says what its header's references say ..
+pub own-words : {agreed : Coding} {packet : List ℕ} {m m′ n : Memory} {reply : PacketReply} {cs : List Call} → Under 256 packet → All-bytes cs
+    → Packet-reply agreed packet m reply m′ → Ran m′ cs n → Own-words agreed packet m m′ cs n
+own-words v u p ran = definitions.own-words v u (p .called) ran
+
+-- .. and on such a list `ik_word` replies, for every index, what that reference says
+pub word-replied : {list : AtomList} {rs : List Reference} {i : ℕ} {reply : WordReply} → Says list rs → Word-reply list i reply
+    → reply ≡ flat-word (word-answer i (own-word rs i))
+word-replied {i = i} says w = w .reply-is ∙ ap flat-word (says .stretch-said i (w .answer) (w .called))

@@ -10,16 +10,18 @@ use Rattle.term_spec.specs.Promises.{Read-call, Write-call}
 use Rattle.term_spec.specs.declared.ReadAnswer.{ReadAnswer}
 use Rattle.term_spec.specs.declared.WriteAnswer.{WriteAnswer}
 use Rattle.packet_spec.specs.Memory.{Cache, Memory}
-use Rattle.packet_spec.specs.Promises.{Packet-call, Drop-call, Reset-call}
+use Rattle.packet_spec.specs.Promises.{Packet-call, Drop-call, Reset-call, Locate-word-call}
 use Rattle.packet_spec.specs.declared.Pending.{Pending}
 use Rattle.packet_spec.specs.declared.Taken.{Taken}
 use Rattle.packet_spec.specs.declared.Settled.{Settled}
+use Rattle.packet_spec.specs.declared.WordAnswer.{WordAnswer}
 use Rattle.c_replies.specs.Terms.{flat-read, flat-write}
-use Rattle.c_replies.specs.Packets.{flat-packet, flat-state}
+use Rattle.c_replies.specs.Packets.{flat-packet, flat-state, flat-word}
 use Rattle.c_replies.specs.declared.ReadReply.{ReadReply}
 use Rattle.c_replies.specs.declared.WriteReply.{WriteReply}
 use Rattle.c_replies.specs.declared.PacketReply.{PacketReply}
 use Rattle.c_replies.specs.declared.StateReply.{StateReply}
+use Rattle.c_replies.specs.declared.WordReply.{WordReply}
 
 -- Reading: the message, the atom list and the lent table; the reply, and the table after it
 pub record Read-reply (framing : Framing) (list : AtomList) (message table : List ℕ) (reply : ReadReply) (table′ : List ℕ) : Type 0 where
@@ -52,3 +54,9 @@ pub record Reset-reply (c : Cache) (p : Pending) (reply : StateReply) (c′ : Ca
   pub called : Reset-call c p settled c′
   pub reply-is : reply ≡ flat-state (settled .answer)
   pub record-left : p′ ≡ settled .pending
+
+-- A word: the atom list lent and the reference's index; the reply
+pub record Word-reply (list : AtomList) (i : ℕ) (reply : WordReply) : Type 0 where
+  pub answer : WordAnswer
+  pub called : Locate-word-call list i answer
+  pub reply-is : reply ≡ flat-word answer

@@ -2,14 +2,12 @@
 use c_replies::MarkReply;
 use c_replies::NumberReply;
 use c_replies::PacketReply;
-use c_replies::PlaceReply;
 use c_replies::ReadReply;
-use c_replies::ReferenceReply;
 use c_replies::StateReply;
 use c_replies::TextReply;
+use c_replies::WordReply;
 use c_replies::WriteReply;
 use packet_spec::Pending;
-use packet_spec::Place;
 use packet_spec::ReferenceIndex;
 ghost use mathlib.Core.Path.{_≡_};
 ghost use Rattle.term_spec.specs.Answers.{number-answer, mark-answer};
@@ -18,12 +16,10 @@ ghost use Rattle.term_spec.specs.Look.{number-in, text-in};
 ghost use Rattle.term_spec.specs.Message.{standalone, payload};
 ghost use Rattle.term_spec.specs.Text.{coding-of};
 ghost use Rattle.queries.specs.Promises.{text-at};
-ghost use Rattle.packet_spec.specs.Answers.{place-answer, text-answer};
-ghost use Rattle.packet_spec.specs.Look.{place-of-reference, text-of-place};
 ghost use Rattle.packet_spec.specs.Memory.{cache-of, memory-of};
 ghost use Rattle.c_replies.specs.Terms.{flat-number, flat-text, flat-mark};
-ghost use Rattle.c_replies.specs.Packets.{flag, flat-reference, flat-place};
-ghost use Rattle.c_api.specs.Promises.{Read-reply, Write-reply, Packet-reply, Drop-reply, Reset-reply};
+ghost use Rattle.c_replies.specs.Packets.{flag};
+ghost use Rattle.c_api.specs.Promises.{Read-reply, Write-reply, Packet-reply, Drop-reply, Reset-reply, Word-reply};
 
 // Reads a standalone term into the table.
 #[no_mangle]
@@ -167,24 +163,12 @@ pub extern "C" fn ik_mark_payload(
     c_replies::flat_mark(queries::mark_payload(msg, n, places, lengths, offset))
 }
 
-// The place of the cache that reference `index` of the packet's header names.
+// The text of reference `index` of a message, by that message's own list.
 #[no_mangle]
-pub extern "C" fn ik_reference(utf8: u8, packet: &[u8], index: usize) -> ReferenceReply
-    ensures { λ r. ⌜ r ≡ flat-reference (place-answer (place-of-reference (coding-of (flag utf8)) (now (packet .entry)) index)) ⌝ }
+pub extern "C" fn ik_word(n: u8, places: &[u8], lengths: &[u16], index: usize) -> WordReply
+    ensures { λ r. ⌜ Word-reply (lent-list n (now (places .entry)) (now (lengths .entry))) index r ⌝ }
 {
-    c_replies::flat_reference(cache_lookup::place_of_reference(
-        c_replies::agreed(utf8),
-        packet,
-        ReferenceIndex(index),
-    ))
-}
-
-// The text that a place of the cache holds.
-#[no_mangle]
-pub extern "C" fn ik_place(cache: &[u8], cache_lengths: &[u16], cache_place: usize) -> PlaceReply
-    ensures { λ r. ⌜ r ≡ flat-place (text-answer «cache_place» (text-of-place (cache-of (now (cache .entry)) (now («cache_lengths» .entry))) «cache_place»)) ⌝ }
-{
-    c_replies::flat_place(cache_lookup::text_of_place(cache, cache_lengths, Place(cache_place)))
+    c_replies::flat_word(word_lookup::locate_word(n, places, lengths, ReferenceIndex(index)))
 }
 
 // What a drop or a reset answers, and the record as it is then.

@@ -1,4 +1,4 @@
--- The answers of the packet calls for C, as numbers: the refusal's number (0: accepted) and place, then the call's own; what is not answered is 0.
+-- The answers of the packet calls and of the word call for C, as numbers: the refusal's number (0: accepted) and place, then the call's own; what is not answered is 0.
 use mathlib.Core.Bool.{Bool, not}
 use Prim.Native.Nat.{ℕ}
 use lib.Dec.{eqb}
@@ -6,26 +6,20 @@ use Rattle.packet_spec.specs.declared.PacketAnswer.{PacketAnswer}
 use Rattle.packet_spec.specs.declared.PacketAnswer.the-variants as packets
 use Rattle.packet_spec.specs.declared.StateAnswer.{StateAnswer}
 use Rattle.packet_spec.specs.declared.StateAnswer.the-variants as states
-use Rattle.packet_spec.specs.declared.PlaceAnswer.{PlaceAnswer}
-use Rattle.packet_spec.specs.declared.PlaceAnswer.the-variants as places
-use Rattle.packet_spec.specs.declared.TextAnswer.{TextAnswer}
-use Rattle.packet_spec.specs.declared.TextAnswer.the-variants as texts
+use Rattle.packet_spec.specs.declared.WordAnswer.{WordAnswer}
+use Rattle.packet_spec.specs.declared.WordAnswer.the-variants as words
 use Rattle.c_replies.specs.declared.PacketReply.{PacketReply}
 use Rattle.c_replies.specs.declared.StateReply.{StateReply}
-use Rattle.c_replies.specs.declared.ReferenceReply.{ReferenceReply}
-use Rattle.c_replies.specs.declared.PlaceReply.{PlaceReply}
+use Rattle.c_replies.specs.declared.WordReply.{WordReply}
 
 -- In Latin-1 or UTF-8 as the caller states was agreed: 0 Latin-1, anything else UTF-8
 unfoldable pub flag : ℕ → Bool
 flag utf8 = not (eqb utf8 0)
 
-unfoldable pub flat-reference : PlaceAnswer → ReferenceReply
-flat-reference (places.Place p) = record { refusal = 0; place = 0; «cache_place» = p .0 }
-flat-reference (places.Refused r) = record { refusal = r .number; place = r .place; «cache_place» = 0 }
-
-unfoldable pub flat-place : TextAnswer → PlaceReply
-flat-place (texts.Text offset size) = record { refusal = 0; place = 0; start = offset; length = size }
-flat-place (texts.Refused r) = record { refusal = r .number; place = r .place; start = 0; length = 0 }
+-- start and length along the list's places; a refusal's number is not 0, so that an empty word and a refusal differ
+unfoldable pub flat-word : WordAnswer → WordReply
+flat-word (words.Word start size) = record { refusal = 0; place = 0; start = start; length = size }
+flat-word (words.Refused r) = record { refusal = r .number; place = r .place; start = 0; length = 0 }
 
 unfoldable pub flat-state : StateAnswer → StateReply
 flat-state states.Done = record { refusal = 0; place = 0 }

@@ -5,9 +5,8 @@ pub mod packet_kinds;
 pub mod text_sources;
 
 use packet_spec::PacketAnswer;
-use packet_spec::PlaceAnswer;
 use packet_spec::StateAnswer;
-use packet_spec::TextAnswer;
+use packet_spec::WordAnswer;
 use queries::TextAt;
 use term_spec::MarkAnswer;
 use term_spec::NumberAnswer;
@@ -15,7 +14,7 @@ use term_spec::ReadAnswer;
 use term_spec::WriteAnswer;
 ghost use mathlib.Core.Path.{_≡_};
 ghost use Rattle.c_replies.specs.Terms.{flat-read, flat-write, flat-number, flat-text, flat-mark};
-ghost use Rattle.c_replies.specs.Packets.{flag, flat-reference, flat-place, flat-state, flat-packet};
+ghost use Rattle.c_replies.specs.Packets.{flag, flat-word, flat-state, flat-packet};
 
 // What reading answers: the refusal's number (0: accepted) and place, the number of terms and of rows.
 #[repr(C)]
@@ -61,17 +60,9 @@ pub struct MarkReply {
     pub mark: u64,
 }
 
-// The place of the cache that a reference names.
+// The text of a reference: its start and length along the list's places.
 #[repr(C)]
-pub struct ReferenceReply {
-    pub refusal: u64,
-    pub place: u64,
-    pub cache_place: u64,
-}
-
-// The text that a place holds: its start and length in the places of the cache.
-#[repr(C)]
-pub struct PlaceReply {
+pub struct WordReply {
     pub refusal: u64,
     pub place: u64,
     pub start: u64,
@@ -226,34 +217,17 @@ pub fn flat_mark(answer: MarkAnswer) -> MarkReply
     }
 }
 
-pub fn flat_reference(answer: PlaceAnswer) -> ReferenceReply
-    ensures { λ r. ⌜ r ≡ flat-reference answer ⌝ }
+pub fn flat_word(answer: WordAnswer) -> WordReply
+    ensures { λ r. ⌜ r ≡ flat-word answer ⌝ }
 {
     match answer {
-        PlaceAnswer::Place(place) => ReferenceReply {
+        WordAnswer::Word { start, length } => WordReply {
             refusal: 0,
             place: 0,
-            cache_place: place.0 as u64,
-        },
-        PlaceAnswer::Refused(refusal) => ReferenceReply {
-            refusal: refusal.number as u64,
-            place: refusal.place as u64,
-            cache_place: 0,
-        },
-    }
-}
-
-pub fn flat_place(answer: TextAnswer) -> PlaceReply
-    ensures { λ r. ⌜ r ≡ flat-place answer ⌝ }
-{
-    match answer {
-        TextAnswer::Text { offset, length } => PlaceReply {
-            refusal: 0,
-            place: 0,
-            start: offset as u64,
+            start: start as u64,
             length: length as u64,
         },
-        TextAnswer::Refused(refusal) => PlaceReply {
+        WordAnswer::Refused(refusal) => WordReply {
             refusal: refusal.number as u64,
             place: refusal.place as u64,
             start: 0,

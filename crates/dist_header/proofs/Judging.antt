@@ -77,11 +77,11 @@ module _ (holding : ℕ → Held) (p : ℕ) (naming : List ℕ) (small : p < 204
         go nothing g f = let no-way : _≡_ {A = ℕ} 0 1 = cc in absurd (omega arith)
         go (text bs) g f = let no-way : _≡_ {A = ℕ} 0 1 = cc in absurd (omega arith)
 
-    pub cached-good : (n : ℕ) → texts.Text n ≡ held-case (holding p) → length naming ≡ 2048 → JudgesCached holding p naming (set naming p 1) judged.Good
+    pub cached-good : texts.Text ≡ held-case (holding p) → length naming ≡ 2048 → JudgesCached holding p naming (set naming p 1) judged.Good
     unfolding JudgesCached Judges cached-reference held-or held-case
-    cached-good n e size agreed t earlier i m = go (holding p) refl e
+    cached-good e size agreed t earlier i m = go (holding p) refl e
       where
-        go : (h : Held) → holding p ≡ h → texts.Text n ≡ held-case h → Went (cached-reference agreed holding earlier i p t) t (set naming p 1) earlier
+        go : (h : Held) → holding p ≡ h → texts.Text ≡ held-case h → Went (cached-reference agreed holding earlier i p t) t (set naming p 1) earlier
         go nothing g f = let no-way : _≡_ {A = ℕ} 0 1 = cc in absurd (omega arith)
         go no-text g f = let no-way : _≡_ {A = ℕ} 0 1 = cc in absurd (omega arith)
         go (text bs) g f =

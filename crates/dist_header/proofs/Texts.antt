@@ -12,9 +12,8 @@ use Rattle.term_spec.proofs.Text.{utf8-spelt, latin1-is}
 use Rattle.octets.proofs.Parts.{length-part}
 use Rattle.text.specs.Shown.{is-valid}
 use Rattle.text.proofs.Valid.{coding-utf8, coding-latin1, found, failed}
-use Rattle.packet_spec.specs.Memory.{Cache, cache-of, text-if, held-as, held}
-use Rattle.dist_header.specs.declared.PlaceText.{PlaceText}
-use Rattle.dist_header.specs.Code.{held-case, holding-when, TextFits}
+use Rattle.packet_spec.specs.Memory.{cache-of, text-if, held-as, held}
+use Rattle.dist_header.specs.Code.{held-case, TextFits}
 use Rattle.dist_header.specs.declared.PlaceText.the-variants as texts
 
 -- a part of a slice, by its length
@@ -77,23 +76,10 @@ module _ (places lengths : List ℕ) (p n : ℕ) (h : p < length lengths) (is : 
     unfolding coding-of
     valid-is = text-part utf-8 places (32 * p) n b is-b
 
-    pub held-good : b ≡ true → 32 * p + n ≤ length places → texts.Text n ≡ held-case (held (cache-of places lengths) p)
+    pub held-good : b ≡ true → texts.Text ≡ held-case (held (cache-of places lengths) p)
     unfolding held-case text-if
-    held-good t there =
-        let f = found _ (sym valid-is ∙ t) in
-        rw (held-text, f .1) (ap texts.Text (sym (length-part places (32 * p) n there)))
+    held-good t = let f = found _ (sym valid-is ∙ t) in rw (held-text, f .1)
 
     pub held-bad : b ≡ false → texts.Bad ≡ held-case (held (cache-of places lengths) p)
     unfolding held-case text-if
     held-bad t = let f = failed _ (sym valid-is ∙ t) in rw (held-text, f .1)
-
--- where the cache is looked at, what it holds; else a text
-pub looked : (look : Bool) (c : Cache) (p : ℕ) (r : PlaceText) → look ≡ true → r ≡ held-case (held c p) → r ≡ held-case (holding-when look c p)
-unfolding holding-when
-looked true c p r l e = e
-looked false c p r l e = let no-way : _≡_ {A = ℕ} 0 1 = cc in absurd (omega arith)
-
-pub unlooked : (look : Bool) (c : Cache) (p : ℕ) → look ≡ false → texts.Text 0 ≡ held-case (holding-when look c p)
-unfolding holding-when held-case
-unlooked false c p l = refl
-unlooked true c p l = let no-way : _≡_ {A = ℕ} 0 1 = cc in absurd (omega arith)

@@ -133,21 +133,6 @@ module _ (agreed : Coding) (holding : ℕ → Held) (s : List ℕ) (flags : List
             let g : whole ≡ refused k p = along-refused k p less f in
             let no-way : _≡_ {A = ℕ} 0 1 = cc in absurd (omega arith)
 
-    -- the references done are the first of all
-    pub record Begins (rs : List Reference) : Type 0 where
-      pub rest : List Reference
-      pub is : rs ≡ done ++ rest
-
-    pub begins : (rs : List Reference) (t : Position) → whole ≡ good (rs, t) → Begins rs
-    unfolding prepended
-    begins rs t e = go (references agreed holding flags width earlier i (n - i) (at-offset s next 0)) (sym (along .is) ∙ e)
-      where
-        go : (o : Answer (List Reference × Position)) → prepended done o ≡ good (rs, t) → Begins rs
-        go (good x) f =
-            let g : _≡_ {A = List Reference × Position} (done ++ x .0, x .1) (rs, t) = cc in
-            record { rest = x .0; is = sym (ap (λ (y : List Reference × Position). y .0) g) }
-        go (refused k p) f = let no-way : _≡_ {A = ℕ} 0 1 = cc in absurd (omega arith)
-
     pub along-all : i ≡ n → whole ≡ good (done, at-offset s next 0)
     unfolding prepended references
     along-all e =

@@ -1,14 +1,14 @@
 -- What the code of headers answers, in terms of the definitions of packets.
 -- About the code alone, proved against the definitions of packet_spec: nothing here has to be believed.
 use mathlib.Core.Path.{_≡_}
-use mathlib.Core.Bool.{Bool, true, false, cond}
+use mathlib.Core.Bool.{cond}
 use mathlib.Core.List.{List, [], _∷_}
 use Prim.Native.Nat.{ℕ, _+_, _≤_, _<_}
 use lib.ListN.{length, getD, take, drop}
 use lib.Seq.{sets}
 use Rattle.term_spec.specs.Text.{Coding, valid, check, encodes}
 use Rattle.term_spec.specs.Answer.{Answer, good, refused, Position, at-offset}
-use Rattle.packet_spec.specs.Memory.{Cache, CacheSized, Held, held, nothing, no-text, text}
+use Rattle.packet_spec.specs.Memory.{Held, nothing, no-text, text}
 use Rattle.packet_spec.specs.Header.{Reference, flag-bytes, named, filled, new-reference, cached-reference, reference, references, header}
 use Rattle.dist_header.specs.declared.HeaderStart.{HeaderStart}
 use Rattle.dist_header.specs.declared.Spelled.{Spelled}
@@ -28,15 +28,6 @@ use Rattle.dist_header.specs.declared.HeaderAnswer.the-variants as heade
 -- the flag bytes of the header at `at` with n references
 unfoldable pub flags-of : List ℕ → ℕ → ℕ → List ℕ
 flags-of s at n = take (flag-bytes n) (drop (at + 1) s)
-
--- what the places hold where the cache is looked at; else a text, whatever the place
-unfoldable pub holding-when : Bool → Cache → ℕ → Held
-holding-when true c = held c
-holding-when false c = λ p. text []
-
--- the cache is of its stated size where it is looked at
-abbrev pub SizedWhen : Bool → Cache → Type 0
-SizedWhen look c = look ≡ true → CacheSized c
 
 -- the header at `at` has n references, the first at `first`, and lengths of this width
 pub record HeaderAt (s : List ℕ) (at n width first : ℕ) : Type 0 where
@@ -94,11 +85,11 @@ pub record TextFits (agreed : Coding) (s : List ℕ) (from size at room : ℕ) :
 pub record PutsText (agreed : Coding) (bs : List ℕ) (at : ℕ) (before after : List ℕ) (r : ℕ) : Type 0 where
   pub puts : (cs : List ℕ) → check agreed bs ≡ valid cs → (r ≡ length (encodes cs)) × (after ≡ sets before at (encodes cs))
 
--- what a place holds, its text by its length
+-- what a place holds: nothing, what is no text, or a text
 unfoldable pub held-case : Held → PlaceText
 held-case nothing = texts.Empty
 held-case no-text = texts.Bad
-held-case (text bs) = texts.Text (length bs)
+held-case (text bs) = texts.Text
 
 -- how these references name place p: 2 where one fills it new, 1 where one names it, else 0
 unfoldable pub naming-of : ℕ → List Reference → ℕ

@@ -1,4 +1,4 @@
-// Headers of packets: where their references stand, whether they may be taken, and the place that a reference names.
+// Headers of packets: where their references stand, whether they may be taken, and the text of a new one as UTF-8.
 ghost use mathlib.Core.Path.{_≡_};
 ghost use mathlib.Core.List.{List};
 ghost use Prim.Native.Nat.{ℕ, _+_, _/_, _≤_, _<_};
@@ -6,7 +6,7 @@ ghost use lib.ListN.{length, take, drop};
 ghost use Rattle.term_spec.specs.Text.{coding-of, check, valid, encodes};
 ghost use Rattle.packet_spec.specs.Memory.{cache-of, CacheSized, held};
 ghost use Rattle.packet_spec.specs.Header.{half};
-ghost use Rattle.dist_header.specs.Code.{holding-when, SizedWhen, HeaderAt, references-from, HeaderStarts, ReferenceAt, Spells, TextFits, PutsText, held-case, JudgesNew, JudgesCached, ReferenceIs, Ends, HeaderIs};
+ghost use Rattle.dist_header.specs.Code.{HeaderAt, references-from, HeaderStarts, ReferenceAt, Spells, TextFits, PutsText, held-case, JudgesNew, JudgesCached, ReferenceIs, Ends, HeaderIs};
 use packet_spec::Place;
 use packet_spec::ReferenceIndex;
 use term_spec::Refusal;
@@ -21,7 +21,7 @@ const NAMED: u8 = 1;
 const FILLED: u8 = 2;
 
 // What stands before the references: their number, the width of lengths, the offset of the first.
-pub enum HeaderStart {
+enum HeaderStart {
     Cut,
     Header {
         n: usize,
@@ -43,27 +43,27 @@ pub enum Spelled {
     },
 }
 
-// What a place of the cache holds: nothing, bytes or a length that are no text's, or a text of this length.
-pub enum PlaceText {
+// What a place of the cache holds: nothing, bytes or a length that are no text's, or a text.
+enum PlaceText {
     Empty,
     Bad,
-    Text(usize),
+    Text,
 }
 
 // A reference judged: the number of its refusal, or that it is good.
-pub enum Judged {
+enum Judged {
     Refused(u8),
     Good,
 }
 
 // A reference read and judged: the number of its refusal, or the offset past it.
-pub enum ReferenceAnswer {
+enum ReferenceAnswer {
     Refused(u8),
     Next(usize),
 }
 
 // The references of a header: the refusal, or the offset past the last.
-pub enum References {
+enum References {
     Refused(Refusal),
     End(usize),
 }
@@ -178,7 +178,7 @@ pub fn put_text(
 }
 
 // What a place of the cache holds.
-pub fn held_at(cache: &[u8], cache_lengths: &[u16], place: Place) -> PlaceText
+fn held_at(cache: &[u8], cache_lengths: &[u16], place: Place) -> PlaceText
     requires { ⌜ (place .0 < 2048) × CacheSized (cache-of (now cache) (now «cache_lengths»)) ⌝ }
     ensures { λ r. ⌜ r ≡ held-case (held (cache-of (now (cache .entry)) (now («cache_lengths» .entry))) (place .0)) ⌝ }
 {
@@ -193,20 +193,9 @@ pub fn held_at(cache: &[u8], cache_lengths: &[u16], place: Place) -> PlaceText
     let from = sizes::PLACE_BYTES * k;
     let end = from + size;
     if text::is_text(&cache[from..end], true) {
-        return PlaceText::Text(size);
+        return PlaceText::Text;
     }
     PlaceText::Bad
-}
-
-// What a place holds where the cache is looked at; else a text.
-fn looked_at(look: bool, cache: &[u8], cache_lengths: &[u16], place: Place) -> PlaceText
-    requires { ⌜ (place .0 < 2048) × SizedWhen look (cache-of (now cache) (now «cache_lengths»)) ⌝ }
-    ensures { λ r. ⌜ r ≡ held-case (holding-when look (cache-of (now (cache .entry)) (now («cache_lengths» .entry))) (place .0)) ⌝ }
-{
-    if look {
-        return held_at(cache, cache_lengths, place);
-    }
-    PlaceText::Text(0)
 }
 
 // Judges a new reference: 22, 5, 23. `naming` says how earlier references name each place.
@@ -237,24 +226,18 @@ fn judge_new(
 }
 
 // Judges a cached reference: 22, 21, 14.
-fn judge_cached(
-    look: bool,
-    cache: &[u8],
-    cache_lengths: &[u16],
-    place: Place,
-    naming: &mut [u8],
-) -> Judged
-    requires { ⌜ (place .0 < 2048) × SizedWhen look (cache-of (now cache) (now «cache_lengths»)) × (length (now naming) ≡ 2048) ⌝ }
-    ensures { λ r. ⌜ JudgesCached (holding-when look (cache-of (now (cache .entry)) (now («cache_lengths» .entry)))) (place .0) (now (naming .entry)) (now (naming .exit)) r ⌝ }
+fn judge_cached(cache: &[u8], cache_lengths: &[u16], place: Place, naming: &mut [u8]) -> Judged
+    requires { ⌜ (place .0 < 2048) × CacheSized (cache-of (now cache) (now «cache_lengths»)) × (length (now naming) ≡ 2048) ⌝ }
+    ensures { λ r. ⌜ JudgesCached (held (cache-of (now (cache .entry)) (now («cache_lengths» .entry)))) (place .0) (now (naming .entry)) (now (naming .exit)) r ⌝ }
 {
     let k = place.0;
     if naming[k] == FILLED {
         return Judged::Refused(refusals::NAMED_AGAIN);
     }
-    match looked_at(look, cache, cache_lengths, place) {
+    match held_at(cache, cache_lengths, place) {
         PlaceText::Empty => Judged::Refused(refusals::EMPTY_PLACE),
         PlaceText::Bad => Judged::Refused(refusals::STATE),
-        PlaceText::Text(_) => {
+        PlaceText::Text => {
             naming[k] = NAMED;
             Judged::Good
         }
@@ -264,7 +247,6 @@ fn judge_cached(
 // Reads and judges the reference at `at`, with its half and the width of lengths.
 fn judge_reference(
     utf8: bool,
-    look: bool,
     packet: &[u8],
     half: usize,
     width: usize,
@@ -273,8 +255,8 @@ fn judge_reference(
     cache_lengths: &[u16],
     naming: &mut [u8],
 ) -> ReferenceAnswer
-    requires { ⌜ ReferenceAt (now packet) half width at × SizedWhen look (cache-of (now cache) (now «cache_lengths»)) × (length (now naming) ≡ 2048) ⌝ }
-    ensures { λ r. ⌜ ReferenceIs (coding-of utf8) (holding-when look (cache-of (now (cache .entry)) (now («cache_lengths» .entry)))) (now (packet .entry)) half width at (now (naming .entry)) (now (naming .exit)) r ⌝ }
+    requires { ⌜ ReferenceAt (now packet) half width at × CacheSized (cache-of (now cache) (now «cache_lengths»)) × (length (now naming) ≡ 2048) ⌝ }
+    ensures { λ r. ⌜ ReferenceIs (coding-of utf8) (held (cache-of (now (cache .entry)) (now («cache_lengths» .entry)))) (now (packet .entry)) half width at (now (naming .entry)) (now (naming .exit)) r ⌝ }
 {
     match read_reference(packet, half, width, at) {
         Spelled::Cut => ReferenceAnswer::Refused(refusals::CUT),
@@ -285,7 +267,7 @@ fn judge_reference(
             }
         }
         Spelled::Cached { place } => {
-            match judge_cached(look, cache, cache_lengths, place, naming) {
+            match judge_cached(cache, cache_lengths, place, naming) {
                 Judged::Refused(number) => ReferenceAnswer::Refused(number),
                 Judged::Good => ReferenceAnswer::Next(at + 1),
             }
@@ -296,7 +278,6 @@ fn judge_reference(
 // Reads and judges the n references of the header at `at`, the first at `first`, each in turn.
 fn check_references(
     utf8: bool,
-    look: bool,
     packet: &[u8],
     at: usize,
     n: usize,
@@ -305,8 +286,8 @@ fn check_references(
     cache: &[u8],
     cache_lengths: &[u16],
 ) -> References
-    requires { ⌜ HeaderAt (now packet) at n width first × SizedWhen look (cache-of (now cache) (now «cache_lengths»)) ⌝ }
-    ensures { λ r. ⌜ Ends (references-from (coding-of utf8) (holding-when look (cache-of (now (cache .entry)) (now («cache_lengths» .entry)))) (now (packet .entry)) at n width first) (now (packet .entry)) r ⌝ }
+    requires { ⌜ HeaderAt (now packet) at n width first × CacheSized (cache-of (now cache) (now «cache_lengths»)) ⌝ }
+    ensures { λ r. ⌜ Ends (references-from (coding-of utf8) (held (cache-of (now (cache .entry)) (now («cache_lengths» .entry)))) (now (packet .entry)) at n width first) (now (packet .entry)) r ⌝ }
 {
     let mut naming = [UNNAMED; packet_spec::sizes::CACHE_PLACES];
     let mut next = first;
@@ -315,7 +296,6 @@ fn check_references(
         let half = half_of(packet, at, ReferenceIndex(i));
         match judge_reference(
             utf8,
-            look,
             packet,
             half,
             width,
@@ -339,17 +319,16 @@ fn check_references(
     References::End(next)
 }
 
-// Judges the header at `at`: 2 on the count and flags, then each reference in turn. Where `look` is false, the cache is not looked at.
+// Judges the header at `at`: 2 on the count and flags, then each reference in turn.
 pub fn check_header(
     utf8: bool,
-    look: bool,
     packet: &[u8],
     at: usize,
     cache: &[u8],
     cache_lengths: &[u16],
 ) -> HeaderAnswer
-    requires { ⌜ (at ≤ length (now packet)) × SizedWhen look (cache-of (now cache) (now «cache_lengths»)) ⌝ }
-    ensures { λ r. ⌜ HeaderIs (coding-of utf8) (holding-when look (cache-of (now (cache .entry)) (now («cache_lengths» .entry)))) (now (packet .entry)) at r ⌝ }
+    requires { ⌜ (at ≤ length (now packet)) × CacheSized (cache-of (now cache) (now «cache_lengths»)) ⌝ }
+    ensures { λ r. ⌜ HeaderIs (coding-of utf8) (held (cache-of (now (cache .entry)) (now («cache_lengths» .entry)))) (now (packet .entry)) at r ⌝ }
 {
     match header_start(packet, at) {
         HeaderStart::Cut => HeaderAnswer::Refused(Refusal {
@@ -357,17 +336,7 @@ pub fn check_header(
             place: 0,
         }),
         HeaderStart::Header { n, width, first } => {
-            match check_references(
-                utf8,
-                look,
-                packet,
-                at,
-                n,
-                width,
-                first,
-                cache,
-                cache_lengths,
-            ) {
+            match check_references(utf8, packet, at, n, width, first, cache, cache_lengths) {
                 References::Refused(refusal) => HeaderAnswer::Refused(refusal),
                 References::End(payload) => HeaderAnswer::Header {
                     n: n,

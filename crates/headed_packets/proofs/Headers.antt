@@ -1,6 +1,5 @@
 -- A header taken: one law for each way out.
 use mathlib.Core.Path.{_≡_, refl, sym, _∙_, ap, ap₂}
-use mathlib.Core.Bool.{true}
 use mathlib.Core.List.{List}
 use Prim.Native.Nat.{ℕ, _+_, _-_, _≤_, _<_}
 use native.Mathlib.Omega.{arith}
@@ -13,7 +12,7 @@ use Rattle.packet_spec.specs.Memory.{Cache, held}
 use Rattle.packet_spec.specs.Header.{Reference}
 use Rattle.packet_spec.specs.Packet.{payload-after}
 use Rattle.packet_spec.specs.Calls.{list-of}
-use Rattle.dist_header.specs.Code.{holding-when, GoodHeader, HeaderIs}
+use Rattle.dist_header.specs.Code.{GoodHeader, HeaderIs}
 use Rattle.dist_header.specs.declared.HeaderAnswer.the-variants as headers
 use Rattle.dist_header.proofs.Accepted.{header-references, header-is, references-are, header-count, payload-inside, good-of}
 use Rattle.cache_entries.specs.Code.{ListWritten, CacheWritten}
@@ -21,27 +20,22 @@ use Rattle.headed_packets.specs.Code.{headed, Heads}
 use Rattle.headed_packets.specs.declared.Headed.the-variants as headeds
 
 module _ (agreed : Coding) (c : Cache) (s : List ℕ) (at : ℕ) where
-  pub heads-refused : (list : AtomList) (number place : ℕ) → HeaderIs agreed (holding-when true c) s at (headers.Refused (record { number = number; place = place }))
+  pub heads-refused : (list : AtomList) (number place : ℕ) → HeaderIs agreed (held c) s at (headers.Refused (record { number = number; place = place }))
       → Heads agreed s at c list (headeds.Refused (record { number = number; place = place })) c list
-  unfolding HeaderIs holding-when Heads headed
+  unfolding HeaderIs Heads headed
   heads-refused list number place e = record { is = rw e; cache-stays = refl; list-stays = refl }
 
-  module _ (n width first payload : ℕ) (told : HeaderIs agreed (holding-when true c) s at (headers.Header n width first payload)) where
-    -- the cache is looked at
-    is : HeaderIs agreed (held c) s at (headers.Header n width first payload)
-    unfolding holding-when
-    is = told
-
+  module _ (n width first payload : ℕ) (told : HeaderIs agreed (held c) s at (headers.Header n width first payload)) where
     pub told-inside : payload ≤ length s
-    told-inside = payload-inside agreed (held c) s at n width first payload is
+    told-inside = payload-inside agreed (held c) s at n width first payload told
 
     pub told-good : GoodHeader agreed (held c) s at n width first
-    told-good = good-of agreed (held c) s at n width first payload is
+    told-good = good-of agreed (held c) s at n width first payload told
 
     after-header : headed agreed (held c) (at-offset s at 0)
-        ≡ after (payload-after 0 (at-offset s payload 0)) (λ bs t. good ((header-references agreed (held c) s at n width first payload is, payload, bs), t))
+        ≡ after (payload-after 0 (at-offset s payload 0)) (λ bs t. good ((header-references agreed (held c) s at n width first payload told, payload, bs), t))
     unfolding headed
-    after-header = rw (header-is agreed (held c) s at n width first payload is)
+    after-header = rw (header-is agreed (held c) s at n width first payload told)
 
     left : length (drop payload s) ≡ length s - payload
     left = length-drop payload s
@@ -54,8 +48,8 @@ module _ (agreed : Coding) (c : Cache) (s : List ℕ) (at : ℕ) where
         → Heads agreed s at c list (headeds.Payload payload (length s - payload)) c′ (lent-list n list-places′ list-lengths′)
     unfolding Heads payload-after list-of
     heads-good list c′ list-places′ list-lengths′ l list-written all =
-        let rs : List Reference = header-references agreed (held c) s at n width first payload is in
-        let e = references-are agreed (held c) s at n width first payload is in
+        let rs : List Reference = header-references agreed (held c) s at n width first payload told in
+        let e = references-are agreed (held c) s at n width first payload told in
         let k = list-written .list-written rs (at-offset s payload 0) e in
         let inside = told-inside in
         record {
@@ -66,7 +60,7 @@ module _ (agreed : Coding) (c : Cache) (s : List ℕ) (at : ℕ) where
           small = l;
           cache-is = all .cache-written rs (at-offset s payload 0) e;
           list-is =
-              ap (λ (m : ℕ). lent-list m list-places′ list-lengths′) (sym (header-count agreed (held c) s at n width first payload is))
+              ap (λ (m : ℕ). lent-list m list-places′ list-lengths′) (sym (header-count agreed (held c) s at n width first payload told))
               ∙ ap₂ (λ (x y : List ℕ). lent-list (length rs) x y) (k .0) (k .1);
         }
 

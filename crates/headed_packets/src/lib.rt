@@ -40,7 +40,7 @@ fn take_header(
         (cache-of (now (cache .exit)) (now («cache_lengths» .exit)))
         (lent-list (now («list_n» .exit)) (now («list_places» .exit)) (now («list_lengths» .exit))) ⌝ }
 {
-    match dist_header::check_header(utf8, true, packet, at, cache, cache_lengths) {
+    match dist_header::check_header(utf8, packet, at, cache, cache_lengths) {
         HeaderAnswer::Refused(refusal) => Headed::Refused(refusal),
         HeaderAnswer::Header {
             n,

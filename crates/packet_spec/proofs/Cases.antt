@@ -3,15 +3,15 @@ use mathlib.Core.Path.{_≡_, refl}
 use mathlib.Core.List.{List, [], _∷_, _++_}
 use Prim.Native.Nat.{ℕ}
 use lib.ListN.{replicate}
-use Rattle.term_spec.specs.Text.{latin-1, utf-8}
-use Rattle.term_spec.specs.AtomList.{empty-list}
+use Rattle.term_spec.specs.Text.{latin-1}
+use Rattle.term_spec.specs.AtomList.{AtomList, lent-list, empty-list, of-size, place-length, place-bytes, place-text}
 use Rattle.term_spec.specs.Answer.{Answer, good, refused}
 use Rattle.packet_spec.specs.declared.Pending.{Pending}
-use Rattle.packet_spec.specs.Memory.{Cache, Memory, cache-of, memory-of, record-true, none-pending, empty-cache}
+use Rattle.packet_spec.specs.Memory.{Cache, Memory, Held, text, text-if, held-as, held, cache-of, memory-of, record-true, none-pending, empty-cache}
 use Rattle.packet_spec.specs.Calls.{Outcome, payload-at, pending-still, complete, take-packet, after-packet, drop-sequence, reset}
 use Rattle.packet_spec.specs.Runs.{with-state}
 use Rattle.packet_spec.specs.Cases.{fresh, answer, then, example, Cases}
-use Rattle.packet_spec.specs.Look.{names, place-in, place-named, place-of-reference, text-held, text-of-place}
+use Rattle.packet_spec.specs.Words.{word-if, listed-word}
 
 pub cases : Cases
 unfolding example
@@ -42,6 +42,18 @@ seven-held = then fresh (131 ∷ 68 ∷ 1 ∷ 8 ∷ 7 ∷ 1 ∷ 97 ∷ [])
 abbrev two-false : Cache
 two-false = cache-of (replicate 32 0 ++ (255 ∷ replicate 65503 0)) (33 ∷ 1 ∷ replicate 2046 65535)
 
+-- the list of two new references: `a`, and an empty text
+abbrev two-words : AtomList
+two-words = then fresh (131 ∷ 68 ∷ 2 ∷ 140 ∷ 0 ∷ 10 ∷ 1 ∷ 97 ∷ 5 ∷ 0 ∷ []) .plain-list
+
+-- a list of n texts whose place 0 has length 33, place 1 a byte that is no UTF-8
+abbrev false-list : ℕ → AtomList
+false-list n = lent-list n (replicate 33 97 ++ (255 ∷ replicate 8126 0)) (33 ∷ 2 ∷ replicate 253 0)
+
+-- a start fills place 7 with `a`; then a plain packet fills it with `b`
+abbrev replaced : Memory
+replaced = then (then fresh (131 ∷ 69 ∷ ids-of 9 2 (1 ∷ 8 ∷ 7 ∷ 1 ∷ 97 ∷ []))) (131 ∷ 68 ∷ 1 ∷ 8 ∷ 7 ∷ 1 ∷ 98 ∷ [])
+
 -- the gather buffer is one byte short
 abbrev short : Memory
 short = memory-of empty-cache empty-list empty-list none-pending (replicate 65535 0)
@@ -55,7 +67,7 @@ unfoldable pub latin-cache : List ℕ → Cache
 unfolding answer
 latin-cache bs = after-packet latin-1 fresh bs .cache
 
--- what a drop answers, what a reset answers, the place that a reference names, the text that a place holds
+-- what a drop answers, what a reset answers, what a place holds, the word of a reference
 unfoldable pub dropped : Pending → Answer Pending
 unfolding drop-sequence record-true
 dropped r = drop-sequence r
@@ -64,15 +76,15 @@ unfoldable pub reset-of : Cache → Answer (Cache × Pending)
 unfolding answer reset
 reset-of c = reset c
 
-unfoldable pub names-place : List ℕ → ℕ → Answer ℕ
-unfolding answer names place-in place-named place-of-reference
-names-place bs i = place-of-reference utf-8 bs i
+unfoldable pub holds-text : Cache → ℕ → Held
+unfolding answer held held-as text-if
+holds-text c p = held c p
 
-unfoldable pub holds-text : Cache → ℕ → Answer (List ℕ)
-unfolding answer text-held text-of-place
-holds-text c p = text-of-place c p
+unfoldable pub word-of : AtomList → ℕ → Answer (List ℕ)
+unfolding answer of-size place-length place-bytes place-text listed-word word-if
+word-of list i = listed-word list i
 
--- Further examples: flags, texts, refusals and their order, a drop, a reset, the two look-ups
+-- Further examples: flags, texts, refusals and their order, a drop, a reset, words
 pub record Examples : Type 0 where
   -- LongAtoms: odd n, the high half of the last flag byte; even n, the low half of the last, whose high half is ignored, as all other spare bits are
   pub long-odd : answer fresh (131 ∷ 68 ∷ 1 ∷ 24 ∷ 7 ∷ 0 ∷ 1 ∷ 97 ∷ []) ≡ good (payload-at 8 0)
@@ -94,7 +106,7 @@ pub record Examples : Type 0 where
   -- a byte that is no UTF-8 is a character in Latin-1, stored as UTF-8
   pub utf-8-agreed : answer fresh (131 ∷ 68 ∷ 1 ∷ 8 ∷ 7 ∷ 1 ∷ 233 ∷ []) ≡ refused 5 0
   pub latin-agreed : latin-answer (131 ∷ 68 ∷ 1 ∷ 8 ∷ 7 ∷ 1 ∷ 233 ∷ []) ≡ good (payload-at 7 0)
-  pub latin-stored : holds-text (latin-cache (131 ∷ 68 ∷ 1 ∷ 8 ∷ 7 ∷ 1 ∷ 233 ∷ [])) 7 ≡ good (195 ∷ 169 ∷ [])
+  pub latin-stored : holds-text (latin-cache (131 ∷ 68 ∷ 1 ∷ 8 ∷ 7 ∷ 1 ∷ 233 ∷ [])) 7 ≡ text (195 ∷ 169 ∷ [])
   -- a cached reference: 21 for an empty place, 14 for a length over 32 and for what is no UTF-8
   pub cached-empty : answer seven-held (131 ∷ 68 ∷ 2 ∷ 0 ∷ 0 ∷ 7 ∷ 8 ∷ []) ≡ refused 21 1
   pub cached-long : answer (with-state fresh (two-false, none-pending)) (131 ∷ 68 ∷ 2 ∷ 8 ∷ 0 ∷ 7 ∷ 0 ∷ 0 ∷ []) ≡ refused 14 1
@@ -133,21 +145,23 @@ pub record Examples : Type 0 where
   -- a reset: all bytes zero, all lengths 65,535; 13 for a cache not of its size
   pub all-reset : reset-of (seven-held .cache) ≡ good (cache-of (replicate 65536 0) (replicate 2048 65535), none-pending)
   pub none-reset : reset-of (cache-of [] []) ≡ refused 13 0
-  -- the place that a reference names; 6, also for a continuation; a 22 at reference 1, told at place 0
-  pub second-named : names-place (131 ∷ 68 ∷ 2 ∷ 12 ∷ 0 ∷ 10 ∷ 1 ∷ 97 ∷ 5 ∷ 106 ∷ []) 1 ≡ good 5
-  pub first-named : names-place (131 ∷ 68 ∷ 2 ∷ 12 ∷ 0 ∷ 10 ∷ 1 ∷ 97 ∷ 5 ∷ 106 ∷ []) 0 ≡ good 1034
-  pub third-named : names-place (131 ∷ 68 ∷ 2 ∷ 12 ∷ 0 ∷ 10 ∷ 1 ∷ 97 ∷ 5 ∷ 106 ∷ []) 2 ≡ refused 6 0
-  pub none-named : names-place (131 ∷ 70 ∷ ids-of 7 2 (97 ∷ [])) 0 ≡ refused 6 0
-  pub named-twice : names-place (131 ∷ 68 ∷ 2 ∷ 136 ∷ 0 ∷ 7 ∷ 0 ∷ 7 ∷ 0 ∷ []) 0 ≡ refused 22 0
-  -- the text that a place holds; 13 for place 2,048 and for a cache not of its size, 21, 14 for a length over 32
-  pub text-there : holds-text (seven-held .cache) 7 ≡ good (97 ∷ [])
-  pub no-place : holds-text empty-cache 2048 ≡ refused 13 0
-  pub no-cache : holds-text (cache-of [] []) 0 ≡ refused 13 0
-  pub empty-place : holds-text (seven-held .cache) 8 ≡ refused 21 0
-  pub false-place : holds-text two-false 0 ≡ refused 14 0
+  -- the word of a reference, also an empty one; 6 for an index not below n
+  pub first-word : word-of two-words 0 ≡ good (97 ∷ [])
+  pub empty-word : word-of two-words 1 ≡ good []
+  pub third-word : word-of two-words 2 ≡ refused 6 0
+  -- 14 for a length over 32 and for what is no UTF-8; 6 comes before it, 13 before both
+  pub long-word : word-of (false-list 2) 0 ≡ refused 14 0
+  pub false-word : word-of (false-list 2) 1 ≡ refused 14 0
+  pub past-word : word-of (false-list 1) 1 ≡ refused 6 0
+  pub few-bytes : word-of (lent-list 0 (replicate 8159 0) (replicate 255 0)) 0 ≡ refused 13 0
+  pub more-lengths : word-of (lent-list 1 (replicate 8160 0) (33 ∷ replicate 255 0)) 0 ≡ refused 13 0
+  -- a packet between fills the start's place anew: the sequence keeps its word, the packet has its own
+  pub place-replaced : holds-text (replaced .cache) 7 ≡ text (98 ∷ [])
+  pub sequence-word : word-of (replaced .pending-list) 0 ≡ good (97 ∷ [])
+  pub packet-word : word-of (replaced .plain-list) 0 ≡ good (98 ∷ [])
 
 pub examples : Examples
-unfolding then dropped reset-of names-place holds-text latin-answer latin-cache
+unfolding then dropped reset-of holds-text word-of latin-answer latin-cache
 examples = record {
   long-odd = refl;
   long-even = refl;
@@ -192,14 +206,15 @@ examples = record {
   false-dropped = refl;
   all-reset = refl;
   none-reset = refl;
-  second-named = refl;
-  first-named = refl;
-  third-named = refl;
-  none-named = refl;
-  named-twice = refl;
-  text-there = refl;
-  no-place = refl;
-  no-cache = refl;
-  empty-place = refl;
-  false-place = refl;
+  first-word = refl;
+  empty-word = refl;
+  third-word = refl;
+  long-word = refl;
+  false-word = refl;
+  past-word = refl;
+  few-bytes = refl;
+  more-lengths = refl;
+  place-replaced = refl;
+  sequence-word = refl;
+  packet-word = refl;
 }

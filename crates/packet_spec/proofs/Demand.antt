@@ -46,7 +46,7 @@ reset-state m r c′ w =
     go false = refl
 
 -- a run by the promises is the run of the definitions
-ran-is : {m n : Memory} {cs : List Call} → Ran m cs n → n ≡ after-calls m cs
+pub ran-is : {m n : Memory} {cs : List Call} → Ran m cs n → n ≡ after-calls m cs
 unfolding after-calls after-call
 ran-is ended = refl
 ran-is (packet-then {cs = cs} agreed packet r m′ w rest) = ran-is rest ∙ ap (λ (x : Memory). after-calls x cs) (w .memory-left)

@@ -9,4 +9,5 @@ pub mod Runs
 pub mod Sequence
 pub mod Gathered
 pub mod Demand
+pub mod OwnWords
 pub mod Cases

@@ -1,5 +1,5 @@
--- The answers of the packet calls as the code has them: for each answer of document 01 the case of the enum, with the refusal's number and place.
-use mathlib.Core.List.{List}
+-- The answers of the packet calls and of the word call as the code has them: for each answer of document 01 the case of the enum, with the refusal's number and place.
+use mathlib.Core.List.{List, []}
 use Prim.Native.Nat.{ℕ, _*_}
 use lib.ListN.{length}
 use Rattle.term_spec.specs.Text.{Coding}
@@ -9,14 +9,12 @@ use Rattle.packet_spec.specs.declared.Taken.{Taken}
 use Rattle.packet_spec.specs.declared.Settled.{Settled}
 use Rattle.packet_spec.specs.declared.PacketAnswer.{PacketAnswer}
 use Rattle.packet_spec.specs.declared.StateAnswer.{StateAnswer}
-use Rattle.packet_spec.specs.declared.PlaceAnswer.{PlaceAnswer}
-use Rattle.packet_spec.specs.declared.TextAnswer.{TextAnswer}
+use Rattle.packet_spec.specs.declared.WordAnswer.{WordAnswer}
 use Rattle.packet_spec.specs.Memory.{Cache, Memory}
 use Rattle.packet_spec.specs.Calls.{Outcome, payload-at, pending-still, complete, take-packet, after-packet, drop-sequence, reset, unless-refused}
 use Rattle.packet_spec.specs.declared.PacketAnswer.the-variants as packets
 use Rattle.packet_spec.specs.declared.StateAnswer.the-variants as states
-use Rattle.packet_spec.specs.declared.PlaceAnswer.the-variants as places
-use Rattle.packet_spec.specs.declared.TextAnswer.the-variants as texts
+use Rattle.packet_spec.specs.declared.WordAnswer.the-variants as words
 
 -- an accepted packet: plain, pending still, or complete
 unfoldable pub outcome-case : Outcome → PacketAnswer
@@ -46,12 +44,12 @@ drop-answer r = record { answer = state-answer (drop-sequence r); pending = unle
 unfoldable pub reset-answer : Cache → Pending → Settled
 reset-answer c r = record { answer = state-answer (reset c); pending = unless-refused {A = Cache × Pending} (c, r) (reset c) .1 }
 
--- the place that a reference names
-unfoldable pub place-answer : Answer ℕ → PlaceAnswer
-place-answer (good p) = places.Place (record { 0 = p })
-place-answer (refused n p) = places.Refused (record { number = n; place = p })
+-- the word of reference i: place i of a list begins at 32 times i
+unfoldable pub word-answer : ℕ → Answer (List ℕ) → WordAnswer
+word-answer i (good bs) = words.Word (32 * i) (length bs)
+word-answer i (refused n p) = words.Refused (record { number = n; place = p })
 
--- the text of place p: place p begins at 32 times p
-unfoldable pub text-answer : ℕ → Answer (List ℕ) → TextAnswer
-text-answer p (good bs) = texts.Text (32 * p) (length bs)
-text-answer p (refused n q) = texts.Refused (record { number = n; place = q })
+-- its bytes, none where refused
+unfoldable pub word-bytes : Answer (List ℕ) → List ℕ
+word-bytes (good bs) = bs
+word-bytes (refused n p) = []

@@ -2,11 +2,12 @@ pub mod Memory
 pub mod Header
 pub mod Packet
 pub mod Calls
-pub mod Look
+pub mod Words
 pub mod Runs
 pub mod Places
 pub mod Gathering
 pub mod Answers
 pub mod Promises
 pub mod Demands
+pub mod OwnWords
 pub mod Cases

@@ -2,12 +2,11 @@
 use mathlib.Core.Path.{_≡_}
 use mathlib.Core.Bool.{true, false, _&&_, cond}
 use mathlib.Core.List.{List, [], _∷_}
-use Prim.Native.Nat.{ℕ, suc}
+use Prim.Native.Nat.{ℕ}
 use lib.Dec.{eqb}
 use lib.ListN.{length}
-use Rattle.term_spec.specs.Text.{valid}
 use Rattle.term_spec.specs.Answer.{Answer, good, refused}
-use Rattle.term_spec.specs.AtomList.{AtomList, place-bytes, place-text}
+use Rattle.term_spec.specs.AtomList.{AtomList}
 use Rattle.packet_spec.specs.declared.Pending.{Pending}
 use Rattle.packet_spec.specs.Memory.{Cache, Memory, cache-of-size, cache-length, cache-bytes, Held, nothing, text}
 use Rattle.packet_spec.specs.Header.{Reference, filled}
@@ -82,17 +81,6 @@ holding-after-all m [] h = h
 holding-after-all m (c ∷ cs) h = holding-after-all (after-call m c) cs (holding-after m c h)
 
 -- ---- the lists
-
--- reference i is this one
-pub data At : List Reference → ℕ → Reference → Type 0 where
-  first : {r : Reference} {rs : List Reference} → At (r ∷ rs) 0 r
-  later : {r s : Reference} {rs : List Reference} {i : ℕ} → At rs i r → At (s ∷ rs) (suc i) r
-
--- place i of a list has these bytes, and they are a text: no 14 where it is asked for
-pub record Listed (list : AtomList) (i : ℕ) (t : List ℕ) : Type 0 where
-  pub bytes-are : place-bytes list i ≡ t
-  pub characters : List ℕ
-  pub is-text : place-text list i ≡ valid characters
 
 -- the list for plain packets after a packet judged so: an accepted plain packet's references fix it, all else leaves it
 unfoldable pub plain-list-of : Answer Packet → AtomList → AtomList

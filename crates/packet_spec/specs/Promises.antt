@@ -1,14 +1,19 @@
--- What the packet calls promise: relations of what is lent to a call, what it answers and what it leaves.
+-- What the packet calls and the word call promise: relations of what is lent to a call, what it answers and what it leaves.
 use mathlib.Core.Path.{_≡_}
 use mathlib.Core.List.{List}
-use Prim.Native.Nat.{ℕ}
+use Prim.Native.Nat.{ℕ, _+_, _≤_}
+use lib.ListN.{length}
 use Rattle.term_spec.specs.Text.{Coding}
+use Rattle.term_spec.specs.AtomList.{AtomList}
 use Rattle.packet_spec.specs.declared.Pending.{Pending}
 use Rattle.packet_spec.specs.declared.Taken.{Taken}
 use Rattle.packet_spec.specs.declared.Settled.{Settled}
+use Rattle.packet_spec.specs.declared.WordAnswer.{WordAnswer}
+use Rattle.packet_spec.specs.declared.WordAnswer.the-variants as words
 use Rattle.packet_spec.specs.Memory.{Cache, Memory}
 use Rattle.packet_spec.specs.Calls.{after-packet, cache-after-reset}
-use Rattle.packet_spec.specs.Answers.{taken-answer, drop-answer, reset-answer}
+use Rattle.packet_spec.specs.Words.{listed-word}
+use Rattle.packet_spec.specs.Answers.{taken-answer, drop-answer, reset-answer, word-answer, word-bytes}
 
 -- Taking a packet: the memory lent; the answer with the record, and all memory after it
 pub record Packet-call (agreed : Coding) (packet : List ℕ) (m : Memory) (r : Taken) (m′ : Memory) : Type 0 where
@@ -23,3 +28,17 @@ pub record Drop-call (p : Pending) (r : Settled) : Type 0 where
 pub record Reset-call (c : Cache) (p : Pending) (r : Settled) (c′ : Cache) : Type 0 where
   pub reset-answered : r ≡ reset-answer c p
   pub cache-left : c′ ≡ cache-after-reset c
+
+-- a word's stretch stays inside the list's places
+unfoldable pub Word-inside : List ℕ → WordAnswer → Type 0
+Word-inside places (words.Word start n) = start + n ≤ length places
+Word-inside places (words.Refused refusal) = Unit {0}
+
+-- Where the word of reference i stands, by this list: settled whole, and inside the list's places
+pub record Locate-word-call (list : AtomList) (i : ℕ) (answer : WordAnswer) : Type 0 where
+  pub word-located : answer ≡ word-answer i (listed-word list i)
+  pub word-inside : Word-inside (list .places) answer
+
+-- its bytes, none where refused
+abbrev pub Word-call : AtomList → ℕ → List ℕ → Type 0
+Word-call list i bytes = bytes ≡ word-bytes (listed-word list i)

@@ -34,15 +34,9 @@ pub enum StateAnswer {
     Refused(Refusal),
 }
 
-// The place that a reference names.
-pub enum PlaceAnswer {
-    Place(Place),
-    Refused(Refusal),
-}
-
-// The text that a place holds: its offset and length in the places of the cache.
-pub enum TextAnswer {
-    Text { offset: usize, length: usize },
+// The text of a reference, by its message's list: its start and length along the list's places.
+pub enum WordAnswer {
+    Word { start: usize, length: usize },
     Refused(Refusal),
 }
 

@@ -1,7 +1,6 @@
 // A term's tag and its fields: one small function for each layout, and the one that picks among them.
 use term_spec::kinds;
 use term_spec::refusals;
-use term_spec::sizes;
 use term_spec::tags;
 ghost use mathlib.Core.Path.{_≡_};
 ghost use mathlib.Core.Bool.{true, _||_};
@@ -40,8 +39,6 @@ const PID_SERIALS: usize = 8192;
 const PORT_IDS: usize = 268435456;
 
 const FIRST_WORDS: usize = 262144;
-// The longest text of a place, as its length is kept.
-const LENGTH_MOST: u16 = 32;
 // The most words of a reference.
 const WORDS_MOST: usize = 3;
 // The bytes of a 108 before its elements.
@@ -407,16 +404,7 @@ fn cached_atom(msg: &[u8], n: u8, places: &[u8], lengths: &[u16], at: usize) -> 
             place: at,
         };
     }
-    let length = lengths[i];
-    if LENGTH_MOST < length {
-        return Head::Refused {
-            number: refusals::STATE,
-            place: 0,
-        };
-    }
-    let from = sizes::PLACE_BYTES * i;
-    let end = from + length as usize;
-    if !text::is_text(&places[from..end], true) {
+    if !atom_list::place_holds_text(places, lengths, i) {
         return Head::Refused {
             number: refusals::STATE,
             place: 0,

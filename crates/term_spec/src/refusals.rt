@@ -24,7 +24,7 @@ pub const LEFT_OVER: u8 = 10;
 pub const OUTPUT: u8 = 11;
 // Term, payload or gathered bytes over 65,536.
 pub const LONG: u8 = 12;
-// A cache, list or gather buffer not of its stated size, or a place over 2,047 asked for.
+// A cache, list or gather buffer not of its stated size.
 pub const SIZE: u8 = 13;
 // Lent state false.
 pub const STATE: u8 = 14;
@@ -32,7 +32,7 @@ pub const STATE: u8 = 14;
 pub const PACKET: u8 = 20;
 // Cached place empty.
 pub const EMPTY_PLACE: u8 = 21;
-// Offset named again beside a new entry.
+// Place named again beside a new entry.
 pub const NAMED_AGAIN: u8 = 22;
 // Text over 32 bytes as UTF-8.
 pub const LONG_TEXT: u8 = 23;

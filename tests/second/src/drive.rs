@@ -1,7 +1,7 @@
 //! The text protocol of DRIVE.md over this implementation: one command a line, one answer a line.
 
-use crate::looks::{self, Mark, Number, Stretch};
-use crate::packets::{self, Answer, Cache, Index, Lent, ListOut, Place, Record};
+use crate::looks::{self, Index, Mark, Number, Stretch};
+use crate::packets::{self, Answer, Cache, Lent, ListOut, Record};
 use crate::terms::{self, Form};
 use crate::text::{self, AtomList};
 use crate::{canon, Refusal, CACHE_PLACES, EMPTY, LIST_PLACES, MESSAGE_MAX, PLACE_BYTES, ROWS_MAX};
@@ -406,22 +406,13 @@ impl Driver {
                 let answer = packets::reset(&mut cache, &mut memory.record);
                 Ok(answer.map_or_else(refused, |()| "ok".to_string()))
             }
-            [b"reference", i, utf8, packet] => {
-                let (i, utf8, packet) = (number(i)?, agreed(utf8)?, bytes(packet)?);
-                let index = Index(usize::try_from(i).unwrap_or(usize::MAX));
-                let answer = packets::place_of_reference(&packet, utf8, index);
-                Ok(answer.map_or_else(refused, |place| format!("place {}", place.0)))
-            }
-            [b"place", p] => {
-                let place = Place(usize::try_from(number(p)?).unwrap_or(usize::MAX));
-                let answer = packets::text_of_place(&memory.cache, &memory.lengths, place);
+            [b"word", l, i] => {
+                let answer = looks::word(&memory.list(l)?, Index(number(i)?));
                 Ok(answer.map_or_else(refused, |text| format!("text {}", hex(text.as_bytes()))))
             }
             [b""] => Err("empty"),
             [b"set" | b"fill" | b"lend" | b"get" | b"same" | b"changed" | b"read" | b"kind" | b"write"
-            | b"number" | b"text" | b"mark" | b"packet" | b"drop" | b"reset" | b"reference" | b"place", ..] => {
-                Err("words")
-            }
+            | b"number" | b"text" | b"mark" | b"packet" | b"drop" | b"reset" | b"word", ..] => Err("words"),
             _ => Err("command"),
         }
     }

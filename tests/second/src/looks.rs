@@ -1,9 +1,10 @@
 //! What is asked of a message: a row's number, an atom's text and its mark. Each takes "message and
-//! atom list, no table", so the message is judged with 8,192 rows (OP-43).
+//! atom list, no table", so the message is judged with 8,192 rows (OP-43). A word is asked of the
+//! message's atom list alone (#107).
 
 use crate::terms::{self, Form};
-use crate::text::AtomList;
-use crate::{Refusal, ROWS_MAX};
+use crate::text::{self, AtomList};
+use crate::{refusal, Refusal, ROWS_MAX};
 
 /// "a row answers a whole number, a float or neither". A float is told by its 64 bits.
 #[derive(Clone, Copy, Debug, PartialEq, Eq)]
@@ -28,6 +29,10 @@ pub enum Mark {
     Latin1,
     Utf8,
 }
+
+/// "A reference index counts along one header": counted from 0 (OP-29).
+#[derive(Clone, Copy, Debug, PartialEq, Eq)]
+pub struct Index(pub u64);
 
 /// "whole where an integer lies in -2^63 .. 2^63-1, a float for tag 70, otherwise neither, also where
 /// no such row is (they count from 0). [...] a refused message gives its refusal."
@@ -58,4 +63,19 @@ pub fn text(form: Form, message: &[u8], list: &AtomList, offset: u64) -> Stretch
 /// "A second call on the same input answers the mark, Latin-1 or UTF-8, or the refusal".
 pub fn mark(form: Form, message: &[u8], list: &AtomList, offset: u64) -> Result<Mark, Refusal> {
     Ok(atom_at(form, message, list, offset)?.1)
+}
+
+/// #107: "given a message's atom list and a reference index, answer the text. [...] Refusals: 13 on the
+/// list, 6, 14, place 0." Places that are not asked for are not judged (OP-22).
+pub fn word<'a>(list: &AtomList<'a>, index: Index) -> Result<&'a str, Refusal> {
+    // 13: "a cache, list or gather buffer not of its stated size"
+    if !list.is_of_its_stated_size() {
+        return Err(refusal(13, 0));
+    }
+    // 6: "reference index not below n"
+    if index.0 >= u64::from(list.n) {
+        return Err(refusal(6, 0));
+    }
+    // 14: "a length over 32 [...] of a place whose text is wanted, or that text not UTF-8"
+    text::stored(list.texts, list.lengths, index.0 as usize).ok_or(refusal(14, 0))
 }

@@ -1,5 +1,5 @@
 //! Packets: "a distribution header, the atom cache, fragments. Each packet arrives whole, without the
-//! link's length prefix." Also drop, reset and the two look-ups.
+//! link's length prefix." Also drop and reset.
 
 use crate::text;
 use crate::{refusal, Refusal, CACHE_PLACES, EMPTY, LIST_PLACES, MESSAGE_MAX, PLACE_BYTES};
@@ -50,13 +50,9 @@ pub enum Answer {
     Complete { gathered: u64 },
 }
 
-/// "A reference index counts along one header": counted from 0 (OP-29).
-#[derive(Clone, Copy, Debug, PartialEq, Eq)]
-pub struct Index(pub usize);
-
 /// "a place counts along the cache and is 256 times the segment plus the internal index."
 #[derive(Clone, Copy, Debug, PartialEq, Eq)]
-pub struct Place(pub usize);
+struct Place(usize);
 
 /// One reference of a header. A new one carries its text; "Text is stored as UTF-8."
 #[derive(Clone, Debug)]
@@ -160,12 +156,11 @@ fn opening(packet: &[u8]) -> Result<Opening, u8> {
     })
 }
 
-/// A header from n on. With a cache, cached references are looked up (21, 14); without one (in a
-/// look-up, OP-32) they are not.
+/// A header from n on, its cached references looked up in the cache.
 ///
 /// "then 2 on the count and flags, then each reference in turn: 2, 22 (at the later one), 5, 23, 21,
 /// 14". The place is "the number of the reference, or 0 before the first".
-fn header(packet: &[u8], at: usize, is_utf8: bool, cache: Option<&Cache>) -> Result<Header, Refusal> {
+fn header(packet: &[u8], at: usize, is_utf8: bool, cache: &Cache) -> Result<Header, Refusal> {
     let n = usize::from(*packet.get(at).ok_or(refusal(2, 0))?);
     let mut at = at + 1;
     // "For n = 0 flags and references are absent, else n/2+1 flag bytes."
@@ -217,7 +212,7 @@ fn header(packet: &[u8], at: usize, is_utf8: bool, cache: Option<&Cache>) -> Res
                 return Err(refusal(23, i));
             }
             new_text = Some(text);
-        } else if let Some(cache) = cache {
+        } else {
             cached(cache.texts, cache.lengths, place).map_err(|number| refusal(number, i))?;
         }
         references.push(Reference { place, new_text });
@@ -285,7 +280,7 @@ pub fn packet(lent: &mut Lent, is_utf8: bool, packet: &[u8]) -> Result<Answer, R
     }
     match opening(packet).map_err(|number| refusal(number, 0))? {
         Opening::Plain { at } => {
-            let header = header(packet, at, is_utf8, Some(&lent.cache))?;
+            let header = header(packet, at, is_utf8, &lent.cache)?;
             let length = packet.len().saturating_sub(header.payload_at);
             // 12: "term, payload or gathered bytes over 65,536"; the payload's, not the packet's
             // (OP-36).
@@ -300,7 +295,7 @@ pub fn packet(lent: &mut Lent, is_utf8: bool, packet: &[u8]) -> Result<Answer, R
             if lent.record.due != 0 {
                 return Err(refusal(26, 0));
             }
-            let header = header(packet, at, is_utf8, Some(&lent.cache))?;
+            let header = header(packet, at, is_utf8, &lent.cache)?;
             let payload = packet.get(header.payload_at..).unwrap_or(&[]);
             if payload.len() > MESSAGE_MAX {
                 return Err(refusal(12, 0));
@@ -352,26 +347,4 @@ pub fn reset(cache: &mut Cache, record: &mut Record) -> Result<(), Refusal> {
     cache.lengths.fill(EMPTY);
     *record = Record::default();
     Ok(())
-}
-
-/// "the place that reference i of a packet's header names (1, 2, 20, 24 for zero, 22, 5, 23 in the
-/// packet's order, then 6, also for 131, 70)". The whole header is judged whatever i is (OP-30).
-/// "In a look-up, 0" is the place of every refusal.
-pub fn place_of_reference(packet: &[u8], is_utf8: bool, index: Index) -> Result<Place, Refusal> {
-    let references = match opening(packet).map_err(|number| refusal(number, 0))? {
-        Opening::Plain { at } | Opening::Start { at, .. } => {
-            header(packet, at, is_utf8, None).map_err(|refused| refusal(refused.number, 0))?.references
-        }
-        Opening::Continuation { .. } => Vec::new(),
-    };
-    references.get(index.0).map(|reference| reference.place).ok_or(refusal(6, 0))
-}
-
-/// "the text that a place holds (13, 21, 14)". 13 also for "a place over 2,047 asked for".
-pub fn text_of_place<'a>(texts: &'a [u8], lengths: &[u16], place: Place) -> Result<&'a str, Refusal> {
-    let sizes = texts.len() == CACHE_PLACES * PLACE_BYTES && lengths.len() == CACHE_PLACES;
-    if !sizes || place.0 >= CACHE_PLACES {
-        return Err(refusal(13, 0));
-    }
-    cached(texts, lengths, place).map_err(|number| refusal(number, 0))
 }

@@ -55,6 +55,14 @@ fn read(form: &str, message: &[u8], rows: usize) -> String {
     answer
 }
 
+/// The list's words are these, and the next index is 6.
+fn words(driver: &mut Driver, list: &str, texts: &[&str]) {
+    for (i, text) in texts.iter().enumerate() {
+        assert_eq!(ask(driver, &format!("word {list} {i}")), format!("text {}", hex(text.as_bytes())));
+    }
+    assert_eq!(ask(driver, &format!("word {list} {}", texts.len())), "refused 6 0");
+}
+
 fn join(parts: &[&[u8]]) -> Vec<u8> {
     parts.concat()
 }
@@ -91,8 +99,7 @@ fn the_fragmented_example_of_001() {
     // "places 1,034 and 5 filled before"
     let filled = [131, 68, 2, 0x8c, 0, 10, 1, b'r', 5, 1, b's'];
     assert_eq!(ask(&mut driver, &format!("packet 1 {}", hex(&filled))), "plain 11 0");
-    assert_eq!(ask(&mut driver, "place 1034"), "text 72");
-    assert_eq!(ask(&mut driver, "place 5"), "text 73");
+    words(&mut driver, "plain", &["r", "s"]);
     let ids = [0, 0, 2, 168, 0, 0, 5, 83, 0, 0, 0, 0, 0, 0, 0];
     let start = join(&[
         &[131, 69],
@@ -105,11 +112,16 @@ fn the_fragmented_example_of_001() {
         &[0; 103],
     ]);
     assert_eq!(ask(&mut driver, &format!("packet 1 {}", hex(&start))), "pending 1 148");
+    let started = ["r", "s", "reg", "call", "set_get_state"];
+    words(&mut driver, "pending", &started);
     // Another header in between renames place 1,034 and the last fragment still has the old text.
     let between = [131, 68, 1, 0x0c, 10, 1, b'x'];
     assert_eq!(ask(&mut driver, &format!("packet 1 {}", hex(&between))), "plain 7 0");
+    words(&mut driver, "plain", &["x"]);
+    words(&mut driver, "pending", &started);
     let last = join(&[&[131, 70], &ids, &[1], &[0; 25]]);
     assert_eq!(ask(&mut driver, &format!("packet 1 {}", hex(&last))), "complete 173");
+    words(&mut driver, "pending", &started);
     assert_eq!(ask(&mut driver, "get record"), "00".repeat(24));
     let payload = get(&mut driver, "gather")[..173].to_vec();
     assert_eq!(ask(&mut driver, &format!("read payload pending {}", hex(&payload))), "ok 2 13");
@@ -571,9 +583,7 @@ fn packet_sizes_and_false_state() {
         assert_eq!(ask(&mut driver, "packet 1 834400"), "refused 13 0");
         assert_eq!(ask(&mut driver, "changed"), "-");
         let resets = if wrong.starts_with("cache") || wrong.starts_with("lengths") { "refused 13 0" } else { "ok" };
-        assert_eq!(ask(&mut driver, "place 0"), if resets == "ok" { "refused 21 0" } else { "refused 13 0" });
         assert_eq!(ask(&mut driver, "reset"), resets);
-        assert_eq!(ask(&mut driver, "reference 0 1 83440108000161"), "place 0");
     }
     // 14 on the record, whatever id is due (OP-23), before 1; a drop's before 25; a reset has none.
     for due in ["00", "01"] {
@@ -599,26 +609,27 @@ fn packet_sizes_and_false_state() {
     assert_eq!(ask(&mut driver, "packet 1 83440200000709"), "refused 21 1");
     ask(&mut driver, "set lengths 18 0021");
     assert_eq!(ask(&mut driver, "packet 1 83440200000709"), "refused 14 1");
-    assert_eq!(ask(&mut driver, "place 9"), "refused 14 0");
     ask(&mut driver, "set lengths 18 fffe");
     assert_eq!(ask(&mut driver, "packet 1 83440200000709"), "refused 14 1");
     ask(&mut driver, "set cache 288 ff");
     ask(&mut driver, "set lengths 18 0001");
     assert_eq!(ask(&mut driver, "packet 1 83440200000709"), "refused 14 1");
-    assert_eq!(ask(&mut driver, "place 9"), "refused 14 0");
     // OP-40: bytes after a cached text are not judged, the list's copy has zeros there.
     ask(&mut driver, "set lengths 18 0000");
     assert_eq!(ask(&mut driver, "packet 1 83440200000709"), "plain 7 0");
-    assert_eq!(ask(&mut driver, "place 9"), "text -");
+    words(&mut driver, "plain", &["a", ""]);
     assert_eq!(get(&mut driver, "plain-texts")[32], 0);
     // OP-41: a place to be filled new may hold any length before.
     ask(&mut driver, "set lengths 18 0030");
     assert_eq!(ask(&mut driver, "packet 1 834401080900"), "plain 6 0");
-    assert_eq!(ask(&mut driver, "place 9"), "text -");
+    words(&mut driver, "plain", &[""]);
+    assert_eq!(get(&mut driver, "lengths")[18..20], [0, 0]);
     assert_eq!(get(&mut driver, "cache")[288], 0);
-    assert_eq!(ask(&mut driver, "place 2047"), "refused 21 0");
-    assert_eq!(ask(&mut driver, "place 2048"), "refused 13 0");
-    assert_eq!(ask(&mut driver, "place 4294967295"), "refused 13 0");
+    // Segment 7, internal index 255: place 2,047, the last.
+    assert_eq!(ask(&mut driver, "packet 1 83440107ff"), "refused 21 0");
+    assert_eq!(ask(&mut driver, "packet 1 8344010fff0162"), "plain 7 0");
+    assert_eq!(get(&mut driver, "cache")[65_504], b'b');
+    assert_eq!(get(&mut driver, "lengths")[4_094..], [0, 1]);
 }
 
 #[test]
@@ -660,14 +671,6 @@ fn headers() {
         let packet = packet.replace(' ', "");
         assert_eq!(ask(&mut driver, &format!("packet 1 {packet}")), *answer, "{packet}");
         assert_eq!(ask(&mut driver, "changed"), "-");
-        // The look-up judges the same but for 21, 14; "In a look-up, 0".
-        let looked = match answer.split(' ').nth(1) {
-            Some("21") => "place".to_string(),
-            Some(number) => format!("refused {number} 0"),
-            None => String::new(),
-        };
-        assert!(ask(&mut driver, &format!("reference 0 1 {packet}")).starts_with(&looked), "{packet}");
-        assert_eq!(ask(&mut driver, "changed"), "-");
     }
     // Cached after cached is fine.
     assert_eq!(ask(&mut driver, "packet 1 83440200000707"), "plain 7 0");
@@ -682,7 +685,8 @@ fn headers() {
     // Latin-1: 16 characters of two bytes are 32; 17 are 23.
     let new = |count: usize| format!("8344 01 08 0a {count:02x} {}", "e9".repeat(count)).replace(' ', "");
     assert_eq!(ask(&mut driver, &format!("packet 0 {}", new(16))), "plain 22 0");
-    assert_eq!(ask(&mut driver, "place 10"), format!("text {}", "c3a9".repeat(16)));
+    words(&mut driver, "plain", &["\u{e9}".repeat(16).as_str()]);
+    assert_eq!(get(&mut driver, "cache")[320..352], [0xc3, 0xa9].repeat(16));
     assert_eq!(ask(&mut driver, &format!("packet 0 {}", new(17))), "refused 23 0");
     assert_eq!(ask(&mut driver, &format!("packet 1 {}", new(16))), "refused 5 0");
     // LongAtoms: odd n in the high half of the last flag byte, even n in the low half of the last.
@@ -702,9 +706,10 @@ fn headers() {
     assert_eq!(ask(&mut driver, &format!("packet 1 {}", hex(&packet))), "plain 896 4");
     assert_eq!(ask(&mut driver, "write payload plain 680152fe"), "ok 6");
     assert_eq!(ask(&mut driver, "write payload plain 680152ff"), "refused 6 2");
-    assert_eq!(ask(&mut driver, &format!("reference 254 1 {}", hex(&packet))), "place 254");
-    assert_eq!(ask(&mut driver, &format!("reference 255 1 {}", hex(&packet))), "refused 6 0");
-    assert_eq!(ask(&mut driver, &format!("reference 4294967295 1 {}", hex(&packet))), "refused 6 0");
+    assert_eq!(ask(&mut driver, "word plain 253"), "text 74");
+    assert_eq!(ask(&mut driver, "word plain 254"), "text 75");
+    assert_eq!(ask(&mut driver, "word plain 255"), "refused 6 0");
+    assert_eq!(ask(&mut driver, "word plain 4294967295"), "refused 6 0");
     // The payload, not the packet, is at most 65,536 bytes.
     packet.truncate(packet.len() - 4);
     packet.extend(vec![0; 65_536]);
@@ -713,7 +718,6 @@ fn headers() {
     ask(&mut driver, "same");
     assert_eq!(ask(&mut driver, &format!("packet 1 {}", hex(&packet))), "refused 12 0");
     assert_eq!(ask(&mut driver, "changed"), "-");
-    assert_eq!(ask(&mut driver, &format!("reference 1 1 {}", hex(&packet))), "place 1");
 }
 
 fn fragment(kind: u8, sequence: u64, id: u64, rest: &[u8]) -> String {
@@ -770,18 +774,190 @@ fn fragments() {
     assert_eq!(ask(&mut driver, &format!("packet 1 {}", start(65_537))), "refused 12 0");
     assert_eq!(ask(&mut driver, "changed"), "-");
     assert_eq!(ask(&mut driver, &format!("packet 1 {}", start(65_536))), "complete 65536");
-    assert_eq!(ask(&mut driver, "place 99"), "text 7a");
-    // The look-up on ids: no state, so no 25, 26 and no wrong id.
-    assert_eq!(ask(&mut driver, &format!("reference 0 1 {}", start(65_537))), "place 99");
-    assert_eq!(ask(&mut driver, &format!("reference 0 1 {}", fragment(70, 9, 1, &[]))), "refused 6 0");
-    assert_eq!(ask(&mut driver, &format!("reference 0 1 {}", fragment(70, 9, 0, &[]))), "refused 24 0");
-    assert_eq!(ask(&mut driver, &format!("reference 0 1 {}", &fragment(70, 9, 0, &[])[..34])), "refused 2 0");
+    words(&mut driver, "pending", &["z"]);
+    assert_eq!(get(&mut driver, "cache")[32 * 99], b'z');
     // A reset touches cache and record only.
     ask(&mut driver, "same");
     assert_eq!(ask(&mut driver, "reset"), "ok");
     assert_eq!(ask(&mut driver, "changed"), "cache lengths");
     assert!(get(&mut driver, "lengths").iter().all(|byte| *byte == 255));
     assert!(get(&mut driver, "cache").iter().all(|byte| *byte == 0));
+}
+
+/// A driver whose plain list has this n, and "one", "two", "three" at its first places.
+fn listed(n: u8) -> Driver {
+    let mut driver = Driver::new();
+    ask(&mut driver, &format!("set plain-count 0 {}", hex(&[n])));
+    for (i, text) in ["one", "two", "three"].iter().enumerate() {
+        put(&mut driver, i, text.as_bytes(), text.len() as u16);
+    }
+    driver
+}
+
+/// Puts bytes and a length at a place of the plain list.
+fn put(driver: &mut Driver, i: usize, bytes: &[u8], length: u16) {
+    assert_eq!(ask(driver, &format!("set plain-texts {} {}", 32 * i, hex(bytes))), "ok");
+    assert_eq!(ask(driver, &format!("set plain-lengths {} {}", 2 * i, hex(&length.to_be_bytes()))), "ok");
+}
+
+/// The word asked of the plain list; whatever the answer, nothing lent changes.
+fn word(driver: &mut Driver, i: u64) -> String {
+    ask(driver, "same");
+    let answer = ask(driver, &format!("word plain {i}"));
+    assert_eq!(ask(driver, "changed"), "-");
+    answer
+}
+
+#[test]
+fn a_word_of_a_list_of_the_wrong_size() {
+    for wrong in ["plain-texts 8159", "plain-texts 8161", "plain-texts 0", "plain-lengths 254", "plain-lengths 256",
+        "plain-lengths 0"]
+    {
+        // 13 for a good index, 13 before 6, 13 before 14 (a length over 32; a text not UTF-8).
+        let mut driver = listed(3);
+        put(&mut driver, 1, b"two", 33);
+        put(&mut driver, 2, &[0xff], 1);
+        assert_eq!(ask(&mut driver, &format!("lend {wrong}")), "ok");
+        for i in [0, 1, 2, 3, 254, 255, 256, 4_294_967_295] {
+            assert_eq!(word(&mut driver, i), "refused 13 0", "{wrong} {i}");
+        }
+        ask(&mut driver, "set plain-count 0 00");
+        assert_eq!(word(&mut driver, 0), "refused 13 0");
+        // Only the list asked is judged.
+        assert_eq!(ask(&mut driver, "word pending 0"), "refused 6 0");
+        assert_eq!(ask(&mut driver, "word empty 0"), "refused 6 0");
+    }
+    // The pending list's sizes are judged when it is asked.
+    let mut driver = listed(3);
+    ask(&mut driver, "lend pending-texts 8159");
+    assert_eq!(word(&mut driver, 0), "text 6f6e65");
+    assert_eq!(ask(&mut driver, "word pending 0"), "refused 13 0");
+    // No other memory is lent to the call.
+    for other in ["cache 0", "lengths 0", "gather 0", "table 0", "output 0"] {
+        ask(&mut driver, &format!("lend {other}"));
+    }
+    ask(&mut driver, "fill record ff");
+    words(&mut driver, "plain", &["one", "two", "three"]);
+}
+
+#[test]
+fn a_word_below_n() {
+    // "Taking an index below 255 as good, though n is 3."
+    let mut driver = listed(3);
+    for i in 0..255 {
+        put(&mut driver, i, b"here", 4);
+    }
+    assert_eq!(word(&mut driver, 2), "text 68657265");
+    for i in [3, 4, 254, 255, 256, 258, 65_536, 65_538, 4_294_967_294, 4_294_967_295] {
+        assert_eq!(word(&mut driver, i), "refused 6 0", "{i}");
+    }
+    ask(&mut driver, "set plain-count 0 ff");
+    put(&mut driver, 254, b"last", 4);
+    assert_eq!(word(&mut driver, 254), "text 6c617374");
+    for i in [255, 256, 510, 4_294_967_295] {
+        assert_eq!(word(&mut driver, i), "refused 6 0", "{i}");
+    }
+    // n = 0: no index is below it, in the empty list neither.
+    ask(&mut driver, "set plain-count 0 00");
+    assert_eq!(word(&mut driver, 0), "refused 6 0");
+    assert_eq!(ask(&mut driver, "word empty 0"), "refused 6 0");
+    assert_eq!(ask(&mut driver, "word empty 4294967295"), "refused 6 0");
+    // n = 1 and n = 254.
+    for n in [1, 254] {
+        ask(&mut driver, &format!("set plain-count 0 {}", hex(&[n])));
+        assert_eq!(word(&mut driver, u64::from(n) - 1), "text 68657265");
+        assert_eq!(word(&mut driver, u64::from(n)), "refused 6 0");
+    }
+}
+
+#[test]
+fn a_word_of_a_false_list() {
+    let mut driver = listed(3);
+    let long = [b'x'; 32];
+    // Places 1 and 2 full: 32 bytes are a text, and its neighbour's bytes are not touched.
+    put(&mut driver, 1, &long, 32);
+    put(&mut driver, 2, &[b'y'; 32], 32);
+    assert_eq!(word(&mut driver, 1), format!("text {}", hex(&long)));
+    for length in [33, 64, 255, 256, 288, 32_768, 65_534, 65_535] {
+        // At the place asked for it is 14, at another it does not matter.
+        put(&mut driver, 1, &long, length);
+        assert_eq!(word(&mut driver, 1), "refused 14 0", "{length}");
+        assert_eq!(word(&mut driver, 0), "text 6f6e65");
+        assert_eq!(word(&mut driver, 2), format!("text {}", "79".repeat(32)));
+        // At a place that is not below n it is 6.
+        put(&mut driver, 3, &long, length);
+        put(&mut driver, 254, &long, length);
+        assert_eq!(word(&mut driver, 3), "refused 6 0");
+        assert_eq!(word(&mut driver, 254), "refused 6 0");
+    }
+    // Not UTF-8 inside the length is 14, past it does not matter. Not below n it is 6.
+    let mut driver = listed(3);
+    for bad in [&b"ab\xff"[..], b"ab\x80", b"ab\xc3", b"ab\xe0\x80\x80", b"ab\xed\xa0\x80", b"ab\xf4\x90\x80\x80"] {
+        put(&mut driver, 1, bad, bad.len() as u16);
+        assert_eq!(word(&mut driver, 1), "refused 14 0");
+        assert_eq!(word(&mut driver, 0), "text 6f6e65");
+        assert_eq!(word(&mut driver, 2), "text 7468726565");
+        put(&mut driver, 1, bad, 2);
+        assert_eq!(word(&mut driver, 1), "text 6162");
+        put(&mut driver, 1, bad, 0);
+        assert_eq!(word(&mut driver, 1), "text -");
+        put(&mut driver, 3, bad, bad.len() as u16);
+        assert_eq!(word(&mut driver, 3), "refused 6 0");
+    }
+    // A sequence that the length cuts off, though its other bytes follow; and the last place's.
+    put(&mut driver, 1, "a\u{e9}".as_bytes(), 2);
+    assert_eq!(word(&mut driver, 1), "refused 14 0");
+    put(&mut driver, 1, "a\u{e9}".as_bytes(), 3);
+    assert_eq!(word(&mut driver, 1), "text 61c3a9");
+    ask(&mut driver, "set plain-count 0 ff");
+    put(&mut driver, 254, "\u{1f600}".repeat(8).as_bytes(), 32);
+    assert_eq!(word(&mut driver, 254), format!("text {}", "f09f9880".repeat(8)));
+    put(&mut driver, 254, "\u{1f600}".repeat(8).as_bytes(), 31);
+    assert_eq!(word(&mut driver, 254), "refused 14 0");
+    // An empty text is a text, at its first place too; NUL is a character like others.
+    put(&mut driver, 0, b"", 0);
+    assert_eq!(word(&mut driver, 0), "text -");
+    put(&mut driver, 0, b"\0\0", 2);
+    assert_eq!(word(&mut driver, 0), "text 0000");
+}
+
+#[test]
+fn each_message_keeps_its_own_words() {
+    let mut driver = filled();
+    let packet = |driver: &mut Driver, bytes: &str| ask(driver, &format!("packet 1 {bytes}"));
+    // A sequence names places 7 ("a") and 8 ("bc") as cached and fills place 9 with "ours".
+    let start = fragment(69, 5, 3, &join(&[&[3, 0, 0x08, 7, 8, 9, 4], b"ours", &[104]]));
+    assert_eq!(packet(&mut driver, &start), "pending 2 1");
+    let ours = ["a", "bc", "ours"];
+    words(&mut driver, "plain", &["a", "bc"]);
+    words(&mut driver, "pending", &ours);
+    // A plain packet in between replaces the words at places 9 and 7.
+    let replaces = hex(&join(&[&[131, 68, 2, 0x88, 0, 9, 6], b"theirs", &[7, 1, b'b']]));
+    assert_eq!(packet(&mut driver, &replaces), "plain 16 0");
+    words(&mut driver, "plain", &["theirs", "b"]);
+    words(&mut driver, "pending", &ours);
+    assert_eq!(packet(&mut driver, &fragment(70, 5, 2, &[3, 82, 0])), "pending 1 4");
+    // Another names them as cached, in another order; a refused one changes no word.
+    assert_eq!(packet(&mut driver, "8344030000080709"), "plain 8 0");
+    assert_eq!(packet(&mut driver, "834402000007fe"), "refused 21 1");
+    words(&mut driver, "plain", &["bc", "b", "theirs"]);
+    words(&mut driver, "pending", &ours);
+    assert_eq!(packet(&mut driver, &fragment(70, 5, 1, &[82, 1, 82, 2])), "complete 8");
+    words(&mut driver, "pending", &ours);
+    // The text of an 82 in the payload is the word of its index.
+    let payload = hex(&get(&mut driver, "gather")[..8]);
+    assert_eq!(ask(&mut driver, &format!("write payload pending {payload}")), "ok 16");
+    assert_eq!(get(&mut driver, "output")[..16], *b"\x83\x68\x03\x77\x01a\x77\x02bc\x77\x04ours");
+    // A start replaces places 7 and 8 and is dropped: the plain message's words stay, as over a reset.
+    let second = fragment(69, 6, 2, &join(&[&[2, 0x88, 0, 7, 3], b"new", &[8, 0]]));
+    assert_eq!(packet(&mut driver, &second), "pending 1 0");
+    for line in ["drop", "reset"] {
+        words(&mut driver, "plain", &["bc", "b", "theirs"]);
+        words(&mut driver, "pending", &["new", ""]);
+        assert_eq!(ask(&mut driver, line), "ok");
+    }
+    words(&mut driver, "plain", &["bc", "b", "theirs"]);
+    words(&mut driver, "pending", &["new", ""]);
 }
 
 #[test]
@@ -796,7 +972,10 @@ fn lines_that_are_no_commands() {
         "read standalone", "read both empty 83", "read standalone none 83", "read standalone empty",
         "read standalone empty 8", "kind", "kind x", "kind 4294967296", "write standalone empty 83 83",
         "number standalone empty 83", "text standalone empty x 83", "mark standalone empty 0", "packet 2 83",
-        "packet 1", "drop 1", "reset 1", "reference 1 83", "reference 1 2 83", "place", "place -", "place ", "read\tx",
+        "packet 1", "drop 1", "reset 1", "read\tx", "word", "word plain", "word 0", "word plain 0 0", "word plain ",
+        "word plain -", "word plain x", "word plain 00x", "word plain -1", "word plain 4294967296", "word none 0",
+        "word 0 plain", "word  plain 0", "word plain 0 ", "words plain 0", "reference 0 1 83440108000161",
+        "reference 0 plain", "place 7", "place",
     ] {
         assert!(ask(&mut driver, line).starts_with("? "), "{line}");
         assert_eq!(ask(&mut driver, "changed"), "-");

@@ -1,6 +1,7 @@
 //! Damaged and made-up input in quantity: nothing panics, and what document 01 says of every answer
 //! holds (a refused reading leaves the table zero, the canonical form is its own canonical form, rows
-//! fit together, refusals of packets change nothing).
+//! fit together, refusals of packets change nothing, a word is what its list's bytes say, and a packet
+//! changes the words of its own list alone).
 
 use second::drive::{hex, unhex, Driver};
 
@@ -335,23 +336,125 @@ fn made_up_packets() {
         let command = match r.below(30) {
             0 => "drop".to_string(),
             1 if r.below(5) == 0 => "reset".to_string(),
-            2 => format!("place {}", r.below(7)),
             _ => format!("packet {} {}", r.below(2), hex(&packet)),
         };
+        let before = ["plain", "pending"].map(|list| words(&mut driver, list));
         ask(&mut driver, "same");
         let answer = ask(&mut driver, &command);
         assert!(!answer.starts_with('?'));
-        if answer.starts_with("refused") || answer.starts_with("text") {
+        if answer.starts_with("refused") {
             assert_eq!(ask(&mut driver, "changed"), "-", "{command}");
         }
+        // A plain packet writes the plain list's words, a start the pending one's, nothing else any.
+        let after = ["plain", "pending"].map(|list| words(&mut driver, list));
+        let plain = answer.starts_with("plain");
+        let start = command.starts_with("packet") && packet.starts_with(&[131, 69]);
+        assert!(plain || after[0] == before[0], "{command}");
+        assert!(start || after[1] == before[1], "{command}");
+        assert!(after.concat().iter().all(|word| word.starts_with("text ")));
         let key = answer.split(' ').take(if answer.starts_with("refused") { 2 } else { 1 }).collect::<Vec<_>>().join(" ");
         *counts.entry(key).or_insert(0) += 1;
-        let i = r.below(5);
-        ask(&mut driver, &format!("reference {i} 1 {}", hex(&packet)));
     }
     for number in [1, 2, 5, 14, 20, 21, 22, 23, 24, 25, 26] {
         assert!(counts.get(&format!("refused {number}")).is_some(), "{number} in {counts:?}");
     }
+}
+
+/// The answers for the list's words, as many as its n says.
+fn words(driver: &mut Driver, list: &str) -> Vec<String> {
+    let n = get(driver, &format!("{list}-count"))[0];
+    (0..n).map(|i| ask(driver, &format!("word {list} {i}"))).collect()
+}
+
+/// What the word call is to answer, from the list's memory alone.
+fn expected_word(driver: &mut Driver, list: &str, i: usize) -> String {
+    let n = usize::from(get(driver, &format!("{list}-count"))[0]);
+    let (texts, lengths) = (get(driver, &format!("{list}-texts")), get(driver, &format!("{list}-lengths")));
+    if texts.len() != 8_160 || lengths.len() != 510 {
+        return "refused 13 0".to_string();
+    }
+    if i >= n {
+        return "refused 6 0".to_string();
+    }
+    let length = usize::from(lengths[2 * i]) * 256 + usize::from(lengths[2 * i + 1]);
+    let text = texts[32 * i..].iter().take(length).copied().collect();
+    match String::from_utf8(text) {
+        Ok(text) if length <= 32 => format!("text {}", hex(text.as_bytes())),
+        _ => "refused 14 0".to_string(),
+    }
+}
+
+/// Writes one place of a list, mostly a good text.
+fn make_up_place(r: &mut Random, driver: &mut Driver, list: &str, i: u64) {
+    let mut bytes = Vec::new();
+    for _ in 0..r.below(4) {
+        text(r, &mut bytes);
+    }
+    bytes.truncate(32);
+    let mut length = bytes.len() as u16;
+    match r.below(8) {
+        0 => length = [0, 31, 32, 33, 64, 255, 256, 288, 65_534, 65_535][r.below(10) as usize],
+        1 => damage(r, &mut bytes),
+        2 => length = length.saturating_sub(1),
+        _ => {}
+    }
+    bytes.resize(32, r.byte());
+    ask(driver, &format!("set {list}-texts {} {}", 32 * i, hex(&bytes)));
+    ask(driver, &format!("set {list}-lengths {} {}", 2 * i, hex(&length.to_be_bytes())));
+}
+
+#[test]
+fn made_up_lists() {
+    let mut r = Random(0x0107_0107_0107_0107);
+    let mut driver = Driver::new();
+    let mut counts = std::collections::BTreeMap::new();
+    for _ in 0..20_000 {
+        let list = ["plain", "pending"][r.below(2) as usize];
+        let n = [0, 1, 3, 254, 255, r.below(256)][r.below(6) as usize];
+        let near = [n.saturating_sub(1), n, n + 1, r.below(n.max(1))][r.below(4) as usize];
+        let i = if r.below(8) == 0 { [254, 255, 256, 65_536, 4_294_967_295][r.below(5) as usize] } else { near };
+        ask(&mut driver, &format!("set {list}-count 0 {}", hex(&[n as u8])));
+        make_up_place(&mut r, &mut driver, list, i.min(254));
+        let other = r.below(255);
+        make_up_place(&mut r, &mut driver, list, other);
+        let wrong = match r.below(12) {
+            0 => Some(("texts", [0, 32, 8_128, 8_159, 8_161, 65_536][r.below(6) as usize], 8_160)),
+            1 => Some(("lengths", [0, 1, 254, 256, 510, 2_048][r.below(6) as usize], 255)),
+            _ => None,
+        };
+        if let Some((part, count, _)) = wrong {
+            ask(&mut driver, &format!("lend {list}-{part} {count}"));
+        }
+        ask(&mut driver, "same");
+        let answer = ask(&mut driver, &format!("word {list} {i}"));
+        assert_eq!(ask(&mut driver, "changed"), "-");
+        assert_eq!(answer, expected_word(&mut driver, list, i as usize), "{list} {n} {i}");
+        assert_eq!(ask(&mut driver, &format!("word empty {i}")), "refused 6 0");
+        if i <= 255 {
+            same_as_an_82(&mut driver, list, i as u8, &answer);
+        }
+        if let Some((part, _, stated)) = wrong {
+            ask(&mut driver, &format!("lend {list}-{part} {stated}"));
+        }
+        let key = if answer.starts_with("refused") || answer == "text -" { answer } else { "text".to_string() };
+        *counts.entry(key).or_insert(0) += 1;
+    }
+    for key in ["text", "text -", "refused 13 0", "refused 6 0", "refused 14 0"] {
+        assert!(counts.get(key).is_some_and(|count| *count > 300), "{key} in {counts:?}");
+    }
+}
+
+/// A payload that is one 82 has the word as its atom, and the same refusal.
+fn same_as_an_82(driver: &mut Driver, list: &str, i: u8, answer: &str) {
+    let written = ask(driver, &format!("write payload {list} {}", hex(&[82, i])));
+    if answer.starts_with("refused") {
+        assert_eq!(written, answer);
+        return;
+    }
+    let length: usize = written[3..].parse().expect("a number");
+    let output = get(driver, "output");
+    assert_eq!(output[..3], [131, 119, (length - 3) as u8]);
+    assert_eq!(format!("text {}", hex(&output[3..length])), answer);
 }
 
 #[test]
@@ -360,7 +463,7 @@ fn made_up_lines() {
     let mut driver = Driver::new();
     let words = [
         "set", "fill", "lend", "get", "same", "changed", "read", "kind", "write", "number", "text", "mark", "packet",
-        "drop", "reset", "reference", "place", "cache", "lengths", "plain-count", "record", "table", "standalone",
+        "drop", "reset", "word", "pending", "cache", "lengths", "plain-count", "record", "table", "standalone",
         "payload", "empty", "plain", "0", "1", "7", "4294967295", "4294967296", "-", "83", "8361", "ff", "f", "", "x",
     ];
     for _ in 0..60_000 {

@@ -43,7 +43,7 @@ is-text-requires c κs = search needs
 
 returns-3 : tie.Need-returns-3
 returns-3 c = let a = c .before .before .before .before .before .before .before .before .before .args in
-    held-good (a .cache .now) (a .cache-lengths .now) (a .place .0) (c .before .before .before .before .before .wide16 .result) (omega arith) (c .before .before .before .before .before .wide16 .ensures) (c .before .before .before .before .if1 .left) (c .before .before .before .if2 .left) _ (c .before .is-text .ensures) (c .if3 .taken) (omega arith)
+    held-good (a .cache .now) (a .cache-lengths .now) (a .place .0) (c .before .before .before .before .before .wide16 .result) (omega arith) (c .before .before .before .before .before .wide16 .ensures) (c .before .before .before .before .if1 .left) (c .before .before .before .if2 .left) _ (c .before .is-text .ensures) (c .if3 .taken)
 
 returns-4 : tie.Need-returns-4
 returns-4 c = let a = c .before .before .before .before .before .before .before .before .before .args in

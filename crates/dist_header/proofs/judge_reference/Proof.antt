@@ -2,8 +2,8 @@
 use native.Mathlib.Omega.{arith}
 use borrow.Author.Needs.{needs}
 use Rattle.term_spec.specs.Text.{coding-of}
-use Rattle.packet_spec.specs.Memory.{cache-of}
-use Rattle.dist_header.specs.Code.{holding-when, Spells}
+use Rattle.packet_spec.specs.Memory.{cache-of, held}
+use Rattle.dist_header.specs.Code.{Spells}
 use Rattle.dist_header.proofs.Walk.{answer-cut, answer-new-refused, answer-new, answer-cached-refused, answer-cached, new-inside, cached-inside}
 use Rattle.dist_header.specs.declared.Spelled.the-variants as spelled
 use Rattle.dist_header.proofs.judge_reference.Statement.{statement}
@@ -30,8 +30,8 @@ enum-known-number c = search needs
 enum-told-2 : tie.Need-enum-told-2
 enum-told-2 c = search needs
 
-add-t22 : tie.Need-add-t22
-add-t22 c = let a = c .before .before .before .before .before .before .before .before .before .before .before .before .before .before .args in
+add-t21 : tie.Need-add-t21
+add-t21 c = let a = c .before .before .before .before .before .before .before .before .before .before .before .before .before .before .args in
     let v = c .before .before .before .before .before .before .before .place .given in
     let e : Spells (a .packet .now) (a .half) (a .width) (a .at) (spelled.New (v .0 .0) (v .0 .1 .0) (v .0 .1 .1 .0)) = rw (v .1) at (c .before .before .before .before .before .before .before .before .before .read-reference .ensures) in
     let i = new-inside (a .packet .now) (a .half) (a .width) (a .at) (v .0 .0) (v .0 .1 .0) (v .0 .1 .1 .0) e in omega arith
@@ -51,11 +51,11 @@ enum-known-number-2 c = search needs
 enum-told-3 : tie.Need-enum-told-3
 enum-told-3 c = search needs
 
-add-t27 : tie.Need-add-t27
-add-t27 c = search needs
+add-t26 : tie.Need-add-t26
+add-t26 c = search needs
 
 returns : tie.Need-returns
-returns c = let a = c .before .before .before .before .before .before .before .args in answer-cut (coding-of (a .utf8)) (holding-when (a .look) (cache-of (a .cache .now) (a .cache-lengths .now))) (a .packet .now) (a .half) (a .width) (a .at) (a .naming .now) _ (rw (c .enum-told .given .1) at (c .before .before .read-reference .ensures))
+returns c = let a = c .before .before .before .before .before .before .before .args in answer-cut (coding-of (a .utf8)) (held (cache-of (a .cache .now) (a .cache-lengths .now))) (a .packet .now) (a .half) (a .width) (a .at) (a .naming .now) _ (rw (c .enum-told .given .1) at (c .before .before .read-reference .ensures))
 
 same-length : tie.Need-same-length
 same-length c = search needs
@@ -64,7 +64,7 @@ returns-2 : tie.Need-returns-2
 returns-2 c = let a = c .before .before .before .before .before .before .before .before .before .before .before .before .before .before .before .args in
     let v = c .before .before .before .before .before .before .before .before .place .given in
     let e : Spells (a .packet .now) (a .half) (a .width) (a .at) (spelled.New (v .0 .0) (v .0 .1 .0) (v .0 .1 .1 .0)) = rw (v .1) at (c .before .before .before .before .before .before .before .before .before .before .read-reference .ensures) in
-    answer-new-refused (coding-of (a .utf8)) (holding-when (a .look) (cache-of (a .cache .now) (a .cache-lengths .now))) (a .packet .now) (a .half) (a .width) (a .at) (a .naming .now) _ (v .0 .0) (v .0 .1 .0) (v .0 .1 .1 .0) _ e (rw (c .before .number .given .1) at (c .before .before .before .before .before .judge-new .ensures))
+    answer-new-refused (coding-of (a .utf8)) (held (cache-of (a .cache .now) (a .cache-lengths .now))) (a .packet .now) (a .half) (a .width) (a .at) (a .naming .now) _ (v .0 .0) (v .0 .1 .0) (v .0 .1 .1 .0) _ e (rw (c .before .number .given .1) at (c .before .before .before .before .before .judge-new .ensures))
 
 same-length-2 : tie.Need-same-length-2
 same-length-2 c = search needs
@@ -73,7 +73,7 @@ returns-3 : tie.Need-returns-3
 returns-3 c = let a = c .before .before .before .before .before .before .before .before .before .before .before .before .before .before .args in
     let v = c .before .before .before .before .before .before .before .place .given in
     let e : Spells (a .packet .now) (a .half) (a .width) (a .at) (spelled.New (v .0 .0) (v .0 .1 .0) (v .0 .1 .1 .0)) = rw (v .1) at (c .before .before .before .before .before .before .before .before .before .read-reference .ensures) in
-    answer-new (coding-of (a .utf8)) (holding-when (a .look) (cache-of (a .cache .now) (a .cache-lengths .now))) (a .packet .now) (a .half) (a .width) (a .at) (a .naming .now) _ (v .0 .0) (v .0 .1 .0) (v .0 .1 .1 .0) e (rw (c .enum-told2 .given .1) at (c .before .before .before .before .judge-new .ensures))
+    answer-new (coding-of (a .utf8)) (held (cache-of (a .cache .now) (a .cache-lengths .now))) (a .packet .now) (a .half) (a .width) (a .at) (a .naming .now) _ (v .0 .0) (v .0 .1 .0) (v .0 .1 .1 .0) e (rw (c .enum-told2 .given .1) at (c .before .before .before .before .judge-new .ensures))
 
 same-length-3 : tie.Need-same-length-3
 same-length-3 c = search needs
@@ -82,7 +82,7 @@ returns-4 : tie.Need-returns-4
 returns-4 c = let a = c .before .before .before .before .before .before .before .before .before .before .before .before .before .before .before .args in
     let v = c .before .before .before .before .before .before .before .before .place2 .given in
     let e : Spells (a .packet .now) (a .half) (a .width) (a .at) (spelled.Cached (v .0 .0)) = rw (v .1) at (c .before .before .before .before .before .before .before .before .before .before .read-reference .ensures) in
-    answer-cached-refused (coding-of (a .utf8)) (holding-when (a .look) (cache-of (a .cache .now) (a .cache-lengths .now))) (a .packet .now) (a .half) (a .width) (a .at) (a .naming .now) _ (v .0 .0) _ e (rw (c .before .number2 .given .1) at (c .before .before .before .before .before .judge-cached .ensures))
+    answer-cached-refused (coding-of (a .utf8)) (held (cache-of (a .cache .now) (a .cache-lengths .now))) (a .packet .now) (a .half) (a .width) (a .at) (a .naming .now) _ (v .0 .0) _ e (rw (c .before .number2 .given .1) at (c .before .before .before .before .before .judge-cached .ensures))
 
 same-length-4 : tie.Need-same-length-4
 same-length-4 c = search needs
@@ -91,7 +91,7 @@ returns-5 : tie.Need-returns-5
 returns-5 c = let a = c .before .before .before .before .before .before .before .before .before .before .before .before .before .before .args in
     let v = c .before .before .before .before .before .before .before .place2 .given in
     let e : Spells (a .packet .now) (a .half) (a .width) (a .at) (spelled.Cached (v .0 .0)) = rw (v .1) at (c .before .before .before .before .before .before .before .before .before .read-reference .ensures) in
-    answer-cached (coding-of (a .utf8)) (holding-when (a .look) (cache-of (a .cache .now) (a .cache-lengths .now))) (a .packet .now) (a .half) (a .width) (a .at) (a .naming .now) _ (v .0 .0) e (rw (c .enum-told3 .given .1) at (c .before .before .before .before .judge-cached .ensures))
+    answer-cached (coding-of (a .utf8)) (held (cache-of (a .cache .now) (a .cache-lengths .now))) (a .packet .now) (a .half) (a .width) (a .at) (a .naming .now) _ (v .0 .0) e (rw (c .enum-told3 .given .1) at (c .before .before .before .before .judge-cached .ensures))
 
 pub judge-reference-spec : {M : Type 1} → statement M
 judge-reference-spec =
@@ -103,12 +103,12 @@ judge-reference-spec =
     judge-new-requires
     enum-known-number
     enum-told-2
-    add-t22
+    add-t21
     enum-known-place-2
     judge-cached-requires
     enum-known-number-2
     enum-told-3
-    add-t27
+    add-t26
     returns
     same-length
     returns-2

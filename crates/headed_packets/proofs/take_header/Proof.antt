@@ -6,7 +6,7 @@ use Rattle.headed_packets.proofs.take_header.Statement.{statement}
 use Rattle.headed_packets.proofs.take_header.Tie as tie
 
 check-header-requires : tie.Need-check-header-requires
-check-header-requires c κs = let p = c .before .before .before .before .before .before .before .pre in (p .0, λ _. p .1)
+check-header-requires c κs = search needs
 
 enum-known-refusal : tie.Need-enum-known-refusal
 enum-known-refusal c = search needs

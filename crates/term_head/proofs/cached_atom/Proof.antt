@@ -1,8 +1,8 @@
--- `cached_atom` meets its contract. The index, then the length, then the text.
-use Rattle.term_spec.proofs.Tests.{sizes-of, refuted, confirmed}
-use Rattle.term_head.proofs.Texts.{cached-short, cached-past, cached-long, cached-bad, cached-there}
+-- `cached_atom` meets its contract. The index, then the text at its place.
 use native.Mathlib.Omega.{arith}
 use borrow.Author.Needs.{needs}
+use Rattle.term_spec.proofs.Tests.{sizes-of, refuted, confirmed}
+use Rattle.term_head.proofs.Texts.{cached-short, cached-past, cached-false, cached-there}
 use Rattle.term_head.proofs.cached_atom.Statement.{statement}
 use Rattle.term_head.proofs.cached_atom.Tie as tie
 
@@ -27,47 +27,20 @@ wide-requires c κs = search needs
 returns-2 : tie.Need-returns-2
 returns-2 c = λ rows. cached-past _ _ _ _ _ _ (omega arith) _ (c .before .before .before .if1 .left) (c .before .before .big1 .ensures .0) (omega arith)
 
-mul-length : tie.Need-mul-length
-mul-length c = search needs
-
-shared-slice-read-length : tie.Need-shared-slice-read-length
-shared-slice-read-length c = let z = sizes-of _ (c .before .before .before .before .before .before .before .before .pre .1) in omega arith
+place-holds-text-requires : tie.Need-place-holds-text-requires
+place-holds-text-requires c κs = let z = sizes-of _ (c .before .before .before .before .before .before .before .pre .1) in (omega arith, z .0, z .1)
 
 returns-3 : tie.Need-returns-3
-returns-3 c = λ rows. cached-long _ _ _ _ _ _ (omega arith) _ (c .before .before .before .before .before .if1 .left) (c .before .before .before .before .big1 .ensures .0) (omega arith) (c .if3 .taken)
+returns-3 c = λ rows. cached-false _ _ _ _ _ _ (omega arith) _ (c .before .before .before .before .before .if1 .left) (c .before .before .before .before .big1 .ensures .0) (omega arith) (refuted (c .before .place-holds-text .ensures (c .before .before .before .before .before .before .before .before .before .args .n)) (c .if3 .taken))
 
-mul-from : tie.Need-mul-from
-mul-from c = search needs
+add-t9 : tie.Need-add-t9
+add-t9 c = search needs
 
-cast-end : tie.Need-cast-end
-cast-end c = search needs
-
-add-end : tie.Need-add-end
-add-end c = search needs
-
-sub-is-text : tie.Need-sub-is-text
-sub-is-text c = search needs
-
-part-is-text-start : tie.Need-part-is-text-start
-part-is-text-start c = search needs
-
-part-is-text-end : tie.Need-part-is-text-end
-part-is-text-end c = let z = sizes-of _ (c .before .before .before .before .before .before .before .before .before .pre .1) in omega arith
-
-is-text-requires : tie.Need-is-text-requires
-is-text-requires c κs = search needs
+add-t7 : tie.Need-add-t7
+add-t7 c = search needs
 
 returns-4 : tie.Need-returns-4
-returns-4 c = λ rows. cached-bad _ _ _ _ _ _ (omega arith) _ (c .before .before .before .before .before .before .before .before .if1 .left) (c .before .before .before .before .before .before .before .big1 .ensures .0) (omega arith) (c .before .before .before .if3 .left) (refuted (c .before .is-text .ensures) (c .if4 .taken))
-
-add-t12 : tie.Need-add-t12
-add-t12 c = search needs
-
-add-t11 : tie.Need-add-t11
-add-t11 c = search needs
-
-returns-5 : tie.Need-returns-5
-returns-5 c = λ rows. cached-there _ _ _ _ _ _ (omega arith) _ (c .before .before .before .before .before .before .before .before .if1 .left) (c .before .before .before .before .before .before .before .big1 .ensures .0) (omega arith) (c .before .before .before .if3 .left) (confirmed (c .before .is-text .ensures) (c .if4 .left))
+returns-4 c = λ rows. cached-there _ _ _ _ _ _ (omega arith) _ (c .before .before .before .before .before .if1 .left) (c .before .before .before .before .big1 .ensures .0) (omega arith) (confirmed (c .before .place-holds-text .ensures (c .before .before .before .before .before .before .before .before .before .args .n)) (c .if3 .left))
 
 pub cached-atom-spec : {M : Type 1} → statement M
 cached-atom-spec =
@@ -80,17 +53,8 @@ cached-atom-spec =
     big1-requires
     wide-requires
     returns-2
-    mul-length
-    shared-slice-read-length
+    place-holds-text-requires
     returns-3
-    mul-from
-    cast-end
-    add-end
-    sub-is-text
-    part-is-text-start
-    part-is-text-end
-    is-text-requires
-    returns-4
-    add-t12
-    add-t11
-    returns-5)
+    add-t9
+    add-t7
+    returns-4)

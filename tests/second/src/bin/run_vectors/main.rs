@@ -26,6 +26,8 @@ struct Runner {
     disagreements: usize,
     /// how many vectors name the start of an empty stretch
     empty_stretches: usize,
+    /// how many words of atom lists were asked for
+    words: usize,
 }
 
 impl Runner {
@@ -179,10 +181,28 @@ impl Runner {
         self.order("reset");
         self.order("lend table 8192");
         self.order("lend output 65536");
-        for (i, step) in vector.get("steps").map_or(&[][..], Json::array).iter().enumerate() {
+        let steps = vector.get("steps").map_or(&[][..], Json::array);
+        let lists = ["plain", "pending"].map(|list| (list, texts_after(steps, list)));
+        for (i, step) in steps.iter().enumerate() {
             let place = format!("{place} step {i} {}", text(step, "op"));
             self.step(&place, step);
+            for (list, texts) in &lists {
+                if let Some(texts) = texts[i] {
+                    self.words(&place, list, texts.array());
+                }
+            }
             self.state(&place, step);
+        }
+    }
+
+    /// Every word of a list that holds these texts, and 6 for indexes not below their number.
+    fn words(&mut self, place: &str, list: &str, texts: &[Json]) {
+        let good = texts.iter().map(|text| format!("text {}", hex(&from_plain_hex(text.text().unwrap_or("")))));
+        let over = [texts.len(), 255, 4_294_967_295].map(|i| (i, "refused 6 0".to_string()));
+        for (i, expected) in good.enumerate().chain(over) {
+            let got = self.ask(&format!("word {list} {i}"));
+            self.agree(&format!("{place} word {list} {i}"), &expected, &got);
+            self.words += 1;
         }
     }
 
@@ -198,13 +218,6 @@ impl Runner {
             "packet" => self.ask(&format!("packet {utf8} {}", hex(&packet))),
             "drop" => self.ask("drop"),
             "reset" => self.ask("reset"),
-            "place_of_reference" => {
-                self.ask(&format!("reference {} {utf8} {}", text(step, "i"), hex(&packet)))
-            }
-            "text_of_place" => {
-                let got = self.ask(&format!("place {}", text(step, "place")));
-                if got == "text -" { "text ".to_string() } else { got }
-            }
             "set_length" => {
                 let length = hex(&(number(1) as u16).to_be_bytes());
                 return self.order(&format!("set lengths {} {length}", 2 * number(0)));
@@ -285,6 +298,29 @@ impl Runner {
     }
 }
 
+/// Whether a step writes this atom list: the tester does, or an accepted packet with a header for it.
+fn writes_list(step: &Json, list: &str) -> bool {
+    let out = text(step, "out");
+    match list {
+        _ if text(step, "op") == "fill_lists" => true,
+        "plain" => out.starts_with("plain"),
+        _ => text(step, "in").starts_with("8345") && (out.starts_with("pending") || out.starts_with("complete")),
+    }
+}
+
+/// The texts that a list holds after each step, where the vectors tell them: from the step that writes
+/// it to the next that does, they are those that the plain packet or the complete sequence has.
+fn texts_after<'a>(steps: &'a [Json], list: &str) -> Vec<Option<&'a Json>> {
+    let teller = if list == "plain" { "plain" } else { "complete" };
+    let mut known = Vec::new();
+    for stretch in steps.chunk_by(|_, next| !writes_list(next, list)) {
+        let told = stretch.iter().find(|step| text(step, "out").starts_with(teller));
+        let texts = told.and_then(|step| step.get("texts"));
+        known.extend(stretch.iter().map(|_| texts));
+    }
+    known
+}
+
 fn text<'a>(vector: &'a Json, key: &str) -> &'a str {
     vector.get(key).and_then(Json::text).unwrap_or("")
 }
@@ -320,7 +356,7 @@ fn main() {
         }
     };
     assert_eq!(plain_hex(&sha256::sha256(b"abc")[..8]), "ba7816bf8f01cfea");
-    let mut runner = Runner { target, agreements: 0, disagreements: 0, empty_stretches: 0 };
+    let mut runner = Runner { target, agreements: 0, disagreements: 0, empty_stretches: 0, words: 0 };
     let files: [(&str, fn(&mut Runner, &str, &Json)); 4] = [
         ("standalone", Runner::standalone),
         ("payload", Runner::payload),
@@ -347,6 +383,7 @@ fn main() {
         disagreements += runner.disagreements;
     }
     println!("(empty stretches of empty atoms, compared as `empty`: {})", runner.empty_stretches);
+    println!("(words of atom lists asked for: {})", runner.words);
     println!("in all: {agreements} answers agree, {disagreements} disagree");
     std::process::exit(i32::from(disagreements > 0));
 }

@@ -1,3 +1,0 @@
-pub mod Texts
-pub mod Passing
-pub mod Naming

@@ -1,0 +1,166 @@
+-- A message's words are those of its own header: `own-words`, at the end.
+use mathlib.Core.Path.{_≡_, refl, sym, _∙_, ap, subst}
+use mathlib.Core.Bool.{Bool, true, false}
+use mathlib.Core.List.{List, [], _∷_}
+use Prim.Native.Nat.{ℕ, zero, suc, _*_, _<_, _≤_}
+use native.Mathlib.Omega.{arith}
+use lib.ListN.{length, take, drop}
+use borrow.Author.Tests.{lt-ltb, le-ltb}
+use Rattle.term_spec.specs.Text.{Coding}
+use Rattle.term_spec.specs.Numbers.{Under}
+use Rattle.term_spec.specs.Answer.{Answer, good, refused}
+use Rattle.term_spec.specs.AtomList.{AtomList, of-size, place-bytes}
+use Rattle.term_spec.proofs.Tests.{never}
+use Rattle.packet_spec.specs.declared.Pending.{Pending}
+use Rattle.packet_spec.specs.declared.Taken.{Taken}
+use Rattle.packet_spec.specs.Memory.{Cache, Memory}
+use Rattle.packet_spec.specs.Header.{Reference}
+use Rattle.packet_spec.specs.Packet.{Packet, plain, start, continuation, judged}
+use Rattle.packet_spec.specs.Calls.{list-of, left-by, left-after, after-packet}
+use Rattle.packet_spec.specs.Words.{word-if, listed-word, own-word}
+use Rattle.packet_spec.specs.Answers.{word-answer, word-bytes}
+use Rattle.packet_spec.specs.Promises.{Packet-call}
+use Rattle.packet_spec.specs.Runs.{Call, taking, dropping, resetting, Bytes, All-bytes, with-state, after-call, after-calls}
+use Rattle.packet_spec.specs.Demands.{Ran}
+use Rattle.packet_spec.specs.OwnWords.{Says, is-plain, is-start, Accepts-none, All-accept-none, All-pending, Own-words}
+use Rattle.packet_spec.proofs.Judged.{All-sound, Sound-packet, accepted}
+use Rattle.packet_spec.proofs.SizesKept.{list-sized}
+use Rattle.packet_spec.proofs.Listed.{At, first, later, Listed, listed-bytes, listed-length, sound-listed}
+use Rattle.packet_spec.proofs.Demand.{ran-is}
+
+-- ---- the list of a header's references
+
+-- what references say at an index: one of them its text, or 6 past the last
+by-index : {P : Type 0} (rs : List Reference) (i : ℕ) → ((r : Reference) → At rs i r → i < length rs → own-word rs i ≡ good (r .text) → P)
+    → (length rs ≤ i → own-word rs i ≡ refused 6 0 → P) → P
+unfolding own-word
+by-index [] i f g = g (omega arith) refl
+by-index (r ∷ rs) zero f g = f r first (omega arith) refl
+by-index (r ∷ rs) (suc i) f g = by-index rs i (λ s a l e. f s (later a) (omega arith) e) (λ h e. g (omega arith) e)
+
+-- what the look-up answers, where the list is of its size
+word-there : (list : AtomList) (i : ℕ) (t : List ℕ) → of-size list ≡ true → i < list .n → Listed list i t → listed-word list i ≡ good t
+unfolding listed-word word-if
+word-there list i t s l w = rw (s, lt-ltb i (list .n) l, w .is-text) (ap good (w .bytes-are))
+
+word-past : (list : AtomList) (i : ℕ) → of-size list ≡ true → list .n ≤ i → listed-word list i ≡ refused 6 0
+unfolding listed-word
+word-past list i s h = rw (s, le-ltb i (list .n) h)
+
+count-is : (rs : List Reference) → list-of rs .n ≡ length rs
+unfolding list-of
+count-is rs = refl
+
+module _ (rs : List Reference) (ok : All-sound [] rs) (few : length rs < 256) where
+  listed-own : (i : ℕ) → listed-word (list-of rs) i ≡ own-word rs i
+  listed-own i =
+      let n : list-of rs .n ≡ length rs = count-is rs in
+      by-index rs i
+      (λ r a l e. word-there (list-of rs) i (r .text) (list-sized rs ok few) (omega arith) (sound-listed a ok) ∙ sym e)
+      (λ h e. word-past (list-of rs) i (list-sized rs ok few) (omega arith) ∙ sym e)
+
+  own-stands : (i : ℕ) (t : List ℕ) → own-word rs i ≡ good t → take (length t) (drop (32 * i) (list-of rs .places)) ≡ t
+  unfolding place-bytes
+  own-stands i t e =
+      by-index rs i
+      (λ r a l f.
+      let is : r .text ≡ t = cc in
+      subst (λ (u : List ℕ). take (length u) (drop (32 * i) (list-of rs .places)) ≡ u) is
+      (ap (λ (n : ℕ). take n (drop (32 * i) (list-of rs .places))) (sym (listed-length a)) ∙ listed-bytes a ok))
+      (λ h f. let no-way : _≡_ {A = ℕ} 0 1 = cc in absurd (omega arith))
+
+  -- the list that a header fixes says what its references say
+  list-says : Says (list-of rs) rs
+  list-says =
+      record {
+        counted = count-is rs;
+        word-said = λ i bytes w. w ∙ ap word-bytes (listed-own i);
+        stretch-said = λ i answer w. w .word-located ∙ ap (word-answer i) (listed-own i);
+        stands-there = own-stands;
+      }
+
+-- ---- over a run
+
+-- a list that only packets of one kind write, and no drop or reset
+module _ (kind : Packet → Bool) (list : Memory → AtomList) (left : (m : Memory) (p : Packet) → kind p ≡ false → list (left-by m p) ≡ list m)
+    (kept : (m : Memory) (s : Cache × Pending) → list (with-state m s) ≡ list m) where
+  call-keeps : (m : Memory) (c : Call) → Accepts-none kind m c → list (after-call m c) ≡ list m
+  unfolding after-call after-packet
+  call-keeps m (taking agreed bs) a = go (judged agreed m bs) refl
+    where
+      go : (o : Answer Packet) → judged agreed m bs ≡ o → list (left-after m o) ≡ list m
+      go (good p) e = left m p (a p e)
+      go (refused n q) e = refl
+  call-keeps m dropping a = kept m _
+  call-keeps m resetting a = kept m _
+
+  run-keeps : (cs : List Call) (m : Memory) → All-accept-none kind m cs → list (after-calls m cs) ≡ list m
+  unfolding after-calls
+  run-keeps [] m a = refl
+  run-keeps (c ∷ cs) m a = run-keeps cs (after-call m c) (a .1) ∙ call-keeps m c (a .0)
+
+plain-left : (m : Memory) (p : Packet) → is-plain p ≡ false → left-by m p .plain-list ≡ m .plain-list
+unfolding left-by is-plain
+plain-left m (plain rs at bs) e = never (sym e)
+plain-left m (start sequence fragment rs bs) e = refl
+plain-left m (continuation sequence fragment bs) e = refl
+
+pending-left : (m : Memory) (p : Packet) → is-start p ≡ false → left-by m p .pending-list ≡ m .pending-list
+unfolding left-by is-start
+pending-left m (plain rs at bs) e = refl
+pending-left m (start sequence fragment rs bs) e = never (sym e)
+pending-left m (continuation sequence fragment bs) e = refl
+
+-- while a sequence is pending no start is accepted
+no-start : (m : Memory) (p : Packet) → (m .pending .due ≡ 0 → ⊥) → Sound-packet (m .pending) p → is-start p ≡ false
+unfolding is-start
+no-start m (plain rs at bs) d s = refl
+no-start m (start sequence fragment rs bs) d s = absurd (d (s .4))
+no-start m (continuation sequence fragment bs) d s = refl
+
+none-while-pending : (cs : List Call) (m : Memory) → All-bytes cs → All-pending m cs → All-accept-none is-start m cs
+none-while-pending [] m u a = tt
+none-while-pending (c ∷ cs) m u a = (one c (u .0), none-while-pending cs (after-call m c) (u .1) (a .1))
+  where
+    one : (c : Call) → Bytes c → Accepts-none is-start m c
+    one (taking agreed bs) v = λ p j. no-start m p (a .0) (accepted agreed m bs p v j .sound)
+    one dropping v = tt
+    one resetting v = tt
+
+-- ---- the statement
+
+module _ {agreed : Coding} {packet : List ℕ} {m m′ n : Memory} {cs : List Call} (v : Under 256 packet) (u : All-bytes cs) {r : Taken}
+    (w : Packet-call agreed packet m r m′) (ran : Ran m′ cs n) where
+  left-is : (p : Packet) → judged agreed m packet ≡ good p → m′ ≡ left-by m p
+  unfolding after-packet
+  left-is p j = w .memory-left ∙ ap (left-after m) j
+
+  plain-says : (rs : List Reference) (at : ℕ) (bs : List ℕ) → judged agreed m packet ≡ good (plain rs at bs)
+      → All-accept-none is-plain m′ cs → Says (n .plain-list) rs
+  unfolding left-by
+  plain-says rs at bs j a =
+      let s : Sound-packet (m .pending) (plain rs at bs) = accepted agreed m packet (plain rs at bs) v j .sound in
+      subst (λ (x : AtomList). Says x rs)
+      (sym (ap (λ (x : Memory). x .plain-list) (ran-is ran)
+      ∙ run-keeps is-plain (λ x. x .plain-list) plain-left (λ x y. refl) cs m′ a
+      ∙ ap (λ (x : Memory). x .plain-list) (left-is (plain rs at bs) j)))
+      (list-says rs (s .0) (s .1))
+
+  start-says : (sequence fragment : ℕ) (rs : List Reference) (bs : List ℕ) → judged agreed m packet ≡ good (start sequence fragment rs bs)
+      → All-accept-none is-start m′ cs → Says (n .pending-list) rs
+  unfolding left-by
+  start-says sequence fragment rs bs j a =
+      let s : Sound-packet (m .pending) (start sequence fragment rs bs) = accepted agreed m packet (start sequence fragment rs bs) v j .sound in
+      subst (λ (x : AtomList). Says x rs)
+      (sym (ap (λ (x : Memory). x .pending-list) (ran-is ran)
+      ∙ run-keeps is-start (λ x. x .pending-list) pending-left (λ x y. refl) cs m′ a
+      ∙ ap (λ (x : Memory). x .pending-list) (left-is (start sequence fragment rs bs) j)))
+      (list-says rs (s .0) (s .1))
+
+  pub own-words : Own-words agreed packet m m′ cs n
+  own-words =
+      record {
+        of-plain = plain-says;
+        of-sequence = start-says;
+        to-its-end = λ sequence fragment rs bs j d. start-says sequence fragment rs bs j (none-while-pending cs m′ u d);
+      }
