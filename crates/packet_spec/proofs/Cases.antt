@@ -103,6 +103,10 @@ pub record Examples : Type 0 where
   -- a new reference's text: 5, and 23 for 33 letters
   pub not-utf-8 : answer fresh (131 ∷ 68 ∷ 2 ∷ 136 ∷ 0 ∷ 7 ∷ 0 ∷ 8 ∷ 1 ∷ 255 ∷ []) ≡ refused 5 1
   pub too-long : answer fresh (131 ∷ 68 ∷ 2 ∷ 136 ∷ 0 ∷ 7 ∷ 0 ∷ 8 ∷ 33 ∷ replicate 33 97) ≡ refused 23 1
+  -- 22 comes before 5, 5 before 23, and a header's refusals before 12
+  pub named-not-utf-8 : answer fresh (131 ∷ 68 ∷ 2 ∷ 136 ∷ 0 ∷ 7 ∷ 0 ∷ 7 ∷ 1 ∷ 255 ∷ []) ≡ refused 22 1
+  pub long-not-utf-8 : answer fresh (131 ∷ 68 ∷ 1 ∷ 8 ∷ 7 ∷ 33 ∷ (replicate 32 97 ++ (255 ∷ []))) ≡ refused 5 0
+  pub empty-over : answer fresh (131 ∷ 68 ∷ 2 ∷ 8 ∷ 0 ∷ 7 ∷ 0 ∷ 8 ∷ replicate 65537 106) ≡ refused 21 1
   -- a byte that is no UTF-8 is a character in Latin-1, stored as UTF-8
   pub utf-8-agreed : answer fresh (131 ∷ 68 ∷ 1 ∷ 8 ∷ 7 ∷ 1 ∷ 233 ∷ []) ≡ refused 5 0
   pub latin-agreed : latin-answer (131 ∷ 68 ∷ 1 ∷ 8 ∷ 7 ∷ 1 ∷ 233 ∷ []) ≡ good (payload-at 7 0)
@@ -176,6 +180,9 @@ examples = record {
   cached-cached = refl;
   not-utf-8 = refl;
   too-long = refl;
+  named-not-utf-8 = refl;
+  long-not-utf-8 = refl;
+  empty-over = refl;
   utf-8-agreed = refl;
   latin-agreed = refl;
   latin-stored = refl;
