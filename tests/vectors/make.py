@@ -13,13 +13,15 @@ Where the answers come from (never from the code of this repository):
 - The cases of boundaries.py are built so that the answer follows from how they are built; the comment beside each says by which rule of
   document 01. A refusal is stated with its number and its place. Of an accepted case the rows are those of `rows_of`, and the number of
   rows is stated where it is the point.
+- Words: by the rule of #107 (words.py), for lists of payload.jsonl and rows.jsonl and for made ones. It is held to every text of rows.jsonl that stands in a list.
 
 A line of stdin: src/lib.rt of crate vector_lines. Asking lends no rows and no output: these two fields say how many rows and how many offsets are
-asked for. A line of stdout, by the verb:
+asked for. Nor do words, whose message is empty: the second says how many indices are asked for. A line of stdout, by the verb:
 - read: `refused N P`, or `ok TERMS ROWS` and, up to 100 rows, ` KIND,OFFSET,WHOLE` for each; ` dirty` never.
 - write: `refused N P` or `ok HEX`. Of boundaries.py only the refused cases: the writer refuses what the reader refuses; the ends of the
   rules of the canonical form stand in canonical.py.
 - ask: the numbers, the texts and the marks, all parted by spaces, each with commas where the vector has tabs.
+- word: for each index `word,START,LENGTH` or `refused,N,P`, parted by spaces; ` differs` never.
 """
 import json
 import os
@@ -30,6 +32,7 @@ from boundaries import boundaries
 from canonical import canonical
 from lines import Case
 from rows import rows_of, shown
+from words import answer, words
 
 
 def vectors(folder, name):
@@ -89,7 +92,16 @@ def asking(folder):
         yield Case(vector['form'][0], bytes.fromhex(vector['in']), answer, rows=len(vector['numbers']), room=len(vector['texts']), n=n, places=places)
 
 
-VERBS = {'read': reading, 'write': writing, 'ask': asking}
+def wording(folder):
+    for vector in vectors(folder, 'rows'):
+        n, places = places_of(vector)
+        for text in vector['texts']:
+            source, *stretch = text.split('\t')
+            assert source != 'list' or answer('s', n, places, int(stretch[0]) // 32) == ','.join(['word'] + stretch), vector
+    yield from words(places_of(vector) for name in ('payload', 'rows') for vector in vectors(folder, name))
+
+
+VERBS = {'read': reading, 'write': writing, 'ask': asking, 'word': wording}
 
 
 def main():

@@ -8,12 +8,12 @@ use lib.ListN.{getD}
 use Rattle.vector_lines.specs.declared.Verb.{Verb}
 use Rattle.vector_lines.specs.declared.Verb.the-variants as verbs
 
--- by its first letter: r, w or a
+-- by its second letter: e, r, s or o
 unfoldable pub verb-letter : ℕ → Verb
-verb-letter x = cond (eqb x 114) verbs.Read (cond (eqb x 119) verbs.Write (cond (eqb x 97) verbs.Ask verbs.Unknown))
+verb-letter x = cond (eqb x 101) verbs.Read (cond (eqb x 114) verbs.Write (cond (eqb x 115) verbs.Ask (cond (eqb x 111) verbs.Word verbs.Unknown)))
 
 unfoldable pub verb : List ℕ → Verb
-verb line = verb-letter (getD line 0 0)
+verb line = verb-letter (getD line 1 0)
 
 -- the forms of a payload: p, P and q
 unfoldable pub payload-form : ℕ → Bool

@@ -1,4 +1,4 @@
-// A book of cases. A line is one case: a verb, which says what is asked (`read`, `write`, `ask`; its first letter decides), and words, each hex
+// A book of cases. A line is one case: a verb, which says what is asked (`read`, `write`, `ask`, `word`; its second letter decides), and words, each hex
 // or COUNT*HEX for a repetition, all parted by single spaces. The bytes that the words stand for: form (1 byte), rows lent (2), output room (3), n of the atom list (1), number of places given (1), for each of them its length (2), a
 // count (1) and that many bytes of text, then the message. Forms: 's' standalone, 'p' payload; 'S', 'P' the same with the places lent a
 // byte short, 't', 'q' with a length too many. No function has a `requires`: what is missing counts as 0, what has no room is left out.
@@ -15,6 +15,7 @@ pub enum Verb {
     Read,
     Write,
     Ask,
+    Word,
     Unknown,
 }
 
@@ -353,13 +354,14 @@ fn decode_word(dst: &mut [u8], at: usize, word: &[u8]) -> usize
 pub fn verb_of(line: &[u8]) -> Verb
     ensures { λ r. ⌜ r ≡ verb (now (line .entry)) ⌝ }
 {
-    if line.len() == 0 {
+    if line.len() <= 1 {
         return Verb::Unknown;
     }
-    match line[0] {
-        b'r' => Verb::Read,
-        b'w' => Verb::Write,
-        b'a' => Verb::Ask,
+    match line[1] {
+        b'e' => Verb::Read,
+        b'r' => Verb::Write,
+        b's' => Verb::Ask,
+        b'o' => Verb::Word,
         _ => Verb::Unknown,
     }
 }

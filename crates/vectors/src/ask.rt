@@ -2,10 +2,14 @@
 // (`whole,N`, `float,BITS`, `neither`), then each offset's text (`message,START,LENGTH`, `list,START,LENGTH`, `empty`, with ` differs` if the
 // text itself has other bytes), then each offset's mark (`latin1`, `utf8`); `refused,N,P` where a question is refused.
 ghost use Rattle.io.specs.Counts.{Counts};
+use crate::parts::put_differs;
+use crate::parts::put_named;
+use crate::parts::put_pair;
+use crate::parts::put_refused;
+use crate::parts::put_space;
 use queries::TextAt;
 use term_spec::MarkAnswer;
 use term_spec::NumberAnswer;
-use term_spec::Refusal;
 use vector_lines::put_byte;
 use vector_lines::put_decimal;
 use vector_lines::put_word;
@@ -32,29 +36,6 @@ fn mark(case: &[u8], msg: &[u8], places: &[u8], lengths: &[u16], offset: usize) 
         return queries::mark_payload(msg, n, places, lengths, offset);
     }
     queries::mark_standalone(msg, n, places, lengths, offset)
-}
-
-// A word, then a comma and n in decimal.
-fn put_named(dst: &mut [u8], at: usize, word: &[u8], n: u64) -> usize
-    ensures { λ r. ⌜ Counts r (now (dst .exit)) ⌝ }
-{
-    let a = put_word(dst, at, word);
-    let b = put_byte(dst, a, 44);
-    put_decimal(dst, b, n)
-}
-
-// A word and two numbers, parted by commas.
-fn put_pair(dst: &mut [u8], at: usize, word: &[u8], first: usize, second: usize) -> usize
-    ensures { λ r. ⌜ Counts r (now (dst .exit)) ⌝ }
-{
-    let a = put_named(dst, at, word, first as u64);
-    put_named(dst, a, b"", second as u64)
-}
-
-fn put_refused(dst: &mut [u8], at: usize, r: Refusal) -> usize
-    ensures { λ r. ⌜ Counts r (now (dst .exit)) ⌝ }
-{
-    put_pair(dst, at, b"refused", r.number as usize, r.place)
 }
 
 // x without its sign; of the least x too.
@@ -92,30 +73,6 @@ fn put_number(dst: &mut [u8], at: usize, answer: NumberAnswer) -> usize
         NumberAnswer::Neither => put_word(dst, at, b"neither"),
         NumberAnswer::Refused(r) => put_refused(dst, at, r),
     }
-}
-
-// Whether the text is the n bytes of src from `start` on.
-fn stands(src: &[u8], start: usize, n: usize, text: &[u8]) -> bool {
-    if text.len() != n {
-        return false;
-    }
-    if src.len() < start {
-        return false;
-    }
-    if src.len() - start < n {
-        return false;
-    }
-    octets::same(src, start, text, 0, n)
-}
-
-// ` differs` if the text is not that stretch of src.
-fn put_differs(dst: &mut [u8], at: usize, src: &[u8], start: usize, n: usize, text: &[u8]) -> usize
-    ensures { λ r. ⌜ Counts r (now (dst .exit)) ⌝ }
-{
-    if stands(src, start, n, text) {
-        return put_word(dst, at, b"");
-    }
-    put_word(dst, at, b" differs")
 }
 
 // Where a text is said to stand, and whether the text lent is what stands there.
@@ -179,16 +136,6 @@ fn put_mark(dst: &mut [u8], at: usize, answer: MarkAnswer) -> usize
         MarkAnswer::Utf8 => put_word(dst, at, b"utf8"),
         MarkAnswer::Refused(r) => put_refused(dst, at, r),
     }
-}
-
-// A space, but not at the line's start.
-fn put_space(dst: &mut [u8], at: usize) -> usize
-    ensures { λ r. ⌜ Counts r (now (dst .exit)) ⌝ }
-{
-    if at == 0 {
-        return put_word(dst, at, b"");
-    }
-    put_byte(dst, at, 32)
 }
 
 // The answer to one question at i: 0 asks for a row's number, 1 for a text, 2 for a mark.

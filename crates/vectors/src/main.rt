@@ -1,6 +1,8 @@
-// Answers each case of standard input (crate vector_lines) by a line: `read`, `write` and `ask` as the module of each says, `unknown` for another verb.
+// Answers each case of standard input (crate vector_lines) by a line: `read`, `write`, `ask` and `word` as the module of each says, `unknown` for another verb.
 mod ask;
+mod parts;
 mod read;
+mod word;
 mod write;
 
 ghost use Rattle.io.specs.Counts.{Counts};
@@ -21,6 +23,7 @@ fn put_line<'a>(
         Verb::Read => read::put_line(dst, case, msg, places, lengths),
         Verb::Write => write::put_line(dst, case, msg, places, lengths),
         Verb::Ask => ask::put_line(dst, case, msg, places, lengths),
+        Verb::Word => word::put_line(dst, case, places, lengths),
         Verb::Unknown => vector_lines::put_word(dst, 0, b"unknown\n"),
     }
 }

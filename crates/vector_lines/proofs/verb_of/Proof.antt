@@ -10,7 +10,7 @@ use Rattle.vector_lines.proofs.verb_of.Tie as tie
 
 returns : tie.Need-returns
 unfolding verb verb-letter
-returns c = sym (ap verb-letter (List·getD-eq-default (c .before .args .line .now) 0 {n = 0} (omega arith)))
+returns c = sym (ap verb-letter (List·getD-eq-default (c .before .args .line .now) 0 {n = 1} (omega arith)))
 
 shared-slice-read-match : tie.Need-shared-slice-read-match
 shared-slice-read-match c = search needs
@@ -29,7 +29,11 @@ returns-4 c = sym (ap verb-letter (c .match .keys3))
 
 returns-5 : tie.Need-returns-5
 unfolding verb verb-letter
-returns-5 c = sym (simp (ne-eqb _ _ (c .match .rest .0 .0 .1), ne-eqb _ _ (c .match .rest .0 .1), ne-eqb _ _ (c .match .rest .1)))
+returns-5 c = sym (ap verb-letter (c .match .keys4))
+
+returns-6 : tie.Need-returns-6
+unfolding verb verb-letter
+returns-6 c = sym (simp (ne-eqb _ _ (c .match .rest .0 .0 .0 .1), ne-eqb _ _ (c .match .rest .0 .0 .1), ne-eqb _ _ (c .match .rest .0 .1), ne-eqb _ _ (c .match .rest .1)))
 
 pub verb-of-spec : {M : Type 1} → statement M
-verb-of-spec = tie.close (tie.spec returns shared-slice-read-match returns-2 returns-3 returns-4 returns-5)
+verb-of-spec = tie.close (tie.spec returns shared-slice-read-match returns-2 returns-3 returns-4 returns-5 returns-6)
