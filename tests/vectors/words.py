@@ -93,9 +93,8 @@ def order():
 
 
 def words(lists):
-    """The lists given, each once, those of more than 5 places left out to keep the book small; and those made here."""
+    """The lists given, each once, and those made here."""
     for n, places in dict.fromkeys(lists):
-        if len(places) <= 5:
-            yield case(n, places)
+        yield case(n, places)
     for made in (counts, lengths, characters, bad_bytes, order):
         yield from made()
