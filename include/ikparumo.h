@@ -170,7 +170,7 @@ struct ik_mark_reply ik_mark_payload(const uint8_t *msg, size_t msg_len, uint8_t
  * (a count, 8,160 bytes, 255 lengths each); the pending record; the gather buffer (65,536 bytes). Written: for a plain packet its list
  * and the cache; for a first fragment the other list, the cache, the record and the gather buffer; for a later one the record and the
  * gather buffer; where refused nothing. So the next plain packet that is accepted overwrites the plain list, and the next start that is
- * accepted the pending list and the gather buffer: read a payload before.
+ * accepted the pending list and the gather buffer: read a payload, and ask for its words, before.
  * Answers IK_PACKET_PLAIN with `offset` and `length` of the payload in the packet, to be read with the plain list;
  * IK_PACKET_PENDING with the id now `due` and the bytes `gathered`; IK_PACKET_COMPLETE with the bytes `gathered`: the payload stands
  * in the gather buffer, to be read with the pending list.

@@ -238,7 +238,7 @@ impl Sessions {
         self.memory.right_sizes();
     }
 
-    /// One packet, the look-ups on it, and its payload read where there is one.
+    /// One packet, the words of both lists after it, and its payload read where there is one.
     fn send(&mut self, r: &mut Random, sender: &mut Sender, messages: &mut Messages, tally: &mut Tally) {
         let step = sender.step(r);
         let agreed = if r.one_in(20) { r.pick(&[0, 1]) } else { sender.utf8 };

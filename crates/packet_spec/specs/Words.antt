@@ -1,4 +1,4 @@
--- One look-up: the text of reference i of a message, by that message's atom list. A refusal's place is 0.
+-- The word of a reference: the text of reference i of a message, by that message's atom list. A refusal's place is 0.
 use mathlib.Core.Bool.{cond}
 use mathlib.Core.List.{List, [], _∷_}
 use Prim.Native.Nat.{ℕ, zero, suc}

@@ -1,4 +1,4 @@
-// One look-up: the text of a reference of a message, by that message's own atom list.
+// The word of a reference: its text, by its message's own atom list.
 ghost use mathlib.Core.Path.{_≡_};
 ghost use Rattle.term_spec.specs.AtomList.{lent-list};
 ghost use Rattle.packet_spec.specs.Promises.{Locate-word-call, Word-call};
