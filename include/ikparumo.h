@@ -191,10 +191,13 @@ struct ik_state_reply ik_drop(struct ik_pending *pending);
 struct ik_state_reply ik_reset(uint8_t *cache, size_t cache_len, uint16_t *cache_lengths, size_t cache_lengths_len,
                                struct ik_pending *pending);
 
-/* The word of an atom reference: the text of reference `index` of a message's header, by that message's own list (the plain list after a
- * plain packet, the pending list up to the sequence's end), whatever the cache holds by then.
- * Lent: the atom list; nothing is written. Answers a stretch of the list's places: start and length in bytes. An empty text is accepted,
- * with length 0. Refusals in order: 13 (the list), 6 (index not below n), 14 (a length over 32, or a text that is not UTF-8); place 0. */
+/* The word of an atom reference: the text of reference `index` of a message's header, by that message's own list: the plain list until
+ * the next plain packet is accepted, the pending list from its start until the next start is accepted, whatever the cache holds by then.
+ * The index of an atom with tag 82 is the byte after the tag; atoms with other tags have none (ik_text_payload answers all of them).
+ * Lent: the atom list; nothing is written. Answers a stretch of the list's places: start and length in bytes, UTF-8 whatever coding was
+ * agreed, with no zero byte after it. The stretch is of the lent places themselves: use or copy the text before ik_packet writes that
+ * list again. An empty text is accepted, with length 0.
+ * Refusals in order: 13 (the list), 6 (index not below n), 14 (a length over 32, or a text that is not UTF-8); place 0. */
 struct ik_word_reply ik_word(uint8_t n, const uint8_t *places, size_t places_len, const uint16_t *lengths, size_t lengths_len,
                              size_t index);
 

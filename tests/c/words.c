@@ -214,13 +214,39 @@ static void words_are(struct list l, size_t count, const char *const *texts)
     refused(l, 255, 6);
 }
 
-static void takes(struct memory m, const uint8_t *packet, size_t size, unsigned kind)
+static void takes_in(struct memory m, uint8_t utf8, const uint8_t *packet, size_t size, unsigned kind)
 {
-    struct ik_packet_reply a = take(m, 1, lend_copy(packet, size), size);
+    struct ik_packet_reply a = take(m, utf8, lend_copy(packet, size), size);
     SAME(a.refusal, 0);
     SAME(a.kind, kind);
 }
+static void takes(struct memory m, const uint8_t *packet, size_t size, unsigned kind) { takes_in(m, 1, packet, size, kind); }
 static void plain(struct memory m, const uint8_t *packet, size_t size) { takes(m, packet, size, IK_PACKET_PLAIN); }
+
+static void refuses(struct memory m, const uint8_t *packet, size_t size, unsigned refusal)
+{
+    SAME(take(m, 1, lend_copy(packet, size), size).refusal, refusal);
+}
+
+/* What the firmware does: the payload is read with its list, then the word of each 82 asked for; the text call answers the same stretch. */
+static void payload_words(struct list l, const uint8_t *payload, size_t size, size_t count, const char *const *texts)
+{
+    uint64_t table[16];
+    struct ik_read_reply r = ik_read_payload(payload, size, LIST(l), table, 16);
+    size_t met = 0;
+    SAME(r.refusal, 0);
+    for (size_t row = 0; row < r.rows; row++) {
+        size_t offset = ik_row_offset(table[row]);
+        if (payload[offset] != 82)
+            continue;
+        struct ik_text_reply text = ik_text_payload(payload, size, LIST(l), offset);
+        CHECK(met < count);
+        word_is(l, payload[offset + 1], texts[met++]);
+        SAME(text.from, IK_FROM_LIST);
+        answer_is(l, payload[offset + 1], 0, text.start, text.length);
+    }
+    SAME(met, count);
+}
 
 /* A packet comes between that has another text for the place: each message keeps its own word. */
 static void replaced(void)
@@ -275,10 +301,43 @@ static void between_fragments(void)
     words_are(pending, TEXTS("stop", "\xc3\xa9", "old"));
     takes(m, BYTES(131, 70, IDS(7, 1), 82, 2), IK_PACKET_COMPLETE);
     words_are(pending, TEXTS("stop", "\xc3\xa9", "old"));
+    payload_words(pending, bytes(m, GATHER), 8, TEXTS("stop", "\xc3\xa9", "old"));
     words_are(list_in(m, PLAIN_N), TEXTS("go", "go", "new", "new"));
     /* text past n in the list, and in the cache */
     put_text(&pending, 3, "past", 4);
     refused(pending, 3, 6);
+    CHECK(guards_stand());
+}
+
+/* What ends a sequence and what is refused leave its words; the next start that is accepted has its own. */
+static void ends_and_refusals(void)
+{
+    struct memory m = ready_memory();
+    takes(m, BYTES(131, 69, IDS(7, 1), 1, 0x08, 7, 1, 'a', 82, 0), IK_PACKET_COMPLETE);
+    words_are(list_in(m, PENDING_N), TEXTS("a"));
+    takes(m, BYTES(131, 69, IDS(8, 2), 2, 0x88, 0, 7, 1, 'b', 8, 1, 'c'), IK_PACKET_PENDING);
+    words_are(list_in(m, PENDING_N), TEXTS("b", "c"));
+    refuses(m, BYTES(131, 69, IDS(9, 2), 1, 0x08, 7, 1, 'd'), 26);
+    refuses(m, BYTES(131, 70, IDS(9, 1)), 25);
+    refuses(m, BYTES(131, 70, IDS(8, 2)), 24);
+    words_are(list_in(m, PENDING_N), TEXTS("b", "c"));
+    SAME(ik_drop(record(m)).refusal, 0);
+    words_are(list_in(m, PENDING_N), TEXTS("b", "c"));
+    takes_in(m, 0, BYTES(131, 69, IDS(9, 2), 2, 0x08, 0, 7, 1, 0xe9, 8), IK_PACKET_PENDING); /* Latin-1 */
+    words_are(list_in(m, PENDING_N), TEXTS("\xc3\xa9", "c"));
+    SAME(reset(m).refusal, 0);
+    words_are(list_in(m, PENDING_N), TEXTS("\xc3\xa9", "c"));
+    CHECK(guards_stand());
+}
+
+/* A message without references has no words, though the list had some before. */
+static void no_references(void)
+{
+    struct memory m = ready_memory();
+    plain(m, BYTES(131, 68, 1, 0x08, 7, 1, 'a', 82, 0));
+    words_are(list_in(m, PLAIN_N), TEXTS("a"));
+    plain(m, BYTES(131, 68, 0, 106));
+    refused(list_in(m, PLAIN_N), 0, 6);
     CHECK(guards_stand());
 }
 
@@ -334,6 +393,8 @@ int main(void)
     past_the_count();
     replaced();
     between_fragments();
+    ends_and_refusals();
+    no_references();
     longest_headers();
     SAME(word_met, bits_of(BYTES(IK_ACCEPTED, IK_INDEX, IK_SIZE, IK_STATE)));
     return ended("words");

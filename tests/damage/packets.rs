@@ -218,7 +218,7 @@ impl Sessions {
             }
             _ => (),
         }
-        self.look_up(r, tally);
+        self.words(r, tally);
     }
 
     /// A packet while the record is false, or gathered up to the end.
@@ -244,7 +244,7 @@ impl Sessions {
         let agreed = if r.one_in(20) { r.pick(&[0, 1]) } else { sender.utf8 };
         self.packet.hold(&step.packet.bytes);
         let answer = self.memory.packet(agreed, &self.packet, tally);
-        self.look_up(r, tally);
+        self.words(r, tally);
         sender.sent.push(step.packet.bytes.clone());
         if answer.refusal != 0 {
             return;
@@ -260,7 +260,7 @@ impl Sessions {
     }
 
     /// Words by both lists.
-    fn look_up(&self, r: &mut Random, tally: &mut Tally) {
+    fn words(&self, r: &mut Random, tally: &mut Tally) {
         self.memory.plain.twin().words(r, tally);
         self.memory.pending.twin().words(r, tally);
     }

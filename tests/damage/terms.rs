@@ -4,7 +4,7 @@ use crate::lists::ListTwin;
 use crate::random::Random;
 use crate::tally::{hex, Call, Tally};
 use crate::twin::Twin;
-use border::{Form, MarkReply, NumberReply, ReadReply, TextReply, WriteReply};
+use border::{Form, MarkReply, NumberReply, ReadReply, TextReply, WordReply, WriteReply};
 use second::looks::{self, Stretch};
 use second::terms::Reading;
 use second::{canon, terms, Refusal};
@@ -206,6 +206,13 @@ fn stretch(reading: &Result<Reading, Refusal>, offset: usize) -> TextReply {
     }
 }
 
+/// The word of an atom reference is where its text is.
+fn same_word(input: &Input, index: u8, text: TextReply, tally: &mut Tally) {
+    let word = border::word(&input.list.guarded(), index.into());
+    let expected = WordReply { start: text.start, length: text.length, ..WordReply::default() };
+    tally.check(Call::Word, word == expected, || format!("index {index}: {word:?}, not {expected:?}; {}", input.told()));
+}
+
 fn text_and_mark(input: &Input, reading: &Result<Reading, Refusal>, offset: usize, tally: &mut Tally) {
     let (message, list) = (input.message.guarded(), input.list.guarded());
     let (got_text, got) = (border::text(input.form, message, &list, offset), border::mark(input.form, message, &list, offset));
@@ -225,6 +232,9 @@ fn text_and_mark(input: &Input, reading: &Result<Reading, Refusal>, offset: usiz
         Stretch::List { start, length } => got_text == TextReply { from: 2, start: start as u64, length: length as u64 },
     };
     tally.met(Call::Text, if expected.from == 0 { got.refusal } else { 0 });
+    if got_text.from == 2 {
+        same_word(input, message[offset + 1], got_text, tally);
+    }
     let same = agrees && got_text == expected;
     tally.check(Call::Text, same, || format!("offset {offset}: {got_text:?}, not {expected:?} ({other:?}); {}", input.told()));
 }

@@ -2,9 +2,10 @@
 -- Those that read and write give a Read-call or a Write-call, as demand 3 (crate writer, proofs/Demand) has them, with an answer that is the reply in numbers;
 -- those on packets a call of a run, as demand 2 (crate packet_spec, proofs/Demand) has it; the word call the reference's text, as a message's own words
 -- (crate packet_spec, proofs/OwnWords) have it.
-use mathlib.Core.Path.{_≡_, refl, _∙_, ap, subst}
+use mathlib.Core.Path.{_≡_, refl, sym, _∙_, ap, subst}
 use mathlib.Core.List.{List, _∷_}
 use Prim.Native.Nat.{ℕ}
+use native.Mathlib.Omega.{arith}
 use contract.Lifetimes.{Lfts}
 use contract.Monad.{fact}
 use borrow.Fn.World.{World}
@@ -12,19 +13,23 @@ use Rattle.term_spec.specs.AtomList.{AtomList, lent-list}
 use Rattle.term_spec.specs.Message.{standalone, payload}
 use Rattle.term_spec.specs.Text.{Coding, coding-of}
 use Rattle.term_spec.specs.Numbers.{Under}
+use Rattle.term_spec.specs.Answer.{good}
 use Rattle.packet_spec.specs.declared.Pending.{Pending}
+use Rattle.packet_spec.specs.declared.PacketAnswer.{PacketAnswer}
+use Rattle.packet_spec.specs.declared.PacketAnswer.the-variants as packets
 use Rattle.packet_spec.specs.Memory.{Cache, Memory, cache-of, memory-of}
 use Rattle.packet_spec.specs.Header.{Reference}
+use Rattle.packet_spec.specs.Packet.{plain, judged}
 use Rattle.packet_spec.specs.Words.{own-word}
 use Rattle.packet_spec.specs.Answers.{word-answer}
 use Rattle.packet_spec.specs.Runs.{Call, taking, dropping, resetting, All-bytes, with-state}
-use Rattle.packet_spec.specs.Demands.{Ran, packet-then, drop-then, reset-then}
+use Rattle.packet_spec.specs.Demands.{Ran, ended, packet-then, drop-then, reset-then}
 use Rattle.packet_spec.specs.OwnWords.{Says, Own-words}
 use Rattle.packet_spec.proofs.OwnWords as definitions
 use Rattle.c_replies.specs.declared.PacketReply.{PacketReply}
 use Rattle.c_replies.specs.declared.StateReply.{StateReply}
 use Rattle.c_replies.specs.declared.WordReply.{WordReply}
-use Rattle.c_replies.specs.Packets.{flag, flat-word}
+use Rattle.c_replies.specs.Packets.{flag, flat-packet, flat-word}
 use Rattle.c_api.specs.Promises.{Read-reply, Write-reply, Packet-reply, Drop-reply, Reset-reply, Word-reply}
 use Rattle.c_api.proofs.ik_read_standalone.Reads as read-standalone
 use Rattle.c_api.proofs.ik_read_payload.Reads as read-payload
@@ -98,8 +103,25 @@ reset-in-run {m} {n} {c′ = c′} {cs = cs} p rest =
 
 -- After a packet that `ik_packet` took, whatever calls follow, the message's list says what its header's references say ..
 pub own-words : {agreed : Coding} {packet : List ℕ} {m m′ n : Memory} {reply : PacketReply} {cs : List Call} → Under 256 packet → All-bytes cs
-    → Packet-reply agreed packet m reply m′ → Ran m′ cs n → Own-words agreed packet m m′ cs n
+    → (p : Packet-reply agreed packet m reply m′) → Ran m′ cs n → Own-words agreed packet m (p .taken) m′ cs n
 own-words v u p ran = definitions.own-words v u (p .called) ran
+
+-- .. a packet of the kind that is 1 in the reply being a plain one, its payload from the offset that is told ..
+pub plain-replied : {agreed : Coding} {packet : List ℕ} {m m′ : Memory} {reply : PacketReply} → Under 256 packet → Packet-reply agreed packet m reply m′
+    → reply .kind ≡ 1 → (rs : List Reference) × ((bs : List ℕ) × (judged agreed m packet ≡ good (plain rs (reply .offset) bs)))
+unfolding flat-packet
+plain-replied {agreed} {packet} {m} {m′} {reply} v p k = go (p .taken .answer) refl
+  where
+    kind-is : (a : PacketAnswer) → p .taken .answer ≡ a → flat-packet a .kind ≡ 1
+    kind-is a e = ap (λ (x : PacketAnswer). flat-packet x .kind) (sym e) ∙ ap (λ (x : PacketReply). x .kind) (sym (p .reply-is)) ∙ k
+
+    go : (a : PacketAnswer) → p .taken .answer ≡ a → (rs : List Reference) × ((bs : List ℕ) × (judged agreed m packet ≡ good (plain rs (reply .offset) bs)))
+    go (packets.Plain offset size) e =
+        let at : reply .offset ≡ offset = ap (λ (x : PacketReply). x .offset) (p .reply-is) ∙ ap (λ (x : PacketAnswer). flat-packet x .offset) e in
+        rw at (definitions.own-words v tt (p .called) ended .plain-told offset size e)
+    go (packets.Pending due gathered) e = let no-way : _≡_ {A = ℕ} 2 1 = kind-is _ e in absurd (omega arith)
+    go (packets.Complete gathered) e = let no-way : _≡_ {A = ℕ} 3 1 = kind-is _ e in absurd (omega arith)
+    go (packets.Refused f) e = let no-way : _≡_ {A = ℕ} 0 1 = kind-is _ e in absurd (omega arith)
 
 -- .. and on such a list `ik_word` replies, for every index, what that reference says
 pub word-replied : {list : AtomList} {rs : List Reference} {i : ℕ} {reply : WordReply} → Says list rs → Word-reply list i reply

@@ -1,24 +1,27 @@
 -- A message's words are those of its own header: `own-words`, at the end.
 use mathlib.Core.Path.{_≡_, refl, sym, _∙_, ap, subst}
-use mathlib.Core.Bool.{Bool, true, false}
+use mathlib.Core.Bool.{Bool, true, false, cond}
 use mathlib.Core.List.{List, [], _∷_}
-use Prim.Native.Nat.{ℕ, zero, suc, _*_, _<_, _≤_}
+use Prim.Native.Nat.{ℕ, zero, suc, _+_, _-_, _*_, _<_, _≤_}
 use native.Mathlib.Omega.{arith}
+use lib.Dec.{eqb}
 use lib.ListN.{length, take, drop}
 use borrow.Author.Tests.{lt-ltb, le-ltb}
 use Rattle.term_spec.specs.Text.{Coding}
 use Rattle.term_spec.specs.Numbers.{Under}
 use Rattle.term_spec.specs.Answer.{Answer, good, refused}
 use Rattle.term_spec.specs.AtomList.{AtomList, of-size, place-bytes}
+use Rattle.term_spec.specs.declared.Refusal.{Refusal}
 use Rattle.term_spec.proofs.Tests.{never}
 use Rattle.packet_spec.specs.declared.Pending.{Pending}
 use Rattle.packet_spec.specs.declared.Taken.{Taken}
+use Rattle.packet_spec.specs.declared.PacketAnswer.the-variants as packets
 use Rattle.packet_spec.specs.Memory.{Cache, Memory}
 use Rattle.packet_spec.specs.Header.{Reference}
 use Rattle.packet_spec.specs.Packet.{Packet, plain, start, continuation, judged}
-use Rattle.packet_spec.specs.Calls.{list-of, left-by, left-after, after-packet}
+use Rattle.packet_spec.specs.Calls.{complete, pending-still, told-after, told, taken, take-packet, list-of, left-by, left-after, after-packet}
 use Rattle.packet_spec.specs.Words.{word-if, listed-word, own-word}
-use Rattle.packet_spec.specs.Answers.{word-answer, word-bytes}
+use Rattle.packet_spec.specs.Answers.{outcome-case, packet-answer, taken-answer, word-answer, word-bytes}
 use Rattle.packet_spec.specs.Promises.{Packet-call}
 use Rattle.packet_spec.specs.Runs.{Call, taking, dropping, resetting, Bytes, All-bytes, with-state, after-call, after-calls}
 use Rattle.packet_spec.specs.Demands.{Ran}
@@ -127,6 +130,15 @@ none-while-pending (c ∷ cs) m u a = (one c (u .0), none-while-pending cs (afte
     one dropping v = tt
     one resetting v = tt
 
+-- no fragment is answered Plain
+no-plain : {A : Type 0} (fragment gathered offset size : ℕ) → packet-answer (good (told-after fragment gathered)) ≡ packets.Plain offset size → A
+unfolding told-after packet-answer outcome-case
+no-plain fragment gathered offset size e = go (eqb fragment 1) e
+  where
+    go : {A : Type 0} (b : Bool) → outcome-case (cond b (complete gathered) (pending-still (fragment - 1) gathered)) ≡ packets.Plain offset size → A
+    go true f = let no-way : _≡_ {A = ℕ} 0 1 = cc in absurd (omega arith)
+    go false f = let no-way : _≡_ {A = ℕ} 0 1 = cc in absurd (omega arith)
+
 -- ---- the statement
 
 module _ {agreed : Coding} {packet : List ℕ} {m m′ n : Memory} {cs : List Call} (v : Under 256 packet) (u : All-bytes cs) {r : Taken}
@@ -157,9 +169,35 @@ module _ {agreed : Coding} {packet : List ℕ} {m m′ n : Memory} {cs : List Ca
       ∙ ap (λ (x : Memory). x .pending-list) (left-is (start sequence fragment rs bs) j)))
       (list-says rs (s .0) (s .1))
 
-  pub own-words : Own-words agreed packet m m′ cs n
+  answer-is : r .answer ≡ packet-answer (taken m (judged agreed m packet))
+  unfolding taken-answer take-packet
+  answer-is = ap (λ (x : Taken). x .answer) (w .packet-answered)
+
+  good-told : ((f : Refusal) → r .answer ≡ packets.Refused f → ⊥) → (p : Packet) × (judged agreed m packet ≡ good p)
+  unfolding packet-answer
+  good-told not-refused = go (judged agreed m packet) refl answer-is
+    where
+      go : (o : Answer Packet) → judged agreed m packet ≡ o → r .answer ≡ packet-answer (taken m o) → (p : Packet) × (judged agreed m packet ≡ good p)
+      go (good p) e f = (p, e)
+      go (refused k q) e f = absurd (not-refused (record { number = k; place = q }) f)
+
+  plain-good : (offset size : ℕ) → r .answer ≡ packets.Plain offset size
+      → (rs : List Reference) × ((bs : List ℕ) × (judged agreed m packet ≡ good (plain rs offset bs)))
+  unfolding packet-answer outcome-case told
+  plain-good offset size h = go (judged agreed m packet) refl (sym answer-is ∙ h)
+    where
+      go : (o : Answer Packet) → judged agreed m packet ≡ o → packet-answer (taken m o) ≡ packets.Plain offset size
+          → (rs : List Reference) × ((bs : List ℕ) × (judged agreed m packet ≡ good (plain rs offset bs)))
+      go (good (plain rs at bs)) e f = let same : at ≡ offset = cc in (rs, (bs, e ∙ ap (λ (x : ℕ). good (plain rs x bs)) same))
+      go (good (start sequence fragment rs bs)) e f = no-plain fragment (length bs) offset size f
+      go (good (continuation sequence fragment bs)) e f = no-plain fragment (m .pending .gathered + length bs) offset size f
+      go (refused k q) e f = let no-way : _≡_ {A = ℕ} 0 1 = cc in absurd (omega arith)
+
+  pub own-words : Own-words agreed packet m r m′ cs n
   own-words =
       record {
+        accepted-told = good-told;
+        plain-told = plain-good;
         of-plain = plain-says;
         of-sequence = start-says;
         to-its-end = λ sequence fragment rs bs j d. start-says sequence fragment rs bs j (none-while-pending cs m′ u d);

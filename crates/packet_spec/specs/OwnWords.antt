@@ -1,4 +1,4 @@
--- A message's words are those of its own header, whatever packets come before and after: what the calls' promises come to.
+-- A message's words are those of its own header, as long as its list stands: what the calls' promises come to.
 use mathlib.Core.Path.{_≡_}
 use mathlib.Core.Bool.{Bool, true, false}
 use mathlib.Core.List.{List, [], _∷_}
@@ -7,7 +7,10 @@ use lib.ListN.{length, take, drop}
 use Rattle.term_spec.specs.Text.{Coding}
 use Rattle.term_spec.specs.Answer.{good}
 use Rattle.term_spec.specs.AtomList.{AtomList}
+use Rattle.term_spec.specs.declared.Refusal.{Refusal}
+use Rattle.packet_spec.specs.declared.Taken.{Taken}
 use Rattle.packet_spec.specs.declared.WordAnswer.{WordAnswer}
+use Rattle.packet_spec.specs.declared.PacketAnswer.the-variants as packets
 use Rattle.packet_spec.specs.Memory.{Memory}
 use Rattle.packet_spec.specs.Header.{Reference}
 use Rattle.packet_spec.specs.Packet.{Packet, plain, start, continuation, judged}
@@ -50,8 +53,12 @@ abbrev pub All-pending : Memory → List Call → Type 0
 All-pending m [] = Unit {0}
 All-pending m (c ∷ cs) = (m .pending .due ≡ 0 → ⊥) × All-pending (after-call m c) cs
 
--- A packet is taken with memory m, which any packets before may have left, and accepted; then come any calls, to memory n
-pub record Own-words (agreed : Coding) (packet : List ℕ) (m m′ : Memory) (cs : List Call) (n : Memory) : Type 0 where
+-- A packet is taken with memory m, which any packets before may have left, and answered by r; then come any calls, to memory n
+pub record Own-words (agreed : Coding) (packet : List ℕ) (m : Memory) (r : Taken) (m′ : Memory) (cs : List Call) (n : Memory) : Type 0 where
+  -- an answer that is no refusal is of an accepted packet, the answer Plain of a plain one
+  pub accepted-told : ((f : Refusal) → r .answer ≡ packets.Refused f → ⊥) → (p : Packet) × (judged agreed m packet ≡ good p)
+  pub plain-told : (offset size : ℕ) → r .answer ≡ packets.Plain offset size
+      → (rs : List Reference) × ((bs : List ℕ) × (judged agreed m packet ≡ good (plain rs offset bs)))
   -- a plain packet's list says what its header's references say, until the next plain packet is accepted
   pub of-plain : (rs : List Reference) (at : ℕ) (bs : List ℕ) → judged agreed m packet ≡ good (plain rs at bs)
       → All-accept-none is-plain m′ cs → Says (n .plain-list) rs

@@ -27,5 +27,5 @@ promised-word κs a r s p = p
 
 -- For any packet taken with any memory, and any calls after it
 pub own-words : {agreed : Coding} {packet : List ℕ} {m m′ n : Memory} {cs : List Call} → Under 256 packet → All-bytes cs → {r : Taken}
-    → Packet-call agreed packet m r m′ → Ran m′ cs n → Own-words agreed packet m m′ cs n
+    → Packet-call agreed packet m r m′ → Ran m′ cs n → Own-words agreed packet m r m′ cs n
 own-words = definitions.own-words
