@@ -61,16 +61,18 @@ is-complete (good (pending-still a b)) k e = let no-way : _≡_ {A = ℕ} 0 1 = 
 is-complete (good (complete n)) k e = let is : n ≡ k = cc in ap (λ (x : ℕ). good (complete x)) is
 is-complete (refused n p) k e = let no-way : _≡_ {A = ℕ} 0 1 = cc in absurd (omega arith)
 
+-- what a packet answers, by the promise
+pub answer-is : {agreed : Coding} {packet : List ℕ} {m : Memory} {r : Taken} {m′ : Memory} → Packet-call agreed packet m r m′
+    → r .answer ≡ packet-answer (take-packet agreed m packet)
+unfolding taken-answer
+answer-is w = ap (λ (x : Taken). x .answer) (w .packet-answered)
+
 -- the packet taken next, with what is gathered before it
 module _ (n : Memory) (g : So-far) (h : Has n g) (agreed : Coding) (packet : List ℕ) (r : Taken) (m′ : Memory) (u : Under 256 packet) (w : Packet-call agreed packet n r m′) where
-  answer-is : r .answer ≡ packet-answer (take-packet agreed n packet)
-  unfolding taken-answer
-  answer-is = ap (λ (x : Taken). x .answer) (w .packet-answered)
-
   next-completed : (k : ℕ) → r .answer ≡ packets.Complete k → Completed k (gathered-after n (taking agreed packet) g) m′
   unfolding after-call gathered-after
   next-completed k e =
-      let done = gathering.completes agreed n packet g k u h (is-complete _ k (sym answer-is ∙ e)) in
+      let done = gathering.completes agreed n packet g k u h (is-complete _ k (sym (answer-is w) ∙ e)) in
       let has : Has (after-packet agreed n packet) (gathered-by (judged agreed n packet) g) = call-gathers n (taking agreed packet) g u h in
       subst (Completed k (gathered-by (judged agreed n packet) g)) (sym (w .memory-left))
       (record {
@@ -89,7 +91,7 @@ run-gathered {m} {n} {cs} u r e =
     record {
       so-far = has;
       next-continuation = λ agreed packet q f bs v j. own-continuation agreed n packet g has q f bs v j;
-      next-answer = λ agreed packet r m′ v w. answer-is n g has agreed packet r m′ v w ∙ ap packet-answer (told-gathered agreed n packet g v has);
+      next-answer = λ agreed packet r m′ v w. answer-is w ∙ ap packet-answer (told-gathered agreed n packet g v has);
       completes = λ agreed packet r m′ v w k c. next-completed n g has agreed packet r m′ v w k c;
     }
 

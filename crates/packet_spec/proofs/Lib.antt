@@ -5,6 +5,7 @@ pub mod Frame
 pub mod SizesKept
 pub mod Calls
 pub mod Listed
+pub mod Words
 pub mod Runs
 pub mod Sequence
 pub mod Gathered

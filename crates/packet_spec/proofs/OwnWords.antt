@@ -6,11 +6,10 @@ use Prim.Native.Nat.{ℕ, zero, suc, _+_, _-_, _*_, _<_, _≤_}
 use native.Mathlib.Omega.{arith}
 use lib.Dec.{eqb}
 use lib.ListN.{length, take, drop}
-use borrow.Author.Tests.{lt-ltb, le-ltb}
 use Rattle.term_spec.specs.Text.{Coding}
 use Rattle.term_spec.specs.Numbers.{Under}
 use Rattle.term_spec.specs.Answer.{Answer, good, refused}
-use Rattle.term_spec.specs.AtomList.{AtomList, of-size, place-bytes}
+use Rattle.term_spec.specs.AtomList.{AtomList, place-bytes}
 use Rattle.term_spec.specs.declared.Refusal.{Refusal}
 use Rattle.term_spec.proofs.Tests.{never}
 use Rattle.packet_spec.specs.declared.Pending.{Pending}
@@ -20,8 +19,8 @@ use Rattle.packet_spec.specs.Memory.{Cache, Memory}
 use Rattle.packet_spec.specs.Header.{Reference}
 use Rattle.packet_spec.specs.Packet.{Packet, plain, start, continuation, judged}
 use Rattle.packet_spec.specs.Calls.{complete, pending-still, told-after, told, taken, take-packet, list-of, left-by, left-after, after-packet}
-use Rattle.packet_spec.specs.Words.{word-if, listed-word, own-word}
-use Rattle.packet_spec.specs.Answers.{outcome-case, packet-answer, taken-answer, word-answer, word-bytes}
+use Rattle.packet_spec.specs.Words.{listed-word, own-word}
+use Rattle.packet_spec.specs.Answers.{outcome-case, packet-answer, word-answer, word-bytes}
 use Rattle.packet_spec.specs.Promises.{Packet-call}
 use Rattle.packet_spec.specs.Runs.{Call, taking, dropping, resetting, Bytes, All-bytes, with-state, after-call, after-calls}
 use Rattle.packet_spec.specs.Demands.{Ran}
@@ -29,7 +28,8 @@ use Rattle.packet_spec.specs.OwnWords.{Says, is-plain, is-start, Accepts
 use Rattle.packet_spec.proofs.Judged.{All-sound, Sound-packet, accepted}
 use Rattle.packet_spec.proofs.SizesKept.{list-sized}
 use Rattle.packet_spec.proofs.Listed.{At, first, later, Listed, listed-bytes, listed-length, sound-listed}
-use Rattle.packet_spec.proofs.Demand.{ran-is}
+use Rattle.packet_spec.proofs.Words.{word-past, word-good}
+use Rattle.packet_spec.proofs.Demand.{ran-is, answer-is}
 
 -- ---- the list of a header's references
 
@@ -41,15 +41,6 @@ by-index [] i f g = g (omega arith) refl
 by-index (r ∷ rs) zero f g = f r first (omega arith) refl
 by-index (r ∷ rs) (suc i) f g = by-index rs i (λ s a l e. f s (later a) (omega arith) e) (λ h e. g (omega arith) e)
 
--- what the look-up answers, where the list is of its size
-word-there : (list : AtomList) (i : ℕ) (t : List ℕ) → of-size list ≡ true → i < list .n → Listed list i t → listed-word list i ≡ good t
-unfolding listed-word word-if
-word-there list i t s l w = rw (s, lt-ltb i (list .n) l, w .is-text) (ap good (w .bytes-are))
-
-word-past : (list : AtomList) (i : ℕ) → of-size list ≡ true → list .n ≤ i → listed-word list i ≡ refused 6 0
-unfolding listed-word
-word-past list i s h = rw (s, le-ltb i (list .n) h)
-
 count-is : (rs : List Reference) → list-of rs .n ≡ length rs
 unfolding list-of
 count-is rs = refl
@@ -59,7 +50,9 @@ module _ (rs : List Reference) (ok : All-sound [] rs) (few : length rs < 256) wh
   listed-own i =
       let n : list-of rs .n ≡ length rs = count-is rs in
       by-index rs i
-      (λ r a l e. word-there (list-of rs) i (r .text) (list-sized rs ok few) (omega arith) (sound-listed a ok) ∙ sym e)
+      (λ r a l e.
+      let w : Listed (list-of rs) i (r .text) = sound-listed a ok in
+      word-good (list-of rs) i (list-sized rs ok few) (omega arith) (w .characters) (w .is-text) ∙ ap good (w .bytes-are) ∙ sym e)
       (λ h e. word-past (list-of rs) i (list-sized rs ok few) (omega arith) ∙ sym e)
 
   own-stands : (i : ℕ) (t : List ℕ) → own-word rs i ≡ good t → take (length t) (drop (32 * i) (list-of rs .places)) ≡ t
@@ -147,35 +140,33 @@ module _ {agreed : Coding} {packet : List ℕ} {m m′ n : Memory} {cs : List Ca
   unfolding after-packet
   left-is p j = w .memory-left ∙ ap (left-after m) j
 
+  -- a list that a packet of this kind fixes still says what its references say
+  module _ (kind : Packet → Bool) (list : Memory → AtomList) (left : (x : Memory) (p : Packet) → kind p ≡ false → list (left-by x p) ≡ list x)
+      (kept : (x : Memory) (s : Cache × Pending) → list (with-state x s) ≡ list x) where
+    still-says : (p : Packet) (rs : List Reference) → judged agreed m packet ≡ good p → list (left-by m p) ≡ list-of rs → All-sound [] rs → length rs < 256
+        → All-accept-none kind m′ cs → Says (list n) rs
+    still-says p rs j fixed ok few a =
+        subst (λ (x : AtomList). Says x rs)
+        (sym (ap list (ran-is ran) ∙ run-keeps kind list left kept cs m′ a ∙ ap list (left-is p j) ∙ fixed))
+        (list-says rs ok few)
+
   plain-says : (rs : List Reference) (at : ℕ) (bs : List ℕ) → judged agreed m packet ≡ good (plain rs at bs)
       → All-accept-none is-plain m′ cs → Says (n .plain-list) rs
   unfolding left-by
   plain-says rs at bs j a =
       let s : Sound-packet (m .pending) (plain rs at bs) = accepted agreed m packet (plain rs at bs) v j .sound in
-      subst (λ (x : AtomList). Says x rs)
-      (sym (ap (λ (x : Memory). x .plain-list) (ran-is ran)
-      ∙ run-keeps is-plain (λ x. x .plain-list) plain-left (λ x y. refl) cs m′ a
-      ∙ ap (λ (x : Memory). x .plain-list) (left-is (plain rs at bs) j)))
-      (list-says rs (s .0) (s .1))
+      still-says is-plain (λ x. x .plain-list) plain-left (λ x y. refl) (plain rs at bs) rs j refl (s .0) (s .1) a
 
   start-says : (sequence fragment : ℕ) (rs : List Reference) (bs : List ℕ) → judged agreed m packet ≡ good (start sequence fragment rs bs)
       → All-accept-none is-start m′ cs → Says (n .pending-list) rs
   unfolding left-by
   start-says sequence fragment rs bs j a =
       let s : Sound-packet (m .pending) (start sequence fragment rs bs) = accepted agreed m packet (start sequence fragment rs bs) v j .sound in
-      subst (λ (x : AtomList). Says x rs)
-      (sym (ap (λ (x : Memory). x .pending-list) (ran-is ran)
-      ∙ run-keeps is-start (λ x. x .pending-list) pending-left (λ x y. refl) cs m′ a
-      ∙ ap (λ (x : Memory). x .pending-list) (left-is (start sequence fragment rs bs) j)))
-      (list-says rs (s .0) (s .1))
-
-  answer-is : r .answer ≡ packet-answer (taken m (judged agreed m packet))
-  unfolding taken-answer take-packet
-  answer-is = ap (λ (x : Taken). x .answer) (w .packet-answered)
+      still-says is-start (λ x. x .pending-list) pending-left (λ x y. refl) (start sequence fragment rs bs) rs j refl (s .0) (s .1) a
 
   good-told : ((f : Refusal) → r .answer ≡ packets.Refused f → ⊥) → (p : Packet) × (judged agreed m packet ≡ good p)
-  unfolding packet-answer
-  good-told not-refused = go (judged agreed m packet) refl answer-is
+  unfolding packet-answer take-packet
+  good-told not-refused = go (judged agreed m packet) refl (answer-is w)
     where
       go : (o : Answer Packet) → judged agreed m packet ≡ o → r .answer ≡ packet-answer (taken m o) → (p : Packet) × (judged agreed m packet ≡ good p)
       go (good p) e f = (p, e)
@@ -183,8 +174,8 @@ module _ {agreed : Coding} {packet : List ℕ} {m m′ n : Memory} {cs : List Ca
 
   plain-good : (offset size : ℕ) → r .answer ≡ packets.Plain offset size
       → (rs : List Reference) × ((bs : List ℕ) × (judged agreed m packet ≡ good (plain rs offset bs)))
-  unfolding packet-answer outcome-case told
-  plain-good offset size h = go (judged agreed m packet) refl (sym answer-is ∙ h)
+  unfolding packet-answer outcome-case told take-packet
+  plain-good offset size h = go (judged agreed m packet) refl (sym (answer-is w) ∙ h)
     where
       go : (o : Answer Packet) → judged agreed m packet ≡ o → packet-answer (taken m o) ≡ packets.Plain offset size
           → (rs : List Reference) × ((bs : List ℕ) × (judged agreed m packet ≡ good (plain rs offset bs)))

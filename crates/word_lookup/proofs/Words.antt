@@ -7,7 +7,7 @@ use native.Mathlib.Omega.{arith}
 use lib.Dec.{ltb, leb}
 use lib.ListN.{length, take, drop, length-drop}
 use lib.Seq.{length-take-le}
-use borrow.Author.Tests.{lt-ltb, le-ltb, leb-true}
+use borrow.Author.Tests.{leb-true}
 use Rattle.term_spec.specs.Text.{Checked, valid, invalid-at, utf-8, check}
 use Rattle.term_spec.specs.Answer.{Answer, good, refused}
 use Rattle.term_spec.specs.AtomList.{AtomList, of-size, place-length, place-bytes, place-text}
@@ -20,6 +20,7 @@ use Rattle.packet_spec.specs.declared.WordAnswer.the-variants as words
 use Rattle.packet_spec.specs.Words.{word-if, listed-word}
 use Rattle.packet_spec.specs.Answers.{word-answer, word-bytes}
 use Rattle.packet_spec.specs.Promises.{Word-inside, Locate-word-call, Word-call}
+use Rattle.packet_spec.proofs.Words.{word-unsized, word-past, word-false, word-good}
 use Rattle.word_lookup.specs.Code.{no-word}
 
 -- a place that holds a text has a length of 32 at most
@@ -39,32 +40,26 @@ none-there list i number e = record { word-located = sym (ap (word-answer i) e);
 
 module _ (list : AtomList) (i : ℕ) where
   pub not-sized : of-size list ≡ false → Locate-word-call list i (no-word 13)
-  unfolding listed-word
-  not-sized s = none-there list i 13 (rw s)
+  not-sized s = none-there list i 13 (word-unsized list i s)
 
   module _ (s : of-size list ≡ true) where
     pub not-below : list .n ≤ i → Locate-word-call list i (no-word 6)
-    unfolding listed-word
-    not-below h = none-there list i 6 (rw (s, le-ltb i (list .n) h))
+    not-below h = none-there list i 6 (word-past list i s h)
 
     module _ (l : i < list .n) where
-      pub no-text : is-valid (place-text list i) ≡ false → Locate-word-call list i (no-word 14)
-      unfolding listed-word word-if
-      no-text f = none-there list i 14 (rw (s, lt-ltb i (list .n) l, failed (place-text list i) f .1))
-
-      word-is : is-valid (place-text list i) ≡ true → listed-word list i ≡ good (place-bytes list i)
-      unfolding listed-word word-if
-      word-is f = rw (s, lt-ltb i (list .n) l, found (place-text list i) f .1)
+      pub not-text : is-valid (place-text list i) ≡ false → Locate-word-call list i (no-word 14)
+      not-text f = let b = failed (place-text list i) f in none-there list i 14 (word-false list i s l (b .0) (b .1))
 
       pub word-there : i < 255 → is-valid (place-text list i) ≡ true → Locate-word-call list i (words.Word (32 * i) (place-length list i))
       unfolding word-answer Word-inside place-bytes
       word-there few f =
+          let t = found (place-text list i) f in
           let z : (length (list .places) ≡ 8160) × (length (list .lengths) ≡ 255) = sizes-of list s in
           let short : place-length list i ≤ 32 = text-fits list i f in
           let rest : length (drop (32 * i) (list .places)) ≡ length (list .places) - 32 * i = length-drop (32 * i) (list .places) in
           let all : length (place-bytes list i) ≡ place-length list i = length-take-le (place-length list i) (drop (32 * i) (list .places)) (omega arith) in
           record {
-            word-located = ap (words.Word (32 * i)) (sym all) ∙ sym (ap (word-answer i) (word-is f));
+            word-located = ap (words.Word (32 * i)) (sym all) ∙ sym (ap (word-answer i) (word-good list i s l (t .0) (t .1)));
             word-inside = omega arith;
           }
 

@@ -3,7 +3,7 @@ use native.Mathlib.Omega.{arith}
 use borrow.Author.Needs.{needs}
 use Rattle.term_spec.specs.AtomList.{lent-list, place-length}
 use Rattle.term_spec.proofs.Tests.{refuted, confirmed, sizes-of}
-use Rattle.word_lookup.proofs.Words.{not-sized, not-below, no-text, word-there}
+use Rattle.word_lookup.proofs.Words.{not-sized, not-below, not-text, word-there}
 use Rattle.word_lookup.proofs.locate_word.Statement.{statement}
 use Rattle.word_lookup.proofs.locate_word.Tie as tie
 
@@ -33,7 +33,7 @@ no-word-requires-3 : tie.Need-no-word-requires-3
 no-word-requires-3 c κs = search needs
 
 returns-3 : tie.Need-returns-3
-returns-3 c = let a = c .before .before .before .before .before .before .before .before .before .args in rw (c .no-word3 .ensures) (no-text _ _ (confirmed (c .before .before .before .before .before .before .list-fits .ensures (a .n)) (c .before .before .before .before .before .if1 .left)) (omega arith) (refuted (c .before .before .place-holds-text .ensures (a .n)) (c .before .if3 .taken)))
+returns-3 c = let a = c .before .before .before .before .before .before .before .before .before .args in rw (c .no-word3 .ensures) (not-text _ _ (confirmed (c .before .before .before .before .before .before .list-fits .ensures (a .n)) (c .before .before .before .before .before .if1 .left)) (omega arith) (refuted (c .before .before .place-holds-text .ensures (a .n)) (c .before .if3 .taken)))
 
 mul-t8 : tie.Need-mul-t8
 mul-t8 c = search needs
