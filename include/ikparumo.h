@@ -12,7 +12,9 @@
  * Calls that share no memory that either may write can run at the same time.
  *
  * Every reply is a struct by value. `refusal` 0 means accepted; else it is the number of the refusal (IK_...), `place` is where, and
- * the other fields are 0. Places are offsets from the message's first byte; in a header, the number of the reference.
+ * the other fields are 0. Places are offsets from the message's first byte; in a header, the number of the reference. The place of
+ * IK_TEXT is the bad byte's own offset: the first byte at which no valid text can continue, or the first after 255 characters; of a
+ * character that the text's end cuts off, its first byte. In a header too it is an offset, from the packet's first byte.
  * struct ik_text_reply has no refusal: the mark call on the same input answers it. */
 #ifndef IKPARUMO_H
 #define IKPARUMO_H
@@ -46,7 +48,7 @@ enum {
     IK_CUT = 2,                 /* bytes end inside, or before, what is being read */
     IK_TAG = 3,                 /* tag not in the table */
     IK_FIELD = 4,               /* a field or the tag of a part breaks its rule; no atom's tag at the offset asked for */
-    IK_TEXT = 5,                /* text not UTF-8, or over 255 characters */
+    IK_TEXT = 5,                /* text not UTF-8, or over 255 characters; at the bad byte */
     IK_INDEX = 6,               /* reference index not below n */
     IK_KEY = 7,                 /* key equal to an earlier key */
     IK_DEPTH = 8,               /* depth over 64 */

@@ -1,88 +1,32 @@
 //! Every end of every range of bytes in section 4 of RFC 3629, and the byte beside it, in texts that go through the public calls: as
-//! atoms, as a new reference of a header, and as a word of a list. Which texts are UTF-8 is said by Rust's own decoder.
+//! atoms, as a new reference of a header, and as a word of a list. Which texts are UTF-8, and which byte of the others is bad, is said by
+//! Rust's own decoder.
 
-use border::{AtomList, Form, Guarded, Lent, ListOut, MarkReply, PacketReply, Pending, ReadReply, TextReply, WordReply};
+use border::format::*;
+use border::memory::{Memory, Places, FILL};
+use border::tally::Tally;
+use border::utf8::{fault, Line, LINES};
+use border::{AtomList, Form, Guarded, MarkReply, PacketReply, Pending, ReadReply, TextReply, WordReply};
 use std::collections::BTreeSet;
-use std::fmt::Debug;
+use std::fmt::{Display, Formatter};
 
-/// A rule, or one of its alternatives, and the range of each byte of its characters: lowest, highest.
-struct Line {
-    rule: &'static str,
-    ranges: &'static [(u8, u8)],
-}
-
-/// UTF8-tail = %x80-BF
-const TAIL: (u8, u8) = (0x80, 0xBF);
-const LINES: [Line; 9] = [
-    Line { rule: "UTF8-1: %x00-7F", ranges: &[(0x00, 0x7F)] },
-    Line { rule: "UTF8-2: %xC2-DF UTF8-tail", ranges: &[(0xC2, 0xDF), TAIL] },
-    Line { rule: "UTF8-3: %xE0 %xA0-BF UTF8-tail", ranges: &[(0xE0, 0xE0), (0xA0, 0xBF), TAIL] },
-    Line { rule: "UTF8-3: %xE1-EC 2( UTF8-tail )", ranges: &[(0xE1, 0xEC), TAIL, TAIL] },
-    Line { rule: "UTF8-3: %xED %x80-9F UTF8-tail", ranges: &[(0xED, 0xED), (0x80, 0x9F), TAIL] },
-    Line { rule: "UTF8-3: %xEE-EF 2( UTF8-tail )", ranges: &[(0xEE, 0xEF), TAIL, TAIL] },
-    Line { rule: "UTF8-4: %xF0 %x90-BF 2( UTF8-tail )", ranges: &[(0xF0, 0xF0), (0x90, 0xBF), TAIL, TAIL] },
-    Line { rule: "UTF8-4: %xF1-F3 3( UTF8-tail )", ranges: &[(0xF1, 0xF3), TAIL, TAIL, TAIL] },
-    Line { rule: "UTF8-4: %xF4 %x80-8F 2( UTF8-tail )", ranges: &[(0xF4, 0xF4), (0x80, 0x8F), TAIL, TAIL] },
-];
 const RANGES: usize = 27;
 
 /// What stands before and after a tried character: ASCII, eight bytes of it and one more, or characters of two bytes.
 const AROUND: [(&str, &str); 6] = [("", ""), ("a", ""), ("abcdefgh", ""), ("abcdefghi", ""), ("", "z"), ("é", "ß")];
 
-const VERSION: u8 = 131;
-const DISTRIBUTION_HEADER: u8 = 68;
-const ATOM_UTF8_EXT: u8 = 118;
-const SMALL_ATOM_UTF8_EXT: u8 = 119;
-const ATOM_CACHE_REF: u8 = 82;
-
-const ACCEPTED: u64 = 0;
-const REFUSED_TEXT: u64 = 5;
-const REFUSED_STATE: u64 = 14;
-const KIND_ATOM: u64 = 3;
-const FROM_MESSAGE: u64 = 1;
-const MARK_UTF8: u64 = 2;
-const PACKET_PLAIN: u64 = 1;
-
-const PLACE_BYTES: usize = 32;
-const LIST_PLACES: usize = 255;
-const CACHE_PLACES: usize = 2_048;
-const GATHER_BYTES: usize = 65_536;
 const TABLE_WORDS: usize = 4;
 /// Where in a row's word the offset and the size begin.
 const ROW_OFFSET_BIT: u32 = 4;
 const ROW_SIZE_BIT: u32 = 47;
 
-/// The half of a flag byte of a new reference, beside its segment.
-const NEW: u8 = 8;
-/// Segment and internal index of the two references.
-const REFERENCES: [(u8, u8); 2] = [(4, 10), (2, 9)];
+/// The places of the cache that the two references name.
+const PLACES: [usize; 2] = [4 * 256 + 10, 2 * 256 + 9];
 const FIRST_TEXT: &[u8] = b"ok";
 /// The reference whose text is tried, and the payload that names it.
-const TRIED: u8 = 1;
-const PAYLOAD: [u8; 2] = [ATOM_CACHE_REF, TRIED];
-/// What lent memory holds before a call.
-const FILL: u8 = 0xA5;
-
-const SHOWN_MOST: u64 = 50;
-
-impl Line {
-    fn lowest(&self) -> Vec<u8> {
-        self.ranges.iter().map(|range| range.0).collect()
-    }
-
-    fn highest(&self) -> Vec<u8> {
-        self.ranges.iter().map(|range| range.1).collect()
-    }
-
-    /// How many characters it has.
-    fn count(&self) -> usize {
-        self.ranges.iter().map(|(low, high)| usize::from(high - low) + 1).product()
-    }
-
-    fn has(&self, bytes: &[u8]) -> bool {
-        bytes.len() == self.ranges.len() && self.ranges.iter().zip(bytes).all(|((low, high), byte)| low <= byte && byte <= high)
-    }
-}
+const TRIED: usize = 1;
+const PAYLOAD: [u8; 2] = [ATOM_CACHE_REF, TRIED as u8];
+const SEQUENCE_PENDING: Pending = Pending { sequence: 7, due: 2, gathered: 3 };
 
 /// A text, and what it was made for: a rule, and which byte of a character (they count from 1).
 struct Case {
@@ -96,36 +40,16 @@ impl Case {
         is_utf8(&self.text)
     }
 
-    /// The refusal and the place to be answered, where a bad text is refused at `place`.
-    fn verdict(&self, place: usize) -> (u64, u64) {
-        if self.is_good() { (ACCEPTED, 0) } else { (REFUSED_TEXT, place as u64) }
+    /// The refusal and the place to be answered, where the text starts at `start`.
+    fn verdict(&self, start: usize) -> (u64, u64) {
+        fault(&self.text).map_or((ACCEPTED, 0), |at| (TEXT, (start + at) as u64))
     }
 }
 
-#[derive(Default)]
-struct Tally {
-    passed: u64,
-    failed: u64,
-}
-
-impl Tally {
-    /// Counts a comparison; the first failures are printed.
-    fn check(&mut self, right: bool, told: impl FnOnce() -> String) {
-        self.passed += u64::from(right);
-        self.failed += u64::from(!right);
-        if !right && self.failed <= SHOWN_MOST {
-            println!("FAILED {}", told());
-        }
-    }
-
-    /// Compares all elements; of a failure the first that differs is told.
-    fn same<T: PartialEq + Debug>(&mut self, case: &Case, what: &str, got: &[T], expected: &[T]) {
-        self.check(got == expected, || {
-            let at = got.iter().zip(expected).take_while(|(one, other)| one == other).count();
-            let (answered, due) = (got.get(at), expected.get(at));
-            let Case { rule, byte, text } = case;
-            format!("{rule}, byte {byte}, text {text:02x?}: {what} [{at}]: {answered:?}, not {due:?}")
-        });
+impl Display for Case {
+    fn fmt(&self, out: &mut Formatter) -> std::fmt::Result {
+        let Case { rule, byte, text } = self;
+        write!(out, "{rule}, byte {byte}, text {text:02x?}")
     }
 }
 
@@ -183,28 +107,17 @@ fn check_table(ranges: usize, tally: &mut Tally) {
     tally.check(count == all, || format!("the table has {count} characters, not {all}"));
 }
 
-/// A length in one byte, or in two.
-fn push_length(out: &mut Vec<u8>, in_two: bool, text: &[u8]) {
-    if in_two {
-        out.push(0);
-    }
-    out.push(text.len() as u8);
-}
-
 /// An atom of this text as a message; where its tag stands and where its text starts.
-fn atom(form: Form, tag: u8, text: &[u8]) -> (Vec<u8>, usize, usize) {
+fn message(form: Form, tag: u8, text: &[u8]) -> (Vec<u8>, usize, usize) {
     let mut out = if form == Form::Standalone { vec![VERSION] } else { Vec::new() };
     let offset = out.len();
-    out.push(tag);
-    push_length(&mut out, tag == ATOM_UTF8_EXT, text);
-    let start = out.len();
-    out.extend_from_slice(text);
-    (out, offset, start)
+    out.extend(atom(tag, text));
+    (out, offset, offset + atom_head(tag))
 }
 
 /// The text as an atom: read, and asked for its text and mark.
 fn try_atom(case: &Case, form: Form, tag: u8, tally: &mut Tally) {
-    let (bytes, offset, start) = atom(form, tag, &case.text);
+    let (bytes, offset, start) = message(form, tag, &case.text);
     let message = Guarded::holding(&bytes);
     let list = AtomList { n: 0, places: &[0; LIST_PLACES * PLACE_BYTES], lengths: &[0; LIST_PLACES] };
     let mut table = Guarded::holding(&[u64::MAX; TABLE_WORDS]);
@@ -212,7 +125,7 @@ fn try_atom(case: &Case, form: Form, tag: u8, tally: &mut Tally) {
     let text = border::text(form, &message, &list, offset);
     let mark = border::mark(form, &message, &list, offset);
 
-    let (refusal, place) = case.verdict(offset);
+    let (refusal, place) = case.verdict(start);
     let mut due_reading = ReadReply { refusal, place, ..ReadReply::default() };
     let mut due_mark = MarkReply { refusal, place, ..MarkReply::default() };
     let (mut due_text, mut due_table) = (TextReply::default(), [0; TABLE_WORDS]);
@@ -232,124 +145,20 @@ fn try_atom(case: &Case, form: Form, tag: u8, tally: &mut Tally) {
     }
 }
 
-/// Places of 32 bytes and their lengths: the cache, or the places of an atom list.
-#[derive(Clone)]
-struct Places {
-    bytes: Vec<u8>,
-    lengths: Vec<u16>,
-}
-
-impl Places {
-    fn filled(count: usize, length: u16) -> Places {
-        Places { bytes: vec![FILL; count * PLACE_BYTES], lengths: vec![length; count] }
-    }
-
-    /// A text, then zeros.
-    fn put(&mut self, place: usize, text: &[u8]) {
-        let bytes = &mut self.bytes[place * PLACE_BYTES..][..PLACE_BYTES];
-        bytes.fill(0);
-        bytes[..text.len()].copy_from_slice(text);
-        self.lengths[place] = text.len() as u16;
-    }
-}
-
-#[derive(Clone)]
-struct List {
-    n: u8,
-    places: Places,
-}
-
-impl List {
-    fn lent(&mut self) -> ListOut<'_> {
-        ListOut { n: &mut self.n, places: &mut self.places.bytes, lengths: &mut self.places.lengths }
-    }
-}
-
-/// All that is lent to the packet call.
-#[derive(Clone)]
-struct Memory {
-    cache: Places,
-    plain: List,
-    pending: List,
-    record: Pending,
-    gather: Vec<u8>,
-}
-
-impl Memory {
-    /// Nothing of it zero, and a sequence pending.
-    fn filled() -> Memory {
-        let list = List { n: FILL, places: Places::filled(LIST_PLACES, u16::from(FILL)) };
-        Memory {
-            cache: Places::filled(CACHE_PLACES, u16::from(FILL)),
-            plain: list.clone(),
-            pending: list,
-            record: Pending { sequence: 7, due: 2, gathered: 3 },
-            gather: vec![FILL; GATHER_BYTES],
-        }
-    }
-
-    /// What the two references' texts make of it.
-    fn taking(mut self, texts: [&[u8]; 2]) -> Memory {
-        self.plain.n = texts.len() as u8;
-        self.plain.places = Places { bytes: vec![0; LIST_PLACES * PLACE_BYTES], lengths: vec![0; LIST_PLACES] };
-        for (i, (segment, index)) in REFERENCES.into_iter().enumerate() {
-            self.plain.places.put(i, texts[i]);
-            self.cache.put(256 * usize::from(segment) + usize::from(index), texts[i]);
-        }
-        self
-    }
-
-    fn lent(&mut self) -> Lent<'_> {
-        Lent {
-            cache: &mut self.cache.bytes,
-            cache_lengths: &mut self.cache.lengths,
-            plain: self.plain.lent(),
-            pending: self.pending.lent(),
-            record: &mut self.record,
-            gather: &mut self.gather,
-        }
-    }
-
-    /// Compares every lent element with what is due.
-    fn compare(&self, due: &Memory, case: &Case, what: &dyn Fn(&str) -> String, tally: &mut Tally) {
-        tally.same(case, &what("cache"), &self.cache.bytes, &due.cache.bytes);
-        tally.same(case, &what("cache lengths"), &self.cache.lengths, &due.cache.lengths);
-        for (name, list, due) in [("plain list", &self.plain, &due.plain), ("pending list", &self.pending, &due.pending)] {
-            let of = |part: &str| what(&format!("{name}, {part}"));
-            tally.same(case, &of("n"), &[list.n], &[due.n]);
-            tally.same(case, &of("places"), &list.places.bytes, &due.places.bytes);
-            tally.same(case, &of("lengths"), &list.places.lengths, &due.places.lengths);
-        }
-        tally.same(case, &what("record"), &[self.record], &[due.record]);
-        tally.same(case, &what("gather"), &self.gather, &due.gather);
-    }
-}
-
-/// A plain packet with two new references.
-fn packet(texts: [&[u8]; 2], long_atoms: bool) -> Vec<u8> {
-    let halves = REFERENCES.map(|(segment, _)| NEW | segment);
-    let mut out = vec![VERSION, DISTRIBUTION_HEADER, texts.len() as u8, halves[0] | halves[1] << 4, u8::from(long_atoms)];
-    for ((_, index), text) in REFERENCES.into_iter().zip(texts) {
-        out.push(index);
-        push_length(&mut out, long_atoms, text);
-        out.extend_from_slice(text);
-    }
-    out.extend_from_slice(&PAYLOAD);
-    out
-}
-
 /// The text as that of a header's second reference.
 fn try_header(case: &Case, long_atoms: bool, before: &Memory, tally: &mut Tally) {
-    let texts = [FIRST_TEXT, &case.text];
-    let packet = Guarded::holding(&packet(texts, long_atoms));
+    let texts = [(PLACES[0], FIRST_TEXT), (PLACES[TRIED], &case.text)];
+    let references = texts.map(|(place, text)| Reference { place, text: Some(text) });
+    let (header, starts) = header(&[VERSION, DISTRIBUTION_HEADER], &references, long_atoms);
+    let packet = Guarded::holding(&[&header[..], &PAYLOAD].concat());
     let mut memory = before.clone();
     let reply = border::packet(1, &packet, &mut memory.lent());
 
-    let (refusal, place) = case.verdict(TRIED.into());
+    let (refusal, place) = case.verdict(starts[TRIED]);
     let refused = PacketReply { refusal, place, ..PacketReply::default() };
-    let (offset, length) = ((packet.len() - PAYLOAD.len()) as u64, PAYLOAD.len() as u64);
+    let (offset, length) = (header.len() as u64, PAYLOAD.len() as u64);
     let plain = PacketReply { kind: PACKET_PLAIN, offset, length, ..PacketReply::default() };
-    let (due_reply, due) = if case.is_good() { (plain, before.clone().taking(texts)) } else { (refused, before.clone()) };
+    let (due_reply, due) = if case.is_good() { (plain, before.clone().taking(&references)) } else { (refused, before.clone()) };
     let what = |of: &str| format!("header, LongAtoms {long_atoms}, {of}");
     tally.same(case, &what("reply"), &[reply], &[due_reply]);
     memory.compare(&due, case, &what, tally);
@@ -362,7 +171,7 @@ fn try_word(case: &Case, index: usize, tally: &mut Tally) {
     let (places, lengths) = (Guarded::holding(&list.bytes), Guarded::holding(&list.lengths));
     let reply = border::word(&AtomList { n: LIST_PLACES as u8, places: &places, lengths: &lengths }, index);
 
-    let refused = WordReply { refusal: REFUSED_STATE, ..WordReply::default() };
+    let refused = WordReply { refusal: STATE, ..WordReply::default() };
     let (start, length) = ((index * PLACE_BYTES) as u64, case.text.len() as u64);
     let due = if case.is_good() { WordReply { start, length, ..WordReply::default() } } else { refused };
     let what = |of: &str| format!("word {index}, {of}");
@@ -375,7 +184,7 @@ fn main() {
     let mut tally = Tally::default();
     let ranges: Vec<_> = LINES.iter().flat_map(|line| line.ranges).collect();
     check_table(ranges.len(), &mut tally);
-    let (cases, before) = (cases(), Memory::filled());
+    let (cases, before) = (cases(), Memory::filled(SEQUENCE_PENDING));
     for case in &cases {
         for tag in [SMALL_ATOM_UTF8_EXT, ATOM_UTF8_EXT] {
             for form in [Form::Standalone, Form::Payload] {

@@ -1,4 +1,4 @@
-/* Messages with the answers that document 01 gives them, worked out by hand: for reading, writing and asking. */
+/* Messages with the answers that documents 01 and 02 give them, worked out by hand: for reading, writing and asking. */
 #ifndef MESSAGES_H
 #define MESSAGES_H
 
@@ -45,7 +45,11 @@ static const struct message messages[] = {
     {"4, an arity's tag", STANDALONE, BYTES(131, 113, 119, 1, 'm', 119, 1, 'f', 98, 0, 0, 0, 2), 4, 8, 0, 0},
     {"4, a node's tag", STANDALONE, BYTES(131, 88, 97, 5), 4, 2, 0, 0},
     {"4, bits of nothing", STANDALONE, BYTES(131, 77, 0, 0, 0, 0, 1), 4, 1, 0, 0},
-    {"5, not UTF-8", STANDALONE, BYTES(131, 119, 2, 192, 128), 5, 1, 0, 0},
+    {"5, a byte that begins nothing", STANDALONE, BYTES(131, 119, 2, 192, 128), 5, 3, 0, 0},
+    {"5, a byte that continues nothing", STANDALONE, BYTES(131, 118, 0, 4, 'a', 226, 130, 'b'), 5, 7, 0, 0},
+    {"5, a character cut off by the text's end", STANDALONE, BYTES(131, 104, 1, 119, 3, 'a', 226, 130, 172), 5, 6, 0, 0},
+    {"5, an impossible byte before the text's end", STANDALONE, BYTES(131, 88, 119, 2, 224, 128), 5, 5, 0, 0},
+    {"5 in a payload's second term", PAYLOAD, BYTES(106, 119, 2, 'a', 255), 5, 4, 0, 0},
     {"6, index 3 of three", STANDALONE, BYTES(131, 104, 1, 82, 3), 6, 3, 0, 0},
     {"P13, an equal key", STANDALONE, BYTES(131, 116, 0, 0, 0, 2, 97, 1, 97, 5, 98, 0, 0, 0, 1, 97, 6), 7, 10, 0, 0},
     {"7 before the missing value", STANDALONE, BYTES(131, 116, 0, 0, 0, 2, 82, 0, 106, 119, 2, 'o', 'k'), 7, 9, 0, 0},

@@ -146,7 +146,10 @@ static void refused_headers(void)
     fresh_refused(1, BYTES(131, 68, 2, 0x88, 0, 7, 1, 'a', 8, 2, 'b'), 2, 1);
     fresh_refused(1, BYTES(131, 68, 2, 0x88, 0, 7, 1, 'a', 7, 1, 'b'), 22, 1);
     fresh_refused(1, BYTES(131, 68, 2, 0x08, 0, 7, 1, 'a', 7), 22, 1);
-    fresh_refused(1, BYTES(131, 68, 1, 0x08, 7, 1, 233), 5, 0);
+    fresh_refused(1, BYTES(131, 68, 1, 0x08, 7, 1, 233), 5, 6);
+    fresh_refused(1, BYTES(131, 68, 2, 0x88, 0, 7, 1, 'a', 8, 2, 233, 'b'), 5, 11);
+    fresh_refused(1, BYTES(131, 68, 2, 0x88, 1, 7, 0, 1, 'a', 8, 0, 2, 'b', 255), 5, 13);
+    fresh_refused(1, BYTES(131, 69, IDS(7, 2), 1, 0x08, 7, 2, 'a', 255), 5, 23);
     fresh_refused(1, BYTES(131, 68, 2, 0x08, 0, 7, 1, 'a', 8), 21, 1);
     m = ready_memory();
     lengths(m, CACHE_LENGTHS)[7] = 33;

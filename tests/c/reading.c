@@ -130,7 +130,7 @@ static void limits(void)
     bytes[0] = 130;
     refused_at(STANDALONE, lend_copy(bytes, 65537), 65537, empty_list(), 10, 12, 0);
     bytes[0] = 131, bytes[1] = 100, bytes[2] = 1, bytes[3] = 0; /* 256 characters */
-    refused_at(STANDALONE, lend_copy(bytes, 260), 260, empty_list(), 10, 5, 1);
+    refused_at(STANDALONE, lend_copy(bytes, 260), 260, empty_list(), 10, 5, 4 + IK_CHARACTERS_MOST);
     free(bytes);
 }
 

@@ -7,9 +7,10 @@
 -define(LISTS, "lists of 8,185 to 8,195 parts").
 -define(PAIRS, "pairs, canonical form against =:=").
 -define(VALUES, "values of our generator").
+-define(BAD_BYTES, "bad bytes of texts").
 -define(LISTED, "listed differences").
 
-parts() -> [?OWN, ?OURS, ?LISTS, ?PAIRS, ?VALUES, ?LISTED].
+parts() -> [?OWN, ?OURS, ?LISTS, ?PAIRS, ?VALUES, ?BAD_BYTES, ?LISTED].
 
 run(Program) ->
     Drive = drive_port:open(Program),
@@ -25,6 +26,7 @@ run(Program) ->
     [pair(Drive, pick_pair()) || _ <- lists:seq(1, 5000)],
     tally:say(?PAIRS, io_lib:format("~b equal, ~b different for both", [tally:count({note, same}), tally:count({note, different})])),
     tally:say(?VALUES, "each is accepted, and its canonical form has that value"),
+    tally:say(?BAD_BYTES, "a text goes wrong where refusal 5 says"),
     say_differences(),
     drive_port:close(Drive).
 
@@ -58,8 +60,11 @@ judged(Drive, Part, Bytes) ->
         {{ok, Output}, {ok, Term, _}} -> both(Drive, Part, Bytes, Output, Term, Read);
         {_, {ok, Term, Used}} -> listed(Part, agree(Read, Written), differences:node_only(Written, Bytes, Term, Used), Bytes, Written);
         {{ok, Output}, refused} -> listed(Part, agree(Read, Written), differences:ours_only(Output), Bytes, Written);
-        {_, refused} -> tally:note({neither, Part}, 1), tally:check(Part, agree(Read, Written), {Bytes, Read, Written})
+        {_, refused} -> tally:note({neither, Part}, 1), bad_byte(Written, Bytes), tally:check(Part, agree(Read, Written), {Bytes, Read, Written})
     end.
+
+bad_byte(Refused = {refused, 5, Place}, Bytes) -> tally:check(?BAD_BYTES, texts:wrong_at(Bytes, Place), {Bytes, Refused});
+bad_byte(_, _) -> none.
 
 %% Reader and writer: both accept, or refuse alike; 11 is the writer's alone.
 agree({ok, 1, _}, {ok, _}) -> true;

@@ -1,4 +1,4 @@
-"""Cases at the ends of document 01's rules, built so that the answer follows from how they are built; the comment beside each says by which rule."""
+"""Cases at the ends of document 01's rules, and of #101's for 5's place, built so that the answer follows from how they are built; the comment beside each says by which rule."""
 from lines import Case, big
 from rows import rows_of, shown
 
@@ -12,6 +12,25 @@ def small(k):
 
 def atom(text, tag=119):
     return bytes([tag]) + big(2 if tag in (100, 118) else 1, len(text)) + text
+
+
+def bad_byte(text, tag=119):
+    """Where in its atom a text goes wrong: 100, the 256th byte; 118 and 119, the first byte at which no UTF-8 can continue, as Python's own decoder finds it,
+    or the first after 255 characters, whichever comes first. A character that the text's end cuts off goes wrong at its first byte."""
+    start = 3 if tag in (100, 118) else 2
+    if tag == 100:
+        return start + 255
+    try:
+        sound, bad = text.decode(), len(text)
+    except UnicodeDecodeError as error:
+        sound, bad = text[:error.start].decode(), error.start
+        begins = not (0x80 <= text[bad] <= 0xc1 or 0xf5 <= text[bad])
+        if begins and error.end < len(text):
+            bad = error.end
+    if len(sound) >= 255:
+        bad = len(sound[:255].encode())
+    assert bad < len(text)
+    return start + bad
 
 
 def tuple_of(*parts):
@@ -85,11 +104,11 @@ def depth(book):
     for term, before in identifiers():
         book.accepted(b'\x68\1' * 62 + term)
         book.refused(8, 1 + 2 * 63 + before, b'\x68\1' * 63 + term)
-    # 8 comes after the term's own fields: at depth 65 these answer the fields' refusals; 14 has place 0.
+    # 8 comes after the term's own fields: at depth 65 these answer the fields' refusals; 5 has the bad byte's place, 14 has place 0.
     at = 1 + 2 * 64
-    for number_, term in ((2, b'\x61'), (3, b'\x63'), (4, b'\x46\x7f\xf0' + bytes(6)), (5, atom(b'\xff')), (6, b'\x52\x01'), (8, small(1)),
-                          (8, text_list(b'')), (8, NIL)):
+    for number_, term in ((2, b'\x61'), (3, b'\x63'), (4, b'\x46\x7f\xf0' + bytes(6)), (6, b'\x52\x01'), (8, small(1)), (8, text_list(b'')), (8, NIL)):
         book.refused(number_, at, b'\x68\1' * 64 + term, n=1, places=((1, b'a'),))
+    book.refused(5, at + bad_byte(b'a\xff'), b'\x68\1' * 64 + atom(b'a\xff'))
     book.refused(14, 0, b'\x68\1' * 64 + b'\x52\0', n=1, places=((33, b'a'),))
     # Neither a 108 of length 0 nor a joined tail adds depth; an improper tail is one deeper than its list.
     book.accepted(b'\x68\1' * 63 + EMPTY * 9 + b'\x68\0', count=64)
@@ -161,15 +180,23 @@ def texts(book):
     four = b'\xf0\x9f\x98\x80'
     for tag, text in ((100, b'\xe9'), (118, b'a'), (118, b'\xc3\xa9'), (118, b'\xe2\x82\xac'), (118, four)):
         book.accepted(atom(text * 255, tag))
-        book.refused(5, 1, atom(text * 256, tag))
+        past = bad_byte(text * 256, tag)
+        book.refused(5, 1 + past, atom(text * 256, tag))
+        book.refused(5, 1 + past, atom(text * 300, tag))
         book.refused(2, 1, atom(text * 256, tag)[:-1])
-        book.refused(5, 1 + 2, tuple_of(atom(text * 256, tag)))
+        book.refused(5, 1 + 2 + past, tuple_of(atom(text * 256, tag)))
     for tag in (115, 119):
         book.accepted(atom(b'a' * 255, tag))
         book.refused(2, 1, atom(b'a' * 255, tag)[:-1])
     book.accepted(atom(b'\xff' * 255, 115))
     book.accepted(atom(four * 63, 119))
-    book.refused(5, 1, atom(b'a' * 65532, 118))
+    book.refused(5, 1 + 3 + 255, atom(b'a' * 65532, 118))
+    # Whichever comes first: a fault after 254 characters is told itself, after 255 and more the first byte past them is.
+    for text in (b'a', b'\xc3\xa9', four):
+        for count in (254, 255, 256):
+            for fault in (b'\xff', b'\xe0\x80', b'\xc3'):
+                for spoilt in (text * count + fault, text * count + fault + text):
+                    book.refused(5, 1 + bad_byte(spoilt, 118), atom(spoilt, 118))
     for tag in ATOM_TAGS[1:]:
         book.accepted(atom(b'', tag))
         book.accepted(atom(b'\0', tag))
@@ -186,8 +213,12 @@ def texts(book):
             book.accepted(atom(b'x' + bytes.fromhex(text) + b'y', tag))
         for text in bad:
             text = bytes.fromhex(text[:len(text) // 2 * 2])
-            book.refused(5, 1, atom(text, tag))
-            book.refused(5, 1, atom(b'x' + text + b'y', tag))
+            for spoilt in (text, b'x' + text + b'y', b'abcdefgh' + text, '\xe9\u20ac'.encode() + text):
+                book.refused(5, 1 + bad_byte(spoilt, tag), atom(spoilt, tag))
+    # The text's end is where its length says, whatever follows.
+    for text, rest in ((b'\xc3', b'\xa9'), (b'\xe2\x82', b'\xac'), (b'\xe2', b'\x82\xac'), (four[:3], four[3:]), (four[:1], four[1:])):
+        book.refused(5, 1 + 2, atom(text) + rest)
+        book.refused(5, 3 + 2 + 1, b'\x68\2' + atom(b'x' + text) + rest)
 
 
 def tags(book):
@@ -313,7 +344,7 @@ def field_rules(book):
     book.refused(4, 2, b'\x58' + EMPTY + NODE + bytes(12))
     book.refused(4, 8, b'\x71' + NODE + NODE + EMPTY + small(1))
     # What is wrong in the atom comes first, then the later fields.
-    book.refused(5, 2, b'\x58' + atom(b'\xff') + b'\xff' * 12)
+    book.refused(5, 2 + bad_byte(b'a\xff'), b'\x58' + atom(b'a\xff') + b'\xff' * 12)
     book.refused(6, 2, b'\x58\x52\0' + b'\xff' * 12)
     book.refused(2, 2, b'\x58\x52')
     book.refused(9, 2, b'\x58' + NODE + b'\xff' * 12, rows=1)
@@ -485,7 +516,7 @@ def messages(book):
         book.refused(3, len(term), term + b'\0', form='p')
         book.refused(3, len(term), term + b'\x83', form='p')
         book.refused(2, len(term), term + b'\x61', form='p')
-        book.refused(5, len(term), term + atom(b'\xff'), form='p')
+        book.refused(5, len(term) + bad_byte(b'a\xff'), term + atom(b'a\xff'), form='p')
         book.refused(2, len(term) + 2, term + b'\x68\1', form='p')
         book.refused(10, len(term) + 1, term + NIL + NIL, form='p', rows=64)
     book.refused(2, 0, b'', form='p')

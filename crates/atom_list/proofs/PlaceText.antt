@@ -6,7 +6,7 @@ use Prim.Native.Nat.{ℕ, _+_, _-_, _*_, _<_, _≤_}
 use native.Mathlib.Omega.{arith}
 use lib.ListN.{getD, take, drop}
 use borrow.Author.Tests.{le-leb, lt-leb}
-use Rattle.term_spec.specs.Text.{coding-of, check}
+use Rattle.term_spec.specs.Text.{utf-8, check}
 use Rattle.term_spec.specs.AtomList.{place-length, place-bytes, place-text, lent-list}
 use Rattle.text.specs.Shown.{is-valid}
 
@@ -15,9 +15,9 @@ module _ (places lengths : List ℕ) (i : ℕ) where
   unfolding place-text place-length is-valid
   text-long h n = rw (lt-leb (getD lengths i 0) 32 h, place-text)
 
-  pub text-short : getD lengths i 0 ≤ 32 → (r : Bool) → r ≡ is-valid (check (coding-of true) (take (32 * i + getD lengths i 0 - 32 * i) (drop (32 * i) places)))
+  pub text-short : getD lengths i 0 ≤ 32 → (r : Bool) → r ≡ is-valid (check utf-8 (take (32 * i + getD lengths i 0 - 32 * i) (drop (32 * i) places)))
       → (n : ℕ) → r ≡ is-valid (place-text (lent-list n places lengths) i)
-  unfolding place-text place-length place-bytes coding-of
+  unfolding place-text place-length place-bytes
   text-short h r e n =
       let same : 32 * i + getD lengths i 0 - 32 * i ≡ getD lengths i 0 = omega arith in
       rw (le-leb (getD lengths i 0) 32 h, place-text) (rw same at e)

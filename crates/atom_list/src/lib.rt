@@ -30,5 +30,5 @@ pub fn place_holds_text(places: &[u8], lengths: &[u16], i: usize) -> bool
     }
     let from = sizes::PLACE_BYTES * i;
     let end = from + length as usize;
-    text::is_text(&places[from..end], true)
+    text::is_utf8(&places[from..end])
 }

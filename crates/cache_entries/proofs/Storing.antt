@@ -124,7 +124,7 @@ module _ (agreed : Coding) (c : Cache) (s : List ℕ) (h width at to : ℕ) (bef
       record {
         lists = λ earlier i x t f.
             let g : GoodNew agreed (p .0) (take size (drop from s)) (at-offset s (from + size) 0) x t =
-            good-new agreed (held c) earlier i (p .0) (take size (drop from s)) (at-offset s (from + size) 0) x t (sym (e .0 agreed (held c) earlier i) ∙ f) in
+            good-new agreed (held c) earlier i (p .0) from (take size (drop from s)) (at-offset s (from + size) 0) x t (sym (e .0 agreed (held c) earlier i) ∙ f) in
             let k : (stored ≡ length (encodes (g .characters))) × (now ≡ sets before to (encodes (g .characters))) = put .puts (g .characters) (g .is-text) in
             let w : encodes (g .characters) ≡ x .text = sym (ap (λ (r : Reference). r .text) (g .is)) in
             (g .ends, e .3, k .0 ∙ ap length w, omega (arith, k .0, g .short), k .1 ∙ ap (sets before to) w);
@@ -155,7 +155,7 @@ pub stands-new : (agreed : Coding) (holding : ℕ → Held) (s : List ℕ) (h wi
 unfolding Spells
 stands-new agreed holding s h width at p from size to room st e l =
     let g : GoodNew agreed (p .0) (take size (drop from s)) (at-offset s (from + size) 0) (st .reference) (st .end) =
-    good-new agreed holding (st .earlier) (st .i) (p .0) (take size (drop from s)) (at-offset s (from + size) 0) (st .reference) (st .end)
+    good-new agreed holding (st .earlier) (st .i) (p .0) from (take size (drop from s)) (at-offset s (from + size) 0) (st .reference) (st .end)
     (sym (e .0 agreed holding (st .earlier) (st .i)) ∙ st .is) in
     record { inside = e .3; small = e .4; characters = g .characters; is = g .is-text; fits = omega (arith, g .short) }
 
@@ -210,7 +210,7 @@ module _ (agreed : Coding) (s : List ℕ) (h width at : ℕ) (before now : Cache
       record {
         enters = λ holding earlier i x t f.
             let g : GoodNew agreed (p .0) (take size (drop from s)) (at-offset s (from + size) 0) x t =
-            good-new agreed holding earlier i (p .0) (take size (drop from s)) (at-offset s (from + size) 0) x t (sym (e .0 agreed holding earlier i) ∙ f) in
+            good-new agreed holding earlier i (p .0) from (take size (drop from s)) (at-offset s (from + size) 0) x t (sym (e .0 agreed holding earlier i) ∙ f) in
             (g .ends, e .3, put .stores (g .characters) (g .is-text) ∙ ap (enter before) (sym (g .is)));
       }
 

@@ -25,15 +25,15 @@ pub record GoodCached (holding : ℕ → Held) (p : ℕ) (t₀ : Position) (r : 
   pub is : r ≡ record { place = p; new = false; text = bytes }
   pub ends : t ≡ t₀
 
-pub good-new : (agreed : Coding) (holding : ℕ → Held) (earlier : List Reference) (i p : ℕ) (bs : List ℕ) (t₀ : Position) (r : Reference) (t : Position)
-    → new-reference agreed holding earlier i p bs t₀ ≡ good (r, t) → GoodNew agreed p bs t₀ r t
+pub good-new : (agreed : Coding) (holding : ℕ → Held) (earlier : List Reference) (i p first : ℕ) (bs : List ℕ) (t₀ : Position) (r : Reference) (t : Position)
+    → new-reference agreed holding earlier i p first bs t₀ ≡ good (r, t) → GoodNew agreed p bs t₀ r t
 unfolding new-reference
-good-new agreed holding earlier i p bs t₀ r t e = known .known r t e
+good-new agreed holding earlier i p first bs t₀ r t e = known .known r t e
   where
-    known : Holds (new-reference agreed holding earlier i p bs t₀) (GoodNew agreed p bs t₀)
+    known : Holds (new-reference agreed holding earlier i p first bs t₀) (GoodNew agreed p bs t₀)
     known =
         bind (rule-holds (not (named p earlier)) 22 i t₀ λ apart.
-        bind (text-holds (check agreed bs) 5 i t₀ λ cs e.
+        bind (text-holds (check agreed bs) 5 _ t₀ λ cs e.
         bind (rule-holds _ 23 i t₀ λ l.
         done-holds _ t₀ (record { characters = cs; is-text = e; short = leb-true _ 32 l; is = refl; ends = refl }))))
 

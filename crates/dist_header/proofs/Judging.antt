@@ -2,91 +2,95 @@
 use mathlib.Core.Path.{_≡_, refl, sym, _∙_}
 use mathlib.Core.Bool.{Bool, true, false}
 use mathlib.Core.List.{List}
-use Prim.Native.Nat.{ℕ, _≤_, _<_}
+use Prim.Native.Nat.{ℕ, _+_, _≤_, _<_}
 use native.Mathlib.Omega.{arith}
-use lib.ListN.{length, getD, set}
+use lib.ListN.{length, getD, set, take, drop}
 use borrow.Author.Tests.{le-leb, lt-leb}
 use Rattle.term_spec.specs.Text.{Coding, valid, check, encodes}
-use Rattle.term_spec.specs.Answer.{refused, Position}
+use Rattle.term_spec.specs.Answer.{refused, Position, at-offset}
 use Rattle.term_spec.specs.Head.{text-or}
-use Rattle.text.specs.Shown.{is-valid}
-use Rattle.text.proofs.Valid.{found, failed}
+use Rattle.text.specs.Shown.{shown}
+use Rattle.text.specs.declared.Checked.the-variants.{Text, Bad}
+use Rattle.text.proofs.Valid.{is-text, is-bad}
 use Rattle.packet_spec.specs.Memory.{Held, nothing, no-text, text}
 use Rattle.packet_spec.specs.Header.{Reference, held-or, new-reference, cached-reference}
-use Rattle.dist_header.specs.Code.{held-case, NamingIs, Went, Judges, JudgesNew, JudgesCached}
+use Rattle.dist_header.specs.Code.{held-case, NamingIs, Went, JudgedAs, GoesOn, JudgesNew, JudgesCached}
 use Rattle.dist_header.proofs.PlaceNaming.{not-named, is-named, is-filled, not-filled, naming-new, naming-cached}
 use Rattle.dist_header.specs.declared.PlaceText.the-variants as texts
-use Rattle.dist_header.specs.declared.Judged.the-variants as judged
+use Rattle.dist_header.specs.declared.ReferenceAnswer.the-variants as answers
 
-module _ (agreed : Coding) (p : ℕ) (bs naming : List ℕ) (small : p < 2048) where
-  pub new-again : (getD naming p 0 ≡ 0 → ⊥) → JudgesNew agreed p bs naming naming (judged.Refused 22)
-  unfolding JudgesNew Judges new-reference
-  new-again z holding t earlier i m = rw (is-named naming earlier p m small z)
+module _ (agreed : Coding) (s : List ℕ) (p from size : ℕ) (naming : List ℕ) (small : p < 2048) where
+  pub new-again : (getD naming p 0 ≡ 0 → ⊥) → JudgesNew agreed s p from size naming naming (answers.Refused 22)
+  unfolding JudgedAs GoesOn new-reference
+  new-again z = record { judged = λ holding earlier i m. rw (is-named naming earlier p m small z); ends = tt }
 
-  new-is : (holding : ℕ → Held) (t : Position) (earlier : List Reference) (i : ℕ) (cs : List ℕ) → check agreed bs ≡ valid cs → NamingIs naming earlier
-      → getD naming p 0 ≡ 0 → length (encodes cs) ≤ 32 → length naming ≡ 2048 → Went (new-reference agreed holding earlier i p bs t) t (set naming p 2) earlier
-  unfolding new-reference text-or
-  new-is holding t earlier i cs e m z l size =
-      record {
-        reference = record { place = p; new = true; text = encodes cs };
-        is = rw (not-named naming earlier p m small z, e, le-leb (length (encodes cs)) 32 l);
-        naming-is = naming-new naming earlier p (encodes cs) size m small;
-      }
+  module _ (z : getD naming p 0 ≡ 0) where
+    pub new-bad : (k : ℕ) → Bad k ≡ shown (check agreed (take size (drop from s))) → JudgesNew agreed s p from size naming naming (answers.BadText (from + k))
+    unfolding JudgedAs GoesOn new-reference text-or
+    new-bad k e = record { judged = λ holding earlier i m. rw (not-named naming earlier p m small z, is-bad _ k e); ends = tt }
 
-  module _ (z : getD naming p 0 ≡ 0) (b : Bool) (e : b ≡ is-valid (check agreed bs)) where
-    pub new-bad : b ≡ false → JudgesNew agreed p bs naming naming (judged.Refused 5)
-    unfolding JudgesNew Judges new-reference text-or
-    new-bad f holding t earlier i m = let k = failed _ (sym e ∙ f) in rw (not-named naming earlier p m small z, k .1)
-
-    module _ (f : b ≡ true) (n : ℕ) (long : (cs : List ℕ) → check agreed bs ≡ valid cs → n ≡ length (encodes cs)) where
-      pub new-long : 32 < n → JudgesNew agreed p bs naming naming (judged.Refused 23)
-      unfolding JudgesNew Judges new-reference text-or
-      new-long l holding t earlier i m =
-          let c = found _ (sym e ∙ f) in
+    module _ (e : Text ≡ shown (check agreed (take size (drop from s)))) (n : ℕ) (long : (cs : List ℕ) → check agreed (take size (drop from s)) ≡ valid cs → n ≡ length (encodes cs)) where
+      pub new-long : 32 < n → JudgesNew agreed s p from size naming naming (answers.Refused 23)
+      unfolding JudgedAs GoesOn new-reference text-or
+      new-long l =
+          let c = is-text _ e in
           let k : n ≡ length (encodes (c .0)) = long (c .0) (c .1) in
-          rw (not-named naming earlier p m small z, c .1, lt-leb (length (encodes (c .0))) 32 (omega arith))
+          record { judged = λ holding earlier i m. rw (not-named naming earlier p m small z, c .1, lt-leb (length (encodes (c .0))) 32 (omega arith)); ends = tt }
 
-      pub new-good : n ≤ 32 → length naming ≡ 2048 → JudgesNew agreed p bs naming (set naming p 2) judged.Good
-      unfolding JudgesNew Judges
-      new-good l size holding t earlier i m =
-          let c = found _ (sym e ∙ f) in
+      new-is : (cs : List ℕ) → check agreed (take size (drop from s)) ≡ valid cs → length (encodes cs) ≤ 32 → length naming ≡ 2048 → (holding : ℕ → Held) (earlier : List Reference) (i : ℕ)
+          → NamingIs naming earlier → Went (new-reference agreed holding earlier i p from (take size (drop from s)) (at-offset s (from + size) 0)) (at-offset s (from + size) 0) (set naming p 2) earlier
+      unfolding new-reference text-or
+      new-is cs e l full holding earlier i m =
+          record {
+            reference = record { place = p; new = true; text = encodes cs };
+            is = rw (not-named naming earlier p m small z, e, le-leb (length (encodes cs)) 32 l);
+            naming-is = naming-new naming earlier p (encodes cs) full m small;
+          }
+
+      pub new-good : n ≤ 32 → length naming ≡ 2048 → JudgesNew agreed s p from size naming (set naming p 2) (answers.Next (from + size))
+      unfolding JudgedAs GoesOn
+      new-good l full =
+          let c = is-text _ e in
           let k : n ≡ length (encodes (c .0)) = long (c .0) (c .1) in
-          new-is holding t earlier i (c .0) (c .1) m z (omega arith) size
+          record { judged = new-is (c .0) (c .1) (omega arith) full; ends = (omega arith, omega arith) }
 
-module _ (holding : ℕ → Held) (p : ℕ) (naming : List ℕ) (small : p < 2048) where
-  pub cached-again : getD naming p 0 ≡ 2 → JudgesCached holding p naming naming (judged.Refused 22)
-  unfolding JudgesCached Judges cached-reference
-  cached-again z agreed t earlier i m = rw (is-filled naming earlier p m small z)
+module _ (holding : ℕ → Held) (p end : ℕ) (naming : List ℕ) (small : p < 2048) where
+  pub cached-again : getD naming p 0 ≡ 2 → JudgesCached holding p end naming naming (answers.Refused 22)
+  unfolding JudgedAs GoesOn cached-reference
+  cached-again z = record { judged = λ agreed s earlier i m. rw (is-filled naming earlier p m small z); ends = tt }
 
   module _ (z : getD naming p 0 ≡ 2 → ⊥) where
-    pub cached-empty : texts.Empty ≡ held-case (holding p) → JudgesCached holding p naming naming (judged.Refused 21)
-    unfolding JudgesCached Judges cached-reference held-or held-case
-    cached-empty e agreed t earlier i m = go (holding p) refl e
+    pub cached-empty : texts.Empty ≡ held-case (holding p) → JudgesCached holding p end naming naming (answers.Refused 21)
+    unfolding JudgedAs GoesOn cached-reference held-or held-case
+    cached-empty e = record { judged = λ agreed s earlier i m. go agreed (at-offset s end 0) earlier i m (holding p) refl e; ends = tt }
       where
-        go : (h : Held) → holding p ≡ h → texts.Empty ≡ held-case h → cached-reference agreed holding earlier i p t ≡ refused 21 i
-        go nothing g f = rw (not-filled naming earlier p m small z, g)
-        go no-text g f = let no-way : _≡_ {A = ℕ} 0 1 = cc in absurd (omega arith)
-        go (text bs) g f = let no-way : _≡_ {A = ℕ} 0 1 = cc in absurd (omega arith)
+        go : (agreed : Coding) (t : Position) (earlier : List Reference) (i : ℕ) → NamingIs naming earlier → (h : Held) → holding p ≡ h → texts.Empty ≡ held-case h
+            → cached-reference agreed holding earlier i p t ≡ refused 21 i
+        go agreed t earlier i m nothing g f = rw (not-filled naming earlier p m small z, g)
+        go agreed t earlier i m no-text g f = let no-way : _≡_ {A = ℕ} 0 1 = cc in absurd (omega arith)
+        go agreed t earlier i m (text bs) g f = let no-way : _≡_ {A = ℕ} 0 1 = cc in absurd (omega arith)
 
-    pub cached-false : texts.Bad ≡ held-case (holding p) → JudgesCached holding p naming naming (judged.Refused 14)
-    unfolding JudgesCached Judges cached-reference held-or held-case
-    cached-false e agreed t earlier i m = go (holding p) refl e
+    pub cached-false : texts.Bad ≡ held-case (holding p) → JudgesCached holding p end naming naming (answers.Refused 14)
+    unfolding JudgedAs GoesOn cached-reference held-or held-case
+    cached-false e = record { judged = λ agreed s earlier i m. go agreed (at-offset s end 0) earlier i m (holding p) refl e; ends = tt }
       where
-        go : (h : Held) → holding p ≡ h → texts.Bad ≡ held-case h → cached-reference agreed holding earlier i p t ≡ refused 14 i
-        go no-text g f = rw (not-filled naming earlier p m small z, g)
-        go nothing g f = let no-way : _≡_ {A = ℕ} 0 1 = cc in absurd (omega arith)
-        go (text bs) g f = let no-way : _≡_ {A = ℕ} 0 1 = cc in absurd (omega arith)
+        go : (agreed : Coding) (t : Position) (earlier : List Reference) (i : ℕ) → NamingIs naming earlier → (h : Held) → holding p ≡ h → texts.Bad ≡ held-case h
+            → cached-reference agreed holding earlier i p t ≡ refused 14 i
+        go agreed t earlier i m no-text g f = rw (not-filled naming earlier p m small z, g)
+        go agreed t earlier i m nothing g f = let no-way : _≡_ {A = ℕ} 0 1 = cc in absurd (omega arith)
+        go agreed t earlier i m (text bs) g f = let no-way : _≡_ {A = ℕ} 0 1 = cc in absurd (omega arith)
 
-    pub cached-good : texts.Text ≡ held-case (holding p) → length naming ≡ 2048 → JudgesCached holding p naming (set naming p 1) judged.Good
-    unfolding JudgesCached Judges cached-reference held-or held-case
-    cached-good e size agreed t earlier i m = go (holding p) refl e
+    pub cached-good : texts.Text ≡ held-case (holding p) → length naming ≡ 2048 → JudgesCached holding p end naming (set naming p 1) (answers.Next end)
+    unfolding JudgedAs GoesOn cached-reference held-or held-case
+    cached-good e full = record { judged = λ agreed s earlier i m. go agreed (at-offset s end 0) earlier i m (holding p) refl e; ends = (omega arith, omega arith) }
       where
-        go : (h : Held) → holding p ≡ h → texts.Text ≡ held-case h → Went (cached-reference agreed holding earlier i p t) t (set naming p 1) earlier
-        go nothing g f = let no-way : _≡_ {A = ℕ} 0 1 = cc in absurd (omega arith)
-        go no-text g f = let no-way : _≡_ {A = ℕ} 0 1 = cc in absurd (omega arith)
-        go (text bs) g f =
+        go : (agreed : Coding) (t : Position) (earlier : List Reference) (i : ℕ) → NamingIs naming earlier → (h : Held) → holding p ≡ h → texts.Text ≡ held-case h
+            → Went (cached-reference agreed holding earlier i p t) t (set naming p 1) earlier
+        go agreed t earlier i m nothing g f = let no-way : _≡_ {A = ℕ} 0 1 = cc in absurd (omega arith)
+        go agreed t earlier i m no-text g f = let no-way : _≡_ {A = ℕ} 0 1 = cc in absurd (omega arith)
+        go agreed t earlier i m (text bs) g f =
             record {
               reference = record { place = p; new = false; text = bs };
               is = rw (not-filled naming earlier p m small z, g);
-              naming-is = naming-cached naming earlier p bs size m small (not-filled naming earlier p m small z);
+              naming-is = naming-cached naming earlier p bs full m small (not-filled naming earlier p m small z);
             }

@@ -16,7 +16,7 @@ use Rattle.octets.specs.Parts.{Width}
 use Rattle.octets.proofs.Numbers.{big-joined, big-one}
 use Rattle.octets.proofs.Widths.{width-1, width-2}
 use Rattle.packet_spec.specs.Memory.{Held}
-use Rattle.packet_spec.specs.Header.{Reference, flag-bytes, half, is-new, place-at, length-width, text-field, new-reference, reference, references, header}
+use Rattle.packet_spec.specs.Header.{Reference, flag-bytes, half, is-new, place-at, length-width, new-reference, reference, references, header}
 use Rattle.dist_header.specs.Code.{flags-of, HeaderAt, HeaderStarts, Spells}
 use Rattle.dist_header.specs.declared.HeaderStart.the-variants as starts
 use Rattle.dist_header.specs.declared.Spelled.the-variants as spelled
@@ -128,31 +128,22 @@ spells-cached s h width at b e low is small = (
 )
 
 module _ (s : List ℕ) (h width at : ℕ) (e : at < length s) (high : 8 ≤ h) where
-  new-field : (agreed : Coding) (holding : ℕ → Held) (earlier : List Reference) (i : ℕ) (o : Answer (List ℕ × Position)) → text-field i width (at-offset s (at + 1) 0) ≡ o
-      → reference agreed holding width earlier i h (at-offset s at 0)
-      ≡ after o (new-reference agreed holding earlier i (place-at h (getD s at 0)))
-  unfolding reference is-new
-  new-field agreed holding earlier i o f = rw (byte-at s i at 0 e, le-leb 8 h high, f)
-
   pub spells-cut-length : length s < at + 1 + width → Spells s h width at spelled.Cut
-  unfolding Spells text-field
-  spells-cut-length k agreed holding earlier i = new-field agreed holding earlier i (refused 2 i) (rw (number-end s i width (at + 1) 0 (omega arith) k))
+  unfolding Spells reference is-new
+  spells-cut-length k agreed holding earlier i = rw (byte-at s i at 0 e, le-leb 8 h high, number-end s i width (at + 1) 0 (omega arith) k)
 
   module _ (size : ℕ) (is : size ≡ big-endian (take width (drop (at + 1) s))) (there : at + 1 + width ≤ length s) where
     pub spells-cut-text : length s < at + 1 + width + size → Spells s h width at spelled.Cut
-    unfolding Spells text-field
+    unfolding Spells reference is-new
     spells-cut-text k agreed holding earlier i =
-        new-field agreed holding earlier i (refused 2 i)
-        (rw (number-at s i width (at + 1) 0 there, sym is, bytes-end s i size (at + 1 + width) 0 there k))
+        rw (byte-at s i at 0 e, le-leb 8 h high, number-at s i width (at + 1) 0 there, sym is, bytes-end s i size (at + 1 + width) 0 there k)
 
     pub spells-new : (b : ℕ) → h < 16 → b ≡ getD s at 0 → b < 256 → at + 1 + width + size ≤ length s → size < 65536
         → Spells s h width at (spelled.New (record { 0 = 256 * (h % 8) + b }) (at + 1 + width) size)
-    unfolding Spells text-field place-at
+    unfolding Spells reference is-new place-at
     spells-new b top as-read small k few = (
       λ agreed holding earlier i.
-          new-field agreed holding earlier i (good (take size (drop (at + 1 + width) s), at-offset s (at + 1 + width + size) 0))
-          (rw (number-at s i width (at + 1) 0 there, sym is, bytes-at s i size (at + 1 + width) 0 k))
-          ∙ ap (λ (x : ℕ). new-reference agreed holding earlier i (256 * (h % 8) + x) (take size (drop (at + 1 + width) s)) (at-offset s (at + 1 + width + size) 0)) (sym as-read),
+          rw (byte-at s i at 0 e, le-leb 8 h high, number-at s i width (at + 1) 0 there, sym is, bytes-at s i size (at + 1 + width) 0 k, as-read),
       omega arith,
       omega arith,
       k,

@@ -10,7 +10,8 @@ use borrow.Author.Tests.{eq-eqb, ne-eqb, le-leb, lt-leb}
 use Rattle.term_spec.specs.Text.{Coding, utf-8, coding-of, valid, check, encodes}
 use Rattle.term_spec.proofs.Text.{utf8-spelt, latin1-is}
 use Rattle.octets.proofs.Parts.{length-part}
-use Rattle.text.specs.Shown.{is-valid}
+use Rattle.text.specs.Shown.{shown, is-valid}
+use Rattle.text.specs.declared.Checked.{Checked}
 use Rattle.text.proofs.Valid.{coding-utf8, coding-latin1, found, failed}
 use Rattle.packet_spec.specs.Memory.{cache-of, text-if, held-as, held}
 use Rattle.dist_header.specs.Code.{held-case, TextFits}
@@ -20,9 +21,9 @@ use Rattle.dist_header.specs.declared.PlaceText.the-variants as texts
 pub part : (s : List ℕ) (from size : ℕ) → take (from + size - from) (drop from s) ≡ take size (drop from s)
 part s from size = let e : from + size - from ≡ size = omega arith in ap (λ (n : ℕ). take n (drop from s)) e
 
--- whether such a part is a text
-pub text-part : (coding : Coding) (s : List ℕ) (from size : ℕ) (b : Bool) → b ≡ is-valid (check coding (take (from + size - from) (drop from s))) → b ≡ is-valid (check coding (take size (drop from s)))
-text-part coding s from size b e = e ∙ ap (λ (bs : List ℕ). is-valid (check coding bs)) (part s from size)
+-- what the code answers for such a part
+pub text-part : (coding : Coding) (s : List ℕ) (from size : ℕ) (c : Checked) → c ≡ shown (check coding (take (from + size - from) (drop from s))) → c ≡ shown (check coding (take size (drop from s)))
+text-part coding s from size c e = e ∙ ap (λ (bs : List ℕ). shown (check coding bs)) (part s from size)
 
 module _ (utf8 : Bool) (s : List ℕ) (from size : ℕ) where
   -- where UTF-8 was agreed, the bytes stored are the bytes that came; in Latin-1 the bytes are the characters
@@ -67,14 +68,13 @@ module _ (places lengths : List ℕ) (p n : ℕ) (h : p < length lengths) (is : 
   unfolding held-as held-case
   held-long e l = rw (held-is, held-as, ne-eqb n 65535 e, lt-leb n 32 l)
 
-  module _ (e : n ≡ 65535 → ⊥) (l : n ≤ 32) (b : Bool) (is-b : b ≡ is-valid (check (coding-of true) (take (32 * p + n - 32 * p) (drop (32 * p) places)))) where
+  module _ (e : n ≡ 65535 → ⊥) (l : n ≤ 32) (b : Bool) (is-b : b ≡ is-valid (check utf-8 (take (32 * p + n - 32 * p) (drop (32 * p) places)))) where
     held-text : held (cache-of places lengths) p ≡ text-if (take n (drop (32 * p) places)) (check utf-8 (take n (drop (32 * p) places)))
     unfolding held-as
     held-text = rw (held-is, held-as, ne-eqb n 65535 e, le-leb n 32 l) (ap (λ (bs : List ℕ). text-if bs (check utf-8 bs)) (take-take n 32 (drop (32 * p) places) l))
 
     valid-is : b ≡ is-valid (check utf-8 (take n (drop (32 * p) places)))
-    unfolding coding-of
-    valid-is = text-part utf-8 places (32 * p) n b is-b
+    valid-is = is-b ∙ ap (λ (bs : List ℕ). is-valid (check utf-8 bs)) (part places (32 * p) n)
 
     pub held-good : b ≡ true → texts.Text ≡ held-case (held (cache-of places lengths) p)
     unfolding held-case text-if

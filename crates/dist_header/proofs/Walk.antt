@@ -9,11 +9,11 @@ use Rattle.term_spec.specs.Answer.{Answer, good, refused, Position, at-offset, 
 use Rattle.packet_spec.specs.declared.Place.{Place}
 use Rattle.packet_spec.specs.Memory.{Held}
 use Rattle.packet_spec.specs.Header.{Reference, half, reference, references}
-use Rattle.dist_header.specs.Code.{flags-of, HeaderAt, HeaderStarts, reference-from, Spells, NamingIs, Went, Judges, JudgesNew, JudgesCached, ReferenceIs, Ends, HeaderIs}
+use Rattle.dist_header.specs.Code.{flags-of, HeaderAt, HeaderStarts, reference-from, Spells, NamingIs, Went, JudgedAs, GoesOn, JudgesNew, JudgesCached, ReferenceIs, Ends, HeaderIs}
 use Rattle.dist_header.proofs.PlaceNaming.{naming-none}
 use Rattle.dist_header.specs.declared.HeaderStart.the-variants as starts
 use Rattle.dist_header.specs.declared.Spelled.the-variants as spelled
-use Rattle.dist_header.specs.declared.Judged.the-variants as judged
+use Rattle.dist_header.specs.declared.ReferenceAnswer.{ReferenceAnswer}
 use Rattle.dist_header.specs.declared.ReferenceAnswer.the-variants as answers
 use Rattle.dist_header.specs.declared.References.the-variants as ends
 use Rattle.dist_header.specs.declared.HeaderAnswer.the-variants as headers
@@ -23,38 +23,40 @@ use Rattle.dist_header.specs.declared.HeaderAnswer.the-variants as heade
 went-from : {o o′ : Answer (Reference × Position)} {t : Position} {naming : List ℕ} {earlier : List Reference} → o′ ≡ o → Went o t naming earlier → Went o′ t naming earlier
 went-from e w = record { reference = w .reference; is = e ∙ w .is; naming-is = w .naming-is }
 
+-- what is judged so, and what comes to the same
+judged-from : (j j′ : List Reference → ℕ → Answer (Reference × Position)) (s naming naming′ : List ℕ) (r : ReferenceAnswer)
+    → ((earlier : List Reference) (i : ℕ) → j′ earlier i ≡ j earlier i) → JudgedAs j s naming naming′ r → JudgedAs j′ s naming naming′ r
+unfolding JudgedAs
+judged-from j j′ s naming naming′ (answers.Refused k) e w = λ earlier i m. e earlier i ∙ w earlier i m
+judged-from j j′ s naming naming′ (answers.BadText k) e w = λ earlier i m. e earlier i ∙ w earlier i m
+judged-from j j′ s naming naming′ (answers.Next a) e w = λ earlier i m. went-from (e earlier i) (w earlier i m)
+
+wider : (least most least′ most′ : ℕ) (r : ReferenceAnswer) → least′ ≤ least → most ≤ most′ → GoesOn least most r → GoesOn least′ most′ r
+unfolding GoesOn
+wider least most least′ most′ (answers.Refused k) l m g = tt
+wider least most least′ most′ (answers.BadText k) l m g = tt
+wider least most least′ most′ (answers.Next a) l m g = (omega arith, omega arith)
+
 module _ (agreed : Coding) (holding : ℕ → Held) (s : List ℕ) (h width at : ℕ) (naming naming′ : List ℕ) where
   pub answer-cut : Spells s h width at spelled.Cut → ReferenceIs agreed holding s h width at naming naming′ (answers.Refused 2)
-  unfolding Spells ReferenceIs
-  answer-cut e earlier i m = e agreed holding earlier i
+  unfolding Spells JudgedAs GoesOn
+  answer-cut e = record { judged = λ earlier i m. e agreed holding earlier i; ends = tt }
 
-  pub answer-new-refused : (p : Place) (from size k : ℕ) → Spells s h width at (spelled.New p from size)
-      → JudgesNew agreed (p .0) (take size (drop from s)) naming naming′ (judged.Refused k) → ReferenceIs agreed holding s h width at naming naming′ (answers.Refused k)
-  unfolding Spells ReferenceIs JudgesNew Judges
-  answer-new-refused p from size k e j earlier i m = e .0 agreed holding earlier i ∙ j holding (at-offset s (from + size) 0) earlier i m
+  pub answer-new : (p : Place) (from size : ℕ) (r : ReferenceAnswer) → Spells s h width at (spelled.New p from size)
+      → JudgesNew agreed s (p .0) from size naming naming′ r → ReferenceIs agreed holding s h width at naming naming′ r
+  unfolding Spells
+  answer-new p from size r e j = record {
+    judged = judged-from _ _ s naming naming′ r (λ earlier i. e .0 agreed holding earlier i) (j .judged holding);
+    ends = wider (from + size) (from + size) (at + 1) (length s) r (omega (arith, e .2)) (e .3) (j .ends);
+  }
 
-  pub answer-new : (p : Place) (from size : ℕ) → Spells s h width at (spelled.New p from size)
-      → JudgesNew agreed (p .0) (take size (drop from s)) naming naming′ judged.Good → ReferenceIs agreed holding s h width at naming naming′ (answers.Next (from + size))
-  unfolding Spells ReferenceIs JudgesNew Judges
-  answer-new p from size e j = (
-    λ earlier i m. went-from (e .0 agreed holding earlier i) (j holding (at-offset s (from + size) 0) earlier i m),
-    omega (arith, e .2),
-    e .3,
-  )
-
-  pub answer-cached-refused : (p : Place) (k : ℕ) → Spells s h width at (spelled.Cached p)
-      → JudgesCached holding (p .0) naming naming′ (judged.Refused k) → ReferenceIs agreed holding s h width at naming naming′ (answers.Refused k)
-  unfolding Spells ReferenceIs JudgesCached Judges
-  answer-cached-refused p k e j earlier i m = e .0 agreed holding earlier i ∙ j agreed (at-offset s (at + 1) 0) earlier i m
-
-  pub answer-cached : (p : Place) → Spells s h width at (spelled.Cached p)
-      → JudgesCached holding (p .0) naming naming′ judged.Good → ReferenceIs agreed holding s h width at naming naming′ (answers.Next (at + 1))
-  unfolding Spells ReferenceIs JudgesCached Judges
-  answer-cached p e j = (
-    λ earlier i m. went-from (e .0 agreed holding earlier i) (j agreed (at-offset s (at + 1) 0) earlier i m),
-    omega arith,
-    omega (arith, e .2),
-  )
+  pub answer-cached : (p : Place) (r : ReferenceAnswer) → Spells s h width at (spelled.Cached p)
+      → JudgesCached holding (p .0) (at + 1) naming naming′ r → ReferenceIs agreed holding s h width at naming naming′ r
+  unfolding Spells
+  answer-cached p r e j = record {
+    judged = judged-from _ _ s naming naming′ r (λ earlier i. e .0 agreed holding earlier i) (j .judged agreed s);
+    ends = wider (at + 1) (at + 1) (at + 1) (length s) r (omega arith) (omega (arith, e .2)) (j .ends);
+  }
 
 -- what is known of a reference that stands there
 pub new-inside : (s : List ℕ) (h width at : ℕ) (p : Place) (from size : ℕ) → Spells s h width at (spelled.New p from size)
@@ -156,13 +158,18 @@ module _ (agreed : Coding) (holding : ℕ → Held) (s : List ℕ) (flags : List
   module _ (whole : Answer (List Reference × Position)) (n i next : ℕ) (naming : List ℕ) (c : Checking whole n i next naming) where
     pub checking-refused : (k : ℕ) (naming′ : List ℕ) → i < n → ReferenceIs agreed holding s (half flags i) width next naming naming′ (answers.Refused k)
         → Ends whole s (ends.Refused (record { number = k; place = i }))
-    unfolding ReferenceIs Ends
-    checking-refused k naming′ less e = along-refused whole n i next (c .earlier) (c .done) (c .along) k i less (e (c .earlier) i (c .naming-is))
+    unfolding JudgedAs Ends
+    checking-refused k naming′ less e = along-refused whole n i next (c .earlier) (c .done) (c .along) k i less (e .judged (c .earlier) i (c .naming-is))
+
+    pub checking-bad : (k : ℕ) (naming′ : List ℕ) → i < n → ReferenceIs agreed holding s (half flags i) width next naming naming′ (answers.BadText k)
+        → Ends whole s (ends.Refused (record { number = 5; place = k }))
+    unfolding JudgedAs Ends
+    checking-bad k naming′ less e = along-refused whole n i next (c .earlier) (c .done) (c .along) 5 k less (e .judged (c .earlier) i (c .naming-is))
 
     pub checking-more : (a : ℕ) (naming′ : List ℕ) → i < n → ReferenceIs agreed holding s (half flags i) width next naming naming′ (answers.Next a) → Checking whole n (i + 1) a naming′
-    unfolding ReferenceIs
+    unfolding JudgedAs
     checking-more a naming′ less e =
-        let w : Went (reference agreed holding width (c .earlier) i (half flags i) (at-offset s next 0)) (at-offset s a 0) naming′ (c .earlier) = e .0 (c .earlier) i (c .naming-is) in
+        let w : Went (reference agreed holding width (c .earlier) i (half flags i) (at-offset s next 0)) (at-offset s a 0) naming′ (c .earlier) = e .judged (c .earlier) i (c .naming-is) in
         record {
           earlier = w .reference ∷ c .earlier;
           done = c .done ++ (w .reference ∷ []);
@@ -176,8 +183,8 @@ module _ (agreed : Coding) (holding : ℕ → Held) (s : List ℕ) (flags : List
 
 pub next-inside : (agreed : Coding) (holding : ℕ → Held) (s : List ℕ) (h width at : ℕ) (naming naming′ : List ℕ) (a : ℕ)
     → ReferenceIs agreed holding s h width at naming naming′ (answers.Next a) → (at < a) × (a ≤ length s)
-unfolding ReferenceIs
-next-inside agreed holding s h width at naming naming′ a e = (e .1, e .2)
+unfolding GoesOn
+next-inside agreed holding s h width at naming naming′ a e = (omega (arith, e .ends .0), e .ends .1)
 
 -- ---- the whole header
 

@@ -13,14 +13,12 @@ use Rattle.packet_spec.specs.Header.{Reference, flag-bytes, named, filled, new-
 use Rattle.dist_header.specs.declared.HeaderStart.{HeaderStart}
 use Rattle.dist_header.specs.declared.Spelled.{Spelled}
 use Rattle.dist_header.specs.declared.PlaceText.{PlaceText}
-use Rattle.dist_header.specs.declared.Judged.{Judged}
 use Rattle.dist_header.specs.declared.ReferenceAnswer.{ReferenceAnswer}
 use Rattle.dist_header.specs.declared.References.{References}
 use Rattle.dist_header.specs.declared.HeaderAnswer.{HeaderAnswer}
 use Rattle.dist_header.specs.declared.HeaderStart.the-variants as starts
 use Rattle.dist_header.specs.declared.Spelled.the-variants as spelled
 use Rattle.dist_header.specs.declared.PlaceText.the-variants as texts
-use Rattle.dist_header.specs.declared.Judged.the-variants as judged
 use Rattle.dist_header.specs.declared.ReferenceAnswer.the-variants as answers
 use Rattle.dist_header.specs.declared.References.the-variants as ends
 use Rattle.dist_header.specs.declared.HeaderAnswer.the-variants as headers
@@ -66,7 +64,7 @@ Spells s h width at spelled.Cut =
 Spells s h width at (spelled.New p from size) =
     ((agreed : Coding) (holding : ℕ → Held) (earlier : List Reference) (i : ℕ)
     → reference-from agreed holding s h width at earlier i
-    ≡ new-reference agreed holding earlier i (p .0) (take size (drop from s)) (at-offset s (from + size) 0))
+    ≡ new-reference agreed holding earlier i (p .0) from (take size (drop from s)) (at-offset s (from + size) 0))
     × (p .0 < 2048) × (at < from) × (from + size ≤ length s) × (size < 65536)
 Spells s h width at (spelled.Cached p) =
     ((agreed : Coding) (holding : ℕ → Held) (earlier : List Reference) (i : ℕ)
@@ -105,28 +103,34 @@ pub record Went (o : Answer (Reference × Position)) (t : Position) (naming : Li
   pub is : o ≡ good (reference, t)
   pub naming-is : NamingIs naming (reference ∷ earlier)
 
--- a reference judged, which goes on at t, with the table before and after it
-unfoldable pub Judges : (List Reference → ℕ → Answer (Reference × Position)) → Position → List ℕ → List ℕ → Judged → Type 0
-Judges judging t naming naming′ (judged.Refused k) = (earlier : List Reference) (i : ℕ) → NamingIs naming earlier → judging earlier i ≡ refused k i
-Judges judging t naming naming′ judged.Good = (earlier : List Reference) (i : ℕ) → NamingIs naming earlier → Went (judging earlier i) t naming′ earlier
+-- a reference of the packet s judged, as reference i after the earlier ones, with the table before and after it
+unfoldable pub JudgedAs : (List Reference → ℕ → Answer (Reference × Position)) → List ℕ → List ℕ → List ℕ → ReferenceAnswer → Type 0
+JudgedAs judging s naming naming′ (answers.Refused k) = (earlier : List Reference) (i : ℕ) → NamingIs naming earlier → judging earlier i ≡ refused k i
+JudgedAs judging s naming naming′ (answers.BadText k) = (earlier : List Reference) (i : ℕ) → NamingIs naming earlier → judging earlier i ≡ refused 5 k
+JudgedAs judging s naming naming′ (answers.Next a) =
+    (earlier : List Reference) (i : ℕ) → NamingIs naming earlier → Went (judging earlier i) (at-offset s a 0) naming′ earlier
 
--- a new reference to place p with these bytes
-unfoldable pub JudgesNew : Coding → ℕ → List ℕ → List ℕ → List ℕ → Judged → Type 0
-JudgesNew agreed p bs naming naming′ r =
-    (holding : ℕ → Held) (t : Position) → Judges (λ earlier i. new-reference agreed holding earlier i p bs t) t naming naming′ r
+-- where it is good, it is at an offset between these
+unfoldable pub GoesOn : ℕ → ℕ → ReferenceAnswer → Type 0
+GoesOn least most (answers.Refused k) = Unit {0}
+GoesOn least most (answers.BadText k) = Unit {0}
+GoesOn least most (answers.Next a) = (least ≤ a) × (a ≤ most)
 
--- a cached reference to place p
-unfoldable pub JudgesCached : (ℕ → Held) → ℕ → List ℕ → List ℕ → Judged → Type 0
-JudgesCached holding p naming naming′ r =
-    (agreed : Coding) (t : Position) → Judges (λ earlier i. cached-reference agreed holding earlier i p t) t naming naming′ r
+-- a new reference to place p, with so many bytes of text from `from` on
+pub record JudgesNew (agreed : Coding) (s : List ℕ) (p from size : ℕ) (naming naming′ : List ℕ) (r : ReferenceAnswer) : Type 0 where
+  pub judged : (holding : ℕ → Held)
+      → JudgedAs (λ earlier i. new-reference agreed holding earlier i p from (take size (drop from s)) (at-offset s (from + size) 0)) s naming naming′ r
+  pub ends : GoesOn (from + size) (from + size) r
+
+-- a cached reference to place p that ends at `end`
+pub record JudgesCached (holding : ℕ → Held) (p end : ℕ) (naming naming′ : List ℕ) (r : ReferenceAnswer) : Type 0 where
+  pub judged : (agreed : Coding) (s : List ℕ) → JudgedAs (λ earlier i. cached-reference agreed holding earlier i p (at-offset s end 0)) s naming naming′ r
+  pub ends : GoesOn end end r
 
 -- the reference at `at`, read and judged
-unfoldable pub ReferenceIs : Coding → (ℕ → Held) → List ℕ → ℕ → ℕ → ℕ → List ℕ → List ℕ → ReferenceAnswer → Type 0
-ReferenceIs agreed holding s h width at naming naming′ (answers.Refused k) =
-    (earlier : List Reference) (i : ℕ) → NamingIs naming earlier → reference-from agreed holding s h width at earlier i ≡ refused k i
-ReferenceIs agreed holding s h width at naming naming′ (answers.Next a) =
-    ((earlier : List Reference) (i : ℕ) → NamingIs naming earlier → Went (reference-from agreed holding s h width at earlier i) (at-offset s a 0) naming′ earlier)
-    × (at < a) × (a ≤ length s)
+pub record ReferenceIs (agreed : Coding) (holding : ℕ → Held) (s : List ℕ) (h width at : ℕ) (naming naming′ : List ℕ) (r : ReferenceAnswer) : Type 0 where
+  pub judged : JudgedAs (reference-from agreed holding s h width at) s naming naming′ r
+  pub ends : GoesOn (at + 1) (length s) r
 
 -- references are read, and reading goes on at offset a of s
 pub record Reads (o : Answer (List Reference × Position)) (s : List ℕ) (a : ℕ) : Type 0 where

@@ -50,15 +50,10 @@ enum PlaceText {
     Text,
 }
 
-// A reference judged: the number of its refusal, or that it is good.
-enum Judged {
-    Refused(u8),
-    Good,
-}
-
-// A reference read and judged: the number of its refusal, or the offset past it.
+// A reference judged: the number of its refusal, the offset at which its text fails, or the offset past it.
 enum ReferenceAnswer {
     Refused(u8),
+    BadText(usize),
     Next(usize),
 }
 
@@ -192,7 +187,7 @@ fn held_at(cache: &[u8], cache_lengths: &[u16], place: Place) -> PlaceText
     }
     let from = sizes::PLACE_BYTES * k;
     let end = from + size;
-    if text::is_text(&cache[from..end], true) {
+    if text::is_utf8(&cache[from..end]) {
         return PlaceText::Text;
     }
     PlaceText::Bad
@@ -206,40 +201,46 @@ fn judge_new(
     from: usize,
     size: usize,
     naming: &mut [u8],
-) -> Judged
+) -> ReferenceAnswer
     requires { ⌜ (place .0 < 2048) × (from + size ≤ length (now packet)) × (size < 65536) × (length (now naming) ≡ 2048) ⌝ }
-    ensures { λ r. ⌜ JudgesNew (coding-of utf8) (place .0) (take size (drop from (now (packet .entry)))) (now (naming .entry)) (now (naming .exit)) r ⌝ }
+    ensures { λ r. ⌜ JudgesNew (coding-of utf8) (now (packet .entry)) (place .0) from size (now (naming .entry)) (now (naming .exit)) r ⌝ }
 {
     let k = place.0;
     if naming[k] != UNNAMED {
-        return Judged::Refused(refusals::NAMED_AGAIN);
+        return ReferenceAnswer::Refused(refusals::NAMED_AGAIN);
     }
     let end = from + size;
-    if !text::is_text(&packet[from..end], utf8) {
-        return Judged::Refused(refusals::TEXT);
+    if let text::Checked::Bad(bad) = text::check_text(&packet[from..end], utf8) {
+        return ReferenceAnswer::BadText(from + bad);
     }
     if sizes::PLACE_BYTES < stored_length(utf8, packet, from, size) {
-        return Judged::Refused(refusals::LONG_TEXT);
+        return ReferenceAnswer::Refused(refusals::LONG_TEXT);
     }
     naming[k] = FILLED;
-    Judged::Good
+    ReferenceAnswer::Next(end)
 }
 
-// Judges a cached reference: 22, 21, 14.
-fn judge_cached(cache: &[u8], cache_lengths: &[u16], place: Place, naming: &mut [u8]) -> Judged
+// Judges a cached reference that ends at `end`: 22, 21, 14.
+fn judge_cached(
+    cache: &[u8],
+    cache_lengths: &[u16],
+    place: Place,
+    end: usize,
+    naming: &mut [u8],
+) -> ReferenceAnswer
     requires { ⌜ (place .0 < 2048) × CacheSized (cache-of (now cache) (now «cache_lengths»)) × (length (now naming) ≡ 2048) ⌝ }
-    ensures { λ r. ⌜ JudgesCached (held (cache-of (now (cache .entry)) (now («cache_lengths» .entry)))) (place .0) (now (naming .entry)) (now (naming .exit)) r ⌝ }
+    ensures { λ r. ⌜ JudgesCached (held (cache-of (now (cache .entry)) (now («cache_lengths» .entry)))) (place .0) end (now (naming .entry)) (now (naming .exit)) r ⌝ }
 {
     let k = place.0;
     if naming[k] == FILLED {
-        return Judged::Refused(refusals::NAMED_AGAIN);
+        return ReferenceAnswer::Refused(refusals::NAMED_AGAIN);
     }
     match held_at(cache, cache_lengths, place) {
-        PlaceText::Empty => Judged::Refused(refusals::EMPTY_PLACE),
-        PlaceText::Bad => Judged::Refused(refusals::STATE),
+        PlaceText::Empty => ReferenceAnswer::Refused(refusals::EMPTY_PLACE),
+        PlaceText::Bad => ReferenceAnswer::Refused(refusals::STATE),
         PlaceText::Text => {
             naming[k] = NAMED;
-            Judged::Good
+            ReferenceAnswer::Next(end)
         }
     }
 }
@@ -260,18 +261,8 @@ fn judge_reference(
 {
     match read_reference(packet, half, width, at) {
         Spelled::Cut => ReferenceAnswer::Refused(refusals::CUT),
-        Spelled::New { place, from, size } => {
-            match judge_new(utf8, packet, place, from, size, naming) {
-                Judged::Refused(number) => ReferenceAnswer::Refused(number),
-                Judged::Good => ReferenceAnswer::Next(from + size),
-            }
-        }
-        Spelled::Cached { place } => {
-            match judge_cached(cache, cache_lengths, place, naming) {
-                Judged::Refused(number) => ReferenceAnswer::Refused(number),
-                Judged::Good => ReferenceAnswer::Next(at + 1),
-            }
-        }
+        Spelled::New { place, from, size } => judge_new(utf8, packet, place, from, size, naming),
+        Spelled::Cached { place } => judge_cached(cache, cache_lengths, place, at + 1, naming),
     }
 }
 
@@ -308,6 +299,12 @@ fn check_references(
                 return References::Refused(Refusal {
                     number: number,
                     place: i,
+                });
+            }
+            ReferenceAnswer::BadText(place) => {
+                return References::Refused(Refusal {
+                    number: refusals::TEXT,
+                    place: place,
                 });
             }
             ReferenceAnswer::Next(offset) => {

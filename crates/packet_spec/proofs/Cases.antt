@@ -100,15 +100,22 @@ pub record Examples : Type 0 where
   pub new-cached : answer fresh (131 ∷ 68 ∷ 2 ∷ 8 ∷ 0 ∷ 7 ∷ 0 ∷ 7 ∷ []) ≡ refused 22 1
   pub cached-new : answer seven-held (131 ∷ 68 ∷ 2 ∷ 128 ∷ 0 ∷ 7 ∷ 7 ∷ 0 ∷ []) ≡ refused 22 1
   pub cached-cached : answer seven-held (131 ∷ 68 ∷ 2 ∷ 0 ∷ 0 ∷ 7 ∷ 7 ∷ []) ≡ good (payload-at 7 0)
-  -- a new reference's text: 5, and 23 for 33 letters
-  pub not-utf-8 : answer fresh (131 ∷ 68 ∷ 2 ∷ 136 ∷ 0 ∷ 7 ∷ 0 ∷ 8 ∷ 1 ∷ 255 ∷ []) ≡ refused 5 1
+  -- a new reference's text: 5 at the bad byte, counted from the packet's first, and 23 for 33 letters
+  pub not-utf-8 : answer fresh (131 ∷ 68 ∷ 2 ∷ 136 ∷ 0 ∷ 7 ∷ 0 ∷ 8 ∷ 1 ∷ 255 ∷ []) ≡ refused 5 9
   pub too-long : answer fresh (131 ∷ 68 ∷ 2 ∷ 136 ∷ 0 ∷ 7 ∷ 0 ∷ 8 ∷ 33 ∷ replicate 33 97) ≡ refused 23 1
+  -- 5 at a byte that cannot go on, at the first byte of a character that the text's end cuts off, after ids and with long lengths, and at the 256th
+  -- character in either coding
+  pub cannot-go-on : answer fresh (131 ∷ 68 ∷ 1 ∷ 8 ∷ 7 ∷ 2 ∷ 195 ∷ 97 ∷ []) ≡ refused 5 7
+  pub cut-off : answer fresh (131 ∷ 68 ∷ 1 ∷ 8 ∷ 7 ∷ 2 ∷ 97 ∷ 195 ∷ 169 ∷ []) ≡ refused 5 7
+  pub after-ids : answer fresh (131 ∷ 69 ∷ ids-of 7 2 (1 ∷ 24 ∷ 7 ∷ 0 ∷ 1 ∷ 255 ∷ [])) ≡ refused 5 23
+  pub characters-256 : answer fresh (131 ∷ 68 ∷ 1 ∷ 24 ∷ 7 ∷ 1 ∷ 0 ∷ replicate 256 97) ≡ refused 5 262
+  pub latin-256 : latin-answer (131 ∷ 68 ∷ 1 ∷ 24 ∷ 7 ∷ 1 ∷ 0 ∷ replicate 256 97) ≡ refused 5 262
   -- 22 comes before 5, 5 before 23, and a header's refusals before 12
   pub named-not-utf-8 : answer fresh (131 ∷ 68 ∷ 2 ∷ 136 ∷ 0 ∷ 7 ∷ 0 ∷ 7 ∷ 1 ∷ 255 ∷ []) ≡ refused 22 1
-  pub long-not-utf-8 : answer fresh (131 ∷ 68 ∷ 1 ∷ 8 ∷ 7 ∷ 33 ∷ (replicate 32 97 ++ (255 ∷ []))) ≡ refused 5 0
+  pub long-not-utf-8 : answer fresh (131 ∷ 68 ∷ 1 ∷ 8 ∷ 7 ∷ 33 ∷ (replicate 32 97 ++ (255 ∷ []))) ≡ refused 5 38
   pub empty-over : answer fresh (131 ∷ 68 ∷ 2 ∷ 8 ∷ 0 ∷ 7 ∷ 0 ∷ 8 ∷ replicate 65537 106) ≡ refused 21 1
   -- a byte that is no UTF-8 is a character in Latin-1, stored as UTF-8
-  pub utf-8-agreed : answer fresh (131 ∷ 68 ∷ 1 ∷ 8 ∷ 7 ∷ 1 ∷ 233 ∷ []) ≡ refused 5 0
+  pub utf-8-agreed : answer fresh (131 ∷ 68 ∷ 1 ∷ 8 ∷ 7 ∷ 1 ∷ 233 ∷ []) ≡ refused 5 6
   pub latin-agreed : latin-answer (131 ∷ 68 ∷ 1 ∷ 8 ∷ 7 ∷ 1 ∷ 233 ∷ []) ≡ good (payload-at 7 0)
   pub latin-stored : holds-text (latin-cache (131 ∷ 68 ∷ 1 ∷ 8 ∷ 7 ∷ 1 ∷ 233 ∷ [])) 7 ≡ text (195 ∷ 169 ∷ [])
   -- a cached reference: 21 for an empty place, 14 for a length over 32 and for what is no UTF-8
@@ -180,6 +187,11 @@ examples = record {
   cached-cached = refl;
   not-utf-8 = refl;
   too-long = refl;
+  cannot-go-on = refl;
+  cut-off = refl;
+  after-ids = refl;
+  characters-256 = refl;
+  latin-256 = refl;
   named-not-utf-8 = refl;
   long-not-utf-8 = refl;
   empty-over = refl;

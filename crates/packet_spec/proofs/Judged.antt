@@ -8,14 +8,14 @@ use lib.Dec.{eqb, leb}
 use lib.ListN.{length, take, length-take}
 use borrow.Author.Tests.{eqb-true, eqb-false, leb-true, not-true}
 use Rattle.term_spec.specs.Text.{Coding, utf-8, Checked, valid, invalid-at, check, Characters}
-use Rattle.term_spec.specs.Answer.{Answer, good, refused, Position, Reading, after}
+use Rattle.term_spec.specs.Answer.{Answer, good, refused, Position, Reading, after, bytes, number}
 use Rattle.term_spec.specs.Message.{version, result-of}
 use Rattle.term_spec.specs.Numbers.{Under}
 use Rattle.term_spec.proofs.Text.{utf8-encodes, check-characters}
 use Rattle.term_spec.proofs.Holds.{Holds, Fine, bind, done-holds, refused-holds, rule-holds, text-holds, byte-holds, bytes-holds, number-holds, next, weaken}
 use Rattle.packet_spec.specs.declared.Pending.{Pending}
 use Rattle.packet_spec.specs.Memory.{Cache, Memory, Held, nothing, no-text, text, text-if, held-as, held, memory-of-size, record-true}
-use Rattle.packet_spec.specs.Header.{Reference, half, is-new, place-at, named, filled, held-or, new-reference, cached-reference, text-field, reference, references, header}
+use Rattle.packet_spec.specs.Header.{Reference, half, is-new, place-at, named, filled, held-or, new-reference, cached-reference, reference, references, header}
 use Rattle.packet_spec.specs.Packet.{Kind, normal, starting, continuing, ids, packet-kind, preamble, Packet, plain, start, continuation, payload-after, rest, packet, judged}
 
 -- a text of 32 bytes at most, in UTF-8
@@ -67,12 +67,12 @@ held-or-holds i no-text s q = refused-holds 14 i
 held-or-holds i (text bs) s q = done-holds bs s (q bs refl)
 
 module _ (agreed : Coding) (holding : ℕ → Held) (texts : Texts holding) where
-  new-holds : (earlier : List Reference) (i place : ℕ) (bs : List ℕ) (t₂ : Position) → place < 2048 → Under 256 bs → Fine 0 t₂
-      → Holds (new-reference agreed holding earlier i place bs t₂) (λ r t. Sound earlier r × Fine 0 t)
+  new-holds : (earlier : List Reference) (i place first : ℕ) (bs : List ℕ) (t₂ : Position) → place < 2048 → Under 256 bs → Fine 0 t₂
+      → Holds (new-reference agreed holding earlier i place first bs t₂) (λ r t. Sound earlier r × Fine 0 t)
   unfolding new-reference
-  new-holds earlier i place bs t₂ p u f₂ =
+  new-holds earlier i place first bs t₂ p u f₂ =
       bind (rule-holds (not (named place earlier)) 22 i t₂ λ apart.
-      bind (text-holds (check agreed bs) 5 i t₂ λ cs e.
+      bind (text-holds (check agreed bs) 5 _ t₂ λ cs e.
       bind (rule-holds _ 23 i t₂ λ l.
       done-holds _ t₂ (
         record {
@@ -102,18 +102,18 @@ module _ (agreed : Coding) (holding : ℕ → Held) (texts : Texts holding) wher
 
   reference-holds : (width : ℕ) (earlier : List Reference) (i h : ℕ) (s : Position) → Fine 0 s
       → Holds (reference agreed holding width earlier i h s) (λ r t. Sound earlier r × Fine 0 t)
-  unfolding reference place-at text-field
+  unfolding reference place-at
   reference-holds width earlier i h s f =
       bind (byte-holds i s f λ internal t b g. go (is-new h) internal t b g)
     where
       go : (new : Bool) (internal : ℕ) (t : Position) → internal < 256 → Fine 0 t
           → Holds ((elim new as (λ _. Reading Reference) [
-            | true ↦ λ s. after (text-field i width s) (new-reference agreed holding earlier i (place-at h internal))
+            | true ↦ λ s. after (number i width s) (λ size t. after (bytes i size t) (new-reference agreed holding earlier i (place-at h internal) (t .at)))
             | false ↦ cached-reference agreed holding earlier i (place-at h internal)
           ]) t) (λ r u. Sound earlier r × Fine 0 u)
       go true internal t b g =
-          bind (bind (number-holds i width t g λ size t₁ _ f₁.
-          bytes-holds i size t₁ f₁ λ bs t₂ _ u f₂. new-holds earlier i (place-at h internal) bs t₂ (omega arith) u f₂))
+          bind (number-holds i width t g λ size t₁ _ f₁.
+          bind (bytes-holds i size t₁ f₁ λ bs t₂ _ u f₂. new-holds earlier i (place-at h internal) (t₁ .at) bs t₂ (omega arith) u f₂))
       go false internal t b g = cached-holds earlier i (place-at h internal) t (omega arith) g
 
   references-holds : (flags : List ℕ) (width : ℕ) (earlier : List Reference) (i more : ℕ) (s : Position) → Fine 0 s

@@ -16,7 +16,7 @@ use Rattle.term_spec.specs.Canonical.{big-bytes, integer-bytes, atom-bytes, tup
 use Rattle.term_spec.specs.Writing.{Written, written, write}
 use Rattle.packet_spec.specs.declared.Pending.{Pending}
 use Rattle.packet_spec.specs.Memory.{Memory, cache-of-size, memory-of-size, record-true, none-pending, empty-cache, text-if, held-as, Held, held, text}
-use Rattle.packet_spec.specs.Header.{flag-bytes, half, is-new, place-at, length-width, named, filled, held-or, text-field, new-reference, cached-reference, reference, references, header}
+use Rattle.packet_spec.specs.Header.{flag-bytes, half, is-new, place-at, length-width, named, filled, held-or, new-reference, cached-reference, reference, references, header}
 use Rattle.packet_spec.specs.Packet.{ids, packet-kind, preamble, payload-after, rest, packet, judged}
 use Rattle.packet_spec.specs.Calls.{zeros-to, enter, entered, texts-in-places, lengths-of, list-of, record-after, told-after, told, left-by, Outcome, payload-at, pending-still, complete, take-packet, after-packet}
 
@@ -34,7 +34,7 @@ fresh =
 -- what a packet answers with a memory, in UTF-8, and what it leaves
 -- (the definitions after `unfolding` are those that computing it goes through)
 unfoldable pub answer : Memory → List ℕ → Answer Outcome
-unfolding big-endian holds lines marker first emit decode check encode encodes bytes number text-or version of-size cache-of-size memory-of-size record-true empty-cache text-if held-as held flag-bytes half is-new place-at length-width named filled held-or text-field new-reference cached-reference reference references header ids packet-kind preamble payload-after rest packet judged zeros-to enter entered texts-in-places lengths-of list-of record-after told-after told left-by take-packet after-packet
+unfolding big-endian holds lines marker first emit decode check encode encodes bytes number text-or version of-size cache-of-size memory-of-size record-true empty-cache text-if held-as held flag-bytes half is-new place-at length-width named filled held-or new-reference cached-reference reference references header ids packet-kind preamble payload-after rest packet judged zeros-to enter entered texts-in-places lengths-of list-of record-after told-after told left-by take-packet after-packet
 answer m bs = take-packet utf-8 m bs
 
 unfoldable pub then : Memory → List ℕ → Memory

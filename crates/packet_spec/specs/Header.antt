@@ -5,7 +5,7 @@ use Prim.Native.Nat.{ℕ, zero, suc, _+_, _*_, _/_, _%_}
 use lib.Dec.{eqb, leb}
 use lib.ListN.{length, getD}
 use Rattle.term_spec.specs.Text.{Coding, check, encodes}
-use Rattle.term_spec.specs.Answer.{Reading, _>>=_, _>>_, done, refuse, rule, byte, bytes, number}
+use Rattle.term_spec.specs.Answer.{Reading, _>>=_, _>>_, done, refuse, here, rule, byte, bytes, number}
 use Rattle.term_spec.specs.Head.{text-or}
 use Rattle.packet_spec.specs.Memory.{Held, nothing, no-text, text}
 
@@ -51,20 +51,14 @@ held-or i nothing = refuse 21 i
 held-or i no-text = refuse 14 i
 held-or i (text bs) = done bs
 
--- A new reference goes on with length, text: 2
-unfoldable pub text-field : ℕ → ℕ → Reading (List ℕ)
-text-field i width = do
-  size ← number i width
-  bytes i size
-
 -- With the coding agreed, Latin-1 or UTF-8 as the caller states, and what the places of the cache hold. A refusal's place is the number of the
--- reference, i
+-- reference, i; that of 5 the offset of the byte at which the text fails, counted from the packet's first byte
 module _ (agreed : Coding) (holding : ℕ → Held) where
-  -- A new reference, its text in these bytes: 22 (at the later one), 5, 23. Text is stored as UTF-8
-  unfoldable pub new-reference : List Reference → ℕ → ℕ → List ℕ → Reading Reference
-  new-reference earlier i place bs = do
+  -- A new reference, its text in these bytes, the first at `first`: 22 (at the later one), 5, 23. Text is stored as UTF-8
+  unfoldable pub new-reference : List Reference → ℕ → ℕ → ℕ → List ℕ → Reading Reference
+  new-reference earlier i place first bs = do
     rule (not (named place earlier)) 22 i
-    cs ← text-or (check agreed bs) 5 i
+    cs ← text-or (check agreed bs) 5 (λ k. first + k)
     rule (leb (length (encodes cs)) 32) 23 i
     done (record { place = place; new = true; text = encodes cs })
 
@@ -81,8 +75,10 @@ module _ (agreed : Coding) (holding : ℕ → Held) where
     internal ← byte i
     elim (is-new h) [
       | true ↦ do
-        bs ← text-field i width
-        new-reference earlier i (place-at h internal) bs
+        size ← number i width
+        first ← here
+        bs ← bytes i size
+        new-reference earlier i (place-at h internal) first bs
       | false ↦ cached-reference earlier i (place-at h internal)
     ]
 

@@ -53,7 +53,7 @@ module _ (atoms : AtomList) (m : List ℕ) (at r : ℕ) (less : at < length m) w
   unfolding fields
   text-ended tag w c k f e =
       bind (number-here m at w (at + 1) r (omega arith) λ a. bind (bytes-here m at (value m w (at + 1)) (at + 1 + w) r a λ b.
-      bind (text-holds (check c (stretch m (at + 1 + w) (value m w (at + 1)))) 5 at _ λ cs h.
+      bind (text-holds (check c (stretch m (at + 1 + w) (value m w (at + 1)))) 5 _ _ λ cs h.
       done-holds _ _ (atom-ends m at w _ less (ap text-width e ∙ f) (end-there m at w _ refl k b)))))
 
   node-ended : (tag : ℕ) (f : Form) → Atom-form tag f → getD m at 0 ≡ tag → Ended f
@@ -61,7 +61,7 @@ module _ (atoms : AtomList) (m : List ℕ) (at r : ℕ) (less : at < length m) w
   node-ended tag f is-82 e =
       let q : at + 1 + 1 ≡ at + 2 = omega arith in
       bind (number-here m at 1 (at + 1) r (omega arith) λ a. bind (rule-holds (ltb (value m 1 (at + 1)) (atoms-of atoms .n)) 6 at _ λ g.
-      bind (text-holds (atoms-of atoms .text (value m 1 (at + 1))) 14 0 _ λ cs h.
+      bind (text-holds (atoms-of atoms .text (value m 1 (at + 1))) 14 _ _ λ cs h.
       done-holds _ _ (q ∙ atom-ends m at 0 _ less (ap text-width e) (end-listed m at)))))
   node-ended tag f is-100 e = text-ended 100 2 latin-1 (omega arith) refl e
   node-ended tag f is-115 e = text-ended 115 1 latin-1 (omega arith) refl e
@@ -165,7 +165,7 @@ module _ (atoms : AtomList) (m : List ℕ) (l : Lent atoms m) (cap p : ℕ) (les
     unfolding fields kind-of
     latin-row tag w k f g e =
         bind (number-here m p w (p + 1) r (omega arith) λ a. bind (bytes-here m p (value m w (p + 1)) (p + 1 + w) r a λ b.
-        bind (text-holds (check latin-1 (stretch m (p + 1 + w) (value m w (p + 1)))) 5 p _ λ cs h.
+        bind (text-holds (check latin-1 (stretch m (p + 1 + w) (value m w (p + 1)))) 5 _ _ λ cs h.
         done-holds _ _ (leaf-told _ _ (atom-says tag e _ (Text true false (p + 1 + w) (value m w (p + 1)))
         (text-there m p w _ true refl b ∙ tag-text m p (atoms .places) (atoms .lengths) tag w true f k g)
         (latin-says atoms m 3 (p + 1 + w) (value m w (p + 1)) cs (l .under) b h))))))
@@ -174,7 +174,7 @@ module _ (atoms : AtomList) (m : List ℕ) (l : Lent atoms m) (cap p : ℕ) (les
     unfolding fields kind-of
     utf8-row tag w k f g e =
         bind (number-here m p w (p + 1) r (omega arith) λ a. bind (bytes-here m p (value m w (p + 1)) (p + 1 + w) r a λ b.
-        bind (text-holds (check utf-8 (stretch m (p + 1 + w) (value m w (p + 1)))) 5 p _ λ cs h.
+        bind (text-holds (check utf-8 (stretch m (p + 1 + w) (value m w (p + 1)))) 5 _ _ λ cs h.
         done-holds _ _ (leaf-told _ _ (atom-says tag e _ (Text false false (p + 1 + w) (value m w (p + 1)))
         (text-there m p w _ false refl b ∙ tag-text m p (atoms .places) (atoms .lengths) tag w false f k g)
         (utf8-says atoms m 3 false (p + 1 + w) (value m w (p + 1)) cs b h))))))
@@ -183,7 +183,7 @@ module _ (atoms : AtomList) (m : List ℕ) (l : Lent atoms m) (cap p : ℕ) (les
     unfolding fields kind-of atoms-of place-bytes place-length
     row-82 e =
         bind (number-here m p 1 (p + 1) r (omega arith) λ a. bind (rule-holds (ltb (value m 1 (p + 1)) (atoms .n)) 6 p _ λ g.
-        bind (text-holds (place-text atoms (value m 1 (p + 1))) 14 0 _ λ cs h.
+        bind (text-holds (place-text atoms (value m 1 (p + 1))) 14 _ _ λ cs h.
         let i : ℕ = value m 1 (p + 1) in
         let z = sizes-of atoms (l .sized) in
         let v = place-valid atoms i cs h in

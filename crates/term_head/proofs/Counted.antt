@@ -11,10 +11,10 @@ use Rattle.term_spec.proofs.Tests.{by-less}
 use Rattle.octets.specs.Parts.{value, counted-end}
 use Rattle.octets.proofs.Counted.{past-some, past-none}
 
--- n in w bytes, then n bytes, of which k makes a head
+-- n in w bytes, then n bytes, of which, with the first one's offset, k makes a head
 module _ (m : List ℕ) (at w rows : ℕ) (inside : at < length m) (k : ℕ → List ℕ → Reading head-spec.Head) where
   abbrev plain : Answer (head-spec.Head × Position)
-  plain = after (number at w (at-offset m (at + 1) rows)) (λ n. λ s. after (bytes at n s) (k n))
+  plain = after (number at w (at-offset m (at + 1) rows)) (λ n. λ s. after (bytes at n s) (k (s .at)))
 
   pub plain-cut : {end : ℕ} → end ≡ counted-end m at w 0 → end ≡ 0 → plain ≡ refused 2 at
   plain-cut e z =
@@ -23,7 +23,7 @@ module _ (m : List ℕ) (at w rows : ℕ) (inside : at < length m) (k : ℕ → 
       (λ over. rw (number-at m at w (at + 1) rows (omega arith), bytes-end m at (value m w (at + 1)) (at + 1 + w) rows (omega arith) (omega arith)))
 
   pub plain-there : {end : ℕ} → end ≡ counted-end m at w 0 → (end ≡ 0 → ⊥)
-      → plain ≡ k (end - (at + 1 + w)) (take (end - (at + 1 + w)) (drop (at + 1 + w) m)) (at-offset m end rows)
+      → plain ≡ k (at + 1 + w) (take (end - (at + 1 + w)) (drop (at + 1 + w) m)) (at-offset m end rows)
   plain-there {end} e some =
       let there = past-some m at w 0 e some in
       let c : end - (at + 1 + w) ≡ value m w (at + 1) = omega (arith, there .0) in

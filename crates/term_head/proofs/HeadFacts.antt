@@ -114,7 +114,7 @@ module _ (atoms : Atoms) (p : ℕ) where
   shape integer-ext s = skip (number p 4 s) λ n t. done-holds _ t (full _ _ _ no-part)
   shape new-float-ext s = skip (number p 8 s) λ n t. skip (rule (finite n) 4 p t) λ _ t. done-holds _ t (full _ _ _ no-part)
   shape atom-cache-ref s =
-      skip (number p 1 s) λ n t. skip (rule (ltb n (atoms .n)) 6 p t) λ _ t. skip (text-or (atoms .text n) 14 0 t) λ cs t.
+      skip (number p 1 s) λ n t. skip (rule (ltb n (atoms .n)) 6 p t) λ _ t. skip (text-or (atoms .text n) 14 _ t) λ cs t.
       done-holds _ t (full _ _ _ no-part)
   shape nil-ext s = done-holds _ s (record { wanting = tt; other = λ _. refl })
   shape string-ext s = skip (number p 2 s) λ n t. skip (bytes p n t) λ bs t. done-holds _ t (record { wanting = tt; other = λ _. refl })
@@ -132,7 +132,7 @@ module _ (atoms : Atoms) (p : ℕ) where
   shape (tuple-ext w) s = skip (number p w s) λ n t. done-holds _ t (full _ _ _ no-part)
   shape (pid-ext w) s = done-holds _ s (full _ _ _ one-node)
   shape (new-reference-ext w) s = skip (number p 2 s) λ n t. skip (rule (leb 1 n && leb n 3) 4 p t) λ _ t. done-holds _ t (full _ _ _ one-node)
-  shape (atom-ext c w) s = skip (number p w s) λ n t. skip (bytes p n t) λ bs t. skip (text-or (check c bs) 5 p t) λ cs t. done-holds _ t (full _ _ _ no-part)
+  shape (atom-ext c w) s = skip (number p w s) λ n t. skip (bytes p n t) λ bs t. skip (text-or (check c bs) 5 _ t) λ cs t. done-holds _ t (full _ _ _ no-part)
   shape (port-ext v w) s = done-holds _ s (full _ _ _ one-node)
 
 -- what a head wants

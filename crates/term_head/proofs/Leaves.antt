@@ -59,22 +59,22 @@ module _ (atoms : Atoms) (m : List ℕ) (at rows : ℕ) (inside : at < length m)
 
   pub string-cut : (end : ℕ) → end ≡ counted-end m at 2 0 → end ≡ 0 → Refused 2 at ≡ fields-of atoms m at string-ext rows
   unfolding fields-of fields head-of
-  string-cut end c z = sym (ap head-of (plain-cut m at 2 rows inside (λ n bs. done (characters bs)) c z))
+  string-cut end c z = sym (ap head-of (plain-cut m at 2 rows inside (λ first bs. done (characters bs)) c z))
 
   pub string-there : (end : ℕ) → end ≡ counted-end m at 2 0 → (end ≡ 0 → ⊥) → Characters (end - at - 3) end ≡ fields-of atoms m at string-ext rows
   unfolding fields-of fields head-of head-at
   string-there end c some =
       let near = past-some m at 2 0 c some in
       let n : end - at - 3 ≡ length (take (end - (at + 1 + 2)) (drop (at + 1 + 2) m)) = sym (length-part m (at + 1 + 2) (end - (at + 1 + 2)) (omega (arith, near .0, near .1)) ∙ omega arith) in
-      ap (λ (k : ℕ). Characters k end) n ∙ sym (ap head-of (plain-there m at 2 rows inside (λ n bs. done (characters bs)) c some))
+      ap (λ (k : ℕ). Characters k end) n ∙ sym (ap head-of (plain-there m at 2 rows inside (λ first bs. done (characters bs)) c some))
 
   pub binary-cut : (end : ℕ) → end ≡ counted-end m at 4 0 → end ≡ 0 → Refused 2 at ≡ fields-of atoms m at binary-ext rows
   unfolding fields-of fields head-of
-  binary-cut end c z = sym (ap head-of (plain-cut m at 4 rows inside (λ n bs. done (leaf (binary bs))) c z))
+  binary-cut end c z = sym (ap head-of (plain-cut m at 4 rows inside (λ first bs. done (leaf (binary bs))) c z))
 
   pub binary-there : (end : ℕ) → end ≡ counted-end m at 4 0 → (end ≡ 0 → ⊥) → Parts 7 0 0 Known end ≡ fields-of atoms m at binary-ext rows
   unfolding fields-of fields head-of head-at kind-later kind-of later-of
-  binary-there end c some = sym (ap head-of (plain-there m at 4 rows inside (λ n bs. done (leaf (binary bs))) c some))
+  binary-there end c some = sym (ap head-of (plain-there m at 4 rows inside (λ first bs. done (leaf (binary bs))) c some))
 
   module _ (w end : ℕ) (c : end ≡ counted-end m at w 1) where
     abbrev big-head : ℕ → ℕ → List ℕ → Reading Head

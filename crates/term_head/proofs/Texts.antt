@@ -14,8 +14,9 @@ use Rattle.term_spec.specs.Head.{Atoms, Head, leaf, fields, text-or, atom-ext, 
 use Rattle.term_spec.specs.AtomList.{place-text, atoms-of, lent-list}
 use Rattle.term_spec.specs.Rows.{kind-of}
 use Rattle.term_spec.proofs.Bridge.{number-at, number-end}
-use Rattle.text.specs.Shown.{is-valid}
-use Rattle.text.proofs.Valid.{found, failed}
+use Rattle.text.specs.Shown.{shown, is-valid}
+use Rattle.text.specs.declared.Checked.the-variants.{Text, Bad}
+use Rattle.text.proofs.Valid.{is-text, is-bad, found, failed}
 use Rattle.term_head.specs.declared.Later.the-variants.{Known}
 use Rattle.term_head.specs.declared.Head.the-variants.{Refused, Parts}
 use Rattle.octets.specs.Parts.{counted-end}
@@ -24,8 +25,8 @@ use Rattle.term_head.specs.Code.{head-of, head-at, fields-of, kind-later
 
 module _ (atoms : Atoms) (m : List ℕ) (at rows : ℕ) (inside : at < length m) (utf8 : Bool) (w end : ℕ) (c : end ≡ counted-end m at w 0) where
   abbrev atom-head : ℕ → List ℕ → Reading Head
-  atom-head n bs = do
-    cs ← text-or (check (coding-of utf8) bs) 5 at
+  atom-head first bs = do
+    cs ← text-or (check (coding-of utf8) bs) 5 (λ k. first + k)
     done (leaf (atom cs))
 
   pub atom-cut : end ≡ 0 → Refused 2 at ≡ fields-of atoms m at (atom-ext (coding-of utf8) w) rows
@@ -33,14 +34,15 @@ module _ (atoms : Atoms) (m : List ℕ) (at rows : ℕ) (inside : at < length m)
   atom-cut z = sym (ap head-of (plain-cut m at w rows inside atom-head c z))
 
   module _ (some : end ≡ 0 → ⊥) where
-    pub atom-bad : is-valid (check (coding-of utf8) (take (end - (at + 1 + w)) (drop (at + 1 + w) m))) ≡ false → Refused 5 at ≡ fields-of atoms m at (atom-ext (coding-of utf8) w) rows
+    pub atom-bad : (k : ℕ) → Bad k ≡ shown (check (coding-of utf8) (take (end - (at + 1 + w)) (drop (at + 1 + w) m)))
+        → Refused 5 (at + 1 + w + k) ≡ fields-of atoms m at (atom-ext (coding-of utf8) w) rows
     unfolding fields-of fields head-of text-or
-    atom-bad f = rw (plain-there m at w rows inside atom-head c some, failed (check (coding-of utf8) (take (end - (at + 1 + w)) (drop (at + 1 + w) m))) f .1)
+    atom-bad k e = rw (plain-there m at w rows inside atom-head c some, is-bad (check (coding-of utf8) (take (end - (at + 1 + w)) (drop (at + 1 + w) m))) k e)
 
-    pub atom-there : is-valid (check (coding-of utf8) (take (end - (at + 1 + w)) (drop (at + 1 + w) m))) ≡ true
+    pub atom-there : Text ≡ shown (check (coding-of utf8) (take (end - (at + 1 + w)) (drop (at + 1 + w) m)))
         → Parts 3 0 0 Known end ≡ fields-of atoms m at (atom-ext (coding-of utf8) w) rows
     unfolding fields-of fields head-of head-at kind-later kind-of later-of text-or
-    atom-there f = rw (plain-there m at w rows inside atom-head c some, found (check (coding-of utf8) (take (end - (at + 1 + w)) (drop (at + 1 + w) m))) f .1)
+    atom-there e = rw (plain-there m at w rows inside atom-head c some, is-text (check (coding-of utf8) (take (end - (at + 1 + w)) (drop (at + 1 + w) m))) e .1)
 
 module _ (n : ℕ) (places lengths : List ℕ) (m : List ℕ) (at rows : ℕ) (inside : at < length m) where
   pub cached-short : length m - at - 1 < 1 → Refused 2 at ≡ fields-of (atoms-of (lent-list n places lengths)) m at atom-cache-ref rows

@@ -371,18 +371,18 @@ fn atom(msg: &[u8], at: usize, width: usize, utf8: bool) -> Head
         };
     }
     let from = at + 1 + width;
-    if !text::is_text(&msg[from..end], utf8) {
-        return Head::Refused {
+    match text::check_text(&msg[from..end], utf8) {
+        text::Checked::Text => Head::Parts {
+            kind: kinds::ATOM,
+            wanted: 0,
+            count: 0,
+            later: Later::Known,
+            next: end,
+        },
+        text::Checked::Bad(k) => Head::Refused {
             number: refusals::TEXT,
-            place: at,
-        };
-    }
-    Head::Parts {
-        kind: kinds::ATOM,
-        wanted: 0,
-        count: 0,
-        later: Later::Known,
-        next: end,
+            place: from + k,
+        },
     }
 }
 

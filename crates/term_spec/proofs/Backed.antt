@@ -250,12 +250,12 @@ module _ (message : List ℕ) (cap : ℕ) (atoms : Atoms) where
   -- an atom's head is a leaf's
   text-leaf : (p : ℕ) (c : Coding) (w : ℕ) (s : Position) → Holds (fields atoms p (atom-ext c w) s) (λ h _. (l : Label) × (h ≡ leaf l))
   unfolding fields
-  text-leaf p c w s = skip (number p w s) λ n t. skip (bytes p n t) λ bs t. skip (text-or (check c bs) 5 p t) λ cs t. done-holds _ t (atom cs, refl)
+  text-leaf p c w s = skip (number p w s) λ n t. skip (bytes p n t) λ bs t. skip (text-or (check c bs) 5 _ t) λ cs t. done-holds _ t (atom cs, refl)
 
   atom-fields : (p tag : ℕ) (f : Form) (s : Position) → Atom-form tag f → Holds (fields atoms p f s) (λ h _. (l : Label) × (h ≡ leaf l))
   unfolding fields
   atom-fields p tag f s is-82 =
-      skip (number p 1 s) λ n t. skip (rule (ltb n (atoms .n)) 6 p t) λ _ t. skip (text-or (atoms .text n) 14 0 t) λ cs t. done-holds _ t (atom cs, refl)
+      skip (number p 1 s) λ n t. skip (rule (ltb n (atoms .n)) 6 p t) λ _ t. skip (text-or (atoms .text n) 14 _ t) λ cs t. done-holds _ t (atom cs, refl)
   atom-fields p tag f s is-100 = text-leaf p latin-1 2 s
   atom-fields p tag f s is-115 = text-leaf p latin-1 1 s
   atom-fields p tag f s is-118 = text-leaf p utf-8 2 s

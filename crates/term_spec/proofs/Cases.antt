@@ -157,7 +157,19 @@ pub record Examples : Type 0 where
   pub two-bytes : output (131 ∷ 119 ∷ 2 ∷ 0xDF ∷ 0xBF ∷ []) ≡ one (131 ∷ 119 ∷ 2 ∷ 0xDF ∷ 0xBF ∷ [])
   -- a character may end at U+D7FF, and none is a surrogate
   pub before-surrogates : output (131 ∷ 119 ∷ 3 ∷ 0xED ∷ 0x9F ∷ 0xBF ∷ []) ≡ one (131 ∷ 119 ∷ 3 ∷ 0xED ∷ 0x9F ∷ 0xBF ∷ [])
-  pub surrogate : output (131 ∷ 119 ∷ 3 ∷ 0xED ∷ 0xA0 ∷ 0x80 ∷ []) ≡ refused 5 1
+  pub surrogate : output (131 ∷ 119 ∷ 3 ∷ 0xED ∷ 0xA0 ∷ 0x80 ∷ []) ≡ refused 5 4
+  -- 5 at a byte that begins no character, in a part too; at one that cannot go on, though the text's end cuts its character off as well
+  pub begins-none : output (131 ∷ 104 ∷ 2 ∷ 97 ∷ 1 ∷ 119 ∷ 2 ∷ 97 ∷ 0xFF ∷ []) ≡ refused 5 8
+  pub cannot-go-on : output (131 ∷ 119 ∷ 2 ∷ 0xE0 ∷ 0x80 ∷ []) ≡ refused 5 4
+  -- at the first byte of a character that the text's end, which is where its length says, cuts off
+  pub cut-off : output (131 ∷ 118 ∷ 0 ∷ 2 ∷ 97 ∷ 0xC3 ∷ 0xA9 ∷ []) ≡ refused 5 5
+  -- after 254 characters at the byte that cannot go on; after 255 at the next character, in either coding
+  pub after-254 : output (131 ∷ 118 ∷ 1 ∷ 0 ∷ (replicate 254 97 ++ (0xE0 ∷ 0x80 ∷ []))) ≡ refused 5 259
+  pub after-255 : output (131 ∷ 118 ∷ 1 ∷ 1 ∷ (replicate 255 97 ++ (0xE0 ∷ 0x80 ∷ []))) ≡ refused 5 259
+  pub latin-256 : output (131 ∷ 100 ∷ 1 ∷ 0 ∷ replicate 256 233) ≡ refused 5 259
+  -- 2 comes before 5, and 5 before 9
+  pub text-cut : output (131 ∷ 119 ∷ 2 ∷ 0xFF ∷ []) ≡ refused 2 1
+  pub text-no-row : output-of 0 (119 ∷ 1 ∷ 0xFF ∷ []) ≡ refused 5 2
   -- a 120 with a small ID is a 89
   pub small-port : output-of 9 (120 ∷ 119 ∷ 0 ∷ 0 ∷ 0 ∷ 0 ∷ 0 ∷ 0 ∷ 0 ∷ 0 ∷ 5 ∷ 0 ∷ 0 ∷ 0 ∷ 9 ∷ []) ≡ one (131 ∷ 89 ∷ 119 ∷ 0 ∷ 0 ∷ 0 ∷ 0 ∷ 5 ∷ 0 ∷ 0 ∷ 0 ∷ 9 ∷ [])
   -- later fields, 2 before 4: a 103 with an ID over its limit, with no Creation and with one
@@ -193,6 +205,14 @@ examples = record {
   two-bytes = refl;
   before-surrogates = refl;
   surrogate = refl;
+  begins-none = refl;
+  cannot-go-on = refl;
+  cut-off = refl;
+  after-254 = refl;
+  after-255 = refl;
+  latin-256 = refl;
+  text-cut = refl;
+  text-no-row = refl;
   small-port = refl;
   cut-later = refl;
   bad-later = refl;

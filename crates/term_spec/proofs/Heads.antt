@@ -162,7 +162,7 @@ module _ (atoms : Atoms) (true-atoms : True-atoms atoms) where
   fields-holds p new-float-ext w s g q =
       bind (number-holds p 8 s g λ n t h g. bind (rule-holds _ 4 p t λ e. done-holds _ t (q _ t (a-leaf {l = float n} (refl, h, e) (λ x. x)) tt g)))
   fields-holds p atom-cache-ref w s g q =
-      bind (number-holds p 1 s g λ i t h g. bind (rule-holds (ltb i (atoms .n)) 6 p t λ e. bind (text-holds _ 14 0 t λ cs e.
+      bind (number-holds p 1 s g λ i t h g. bind (rule-holds (ltb i (atoms .n)) 6 p t λ e. bind (text-holds _ 14 _ t λ cs e.
       done-holds _ t (q _ t (a-leaf {l = atom cs} (refl, true-atoms i cs e .0, true-atoms i cs e .1) (λ x. x)) (cs, refl) g))))
   fields-holds p nil-ext w s g q = done-holds _ s (q _ s (a-string tt) tt g)
   fields-holds p string-ext w s g q =
@@ -181,7 +181,7 @@ module _ (atoms : Atoms) (true-atoms : True-atoms atoms) where
       bind (rule-holds (leb sign 1) 4 p u λ e. done-holds _ u (q _ u
       (a-leaf {l = integer (with-sign sign (little-endian ds))} (integer-fits (with-sign sign (little-endian ds)) n (rw (sign-magnitude sign (little-endian ds)) (rw l at (little-under ds us))) (omega arith)) (λ x. x)) tt g)))))
   fields-holds p (atom-ext coding w) ok s g q =
-      bind (number-holds p w s g λ n t h g. bind (bytes-holds p n t g λ bs u l us g. bind (text-holds _ 5 p u λ cs e.
+      bind (number-holds p w s g λ n t h g. bind (bytes-holds p n t g λ bs u l us g. bind (text-holds _ 5 _ u λ cs e.
       let ok : Characters cs × (length cs ≤ 255) = check-characters coding bs cs us e in
       done-holds _ u (q _ u (a-leaf {l = atom cs} (refl, ok .0, ok .1) (λ x. x)) (cs, refl) g))))
   fields-holds p (tuple-ext w) ok s g q = bind (number-holds p w s g λ n t h g. done-holds _ t (q _ t (a-tuple (omega arith)) tt g))

@@ -47,10 +47,10 @@ pub rule-holds : (t : Bool) (n p : ℕ) (s : Position) {Q : Unit → Position �
 rule-holds true n p s q = done-holds tt s (q refl)
 rule-holds false n p s q = refused-holds n p
 
-pub text-holds : (o : Checked) (n p : ℕ) (s : Position) {Q : List ℕ → Position → Type 0}
+pub text-holds : (o : Checked) (n : ℕ) (p : ℕ → ℕ) (s : Position) {Q : List ℕ → Position → Type 0}
     → ((cs : List ℕ) → o ≡ valid cs → Q cs s) → Holds (text-or o n p s) Q
 unfolding text-or
-text-holds (invalid-at k) n p s q = refused-holds n p
+text-holds (invalid-at k) n p s q = refused-holds n (p k)
 text-holds (valid cs) n p s q = done-holds cs s (q cs refl)
 
 module _ {r : ℕ} (p : ℕ) where
@@ -135,7 +135,7 @@ module _ (atoms : Atoms) (Q : Head → Position → Type 0) (of-parts : (ws : Li
   characters-hold p integer-ext s none some = skip (number p 4 s) λ n t. done-holds _ t (of-parts _ _ _ t)
   characters-hold p new-float-ext s none some = skip (number p 8 s) λ n t. skip (rule (finite n) 4 p t) λ _ t. done-holds _ t (of-parts _ _ _ t)
   characters-hold p atom-cache-ref s none some =
-      skip (number p 1 s) λ n t. skip (rule (ltb n (atoms .n)) 6 p t) λ _ t. skip (text-or (atoms .text n) 14 0 t) λ cs t. done-holds _ t (of-parts _ _ _ t)
+      skip (number p 1 s) λ n t. skip (rule (ltb n (atoms .n)) 6 p t) λ _ t. skip (text-or (atoms .text n) 14 _ t) λ cs t. done-holds _ t (of-parts _ _ _ t)
   characters-hold p nil-ext s none some = done-holds _ s none
   characters-hold p string-ext s none some =
       next (λ n t. Holds (bytes p n t) (λ cs u. Q (characters cs) u)) some λ n t h. next (λ cs u. Q (characters cs) u) h λ cs u q. done-holds _ u q
@@ -149,7 +149,7 @@ module _ (atoms : Atoms) (Q : Head → Position → Type 0) (of-parts : (ws : Li
   characters-hold p (big-ext w) s none some =
       skip (number p w s) λ n t. skip (number p 1 t) λ sign t. skip (bytes p n t) λ ds t. skip (rule (leb sign 1) 4 p t) λ _ t. done-holds _ t (of-parts _ _ _ t)
   characters-hold p (atom-ext coding w) s none some =
-      skip (number p w s) λ n t. skip (bytes p n t) λ bs t. skip (text-or (check coding bs) 5 p t) λ cs t. done-holds _ t (of-parts _ _ _ t)
+      skip (number p w s) λ n t. skip (bytes p n t) λ bs t. skip (text-or (check coding bs) 5 _ t) λ cs t. done-holds _ t (of-parts _ _ _ t)
   characters-hold p (tuple-ext w) s none some = skip (number p w s) λ n t. done-holds _ t (of-parts _ _ _ t)
   characters-hold p (pid-ext w) s none some = done-holds _ s (of-parts _ _ _ s)
   characters-hold p (new-reference-ext w) s none some =

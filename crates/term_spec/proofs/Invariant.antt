@@ -55,9 +55,9 @@ module _ (cap : ℕ) (I : Position → Type 0)
   rule-kept true n p s i = end tt s i
   rule-kept false n p s i = no n p
 
-  text-kept : (o : Checked) (n p : ℕ) (s : Position) → I s → Kept (text-or o n p s)
+  text-kept : (o : Checked) (n : ℕ) (p : ℕ → ℕ) (s : Position) → I s → Kept (text-or o n p s)
   unfolding text-or
-  text-kept (invalid-at k) n p s i = no n p
+  text-kept (invalid-at k) n p s i = no n (p k)
   text-kept (valid cs) n p s i = end cs s i
 
   words-kept : (p k : ℕ) (s : Position) → I s → Kept (id-words p k s)
@@ -85,7 +85,7 @@ module _ (cap : ℕ) (I : Position → Type 0)
     fields-kept p integer-ext s i = step (number-kept p 4 s i) λ n t i. end _ t i
     fields-kept p new-float-ext s i = step (number-kept p 8 s i) λ n t i. step (rule-kept (finite n) 4 p t i) λ _ t i. end _ t i
     fields-kept p atom-cache-ref s i =
-        step (number-kept p 1 s i) λ n t i. step (rule-kept (ltb n (atoms .n)) 6 p t i) λ _ t i. step (text-kept (atoms .text n) 14 0 t i) λ cs t i. end _ t i
+        step (number-kept p 1 s i) λ n t i. step (rule-kept (ltb n (atoms .n)) 6 p t i) λ _ t i. step (text-kept (atoms .text n) 14 _ t i) λ cs t i. end _ t i
     fields-kept p nil-ext s i = end _ s i
     fields-kept p string-ext s i = step (number-kept p 2 s i) λ n t i. step (bytes-kept p n t i) λ bs t i. end _ t i
     fields-kept p list-ext s i = step (number-kept p 4 s i) λ n t i. end _ t i
@@ -100,7 +100,7 @@ module _ (cap : ℕ) (I : Position → Type 0)
         step (number-kept p w s i) λ n t i. step (number-kept p 1 t i) λ sign t i. step (bytes-kept p n t i) λ ds t i.
         step (rule-kept (leb sign 1) 4 p t i) λ _ t i. end _ t i
     fields-kept p (atom-ext coding w) s i =
-        step (number-kept p w s i) λ n t i. step (bytes-kept p n t i) λ bs t i. step (text-kept _ 5 p t i) λ cs t i. end _ t i
+        step (number-kept p w s i) λ n t i. step (bytes-kept p n t i) λ bs t i. step (text-kept _ 5 _ t i) λ cs t i. end _ t i
     fields-kept p (tuple-ext w) s i = step (number-kept p w s i) λ n t i. end _ t i
     fields-kept p (pid-ext w) s i = end _ s i
     fields-kept p (new-reference-ext w) s i = step (number-kept p 2 s i) λ n t i. step (rule-kept (leb 1 n && leb n 3) 4 p t i) λ _ t i. end _ t i

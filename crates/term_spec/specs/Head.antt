@@ -2,7 +2,7 @@
 use mathlib.Core.Bool.{Bool, true, false, not, _&&_, _||_}
 use mathlib.Core.List.{List, [], _∷_}
 use mathlib.Core.Option.{Option, none, some}
-use Prim.Native.Nat.{ℕ, zero, suc, _-_, _/_, _%_, _^_}
+use Prim.Native.Nat.{ℕ, zero, suc, _+_, _-_, _/_, _%_, _^_}
 use lib.Dec.{eqb, leb, ltb}
 use lib.IntN.{pos}
 use Rattle.term_spec.specs.Numbers.{little-endian, signed32, with-sign}
@@ -115,9 +115,9 @@ pub record Atoms : Type 0 where
   pub n : ℕ
   pub text : ℕ → Checked
 
--- a text's characters, or a refusal
-unfoldable pub text-or : Checked → ℕ → ℕ → Reading (List ℕ)
-text-or (invalid-at k) number place = refuse number place
+-- a text's characters, or a refusal, whose place may follow from the offset at which the text fails
+unfoldable pub text-or : Checked → ℕ → (ℕ → ℕ) → Reading (List ℕ)
+text-or (invalid-at k) number place = refuse number (place k)
 text-or (valid cs) number place = done cs
 
 -- What the fields of pids and references stay under: ID and Serial below these, at most so many words
@@ -149,7 +149,8 @@ unfoldable pub bits-meaning : ℕ → List ℕ → Label
 bits-meaning bits bs = elim (eqb bits 0 || eqb bits 8) [ true ↦ binary bs | false ↦ bitstring bits (clear-low bits bs) ]
 
 module _ (atoms : Atoms) where
-  -- The fields, at their term's place: all that follow the tag are read (2) before a rule is judged (4, 5, 6, 14)
+  -- The fields, at their term's place: all that follow the tag are read (2) before a rule is judged (4, 5, 6, 14). The place of 5 is the
+  -- offset of the byte at which the text fails
   unfoldable pub fields : ℕ → Form → Reading Head
   fields p small-integer-ext = do
     n ← number p 1
@@ -169,13 +170,14 @@ module _ (atoms : Atoms) where
     done (leaf (float bits))
   fields p (atom-ext coding w) = do
     n ← number p w
+    first ← here
     bs ← bytes p n
-    cs ← text-or (check coding bs) 5 p
+    cs ← text-or (check coding bs) 5 (λ k. first + k)
     done (leaf (atom cs))
   fields p atom-cache-ref = do
     i ← number p 1
     rule (ltb i (atoms .n)) 6 p
-    cs ← text-or (atoms .text i) 14 0
+    cs ← text-or (atoms .text i) 14 (λ k. 0)
     done (leaf (atom cs))
   fields p (tuple-ext w) = do
     n ← number p w

@@ -15,28 +15,17 @@ use Rattle.term_spec.specs.Text.{Range, _to_, holds, Line, line, lines, marker,
 use Rattle.term_spec.proofs.Tests.{both-true}
 use Rattle.term_spec.proofs.Text.{decode-first, between, pending}
 use Rattle.text.specs.Shown.{shown}
-use Rattle.text.specs.Characters.{more, text-from, onward, Within, due, byte-in, Completes, CharacterAt, Ascii}
-use Rattle.text.specs.declared.Checked.{Checked}
-use Rattle.text.specs.declared.Checked.the-variants.{Characters, Bad}
+use Rattle.text.specs.Characters.{text-from, onward, Within, due, byte-in, Completes, CharacterAt, Ascii}
+use Rattle.text.specs.declared.Checked.the-variants.{Text, Bad}
 use Rattle.text.specs.declared.Character.{Character}
 use Rattle.text.specs.declared.Character.the-variants.{Ends, Fails}
 use Rattle.text.proofs.Ascii.{ascii-rest}
 
--- a character that is put down is one more
-put-down : (v : ℕ) (o : text.Checked) → shown (emit (begun v []) o) ≡ more 1 (shown o)
-unfolding shown emit more
-put-down v (valid cs) = ap Characters (omega arith)
+-- a character that is put down leaves the rest as it is found
+put-down : (v : ℕ) (o : text.Checked) → shown (emit (begun v []) o) ≡ shown o
+unfolding shown emit
+put-down v (valid cs) = refl
 put-down v (invalid-at k) = refl
-
-more-none : (c : Checked) → c ≡ more 0 c
-unfolding more
-more-none (Characters n) = ap Characters (omega arith)
-more-none (Bad k) = refl
-
-more-one : (n : ℕ) (c : Checked) → more n (more 1 c) ≡ more (n + 1) c
-unfolding more
-more-one n (Characters m) = ap Characters (omega arith)
-more-one n (Bad k) = refl
 
 module _ (s : List ℕ) where
   byte-at : (at : ℕ) → at < length s → drop at s ≡ getD s at 0 ∷ drop (at + 1) s
@@ -46,7 +35,7 @@ module _ (s : List ℕ) where
   pub completes-none : (lead at : ℕ) → at ≤ length s → Completes s lead at [] (Ends at)
   unfolding onward text-from Within
   completes-none lead at h = record {
-    text-is = λ room v. put-down v _ ∙ ap (λ (o : text.Checked). more 1 (shown o)) (between room lead 0 at v 0 (drop at s));
+    text-is = λ room v. put-down v _ ∙ ap shown (between room lead 0 at v 0 (drop at s));
     inside = (omega arith, h);
   }
 
@@ -141,35 +130,35 @@ holds-low b h = rw (le-leb 0 b (omega arith), le-leb b 0x7F (omega arith))
 
 -- Over the characters: `count` of them stand before offset `at`.
 abbrev pub Counted : List ℕ → ℕ → ℕ → Type 0
-Counted s count at = shown (check utf-8 s) ≡ more count (text-from s (255 - count) at)
+Counted s count at = shown (check utf-8 s) ≡ text-from s (255 - count) at
 
 module _ (s : List ℕ) where
   pub counted-none : Counted s 0 0
   unfolding check text-from
-  counted-none = more-none (shown (decode 255 0 0 (begun 0 []) s))
+  counted-none = refl
 
   module _ (count at : ℕ) (so-far : Counted s count at) where
-    pub counted-all : length s ≤ at → Characters count ≡ shown (check utf-8 s)
-    unfolding text-from decode shown more
-    counted-all h = sym (so-far ∙ rw (drop-of-length-le s h, decode, shown, more) (ap Characters (omega arith)))
+    pub counted-all : length s ≤ at → Text ≡ shown (check utf-8 s)
+    unfolding text-from decode shown
+    counted-all h = sym (so-far ∙ rw (drop-of-length-le s h, decode, shown))
 
     pub counted-full : at < length s → count ≡ 255 → Bad at ≡ shown (check utf-8 s)
-    unfolding text-from decode shown more
-    counted-full h e = sym (so-far ∙ rw (e, byte-at s at h, decode, shown, more))
+    unfolding text-from decode shown
+    counted-full h e = sym (so-far ∙ rw (e, byte-at s at h, decode, shown))
 
     module _ (few : count ≤ 255) (not-full : count ≡ 255 → ⊥) where
       room : 255 - count ≡ suc (254 - count)
       room = omega arith
 
       pub counted-bad : (place : ℕ) → CharacterAt s at (Fails place) → Bad place ≡ shown (check utf-8 s)
-      unfolding onward more
+      unfolding onward
       counted-bad place c = sym (so-far ∙ rw (room, c .text-is (254 - count)))
 
       pub counted-more : (next : ℕ) → CharacterAt s at (Ends next) → Counted s (count + 1) next
       unfolding onward
       counted-more next c =
           let less : 255 - (count + 1) ≡ 254 - count = omega arith in
-          so-far ∙ rw (room, c .text-is (254 - count), less) (more-one count (text-from s (254 - count) next))
+          so-far ∙ rw (room, c .text-is (254 - count), less)
 
   -- an ASCII byte is a character, and n of them are n
   ascii-character : (at : ℕ) → at < length s → getD s at 0 < 0x80 → CharacterAt s at (Ends (at + 1))

@@ -10,17 +10,12 @@ use lib.ListN.{length, getD, drop}
 use Rattle.term_spec.specs.Text.{Range, _to_, holds, Begun, begun, emit, decode}
 use Rattle.text.specs.Shown.{shown}
 use Rattle.text.specs.declared.Checked.{Checked}
-use Rattle.text.specs.declared.Checked.the-variants.{Characters, Bad}
+use Rattle.text.specs.declared.Checked.the-variants.{Bad}
 use Rattle.text.specs.declared.Range as code
 use Rattle.text.specs.declared.Rule.{Rule}
 use Rattle.text.specs.declared.Rule.the-variants.{One, Two, Three, Four, None}
 use Rattle.text.specs.declared.Character.{Character}
 use Rattle.text.specs.declared.Character.the-variants.{Ends, Fails}
-
--- n characters more
-unfoldable pub more : ℕ → Checked → Checked
-more n (Characters m) = Characters (n + m)
-more n (Bad k) = Bad k
 
 -- the text from offset `at` on, where `room` more characters may begin
 unfoldable pub text-from : List ℕ → ℕ → ℕ → Checked
@@ -28,7 +23,7 @@ text-from s room at = shown (decode room 0 at (begun 0 []) (drop at s))
 
 -- what a text comes to after a character
 unfoldable pub onward : List ℕ → ℕ → Character → Checked
-onward s room (Ends k) = more 1 (text-from s room k)
+onward s room (Ends k) = text-from s room k
 onward s room (Fails k) = Bad k
 
 -- where it ends

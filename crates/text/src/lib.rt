@@ -14,9 +14,9 @@ use term_spec::sizes;
 // The highest bits of 8 bytes: an ASCII character has none.
 const HIGHEST_BITS: u64 = 0x8080808080808080;
 
-// The number of a text's characters, or the offset at which it fails.
+// A text, or the offset at which it fails.
 pub enum Checked {
-    Characters(usize),
+    Text,
     Bad(usize),
 }
 
@@ -227,7 +227,7 @@ fn check_utf8(s: &[u8]) -> Checked
         }
         count += 1;
     }
-    Checked::Characters(count)
+    Checked::Text
 }
 
 // Whether `s` is a text in Latin-1 of at most 255 characters.
@@ -237,27 +237,27 @@ fn check_latin1(s: &[u8]) -> Checked
     if sizes::CHARACTERS_MOST < s.len() {
         return Checked::Bad(sizes::CHARACTERS_MOST);
     }
-    Checked::Characters(s.len())
-}
-
-// Whether the check found a text.
-fn is_valid(c: Checked) -> bool
-    ensures { λ r. ⌜ ((o : texts.Checked) → c ≡ shown o → r ≡ is-valid o) ⌝ }
-{
-    match c {
-        Checked::Characters(_) => true,
-        Checked::Bad(_) => false,
-    }
+    Checked::Text
 }
 
 // Whether `s` is a text of at most 255 characters, in UTF-8 or else in Latin-1.
-pub fn is_text(s: &[u8], utf8: bool) -> bool
-    ensures { λ r. ⌜ r ≡ is-valid (check (coding-of utf8) (now (s .entry))) ⌝ }
+pub fn check_text(s: &[u8], utf8: bool) -> Checked
+    ensures { λ r. ⌜ r ≡ shown (check (coding-of utf8) (now (s .entry))) ⌝ }
 {
     if utf8 {
-        return is_valid(check_utf8(s));
+        return check_utf8(s);
     }
-    is_valid(check_latin1(s))
+    check_latin1(s)
+}
+
+// Whether `s` is a text in UTF-8, wherever it fails.
+pub fn is_utf8(s: &[u8]) -> bool
+    ensures { λ r. ⌜ r ≡ is-valid (check utf-8 (now (s .entry))) ⌝ }
+{
+    match check_utf8(s) {
+        Checked::Text => true,
+        Checked::Bad(_) => false,
+    }
 }
 
 // The number of bytes that a Latin-1 character has in UTF-8.

@@ -62,8 +62,8 @@ fn run_all(src: &[u8]) {
 }
 
 // Room for all of standard input.
-fn empty_book() -> [u8; 1000000] {
-    [0u8; 1000000]
+fn empty_book() -> [u8; 2000000] {
+    [0u8; 2000000]
 }
 
 fn main() {

@@ -1,7 +1,7 @@
 //! A second implementation of what document 01 ("What we are to build, with rules") states, written
 //! from the papers alone and used to test another implementation against. Each rule has the words
 //! of document 01 beside it, in quotation marks; "OP-nn" is a reading of READINGS.md, "#nnn" a change
-//! request of document 02 that the words follow.
+//! request of document 02 that the words follow, "OQ-nnn-n" a reading of READINGS-02.md.
 //!
 //! Straightforward rather than fast: a message is read into a value (`terms::Term`, its meaning) and
 //! into rows; the canonical form is written from the value alone.

@@ -67,7 +67,7 @@ pub fn mark(form: Form, message: &[u8], list: &AtomList, offset: u64) -> Result<
 
 /// #107: "given a message's atom list and a reference index, answer the text. [...] Refusals: 13 on the
 /// list, 6, 14, place 0." Places that are not asked for are not judged (OP-22).
-pub fn word<'a>(list: &AtomList<'a>, index: Index) -> Result<&'a str, Refusal> {
+pub fn word(list: &AtomList, index: Index) -> Result<String, Refusal> {
     // 13: "a cache, list or gather buffer not of its stated size"
     if !list.is_of_its_stated_size() {
         return Err(refusal(13, 0));

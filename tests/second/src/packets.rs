@@ -118,7 +118,7 @@ fn put_text(texts: &mut [u8], lengths: &mut [u16], index: usize, text: &str) {
 
 /// The text that a place of the cache holds, or 21 "cached place empty", or 14 "a length over 32, not
 /// the cache's 65,535, of a place whose text is wanted, or that text not UTF-8".
-fn cached<'a>(texts: &'a [u8], lengths: &[u16], place: Place) -> Result<&'a str, u8> {
+fn cached(texts: &[u8], lengths: &[u16], place: Place) -> Result<String, u8> {
     if lengths.get(place.0) == Some(&EMPTY) {
         return Err(21);
     }
@@ -159,7 +159,8 @@ fn opening(packet: &[u8]) -> Result<Opening, u8> {
 /// A header from n on, its cached references looked up in the cache.
 ///
 /// "then 2 on the count and flags, then each reference in turn: 2, 22 (at the later one), 5, 23, 21,
-/// 14". The place is "the number of the reference, or 0 before the first".
+/// 14". The place is "the number of the reference, or 0 before the first"; 5's is its byte's, "in a
+/// packet counted from the packet's first byte" (#101).
 fn header(packet: &[u8], at: usize, is_utf8: bool, cache: &Cache) -> Result<Header, Refusal> {
     let n = usize::from(*packet.get(at).ok_or(refusal(2, 0))?);
     let mut at = at + 1;
@@ -188,10 +189,12 @@ fn header(packet: &[u8], at: usize, is_utf8: bool, cache: &Cache) -> Result<Head
         let internal = *packet.get(at).ok_or(refusal(2, i))?;
         at += 1;
         let mut bytes = &[][..];
+        let mut text_at = at;
         if new {
             let length = packet.get(at..at + width).ok_or(refusal(2, i))?;
             let length = length.iter().fold(0usize, |sum, byte| sum << 8 | usize::from(*byte));
             at += width;
+            text_at = at;
             bytes = packet.get(at..at + length).ok_or(refusal(2, i))?;
             at += length;
         }
@@ -206,7 +209,7 @@ fn header(packet: &[u8], at: usize, is_utf8: bool, cache: &Cache) -> Result<Head
         if new {
             // "in Latin-1 or UTF-8 as the caller states was agreed"; 5: "text not UTF-8, or over 255
             // characters"
-            let text = text::atom_text(bytes, is_utf8).ok_or(refusal(5, i))?;
+            let text = text::atom_text(bytes, is_utf8).map_err(|bad| refusal(5, text_at + bad))?;
             // 23: "text over 32 bytes as UTF-8"
             if text.len() > PLACE_BYTES {
                 return Err(refusal(23, i));
@@ -232,7 +235,7 @@ fn take(header: &Header, cache: &mut Cache, list: &mut ListOut) {
             }
             // No place is both filled new and named cached in one header, so the order of these two
             // does not matter.
-            None => texts.push(cached(cache.texts, cache.lengths, reference.place).unwrap_or("").to_string()),
+            None => texts.push(cached(cache.texts, cache.lengths, reference.place).unwrap_or_default()),
         }
     }
     list.set(&texts);

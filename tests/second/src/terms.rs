@@ -489,14 +489,15 @@ impl<'a> Reader<'a> {
             // 14 in reading terms is at 0 ("otherwise 0").
             let text = text::stored(self.list.texts, self.list.lengths, index).ok_or(refusal(14, 0))?;
             let stretch = Stretch::List { start: index * PLACE_BYTES, length: text.len() };
-            (text.to_string(), stretch, Mark::Utf8)
+            (text, stretch, Mark::Utf8)
         } else {
             // "100, 115; 118, 119 | atom, Latin-1; UTF-8 (RFC 3629); length in 2 or 1 bytes"
             let width = if tag == 100 || tag == 118 { 2 } else { 1 };
             let mark = if tag == 100 || tag == 115 { Mark::Latin1 } else { Mark::Utf8 };
             let bytes = self.counted_field(at, width)?;
-            let text = text::atom_text(bytes, mark == Mark::Utf8).ok_or(refusal(5, at))?;
             let start = self.at.saturating_sub(bytes.len());
+            // 5 is at its byte, counted from the message's first (#101, OQ-101-4).
+            let text = text::atom_text(bytes, mark == Mark::Utf8).map_err(|bad| refusal(5, start + bad))?;
             (text, Stretch::Message { start, length: bytes.len() }, mark)
         };
         let row = self.leaf(Kind::Atom, at, depth, whole)?;

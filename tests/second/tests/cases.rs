@@ -1,6 +1,10 @@
 //! The cases of document 01, and what the outside vectors do not reach: the sizes, the orders between
-//! refusals, false state, wrong sizes. Everything goes through the protocol of DRIVE.md.
+//! refusals, false state, wrong sizes, the bad bytes of texts. Everything goes through the protocol of
+//! DRIVE.md.
 
+mod model;
+
+use model::bad_byte;
 use second::drive::{hex, unhex, Driver};
 
 fn ask(driver: &mut Driver, line: &str) -> String {
@@ -351,7 +355,7 @@ fn depth() {
     refused(&tuples(64, &[97]), 2, 129);
     refused(&tuples(64, &[255]), 3, 129);
     refused(&tuples(64, &[70, 127, 240, 0, 0, 0, 0, 0, 0]), 4, 129);
-    refused(&tuples(64, &[119, 1, 255]), 5, 129);
+    refused(&tuples(64, &[119, 1, 255]), 5, 131);
     refused(&tuples(64, &[82, 0]), 6, 129);
     refused(&tuples(64, &[108, 0, 0, 0, 0, 108, 0, 0, 0, 0, 106]), 8, 139);
     refused(&tuples(64, &[90, 0, 4]), 4, 129);
@@ -359,7 +363,7 @@ fn depth() {
     // OP-50: a pid at depth 64 is 8 at its node.
     refused(&tuples(63, &[103, 119, 1, b'a', 0]), 8, 128);
     refused(&tuples(63, &[103, 255]), 4, 128);
-    refused(&tuples(63, &[113, 119, 1, 255]), 5, 128);
+    refused(&tuples(63, &[113, 119, 1, 255]), 5, 130);
     // An improper tail is one deeper than its list.
     refused(&tuples(63, &[108, 0, 0, 0, 1, 106, 106]), 8, 132);
     let list = tuples(62, &[108, 0, 0, 0, 1, 106, 97, 1]);
@@ -453,8 +457,8 @@ fn texts_of_255_characters() {
         join(&[&[131, 118, (text.len() >> 8) as u8, text.len() as u8], text.as_bytes()])
     };
     ok(&atom("\u{10000}", 255), &atom("\u{10000}", 255));
-    refused(&atom("\u{10000}", 256), 5, 1);
-    refused(&join(&[&[131, 100, 1, 0], &[b'a'; 256]]), 5, 1);
+    refused(&atom("\u{10000}", 256), 5, 1_024);
+    refused(&join(&[&[131, 100, 1, 0], &[b'a'; 256]]), 5, 259);
     refused(&join(&[&[131, 100, 1, 0], &[b'a'; 255]]), 2, 1);
     ok(&join(&[&[131, 100, 0, 255], &[b'a'; 255]]), &join(&[&[131, 119, 255], &[b'a'; 255]]));
     ok(&join(&[&[131, 115, 255], &[233; 255]]), &atom("\u{e9}", 255));
@@ -650,7 +654,7 @@ fn headers() {
         ("83440108", "refused 2 0"),
         ("8344010809", "refused 2 0"),
         ("834401080901", "refused 2 0"),
-        ("8344010809 01ff", "refused 5 0"),
+        ("8344010809 01ff", "refused 5 6"),
         // the second reference's: 2 before 22 (OP-28)
         ("83440288000901610902", "refused 2 1"),
         ("8344028800090161090162", "refused 22 1"), // new, new
@@ -664,8 +668,8 @@ fn headers() {
     let long_latin = format!("8344 0118 09 0100 {}", "61".repeat(256));
     let long = format!("8344 0118 09 0021 {}", "61".repeat(33));
     let bad = format!("8344 0118 09 0100 {}", "ff".repeat(256));
-    refusals.push((&long_latin, "refused 5 0"));
-    refusals.push((&bad, "refused 5 0"));
+    refusals.push((&long_latin, "refused 5 262"));
+    refusals.push((&bad, "refused 5 7"));
     refusals.push((&long, "refused 23 0"));
     for (packet, answer) in &refusals {
         let packet = packet.replace(' ', "");
@@ -688,7 +692,7 @@ fn headers() {
     words(&mut driver, "plain", &["\u{e9}".repeat(16).as_str()]);
     assert_eq!(get(&mut driver, "cache")[320..352], [0xc3, 0xa9].repeat(16));
     assert_eq!(ask(&mut driver, &format!("packet 0 {}", new(17))), "refused 23 0");
-    assert_eq!(ask(&mut driver, &format!("packet 1 {}", new(16))), "refused 5 0");
+    assert_eq!(ask(&mut driver, &format!("packet 1 {}", new(16))), "refused 5 7");
     // LongAtoms: odd n in the high half of the last flag byte, even n in the low half of the last.
     assert_eq!(ask(&mut driver, "packet 1 834401180a000161"), "plain 8 0");
     assert_eq!(ask(&mut driver, "packet 1 83440288010a0001610b000162"), "plain 13 0");
@@ -999,4 +1003,448 @@ fn lines_that_are_no_commands() {
     ask(&mut driver, "set table 6 0123");
     assert_eq!(ask(&mut driver, "get table"), "0000000000000123");
     assert_eq!(ask(&mut driver, "kind 0"), "atom 18 -");
+}
+
+/// An atom with this tag: its length in 2 bytes (100, 118) or 1, its text.
+fn atom(tag: u8, text: &[u8]) -> Vec<u8> {
+    let long = [(text.len() >> 8) as u8, text.len() as u8];
+    let length = if [100, 118].contains(&tag) { &long[..] } else { &long[1..] };
+    join(&[&[tag], length, text])
+}
+
+/// Messages that hold this atom, each with its form and how many bytes stand before the atom.
+fn messages_with(atom: &[u8]) -> Vec<(&'static str, Vec<u8>, usize)> {
+    let standalone: [&[u8]; 12] = [
+        &[],
+        &[104, 2, 97, 5],
+        &[108, 0, 0, 0, 0],
+        &[108, 0, 0, 0, 1],
+        &[108, 0, 0, 0, 1, 97, 5],
+        &[116, 0, 0, 0, 1],
+        &[116, 0, 0, 0, 1, 119, 2, 0xc3, 0xa9],
+        &[88],
+        &[120],
+        &[90, 0, 2],
+        &[113],
+        &[113, 119, 1, b'm'],
+    ];
+    let payload: [&[u8]; 4] = [&[], &[97, 5], &[119, 2, 0xc3, 0xa9], &[106, 104, 1]];
+    let standalone = standalone.iter().map(|before| ("standalone", join(&[&[131], before, atom]), 1 + before.len()));
+    standalone.chain(payload.iter().map(|before| ("payload", join(&[before, atom]), before.len()))).collect()
+}
+
+/// Each call that reads messages answers this refusal; the text asked for is empty.
+fn refused_in_every_call(form: &str, message: &[u8], answer: &str) {
+    assert_eq!(read(form, message, 40), answer, "{}", hex(message));
+    assert_eq!(write(form, message, 40), answer, "{}", hex(message));
+    let mut driver = Driver::new();
+    let bytes = hex(message);
+    for offset in [0, 1, message.len()] {
+        assert_eq!(ask(&mut driver, &format!("number {form} empty {offset} {bytes}")), answer, "{bytes}");
+        assert_eq!(ask(&mut driver, &format!("mark {form} empty {offset} {bytes}")), answer, "{bytes}");
+        assert_eq!(ask(&mut driver, &format!("text {form} empty {offset} {bytes}")), "empty");
+    }
+}
+
+/// 5 at this byte of the text, by each call that reads messages, wherever an atom of it may stand.
+fn bad_in_messages(tag: u8, text: &[u8], bad: usize) {
+    let fields = if [100, 118].contains(&tag) { 3 } else { 2 };
+    for (form, message, before) in messages_with(&atom(tag, text)) {
+        refused_in_every_call(form, &message, &format!("refused 5 {}", before + fields + bad));
+    }
+}
+
+/// Headers whose reference `number` is new, with this text, each with the offset of the text: plain and
+/// after ids, the references before it new and, in a driver of `filled`, cached. The text's end is not
+/// the packet's.
+fn headers_with(text: &[u8], long: bool, number: usize) -> Vec<(Vec<u8>, usize)> {
+    let length = |text: &[u8]| if long { atom(118, text)[1..3].to_vec() } else { vec![text.len() as u8] };
+    let mut packets = Vec::new();
+    for new in [true, false] {
+        let mut halves = vec![if new { 8 } else { 0 }; number];
+        halves.extend([8, u8::from(long), 0]);
+        let flags: Vec<u8> = halves.chunks_exact(2).map(|pair| pair[0] | pair[1] << 4).collect();
+        let mut references = Vec::new();
+        for i in 0..number {
+            if new {
+                references.extend(join(&[&[20 + i as u8], &length(b"\xc3\xa9"), b"\xc3\xa9"]));
+            } else {
+                references.push(7 + (i % 2) as u8);
+            }
+        }
+        references.extend(join(&[&[200], &length(text)]));
+        let ids = join(&[&[131, 69], &[0xff; 8], &[0, 0, 0, 0, 0, 0, 0, 2]]);
+        for opening in [&[131, 68][..], &ids] {
+            let before = join(&[opening, &[number as u8 + 1], &flags, &references]);
+            packets.push((join(&[&before, text, &[0xa9, 0x80, 0x80]]), before.len()));
+        }
+    }
+    packets
+}
+
+/// The packet call's answer; where it is a refusal, no lent byte changes.
+fn packet_call(agreed: u8, packet: &[u8]) -> String {
+    let mut driver = filled();
+    ask(&mut driver, "same");
+    let answer = ask(&mut driver, &format!("packet {agreed} {}", hex(packet)));
+    if answer.starts_with("refused") {
+        assert_eq!(ask(&mut driver, "changed"), "-");
+    }
+    answer
+}
+
+/// 5 at this byte of the text in headers: as first, second and later reference, with each length that
+/// can tell the text's.
+fn bad_in_headers(agreed: u8, text: &[u8], bad: usize) {
+    for number in [0, 1, 2, 5] {
+        for long in [false, true] {
+            if long || text.len() < 256 {
+                for (packet, text_at) in headers_with(text, long, number) {
+                    let answer = format!("refused 5 {}", text_at + bad);
+                    assert_eq!(packet_call(agreed, &packet), answer, "{number} {long} {}", hex(&packet));
+                }
+            }
+        }
+    }
+}
+
+/// 5 at this byte of the text, which is UTF-8 but for its fault, in messages and in headers.
+fn bad_everywhere(text: &[u8], bad: usize) {
+    assert_eq!(bad_byte(text), Some(bad), "{}", hex(text));
+    bad_in_messages(118, text, bad);
+    if text.len() < 256 {
+        bad_in_messages(119, text, bad);
+    }
+    bad_in_headers(1, text, bad);
+}
+
+/// Faults, each with the number of its bad byte. No byte put after one changes it, but for those that
+/// the end cuts off.
+const FAULTS: [(&[u8], usize); 52] = [
+    // a byte that begins nothing
+    (b"\x80", 0),
+    (b"\xbf", 0),
+    (b"\xc0", 0),
+    (b"\xc1", 0),
+    (b"\xf5", 0),
+    (b"\xff", 0),
+    (b"\xc0\x80", 0),
+    (b"\xf5\x80\x80\x80", 0),
+    // in place of a continuation byte: an ASCII byte
+    (b"\xc2\x7f", 1),
+    (b"\xdf\x00", 1),
+    (b"\xe0a", 1),
+    (b"\xe1\x7f", 1),
+    (b"\xeda", 1),
+    (b"\xf0a", 1),
+    (b"\xf1\x00", 1),
+    (b"\xf4\x7f", 1),
+    (b"\xe0\xa0a", 2),
+    (b"\xec\x80\x7f", 2),
+    (b"\xf0\x90a", 2),
+    (b"\xf3\xbf\x00", 2),
+    (b"\xf0\x90\x80a", 3),
+    (b"\xf4\x8f\xbf\x7f", 3),
+    // a lead byte
+    (b"\xc3\xc3\xa9", 1),
+    (b"\xe2\xc2", 1),
+    (b"\xe2\x82\xe2\x82\xac", 2),
+    (b"\xf0\xf0\x9f\x98\x80", 1),
+    (b"\xf0\x9f\xc3\xa9", 2),
+    (b"\xf0\x9f\x98\xf4", 3),
+    (b"\xc3\xff", 1),
+    (b"\xef\xbf\xc0", 2),
+    // outside the narrow second bytes of E0, ED, F0 and F4
+    (b"\xe0\x80", 1),
+    (b"\xe0\x80\x80", 1),
+    (b"\xe0\x9f\xbf", 1),
+    (b"\xe0\xc0", 1),
+    (b"\xed\xa0", 1),
+    (b"\xed\xa0\x80", 1),
+    (b"\xed\xbf\xbf", 1),
+    (b"\xf0\x80", 1),
+    (b"\xf0\x8f\xbf\xbf", 1),
+    (b"\xf4\x90", 1),
+    (b"\xf4\x90\x80\x80", 1),
+    (b"\xf4\xbf\xbf\xbf", 1),
+    // too short and already impossible (OQ-101-2)
+    (b"\xf1\x80\x7f", 2),
+    (b"\xf0\x90\xc0", 2),
+    // cut off
+    (b"\xc2", 0),
+    (b"\xe0", 0),
+    (b"\xe0\xa0", 0),
+    (b"\xed\x9f", 0),
+    (b"\xf0", 0),
+    (b"\xf0\x90", 0),
+    (b"\xf4\x8f\xbf", 0),
+    (b"\xf1\x80\x80", 0),
+];
+
+/// How many of `FAULTS`, the last ones, are cut off.
+const CUT_OFF: usize = 8;
+
+#[test]
+fn the_bad_byte_of_each_fault() {
+    for (fault, bad) in FAULTS {
+        for before in ["", "a", "\0\u{7f}", "\u{e9}", "\u{20ac}a", "\u{1f600}\u{10ffff}"] {
+            bad_everywhere(&join(&[before.as_bytes(), fault]), before.len() + bad);
+        }
+    }
+}
+
+#[test]
+fn the_bad_byte_before_other_bytes() {
+    for (fault, bad) in &FAULTS[..FAULTS.len() - CUT_OFF] {
+        for after in [&b"a"[..], b"\x80\x80", "\u{1f600}".as_bytes(), b"\xff", b"\xe2\x82"] {
+            bad_everywhere(&join(&[b"\xc3\xa9", fault, after]), 2 + bad);
+        }
+    }
+    // What would end the sequence stands after the text's end (OQ-101-6).
+    refused(&[131, 104, 2, 119, 1, 0xc3, 0xa9], 5, 5);
+    refused(&[131, 104, 2, 119, 2, 0xe0, 0xa0, 0x80], 5, 5);
+    assert_eq!(packet_call(1, &[131, 68, 1, 8, 9, 1, 0xc3, 0xa9]), "refused 5 6");
+    assert_eq!(packet_call(1, &[131, 68, 2, 0x88, 0, 9, 1, b'a', 10, 2, 0xe0, 0xa0, 0x80]), "refused 5 10");
+}
+
+/// The reader's answer for a text in tag 119 or 118: good, or 5 at its bad byte by the model.
+fn same_as_the_model(driver: &mut Driver, text: &[u8]) {
+    for (tag, text_at) in [(119, 3), (118, 4)] {
+        let message = hex(&join(&[&[131], &atom(tag, text)]));
+        let answer = bad_byte(text).map_or("ok 1 1".to_string(), |bad| format!("refused 5 {}", text_at + bad));
+        assert_eq!(ask(driver, &format!("read standalone empty {message}")), answer, "{message}");
+    }
+}
+
+#[test]
+fn every_text_of_two_bytes() {
+    let mut driver = Driver::new();
+    ask(&mut driver, "lend table 1");
+    for first in 0..=255 {
+        same_as_the_model(&mut driver, &[first]);
+        for second in 0..=255 {
+            same_as_the_model(&mut driver, &[first, second]);
+        }
+    }
+}
+
+#[test]
+fn the_ends_of_the_ranges_of_rfc_3629() {
+    let mut driver = Driver::new();
+    ask(&mut driver, "lend table 1");
+    // both ends of each range of section 4, and the bytes beside them
+    let ends = [
+        0x00, 0x7f, 0x80, 0x8f, 0x90, 0x9f, 0xa0, 0xbf, 0xc0, 0xc1, 0xc2, 0xdf, 0xe0, 0xe1, 0xec, 0xed, 0xee, 0xef, 0xf0,
+        0xf1, 0xf3, 0xf4, 0xf5, 0xff,
+    ];
+    for first in ends {
+        for second in ends {
+            for third in ends {
+                same_as_the_model(&mut driver, &[first, second, third]);
+                for fourth in ends {
+                    if first >= 0xc0 && (0x80..0xc0).contains(&second) {
+                        same_as_the_model(&mut driver, &[first, second, third, fourth]);
+                    }
+                }
+            }
+        }
+    }
+    // every third and fourth byte after good ones
+    for last in 0..=255 {
+        for before in [&b"\xe0\xa0"[..], b"\xe1\x80", b"\xed\x9f", b"\xef\xbf", b"\xf0\x90", b"\xf2\x80", b"\xf4\x8f"] {
+            same_as_the_model(&mut driver, &join(&[before, &[last]]));
+            same_as_the_model(&mut driver, &join(&[before, &[0x80, last]]));
+            same_as_the_model(&mut driver, &join(&[before, &[last, 0x80]]));
+        }
+    }
+}
+
+#[test]
+fn the_first_byte_after_255_characters() {
+    let faults = [&b""[..], b"\xff", b"\x80", b"\xe0\x80", b"\xc3", b"\xf0\x9f\x98", b"\xf4\x8f\xbf\x7f", b"\xed\xa0\x80"];
+    for character in ["a", "\u{e9}", "\u{20ac}", "\u{1f600}"] {
+        for count in [253, 254, 255, 256, 257, 300] {
+            for fault in faults {
+                for after in ["", "a", "\u{e9}a"] {
+                    let text = join(&[character.repeat(count).as_bytes(), fault, after.as_bytes()]);
+                    let limit = 255 * character.len();
+                    let bad = bad_byte(&text);
+                    // "whichever comes first": after 255 characters it is the limit, whatever stands there.
+                    if count >= 255 && text.len() > limit {
+                        assert_eq!(bad, Some(limit));
+                    }
+                    let message = join(&[&[131], &atom(118, &text)]);
+                    match bad {
+                        Some(bad) => {
+                            refused_in_every_call("standalone", &message, &format!("refused 5 {}", 4 + bad));
+                            for number in [0, 1] {
+                                for (packet, text_at) in headers_with(&text, true, number) {
+                                    assert_eq!(packet_call(1, &packet), format!("refused 5 {}", text_at + bad));
+                                }
+                            }
+                        }
+                        None => {
+                            assert_eq!(read("standalone", &message, 1), "ok 1 1");
+                            assert_eq!(packet_call(1, &headers_with(&text, true, 1)[0].0), "refused 23 1");
+                        }
+                    }
+                }
+            }
+        }
+    }
+    // OQ-101-3, in numbers.
+    let a = |count: usize| vec![b'a'; count];
+    for (text, bad) in [
+        (join(&[&a(254), b"\xe0\x80"]), Some(255)),
+        (join(&[&a(254), b"\xe0\xa0"]), Some(254)),
+        (join(&[&a(254), b"\xc3\xa9"]), None),
+        (join(&[&a(254), b"\xc3\xa9\xff"]), Some(256)),
+        (join(&[&a(254), b"\xff"]), Some(254)),
+        (join(&[&a(255), b"\xe0\x80"]), Some(255)),
+        (join(&[&a(255), b"\xc3\xa9"]), Some(255)),
+        (join(&[&a(255), b"\xc3"]), Some(255)),
+        (join(&[&a(300), b"\xff"]), Some(255)),
+        (join(&[b"\xff", &a(300)]), Some(0)),
+        (join(&[&a(10), b"\xe2\x82", &a(300)]), Some(12)),
+        (a(255), None),
+        (a(256), Some(255)),
+    ] {
+        match bad {
+            Some(bad) => bad_everywhere(&text, bad),
+            None => assert_eq!(read("standalone", &join(&[&[131], &atom(118, &text)]), 1), "ok 1 1"),
+        }
+    }
+}
+
+#[test]
+fn latin_1_has_no_bad_byte_but_the_256th() {
+    for byte in [0, b'a', 0x80, 0xc3, 0xff] {
+        for count in [254, 255] {
+            let text = vec![byte; count];
+            assert_eq!(read("standalone", &join(&[&[131], &atom(100, &text)]), 1), "ok 1 1");
+            assert_eq!(read("standalone", &join(&[&[131], &atom(115, &text)]), 1), "ok 1 1");
+            for number in [0, 1, 2] {
+                for long in [false, true] {
+                    for (packet, _) in headers_with(&text, long, number) {
+                        assert_eq!(packet_call(0, &packet), format!("refused 23 {number}"));
+                    }
+                }
+            }
+        }
+        for count in [256, 257, 1_000] {
+            bad_in_messages(100, &vec![byte; count], 255);
+            bad_in_headers(0, &vec![byte; count], 255);
+        }
+    }
+    bad_in_messages(100, &[0xe9; 65_000], 255);
+    bad_in_headers(0, &[0xe9; 65_535], 255);
+    // Bytes that are not UTF-8 enter the cache as Latin-1, in the same header whose UTF-8 reading is 5.
+    for (packet, text_at) in headers_with(&[0xff, 0x80], true, 1) {
+        assert_eq!(packet_call(1, &packet), format!("refused 5 {text_at}"));
+        assert!(!packet_call(0, &packet).starts_with("refused"));
+    }
+}
+
+#[test]
+fn what_comes_before_5_and_after() {
+    // 2 on the text: at the tag, and at the reference's number.
+    refused(&[131, 104, 1, 119, 2, 0xff], 2, 3);
+    refused(&[131, 104, 1, 118, 0, 2, 0xff], 2, 3);
+    refused(&[131, 100, 1, 0, 0xff], 2, 1);
+    assert_eq!(packet_call(1, &[131, 68, 2, 0x88, 0, 9, 1, b'a', 10, 2, 0xff]), "refused 2 1");
+    // 5 before 8 and 9.
+    let deep = tuples(64, &[119, 3, b'a', 0xe0, 0x80]);
+    for rows in [64, 65, 8_192] {
+        assert_eq!(read("standalone", &deep, rows), "refused 5 133");
+        assert_eq!(write("standalone", &deep, rows), "refused 5 133");
+    }
+    assert_eq!(read("standalone", &[131, 119, 3, b'a', 0xe0, 0x80], 0), "refused 5 5");
+    assert_eq!(read("standalone", &[131, 104, 1, 119, 3, b'a', 0xe0, 0x80], 1), "refused 5 7");
+    assert_eq!(read("standalone", &[131, 104, 1, 119, 3, b'a', 0xe0, 0x80], 0), "refused 9 1");
+    // 5 before 10, 7 and 11, and before what is wrong after it.
+    refused(&[131, 119, 1, 0xff, 0], 5, 3);
+    refused(&[131, 116, 0, 0, 0, 2, 119, 1, b'a', 106, 119, 2, b'a', 0x80], 5, 13);
+    refused(&[131, 88, 119, 1, 0xff, 0xff], 5, 4);
+    let mut driver = Driver::new();
+    ask(&mut driver, "lend output 0");
+    assert_eq!(ask(&mut driver, "write standalone empty 837702c3c3"), "refused 5 4");
+    // 13, 12, 1, 3 and 4 before it.
+    assert_eq!(ask(&mut driver, "read standalone empty 827701ff"), "refused 1 0");
+    let long = join(&[&[131, 104, 2, 119, 1, 0xff, 109, 0, 0, 255, 245], &vec![0; 65_526]]);
+    refused(&long, 12, 0);
+    refused(&long[..65_536], 5, 5);
+    ask(&mut driver, "lend plain-texts 8159");
+    assert_eq!(ask(&mut driver, "mark standalone plain 1 837701ff"), "refused 13 0");
+    refused(&[131, 104, 2, 255, 119, 1, 0xff], 3, 3);
+    refused(&[131, 104, 2, 110, 0, 2, 119, 1, 0xff], 4, 3);
+}
+
+#[test]
+fn what_comes_before_5_and_after_in_a_header() {
+    // 22 at the later reference's number, though its text is bad; a bad text of the earlier one first.
+    assert_eq!(packet_call(1, &[131, 68, 2, 0x88, 0, 9, 1, b'a', 9, 1, 0xff]), "refused 22 1");
+    assert_eq!(packet_call(1, &[131, 68, 2, 0x80, 0, 7, 7, 1, 0xff]), "refused 22 1");
+    assert_eq!(packet_call(1, &[131, 68, 2, 0x88, 0, 9, 1, 0xff, 9, 1, b'a']), "refused 5 7");
+    // 5 before 23, in one reference; 23 at the reference's number.
+    for count in [31, 32, 33, 200] {
+        let text = join(&[&vec![b'a'; count], b"\xe2\x82a"]);
+        bad_in_headers(1, &text, count + 2);
+    }
+    for (packet, _) in headers_with(&[b'a'; 33], false, 2) {
+        assert_eq!(packet_call(1, &packet), "refused 23 2");
+    }
+    // Each reference in turn: 5 of the first before 2, 21 and 23 of the second, and the other way about.
+    assert_eq!(packet_call(1, &[131, 68, 2, 0x88, 0, 9, 1, 0xff]), "refused 5 7");
+    assert_eq!(packet_call(1, &[131, 68, 2, 0x08, 0, 9, 1, 0xff, 99]), "refused 5 7");
+    assert_eq!(packet_call(1, &join(&[&[131, 68, 2, 0x88, 0, 9, 1, 0xff, 10, 33], &[b'a'; 33]])), "refused 5 7");
+    assert_eq!(packet_call(1, &[131, 68, 2, 0x80, 0, 99, 9, 1, 0xff]), "refused 21 0");
+    assert_eq!(packet_call(1, &join(&[&[131, 68, 2, 0x88, 0, 10, 33], &[b'a'; 33], &[9, 1, 0xff]])), "refused 23 0");
+    // 12 last; 24 for zero and 26 before the header.
+    let bad = [1, 8, 9, 1, 0xff];
+    assert_eq!(packet_call(1, &join(&[&[131, 68], &bad, &vec![0; 65_537]])), "refused 5 6");
+    let mut driver = filled();
+    let start = |id: u64| format!("packet 1 {}", fragment(69, 1, id, &bad));
+    assert_eq!(ask(&mut driver, &start(0)), "refused 24 0");
+    assert_eq!(ask(&mut driver, &start(1)), "refused 5 22");
+    assert_eq!(ask(&mut driver, &start(u64::MAX)), "refused 5 22");
+    assert_eq!(ask(&mut driver, &format!("packet 1 {}", fragment(69, 1, 2, &[0]))), "pending 1 0");
+    assert_eq!(ask(&mut driver, &start(2)), "refused 26 0");
+}
+
+#[test]
+fn a_kept_text_that_is_bad_is_14() {
+    for (bytes, _) in FAULTS {
+        // of a lent list: at 0, whichever term asks for it
+        let mut driver = listed(3);
+        put(&mut driver, 1, bytes, bytes.len() as u16);
+        for call in ["read payload plain", "write payload plain", "number payload plain 0", "mark payload plain 0"] {
+            assert_eq!(ask(&mut driver, &format!("{call} 680352005201")), "refused 14 0");
+        }
+        assert_eq!(ask(&mut driver, "text payload plain 4 680352005201"), "empty");
+        assert_eq!(ask(&mut driver, "word plain 1"), "refused 14 0");
+        // of a cached place: at its reference
+        let mut driver = filled();
+        ask(&mut driver, &format!("set cache 288 {}", hex(bytes)));
+        ask(&mut driver, &format!("set lengths 18 {}", hex(&(bytes.len() as u16).to_be_bytes())));
+        for (packet, answer) in
+            [("8344010009", "refused 14 0"), ("83440200000709", "refused 14 1"), ("8344030000070809", "refused 14 2")]
+        {
+            assert_eq!(ask(&mut driver, &format!("packet 1 {packet}")), answer);
+        }
+        let start = fragment(69, 1, 2, &[2, 0, 0, 7, 9]);
+        assert_eq!(ask(&mut driver, &format!("packet 1 {start}")), "refused 14 1");
+    }
+}
+
+#[test]
+fn a_gathered_payload_counts_from_its_own_first_byte() {
+    let mut driver = filled();
+    let mut packet = |line: String| ask(&mut driver, &format!("packet 1 {line}"));
+    assert_eq!(packet(fragment(69, 1, 2, &[1, 0, 7, 104, 2, 82])), "pending 1 3");
+    assert_eq!(packet(fragment(70, 1, 1, &[0, 119, 3, b'a', 0xe2, b'a'])), "complete 9");
+    let payload = hex(&get(&mut driver, "gather")[..9]);
+    assert_eq!(ask(&mut driver, &format!("read payload pending {payload}")), "refused 5 8");
+    // A plain packet's payload likewise; its packet is taken.
+    assert_eq!(ask(&mut driver, "packet 1 8344007701ff"), "plain 3 3");
+    assert_eq!(ask(&mut driver, "write payload plain 7701ff"), "refused 5 2");
 }

@@ -1,8 +1,11 @@
 //! Damaged and made-up input in quantity: nothing panics, and what document 01 says of every answer
 //! holds (a refused reading leaves the table zero, the canonical form is its own canonical form, rows
-//! fit together, refusals of packets change nothing, a word is what its list's bytes say, and a packet
-//! changes the words of its own list alone).
+//! fit together, refusals of packets change nothing, a word is what its list's bytes say, a packet
+//! changes the words of its own list alone, and 5 stands at the bad byte of a text).
 
+mod model;
+
+use model::bad_byte;
 use second::drive::{hex, unhex, Driver};
 
 struct Random(u64);
@@ -208,6 +211,42 @@ fn rows_fit_together(table: &[u8], used: usize) {
     }
 }
 
+/// The text that stands at this offset after its length of `width` bytes, if all of it is there.
+fn text_at(bytes: &[u8], at: usize, width: usize) -> Option<&[u8]> {
+    let length = bytes[at.checked_sub(width)?..at].iter().fold(0, |sum, byte| sum << 8 | usize::from(*byte));
+    bytes.get(at..at + length)
+}
+
+/// Where 5 stands in a text, if it is due.
+fn bad_in(text: &[u8], utf8: bool) -> Option<usize> {
+    if utf8 {
+        bad_byte(text)
+    } else {
+        Some(255).filter(|bad| *bad < text.len())
+    }
+}
+
+/// Some atom of this message has its bad byte at this place.
+fn an_atom_is_bad_at(message: &[u8], place: usize) -> bool {
+    (0..place).any(|tag_at| {
+        let (width, utf8) = match message[tag_at] {
+            100 => (2, false),
+            118 => (2, true),
+            119 => (1, true),
+            _ => return false,
+        };
+        let at = tag_at + 1 + width;
+        at <= place && text_at(message, at, width).and_then(|text| bad_in(text, utf8)) == Some(place - at)
+    })
+}
+
+/// Some new reference of this packet may have its bad byte at this place.
+fn a_reference_is_bad_at(packet: &[u8], place: usize, utf8: bool) -> bool {
+    (0..=place).any(|at| {
+        [1, 2].iter().any(|width| text_at(packet, at, *width).and_then(|text| bad_in(text, utf8)) == Some(place - at))
+    })
+}
+
 #[test]
 fn made_up_messages() {
     let mut r = Random(0x9e37_79b9_7f4a_7c15);
@@ -219,7 +258,7 @@ fn made_up_messages() {
     ask(&mut driver, "set plain-lengths 0 0001000200010000");
     ask(&mut driver, "lend table 40");
     ask(&mut driver, "lend output 300");
-    let (mut accepted, mut refused) = (0, 0);
+    let (mut accepted, mut refused, mut fives) = (0, 0, 0);
     for round in 0..40_000 {
         let mut message = Vec::new();
         let form = if r.below(2) == 0 { "standalone" } else { "payload" };
@@ -253,6 +292,10 @@ fn made_up_messages() {
             assert!(table.iter().all(|byte| *byte == 0));
             // 10 and 14 aside, a refusal's place is an offset of the message, or its end.
             assert!(counts[1] <= message.len());
+            if counts[0] == 5 {
+                assert!(an_atom_is_bad_at(&message, counts[1]), "{answer} {word}");
+                fives += 1;
+            }
             if counts[0] != 9 {
                 assert_eq!(ask(&mut driver, &format!("number {form} plain 0 {word}")), answer);
                 assert_eq!(ask(&mut driver, &format!("mark {form} plain 0 {word}")), answer);
@@ -288,7 +331,7 @@ fn made_up_messages() {
             assert_eq!(mark.starts_with("refused"), kind != 3);
         }
     }
-    assert!(accepted > 10_000 && refused > 5_000, "{accepted} {refused}");
+    assert!(accepted > 10_000 && refused > 5_000 && fives > 200, "{accepted} {refused} {fives}");
 }
 
 #[test]
@@ -344,6 +387,10 @@ fn made_up_packets() {
         assert!(!answer.starts_with('?'));
         if answer.starts_with("refused") {
             assert_eq!(ask(&mut driver, "changed"), "-", "{command}");
+        }
+        if let Some(place) = answer.strip_prefix("refused 5 ") {
+            let place = place.parse().expect("a number");
+            assert!(a_reference_is_bad_at(&packet, place, command.starts_with("packet 1")), "{answer} {command}");
         }
         // A plain packet writes the plain list's words, a start the pending one's, nothing else any.
         let after = ["plain", "pending"].map(|list| words(&mut driver, list));
@@ -455,6 +502,105 @@ fn same_as_an_82(driver: &mut Driver, list: &str, i: u8, answer: &str) {
     let output = get(driver, "output");
     assert_eq!(output[..3], [131, 119, (length - 3) as u8]);
     assert_eq!(format!("text {}", hex(&output[3..length])), answer);
+}
+
+/// A text of so many characters and, mostly, one fault or more.
+fn faulty_text(r: &mut Random, characters: u64) -> Vec<u8> {
+    let mut bytes = Vec::new();
+    let one = r.below(5) as usize;
+    for _ in 0..characters {
+        let kind = if one < 4 { one } else { r.below(4) as usize };
+        bytes.extend_from_slice(["a", "\u{e9}", "\u{20ac}", "\u{1f600}"][kind].as_bytes());
+    }
+    for _ in 0..r.below(3) {
+        let at = r.below(bytes.len() as u64 + 1) as usize;
+        match r.below(4) {
+            0 => bytes.truncate(at),
+            1 => bytes.insert(at, r.next() as u8),
+            2 => bytes.insert(at, 0xc0 | r.next() as u8),
+            _ => {
+                if let Some(byte) = bytes.get_mut(at) {
+                    *byte = r.next() as u8;
+                }
+            }
+        }
+    }
+    bytes
+}
+
+/// A faulty text in an atom behind some good terms: the reader and the writer answer as the model has
+/// it. Whether it is bad.
+fn text_in_a_message(r: &mut Random, driver: &mut Driver, text: &[u8]) -> bool {
+    let tags = [(100, 2), (118, 2), (115, 1), (119, 1)];
+    let (tag, width) = tags[r.below(if text.len() < 256 { 4 } else { 2 }) as usize];
+    let before = r.below(4) as usize;
+    let mut message = vec![131, 104, before as u8 + 1];
+    for _ in 0..before {
+        message.extend([[97, 5], [104, 0], [119, 0]][r.below(3) as usize]);
+    }
+    message.push(tag);
+    message.extend(&(text.len() as u16).to_be_bytes()[2 - width..]);
+    let at = message.len();
+    message.extend(text);
+    let bad = bad_in(text, tag >= 118);
+    let answer = bad.map_or(format!("ok 1 {}", before + 2), |bad| format!("refused 5 {}", at + bad));
+    assert_eq!(ask(driver, &format!("read standalone empty {}", hex(&message))), answer, "{}", hex(&message));
+    let written = ask(driver, &format!("write standalone empty {}", hex(&message)));
+    assert!(if bad.is_some() { written == answer } else { written.starts_with("ok ") });
+    bad.is_some()
+}
+
+/// A faulty text as the last reference of a header: the packet call answers as the model has it. Whether
+/// it is bad.
+fn text_in_a_header(r: &mut Random, driver: &mut Driver, text: &[u8]) -> bool {
+    let mut packet = vec![131, 68];
+    if r.below(2) == 0 {
+        packet = vec![131, 69];
+        packet.extend(r.next().to_be_bytes());
+        packet.extend(1u64.to_be_bytes());
+    }
+    let before = r.below(4) as usize;
+    let long = text.len() > 255 || r.below(2) == 0;
+    let mut halves = vec![8; before + 1];
+    halves.extend([u8::from(long), 0]);
+    packet.push(before as u8 + 1);
+    packet.extend(halves.chunks_exact(2).map(|pair| pair[0] | pair[1] << 4));
+    let skip = usize::from(!long);
+    for i in 0..before {
+        packet.push(i as u8);
+        packet.extend(&[0, 1][skip..]);
+        packet.push(b'a');
+    }
+    packet.push(99);
+    packet.extend(&(text.len() as u16).to_be_bytes()[skip..]);
+    let at = packet.len();
+    packet.extend(text);
+    let utf8 = r.below(4) > 0;
+    let bad = bad_in(text, utf8);
+    let bytes = if utf8 { text.len() } else { text.iter().map(|byte| 1 + usize::from(byte >> 7)).sum() };
+    let answer = ask(driver, &format!("packet {} {}", u8::from(utf8), hex(&packet)));
+    match bad {
+        Some(bad) => assert_eq!(answer, format!("refused 5 {}", at + bad), "{}", hex(&packet)),
+        None if bytes > 32 => assert_eq!(answer, format!("refused 23 {before}"), "{}", hex(&packet)),
+        None => assert!(answer.starts_with("plain") || answer == "complete 0", "{answer} {}", hex(&packet)),
+    }
+    bad.is_some()
+}
+
+#[test]
+fn made_up_texts() {
+    let mut r = Random(0x0101_0101_0101_0101);
+    let mut driver = Driver::new();
+    ask(&mut driver, "lend table 5");
+    ask(&mut driver, "lend output 2000");
+    let mut bad = [0; 2];
+    for _ in 0..30_000 {
+        let characters = [r.below(6), r.below(40), 250 + r.below(10)][r.below(3) as usize];
+        let text = faulty_text(&mut r, characters);
+        bad[0] += usize::from(text_in_a_message(&mut r, &mut driver, &text));
+        bad[1] += usize::from(text_in_a_header(&mut r, &mut driver, &text));
+    }
+    assert!(bad.iter().all(|count| (5_000..25_000).contains(count)), "{bad:?}");
 }
 
 #[test]

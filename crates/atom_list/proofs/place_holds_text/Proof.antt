@@ -23,20 +23,20 @@ cast-end c = search needs
 add-end : tie.Need-add-end
 add-end c = search needs
 
-sub-is-text : tie.Need-sub-is-text
-sub-is-text c = search needs
+sub-is-utf8 : tie.Need-sub-is-utf8
+sub-is-utf8 c = search needs
 
-part-is-text-start : tie.Need-part-is-text-start
-part-is-text-start c = search needs
+part-is-utf8-start : tie.Need-part-is-utf8-start
+part-is-utf8-start c = search needs
 
-part-is-text-end : tie.Need-part-is-text-end
-part-is-text-end c = omega arith
+part-is-utf8-end : tie.Need-part-is-utf8-end
+part-is-utf8-end c = omega arith
 
-is-text-requires : tie.Need-is-text-requires
-is-text-requires c κs = search needs
+is-utf8-requires : tie.Need-is-utf8-requires
+is-utf8-requires c κs = search needs
 
 returns-2 : tie.Need-returns-2
-returns-2 c = let a = c .before .before .before .before .before .before .args in text-short (a .places .now) (a .lengths .now) (a .i) (c .before .before .if1 .left) _ (c .is-text .ensures)
+returns-2 c = let a = c .before .before .before .before .before .before .args in text-short (a .places .now) (a .lengths .now) (a .i) (c .before .before .if1 .left) _ (c .is-utf8 .ensures)
 
 pub place-holds-text-spec : {M : Type 1} → statement M
 place-holds-text-spec =
@@ -48,8 +48,8 @@ place-holds-text-spec =
     mul-from
     cast-end
     add-end
-    sub-is-text
-    part-is-text-start
-    part-is-text-end
-    is-text-requires
+    sub-is-utf8
+    part-is-utf8-start
+    part-is-utf8-end
+    is-utf8-requires
     returns-2)

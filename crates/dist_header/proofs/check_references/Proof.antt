@@ -11,7 +11,7 @@ use Rattle.packet_spec.specs.Memory.{cache-of, held}
 use Rattle.packet_spec.specs.Header.{half, references}
 use Rattle.dist_header.proofs.Standing.{flags-half, flags-inside}
 use Rattle.dist_header.specs.Code.{flags-of, ReferenceIs}
-use Rattle.dist_header.proofs.Walk.{Checking, checking-none, checking-refused, checking-more, checking-all, next-inside}
+use Rattle.dist_header.proofs.Walk.{Checking, checking-none, checking-refused, checking-bad, checking-more, checking-all, next-inside}
 use Rattle.dist_header.specs.declared.ReferenceAnswer.the-variants as answers
 use Rattle.dist_header.proofs.check_references.Statement.{statement}
 use Rattle.dist_header.proofs.check_references.Tie as tie
@@ -43,6 +43,15 @@ returns c = let a = c .before .before .before .before .before .before .before .b
     let e : ReferenceIs (coding-of (a .utf8)) (held (cache-of (a .cache .now) (a .cache-lengths .now))) (a .packet .now) (half (flags-of (a .packet .now) (a .at) (a .n)) (l .i)) (a .width) (l .next) (l .naming) _ (answers.Refused _) = rw (c .before .number .given .1, c .before .before .before .before .before .before .half-of .ensures .0 ∙ flags-half (a .packet .now) (a .at) (a .n) (l .i) (omega arith) (omega arith)) at (c .before .before .before .before .judge-reference .ensures) in
     checking-refused (coding-of (a .utf8)) (held (cache-of (a .cache .now) (a .cache-lengths .now))) (a .packet .now) (flags-of (a .packet .now) (a .at) (a .n)) (a .width) (references (coding-of (a .utf8)) (held (cache-of (a .cache .now) (a .cache-lengths .now))) (flags-of (a .packet .now) (a .at) (a .n)) (a .width) [] 0 (a .n) (at-offset (a .packet .now) (a .first) 0)) (a .n) (l .i) (l .next) (l .naming) (l .inv .3) _ _ (c .before .before .before .before .before .before .before .loop-test .taken) e
 
+enum-known-place : tie.Need-enum-known-place Inv-loop μ-loop
+enum-known-place c = search needs
+
+returns-2 : tie.Need-returns-2 Inv-loop μ-loop
+returns-2 c = let a = c .before .before .before .before .before .before .before .before .before .before .before .before .args in
+    let l = c .before .before .before .before .before .before .before .before .loop in
+    let e : ReferenceIs (coding-of (a .utf8)) (held (cache-of (a .cache .now) (a .cache-lengths .now))) (a .packet .now) (half (flags-of (a .packet .now) (a .at) (a .n)) (l .i)) (a .width) (l .next) (l .naming) _ (answers.BadText _) = rw (c .before .place .given .1, c .before .before .before .before .before .before .half-of .ensures .0 ∙ flags-half (a .packet .now) (a .at) (a .n) (l .i) (omega arith) (omega arith)) at (c .before .before .before .before .judge-reference .ensures) in
+    checking-bad (coding-of (a .utf8)) (held (cache-of (a .cache .now) (a .cache-lengths .now))) (a .packet .now) (flags-of (a .packet .now) (a .at) (a .n)) (a .width) (references (coding-of (a .utf8)) (held (cache-of (a .cache .now) (a .cache-lengths .now))) (flags-of (a .packet .now) (a .at) (a .n)) (a .width) [] 0 (a .n) (at-offset (a .packet .now) (a .first) 0)) (a .n) (l .i) (l .next) (l .naming) (l .inv .3) _ _ (c .before .before .before .before .before .before .before .loop-test .taken) e
+
 enum-known-offset : tie.Need-enum-known-offset Inv-loop μ-loop
 enum-known-offset c = search needs
 
@@ -62,8 +71,8 @@ loop-again c = let a = c .before .before .before .before .before .before .before
       checking-more (coding-of (a .utf8)) (held (cache-of (a .cache .now) (a .cache-lengths .now))) (a .packet .now) (flags-of (a .packet .now) (a .at) (a .n)) (a .width) (references (coding-of (a .utf8)) (held (cache-of (a .cache .now) (a .cache-lengths .now))) (flags-of (a .packet .now) (a .at) (a .n)) (a .width) [] 0 (a .n) (at-offset (a .packet .now) (a .first) 0)) (a .n) (l .i) (l .next) (l .naming) (l .inv .3) _ _ (c .before .before .before .before .before .before .before .loop-test .taken) e,
     )
 
-returns-2 : tie.Need-returns-2 Inv-loop μ-loop
-returns-2 c = let a = c .before .before .before .before .before .args in
+returns-3 : tie.Need-returns-3 Inv-loop μ-loop
+returns-3 c = let a = c .before .before .before .before .before .args in
     let l = c .before .loop in
     checking-all (coding-of (a .utf8)) (held (cache-of (a .cache .now) (a .cache-lengths .now))) (a .packet .now) (flags-of (a .packet .now) (a .at) (a .n)) (a .width) (references (coding-of (a .utf8)) (held (cache-of (a .cache .now) (a .cache-lengths .now))) (flags-of (a .packet .now) (a .at) (a .n)) (a .width) [] 0 (a .n) (at-offset (a .packet .now) (a .first) 0)) (a .n) (l .i) (l .next) (l .naming) (l .inv .3) (omega arith) (l .inv .1)
 
@@ -79,8 +88,10 @@ check-references-spec =
     judge-reference-requires
     enum-known-number
     returns
+    enum-known-place
+    returns-2
     enum-known-offset
     add-i
     loop-less
     loop-again
-    returns-2)
+    returns-3)

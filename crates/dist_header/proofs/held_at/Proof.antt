@@ -29,25 +29,25 @@ mul-from c = search needs
 add-end : tie.Need-add-end
 add-end c = search needs
 
-sub-is-text : tie.Need-sub-is-text
-sub-is-text c = search needs
+sub-is-utf8 : tie.Need-sub-is-utf8
+sub-is-utf8 c = search needs
 
-part-is-text-start : tie.Need-part-is-text-start
-part-is-text-start c = search needs
+part-is-utf8-start : tie.Need-part-is-utf8-start
+part-is-utf8-start c = search needs
 
-part-is-text-end : tie.Need-part-is-text-end
-part-is-text-end c = search needs
+part-is-utf8-end : tie.Need-part-is-utf8-end
+part-is-utf8-end c = search needs
 
-is-text-requires : tie.Need-is-text-requires
-is-text-requires c κs = search needs
+is-utf8-requires : tie.Need-is-utf8-requires
+is-utf8-requires c κs = search needs
 
 returns-3 : tie.Need-returns-3
 returns-3 c = let a = c .before .before .before .before .before .before .before .before .before .args in
-    held-good (a .cache .now) (a .cache-lengths .now) (a .place .0) (c .before .before .before .before .before .wide16 .result) (omega arith) (c .before .before .before .before .before .wide16 .ensures) (c .before .before .before .before .if1 .left) (c .before .before .before .if2 .left) _ (c .before .is-text .ensures) (c .if3 .taken)
+    held-good (a .cache .now) (a .cache-lengths .now) (a .place .0) (c .before .before .before .before .before .wide16 .result) (omega arith) (c .before .before .before .before .before .wide16 .ensures) (c .before .before .before .before .if1 .left) (c .before .before .before .if2 .left) _ (c .before .is-utf8 .ensures) (c .if3 .taken)
 
 returns-4 : tie.Need-returns-4
 returns-4 c = let a = c .before .before .before .before .before .before .before .before .before .args in
-    held-bad (a .cache .now) (a .cache-lengths .now) (a .place .0) (c .before .before .before .before .before .wide16 .result) (omega arith) (c .before .before .before .before .before .wide16 .ensures) (c .before .before .before .before .if1 .left) (c .before .before .before .if2 .left) _ (c .before .is-text .ensures) (c .if3 .left)
+    held-bad (a .cache .now) (a .cache-lengths .now) (a .place .0) (c .before .before .before .before .before .wide16 .result) (omega arith) (c .before .before .before .before .before .wide16 .ensures) (c .before .before .before .before .if1 .left) (c .before .before .before .if2 .left) _ (c .before .is-utf8 .ensures) (c .if3 .left)
 
 pub held-at-spec : {M : Type 1} → statement M
 held-at-spec =
@@ -61,9 +61,9 @@ held-at-spec =
     returns-2
     mul-from
     add-end
-    sub-is-text
-    part-is-text-start
-    part-is-text-end
-    is-text-requires
+    sub-is-utf8
+    part-is-utf8-start
+    part-is-utf8-end
+    is-utf8-requires
     returns-3
     returns-4)

@@ -10,7 +10,7 @@ slice-read-if1 : tie.Need-slice-read-if1
 slice-read-if1 c = search needs
 
 returns : tie.Need-returns
-returns c = let a = c .before .before .before .before .before .args in cached-again (held (cache-of (a .cache .now) (a .cache-lengths .now))) (a .place .0) (a .naming .now) (c .before .before .before .before .before .pre .0) (c .if1 .taken)
+returns c = let a = c .before .before .before .before .before .args in cached-again (held (cache-of (a .cache .now) (a .cache-lengths .now))) (a .place .0) (a .end) (a .naming .now) (c .before .before .before .before .before .pre .0) (c .if1 .taken)
 
 held-at-requires : tie.Need-held-at-requires
 held-at-requires c κs = search needs
@@ -28,17 +28,17 @@ slice-write-naming : tie.Need-slice-write-naming
 slice-write-naming c = search needs
 
 returns-2 : tie.Need-returns-2
-returns-2 c = let a = c .before .before .before .before .before .before .before .before .args in cached-empty (held (cache-of (a .cache .now) (a .cache-lengths .now))) (a .place .0) (a .naming .now) (c .before .before .before .before .before .before .before .before .pre .0) (c .before .before .before .if1 .left) (sym (c .enum-told .given .1) ∙ c .before .before .held-at .ensures)
+returns-2 c = let a = c .before .before .before .before .before .before .before .before .args in cached-empty (held (cache-of (a .cache .now) (a .cache-lengths .now))) (a .place .0) (a .end) (a .naming .now) (c .before .before .before .before .before .before .before .before .pre .0) (c .before .before .before .if1 .left) (sym (c .enum-told .given .1) ∙ c .before .before .held-at .ensures)
 
 returns-3 : tie.Need-returns-3
-returns-3 c = let a = c .before .before .before .before .before .before .before .before .args in cached-false (held (cache-of (a .cache .now) (a .cache-lengths .now))) (a .place .0) (a .naming .now) (c .before .before .before .before .before .before .before .before .pre .0) (c .before .before .before .if1 .left) (sym (c .enum-told2 .given .1) ∙ c .before .before .held-at .ensures)
+returns-3 c = let a = c .before .before .before .before .before .before .before .before .args in cached-false (held (cache-of (a .cache .now) (a .cache-lengths .now))) (a .place .0) (a .end) (a .naming .now) (c .before .before .before .before .before .before .before .before .pre .0) (c .before .before .before .if1 .left) (sym (c .enum-told2 .given .1) ∙ c .before .before .held-at .ensures)
 
 same-length : tie.Need-same-length
 same-length c = search needs
 
 returns-4 : tie.Need-returns-4
 returns-4 c = let a = c .before .before .before .before .before .before .before .before .args in
-    cached-good (held (cache-of (a .cache .now) (a .cache-lengths .now))) (a .place .0) (a .naming .now) (c .before .before .before .before .before .before .before .before .pre .0) (c .before .before .before .if1 .left) (sym (c .enum-told3 .given .1) ∙ c .before .before .held-at .ensures) (c .before .before .before .before .before .before .before .before .pre .2)
+    cached-good (held (cache-of (a .cache .now) (a .cache-lengths .now))) (a .place .0) (a .end) (a .naming .now) (c .before .before .before .before .before .before .before .before .pre .0) (c .before .before .before .if1 .left) (sym (c .enum-told3 .given .1) ∙ c .before .before .held-at .ensures) (c .before .before .before .before .before .before .before .before .pre .2)
 
 pub judge-cached-spec : {M : Type 1} → statement M
 judge-cached-spec =

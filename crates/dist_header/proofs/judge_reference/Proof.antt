@@ -1,10 +1,9 @@
 -- `judge_reference` meets its contract.
-use native.Mathlib.Omega.{arith}
 use borrow.Author.Needs.{needs}
 use Rattle.term_spec.specs.Text.{coding-of}
 use Rattle.packet_spec.specs.Memory.{cache-of, held}
 use Rattle.dist_header.specs.Code.{Spells}
-use Rattle.dist_header.proofs.Walk.{answer-cut, answer-new-refused, answer-new, answer-cached-refused, answer-cached, new-inside, cached-inside}
+use Rattle.dist_header.proofs.Walk.{answer-cut, answer-new, answer-cached, new-inside, cached-inside}
 use Rattle.dist_header.specs.declared.Spelled.the-variants as spelled
 use Rattle.dist_header.proofs.judge_reference.Statement.{statement}
 use Rattle.dist_header.proofs.judge_reference.Tie as tie
@@ -24,18 +23,6 @@ judge-new-requires c κs = let a = c .before .before .before .before .before .be
     let e : Spells (a .packet .now) (a .half) (a .width) (a .at) (spelled.New (v .0 .0) (v .0 .1 .0) (v .0 .1 .1 .0)) = rw (v .1) at (c .before .before .before .before .read-reference .ensures) in
     let i = new-inside (a .packet .now) (a .half) (a .width) (a .at) (v .0 .0) (v .0 .1 .0) (v .0 .1 .1 .0) e in (i .0, i .2, i .3, c .before .before .before .before .before .before .before .before .before .pre .2)
 
-enum-known-number : tie.Need-enum-known-number
-enum-known-number c = search needs
-
-enum-told-2 : tie.Need-enum-told-2
-enum-told-2 c = search needs
-
-add-t21 : tie.Need-add-t21
-add-t21 c = let a = c .before .before .before .before .before .before .before .before .before .before .before .before .before .before .args in
-    let v = c .before .before .before .before .before .before .before .place .given in
-    let e : Spells (a .packet .now) (a .half) (a .width) (a .at) (spelled.New (v .0 .0) (v .0 .1 .0) (v .0 .1 .1 .0)) = rw (v .1) at (c .before .before .before .before .before .before .before .before .before .read-reference .ensures) in
-    let i = new-inside (a .packet .now) (a .half) (a .width) (a .at) (v .0 .0) (v .0 .1 .0) (v .0 .1 .1 .0) e in omega arith
-
 enum-known-place-2 : tie.Need-enum-known-place-2
 enum-known-place-2 c = search needs
 
@@ -45,14 +32,8 @@ judge-cached-requires c κs = let a = c .before .before .before .before .before 
     let e : Spells (a .packet .now) (a .half) (a .width) (a .at) (spelled.Cached (v .0 .0)) = rw (v .1) at (c .before .before .before .before .read-reference .ensures) in
     let i = cached-inside (a .packet .now) (a .half) (a .width) (a .at) (v .0 .0) e in (i .0, c .before .before .before .before .before .before .before .before .before .pre .1, c .before .before .before .before .before .before .before .before .before .pre .2)
 
-enum-known-number-2 : tie.Need-enum-known-number-2
-enum-known-number-2 c = search needs
-
-enum-told-3 : tie.Need-enum-told-3
-enum-told-3 c = search needs
-
-add-t26 : tie.Need-add-t26
-add-t26 c = search needs
+add-judge-cached : tie.Need-add-judge-cached
+add-judge-cached c = search needs
 
 returns : tie.Need-returns
 returns c = let a = c .before .before .before .before .before .before .before .args in answer-cut (coding-of (a .utf8)) (held (cache-of (a .cache .now) (a .cache-lengths .now))) (a .packet .now) (a .half) (a .width) (a .at) (a .naming .now) _ (rw (c .enum-told .given .1) at (c .before .before .read-reference .ensures))
@@ -61,37 +42,19 @@ same-length : tie.Need-same-length
 same-length c = search needs
 
 returns-2 : tie.Need-returns-2
-returns-2 c = let a = c .before .before .before .before .before .before .before .before .before .before .before .before .before .before .before .args in
-    let v = c .before .before .before .before .before .before .before .before .place .given in
-    let e : Spells (a .packet .now) (a .half) (a .width) (a .at) (spelled.New (v .0 .0) (v .0 .1 .0) (v .0 .1 .1 .0)) = rw (v .1) at (c .before .before .before .before .before .before .before .before .before .before .read-reference .ensures) in
-    answer-new-refused (coding-of (a .utf8)) (held (cache-of (a .cache .now) (a .cache-lengths .now))) (a .packet .now) (a .half) (a .width) (a .at) (a .naming .now) _ (v .0 .0) (v .0 .1 .0) (v .0 .1 .1 .0) _ e (rw (c .before .number .given .1) at (c .before .before .before .before .before .judge-new .ensures))
+returns-2 c = let a = c .before .before .before .before .before .before .before .before .before .before .before .before .args in
+    let v = c .before .before .before .before .before .place .given in
+    let e : Spells (a .packet .now) (a .half) (a .width) (a .at) (spelled.New (v .0 .0) (v .0 .1 .0) (v .0 .1 .1 .0)) = rw (v .1) at (c .before .before .before .before .before .before .before .read-reference .ensures) in
+    answer-new (coding-of (a .utf8)) (held (cache-of (a .cache .now) (a .cache-lengths .now))) (a .packet .now) (a .half) (a .width) (a .at) (a .naming .now) _ (v .0 .0) (v .0 .1 .0) (v .0 .1 .1 .0) _ e (c .before .before .judge-new .ensures)
 
 same-length-2 : tie.Need-same-length-2
 same-length-2 c = search needs
 
 returns-3 : tie.Need-returns-3
-returns-3 c = let a = c .before .before .before .before .before .before .before .before .before .before .before .before .before .before .args in
-    let v = c .before .before .before .before .before .before .before .place .given in
-    let e : Spells (a .packet .now) (a .half) (a .width) (a .at) (spelled.New (v .0 .0) (v .0 .1 .0) (v .0 .1 .1 .0)) = rw (v .1) at (c .before .before .before .before .before .before .before .before .before .read-reference .ensures) in
-    answer-new (coding-of (a .utf8)) (held (cache-of (a .cache .now) (a .cache-lengths .now))) (a .packet .now) (a .half) (a .width) (a .at) (a .naming .now) _ (v .0 .0) (v .0 .1 .0) (v .0 .1 .1 .0) e (rw (c .enum-told2 .given .1) at (c .before .before .before .before .judge-new .ensures))
-
-same-length-3 : tie.Need-same-length-3
-same-length-3 c = search needs
-
-returns-4 : tie.Need-returns-4
-returns-4 c = let a = c .before .before .before .before .before .before .before .before .before .before .before .before .before .before .before .args in
-    let v = c .before .before .before .before .before .before .before .before .place2 .given in
-    let e : Spells (a .packet .now) (a .half) (a .width) (a .at) (spelled.Cached (v .0 .0)) = rw (v .1) at (c .before .before .before .before .before .before .before .before .before .before .read-reference .ensures) in
-    answer-cached-refused (coding-of (a .utf8)) (held (cache-of (a .cache .now) (a .cache-lengths .now))) (a .packet .now) (a .half) (a .width) (a .at) (a .naming .now) _ (v .0 .0) _ e (rw (c .before .number2 .given .1) at (c .before .before .before .before .before .judge-cached .ensures))
-
-same-length-4 : tie.Need-same-length-4
-same-length-4 c = search needs
-
-returns-5 : tie.Need-returns-5
-returns-5 c = let a = c .before .before .before .before .before .before .before .before .before .before .before .before .before .before .args in
-    let v = c .before .before .before .before .before .before .before .place2 .given in
-    let e : Spells (a .packet .now) (a .half) (a .width) (a .at) (spelled.Cached (v .0 .0)) = rw (v .1) at (c .before .before .before .before .before .before .before .before .before .read-reference .ensures) in
-    answer-cached (coding-of (a .utf8)) (held (cache-of (a .cache .now) (a .cache-lengths .now))) (a .packet .now) (a .half) (a .width) (a .at) (a .naming .now) _ (v .0 .0) e (rw (c .enum-told3 .given .1) at (c .before .before .before .before .judge-cached .ensures))
+returns-3 c = let a = c .before .before .before .before .before .before .before .before .before .before .before .before .args in
+    let v = c .before .before .before .before .before .place2 .given in
+    let e : Spells (a .packet .now) (a .half) (a .width) (a .at) (spelled.Cached (v .0 .0)) = rw (v .1) at (c .before .before .before .before .before .before .before .read-reference .ensures) in
+    answer-cached (coding-of (a .utf8)) (held (cache-of (a .cache .now) (a .cache-lengths .now))) (a .packet .now) (a .half) (a .width) (a .at) (a .naming .now) _ (v .0 .0) _ e (c .before .before .judge-cached .ensures)
 
 pub judge-reference-spec : {M : Type 1} → statement M
 judge-reference-spec =
@@ -101,20 +64,11 @@ judge-reference-spec =
     enum-told
     enum-known-place
     judge-new-requires
-    enum-known-number
-    enum-told-2
-    add-t21
     enum-known-place-2
+    add-judge-cached
     judge-cached-requires
-    enum-known-number-2
-    enum-told-3
-    add-t26
     returns
     same-length
     returns-2
     same-length-2
-    returns-3
-    same-length-3
-    returns-4
-    same-length-4
-    returns-5)
+    returns-3)

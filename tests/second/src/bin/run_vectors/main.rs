@@ -210,7 +210,7 @@ impl Runner {
         let zeros: usize = text(step, "zeros").parse().unwrap_or(0);
         let mut packet = from_plain_hex(text(step, "in"));
         packet.resize(packet.len() + zeros, 0);
-        let utf8 = if step.get("utf8") == Some(&Json::Bool(true)) { "1" } else { "0" };
+        let utf8 = if step.get("utf8").is_some_and(agreed) { "1" } else { "0" };
         let args = step.get("args").map_or(&[][..], Json::array);
         let arg = |i: usize| args.get(i).and_then(Json::text).unwrap_or("0").to_string();
         let number = |i: usize| arg(i).parse::<u64>().unwrap_or(0);
@@ -319,6 +319,11 @@ fn texts_after<'a>(steps: &'a [Json], list: &str) -> Vec<Option<&'a Json>> {
         known.extend(stretch.iter().map(|_| texts));
     }
     known
+}
+
+/// Whether UTF-8 was agreed: the vectors say `true` or 1, and `false` or 0 where it was not.
+fn agreed(utf8: &Json) -> bool {
+    *utf8 == Json::Bool(true) || utf8.text() == Some("1")
 }
 
 fn text<'a>(vector: &'a Json, key: &str) -> &'a str {
