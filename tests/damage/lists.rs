@@ -40,15 +40,15 @@ impl<'a> ListTwin<'a> {
         let got = border::word(&self.guarded(), index);
         let list = self.other();
         let word = looks::word(&list, Index(index as u64));
-        let expected = match word {
+        let expected = match &word {
             Ok(text) => WordReply { start: 32 * index as u64, length: text.len() as u64, ..WordReply::default() },
-            Err(Refusal { number, place }) => WordReply { refusal: number.into(), place, ..WordReply::default() },
+            Err(Refusal { number, place }) => WordReply { refusal: (*number).into(), place: *place, ..WordReply::default() },
         };
         tally.met(Call::Word, expected.refusal);
         let told = || format!("index {index}: {got:?}, not {expected:?}; {}", self.told());
         tally.check(Call::Word, got == expected, told);
         let answered = list.texts.get(got.start as usize..).and_then(|rest| rest.get(..got.length as usize));
-        let same = answered == Some(word.unwrap_or_default().as_bytes());
+        let same = answered == Some(word.as_deref().unwrap_or_default().as_bytes());
         tally.check(Call::Word, same, || format!("{answered:?}, not {word:?}; {}", told()));
     }
 
