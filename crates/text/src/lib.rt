@@ -7,7 +7,7 @@ ghost use lib.ListN.{length, take, drop};
 ghost use lib.Seq.{sets};
 ghost use Rattle.term_spec.specs.Text.{holds, lines, first, utf-8, latin-1, coding-of, check, encode, encodes};
 ghost use Rattle.term_spec.specs.Text as texts;
-ghost use Rattle.text.specs.Shown.{shown, is-valid};
+ghost use Rattle.text.specs.Shown.{shown, is-valid, fault-in};
 ghost use Rattle.text.specs.Characters.{range, after, due, byte-in, Completes, CharacterAt, Ascii};
 use term_spec::sizes;
 
@@ -207,57 +207,65 @@ fn ascii_start(s: &[u8]) -> usize
     n
 }
 
-// Whether `s` is a text in UTF-8 of at most 255 characters.
-fn check_utf8(s: &[u8]) -> Checked
-    ensures { λ r. ⌜ r ≡ shown (check utf-8 (now (s .entry))) ⌝ }
+// The offset at which `s` fails as a text in UTF-8 of at most 255 characters; its length where it is one.
+fn utf8_fault(s: &[u8]) -> usize
+    ensures { λ r. ⌜ r ≡ fault-in (now (s .entry)) (check utf-8 (now (s .entry))) ⌝ }
 {
     let mut at = ascii_start(s);
     let mut count = at;
     while at < s.len() {
         if count == sizes::CHARACTERS_MOST {
-            return Checked::Bad(at);
+            return at;
         }
         match character_at(s, at) {
             Character::Ends(next) => {
                 at = next;
             }
             Character::Fails(place) => {
-                return Checked::Bad(place);
+                return place;
             }
         }
         count += 1;
     }
-    Checked::Text
+    s.len()
 }
 
-// Whether `s` is a text in Latin-1 of at most 255 characters.
-fn check_latin1(s: &[u8]) -> Checked
-    ensures { λ r. ⌜ r ≡ shown (check latin-1 (now (s .entry))) ⌝ }
+// The offset at which `s` fails as a text in Latin-1 of at most 255 characters; its length where it is one.
+fn latin1_fault(s: &[u8]) -> usize
+    ensures { λ r. ⌜ r ≡ fault-in (now (s .entry)) (check latin-1 (now (s .entry))) ⌝ }
 {
     if sizes::CHARACTERS_MOST < s.len() {
-        return Checked::Bad(sizes::CHARACTERS_MOST);
+        return sizes::CHARACTERS_MOST;
     }
-    Checked::Text
+    s.len()
 }
 
-// Whether `s` is a text of at most 255 characters, in UTF-8 or else in Latin-1.
+// The offset at which `s` fails as a text in UTF-8 or else in Latin-1; its length where it is one.
+fn fault(s: &[u8], utf8: bool) -> usize
+    ensures { λ r. ⌜ r ≡ fault-in (now (s .entry)) (check (coding-of utf8) (now (s .entry))) ⌝ }
+{
+    if utf8 {
+        return utf8_fault(s);
+    }
+    latin1_fault(s)
+}
+
+// Whether `s` is a text of at most 255 characters, in UTF-8 or else in Latin-1, or the offset at which it fails.
 pub fn check_text(s: &[u8], utf8: bool) -> Checked
     ensures { λ r. ⌜ r ≡ shown (check (coding-of utf8) (now (s .entry))) ⌝ }
 {
-    if utf8 {
-        return check_utf8(s);
+    let at = fault(s, utf8);
+    if at < s.len() {
+        return Checked::Bad(at);
     }
-    check_latin1(s)
+    Checked::Text
 }
 
-// Whether `s` is a text in UTF-8, wherever it fails.
+// Whether `s` is a text of at most 255 characters in UTF-8.
 pub fn is_utf8(s: &[u8]) -> bool
     ensures { λ r. ⌜ r ≡ is-valid (check utf-8 (now (s .entry))) ⌝ }
 {
-    match check_utf8(s) {
-        Checked::Text => true,
-        Checked::Bad(_) => false,
-    }
+    utf8_fault(s) == s.len()
 }
 
 // The number of bytes that a Latin-1 character has in UTF-8.
