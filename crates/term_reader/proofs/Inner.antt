@@ -13,7 +13,7 @@ use Rattle.term_spec.specs.Reading.{Located, each, run, string, list-tail, open
 use Rattle.term_spec.specs.Message.{Terms}
 use Rattle.term_spec.specs.Rows.{Row, tree-rows, rows, kind-of, row-words, Placed}
 use Rattle.term_spec.proofs.Holds.{Holds}
-use Rattle.term_spec.proofs.Invariant.{run-kept, term-kept}
+use Rattle.term_spec.proofs.Invariant.{run-kept}
 use Rattle.term_spec.proofs.Rows.{each-nodes-join, sizes-join, count-join, count-le-sizes}
 use Rattle.term_head.specs.declared.Head as code
 use Rattle.term_head.specs.declared.Head.the-variants as heads
@@ -349,8 +349,7 @@ tail-characters atoms cap deep m at row whole before T {place} {head} o n next r
 -- terms are read forward
 run-moves : (atoms : Atoms) (cap d n : ℕ) (s : Position) → Holds (run (term atoms cap d) n s) (λ _ t. s .at ≤ t .at)
 run-moves atoms cap d n s =
-    run-kept cap (λ t. s .at ≤ t .at) (λ t b bs e h. omega arith) (λ t l h. h) atoms (term atoms cap d)
-    (λ w u h. term-kept cap (λ t. s .at ≤ t .at) (λ t b bs e h. omega arith) (λ t l h. h) atoms d w u h) n s (omega arith)
+    run-kept cap (λ t. s .at ≤ t .at) (λ t b bs e h. omega arith) (λ t l h. h) atoms d n s (omega arith)
 
 -- the tails of a list, joined on so far: what is left to read from `at` on
 pub record Tailed (atoms : Atoms) (cap deep : ℕ) (m : List ℕ) (at row : ℕ) (whole : ℕ) (T : List ℕ) (before : ℕ) (all-parts : Parts → List ℕ → Type 0) : Type 0 where

@@ -18,8 +18,8 @@ use Rattle.term_spec.specs.Answer.{Answer, good, refused, Position, Read
 use Rattle.term_spec.specs.Head.{Atoms, Wanted, any, tagged, an-atom, one-of, leaf, Form, atom-ext, atom-cache-ref, form, form-in, forms, form-or, fields, Head, parts, characters, elements, pairs, later, term-head, text-or}
 use Rattle.term_spec.specs.Text.{Coding, latin-1, utf-8, check}
 use Rattle.term_spec.specs.Reading.{Offset, tag-at, character-at, Located, meaning, empty-108, opening, one-term, row, body, contents, term, each, run, entries, string, list-tail}
-use Rattle.term_spec.proofs.Holds.{Holds, both, next, done-holds, refused-holds, weaken, skip, characters-hold}
-use Rattle.term_spec.proofs.Invariant.{In-step, on-byte, later-in-step, rule-in-step, head-in-step, row-in-step}
+use Rattle.term_spec.proofs.Holds.{Holds, both, next, done-holds, refused-holds, rule-holds, weaken, skip, characters-hold}
+use Rattle.term_spec.proofs.Invariant.{In-step, on-byte, later-in-step, head-in-step, row-in-step}
 
 -- the answer itself may be kept
 pub keep : {A : Type 0} {o : Answer (A × Position)} (P : A → Position → Type 0) → Holds o P → Holds o (λ a s. P a s × (o ≡ good (a, s)))
@@ -235,7 +235,7 @@ module _ (message : List ℕ) (cap : ℕ) (atoms : Atoms) where
     entries-backed earlier zero s i = done-holds _ s (i, tt)
     entries-backed earlier (suc n) s i =
         next Tree-backed (ok any s i) λ x t k.
-        next (λ _ t. In-step message cap t) (rule-in-step message cap (not (among (meaning x) earlier)) 7 (s .at) t (k .0)) λ _ t i.
+        next (λ _ t. In-step message cap t) (rule-holds (not (among (meaning x) earlier)) 7 (s .at) t λ _. k .0) λ _ t i.
         next Tree-backed (ok any t i) λ y t k′.
         next Run-backed (entries-backed (meaning x ∷ earlier) n t (k′ .0)) λ us t k″.
         done-holds _ t (k″ .0, (k .1, (k′ .1, k″ .1)))

@@ -17,9 +17,9 @@ use Rattle.term_spec.specs.Reading.{Offset, tag-at, Located, meaning, em
 use Rattle.term_spec.specs.AtomList.{AtomList, of-size, atoms-of}
 use Rattle.term_spec.specs.Message.{Framing, standalone, payload, Terms, version, ending, standalone-term, payload-terms, terms-framed, result-of, first-check, capacity-of, read}
 use Rattle.term_spec.proofs.Steps.{spot}
-use Rattle.term_spec.proofs.Holds.{Holds, both, bind, next, weaken, done-holds, refused-holds, version-holds, ending-holds, characters-hold}
+use Rattle.term_spec.proofs.Holds.{Holds, both, next, weaken, done-holds, refused-holds, rule-holds, version-holds, ending-holds, characters-hold}
 use Rattle.term_spec.proofs.Rows.{sizes-join}
-use Rattle.term_spec.proofs.Invariant.{number-kept, rule-kept, later-kept, form-kept, fields-kept, term-kept}
+use Rattle.term_spec.proofs.Invariant.{number-kept, later-kept, form-kept, fields-kept, framed-kept}
 use Rattle.term_spec.proofs.Message.{passed, found-good}
 
 -- the rows that the characters of a head take
@@ -158,9 +158,7 @@ module _ (small large total : ℕ) (less : small ≤ large) where
         record { rows-are = weaken (λ a t. Taken total now (due a) t) h λ a t e. (omega (arith, e .0), omega (arith, e .0), e .1); agree = same refl }
 
   rule-alike : (b : Bool) (n p : ℕ) (s : Position) → Covered total 0 s → From (λ _. 0) s (rule b n p s) (rule b n p s)
-  rule-alike b n p s f =
-      let r : ℕ = s .rows-taken in
-      unseen (rule-kept 0 (Taken total r 0) (byte-takes total r 0) (no-row total r 0) b n p s (refl, f))
+  rule-alike b n p s f = unseen (rule-holds b n p s λ _. (refl, f))
 
   later-alike : (p : ℕ) (l : Later) (s : Position) → Covered total 0 s → From (λ _. 0) s (later p l s) (later p l s)
   later-alike p l s f =
@@ -302,28 +300,6 @@ module _ (small large total : ℕ) (less : small ≤ large) where
     framed-alike standalone s f = standalone-alike s f
     framed-alike payload s f = payload-alike s f
 
--- the rows taken are no more than there are
-module _ (atoms : Atoms) (cap : ℕ) where
-  abbrev In-room : {A : Type 0} → A → Position → Type 0
-  In-room a t = t .rows-taken ≤ cap
-
-  term-in-room : (s : Position) → s .rows-taken ≤ cap → Holds (term atoms cap 64 any s) In-room
-  term-in-room s h = term-kept cap (λ t. t .rows-taken ≤ cap) (λ s b bs e i. i) (λ s less i. omega arith) atoms 64 any s h
-
-  framed-in-room : (framing : Framing) (s : Position) → s .rows-taken ≤ cap → Holds (terms-framed atoms cap framing s) In-room
-  unfolding standalone-term payload-terms
-  framed-in-room standalone s h =
-      bind (version-holds s λ b bs e. next In-room (term-in-room _ h) λ u t i. bind (ending-holds (t .left) t (done-holds _ t i)))
-  framed-in-room payload s h = next In-room (term-in-room s h) λ u t i. go u t i (t .left)
-    where
-      go : (u : Located) (t : Position) → t .rows-taken ≤ cap → (left : List ℕ)
-          → Holds ((elim left as (λ _. Reading Terms) [
-            | [] ↦ done (u ▹ empty)
-            | b ∷ bs ↦ λ t. after (term atoms cap 64 any t) (λ v. λ t. after (ending (t .left) t) (λ _. done (u ▹ v ▹ empty)))
-          ]) t) In-room
-      go u t i [] = done-holds _ t i
-      go u t i (b ∷ bs) = next In-room (term-in-room t i) λ v t j. bind (ending-holds (t .left) t (done-holds _ t j))
-
 module _ {A : Type 0} where
   -- with more rows: what is no refusal 9 stays
   with-more : {small total : ℕ} (o o′ : Answer (A × Position)) → Agree small total o o′ → (x : Answer A) → ((p : ℕ) → x ≡ refused 9 p → ⊥) → result-of o ≡ x → result-of o′ ≡ x
@@ -386,7 +362,7 @@ module _ (framing : Framing) (list : AtomList) (message : List ℕ) where
       let g = found-good o ts (b .1) in
       let costs = both-ways lent lent (omega arith) .rows-are .known ts (g .0) (g .1) in
       let room : g .0 .rows-taken ≤ capacity-of lent
-      = framed-in-room (atoms-of list) (capacity-of lent) framing (spot 0 message 0) (omega arith) .known ts (g .0) (g .1) in
+      = framed-kept (capacity-of lent) (λ t. t .rows-taken ≤ capacity-of lent) (λ s b bs e i. i) (λ s less i. omega arith) (atoms-of list) message (omega arith) framing .known ts (g .0) (g .1) in
       omega (arith, costs .0)
 
   -- What is accepted with some number of rows is accepted, as the same terms, with any number that is at least the rows that the terms have

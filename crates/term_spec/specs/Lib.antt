@@ -18,4 +18,5 @@ pub mod Answers
 pub mod Promises
 pub mod Demands
 pub mod Lists
+pub mod BadTexts
 pub mod Cases
