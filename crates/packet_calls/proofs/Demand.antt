@@ -8,7 +8,9 @@ use Rattle.packet_spec.specs.Memory.{Memory, cache-of, memory-of}
 use Rattle.packet_spec.specs.Promises.{Packet-call, Drop-call, Reset-call}
 use Rattle.packet_spec.specs.Runs.{Call, All-bytes}
 use Rattle.packet_spec.specs.Demands.{Ran, Demand-2}
+use Rattle.packet_spec.specs.BadReferences.{Bad-references}
 use Rattle.packet_spec.proofs.Demand as definitions
+use Rattle.packet_spec.proofs.BadReferences as references
 use Rattle.packet_calls.proofs.take_packet.Reads as taking-call
 use Rattle.link_state.proofs.drop_sequence.Reads as dropping-call
 use Rattle.link_state.proofs.reset.Reads as resetting-call
@@ -37,3 +39,7 @@ promised-reset κs a r s p = p
 -- For any run of these calls, whatever memory is lent at first
 pub demand-2 : {m n : Memory} {cs : List Call} → All-bytes cs → Ran m cs n → Demand-2 m cs n
 demand-2 = definitions.demand-2
+
+-- Of `take_packet`: where it refuses with 5, the place is the bad byte of a new reference's text
+pub bad-references : Bad-references
+bad-references = references.bad-references

@@ -11,4 +11,5 @@ pub mod Sequence
 pub mod Gathered
 pub mod Demand
 pub mod OwnWords
+pub mod BadReferences
 pub mod Cases

@@ -8,6 +8,7 @@ pub mod Places
 pub mod Gathering
 pub mod Answers
 pub mod Promises
+pub mod BadReferences
 pub mod Demands
 pub mod OwnWords
 pub mod Cases

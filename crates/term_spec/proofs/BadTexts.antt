@@ -90,12 +90,12 @@ module _ {A : Type 0} where
   past-check true n p o other e = e
   past-check false n p o other e = absurd (eqb-false n 5 other cc)
 
-  found-refused : (o : Answer (A × Position)) (n p : ℕ) → result-of o ≡ refused n p → o ≡ refused n p
+  pub found-refused : (o : Answer (A × Position)) (n p : ℕ) → result-of o ≡ refused n p → o ≡ refused n p
   found-refused (good r) n p e = let no-way : _≡_ {A = ℕ} 0 1 = cc in absurd (omega arith)
   found-refused (refused m q) n p e = cc
 
   -- the number and the place that a call answers are those of the rules
-  as-told : (m q n p : ℕ) → _≡_ {A = Refusal} (record { number = m; place = q }) (record { number = n; place = p }) → _≡_ {A = Answer A} (refused m q) (refused n p)
+  pub as-told : (m q n p : ℕ) → _≡_ {A = Refusal} (record { number = m; place = q }) (record { number = n; place = p }) → _≡_ {A = Answer A} (refused m q) (refused n p)
   as-told m q n p e = ap (λ (r : Refusal). refused (r .number) (r .place)) e
 
 module _ (framing : Framing) (atoms : AtomList) (lent : ℕ) (message : List ℕ) (p : ℕ) where

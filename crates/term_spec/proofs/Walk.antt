@@ -19,10 +19,55 @@ use Rattle.term_spec.specs.Message.{Framing, standalone, payload, Terms,
 use Rattle.term_spec.proofs.Steps.{spot}
 use Rattle.term_spec.proofs.Holds.{Holds, bind, next, done-holds, refused-holds, text-holds}
 
--- What is known of a step's answer: I of the position where it ends, and F of the place where it refuses with 5
-pub record Keeps {A : Type 0} (I : Position → Type 0) (F : ℕ → Type 0) (o : Answer (A × Position)) : Type 0 where
-  pub ends : Holds o (λ _ t. I t)
+-- What is known of a step's answer: Q of what it finds and of the position where it ends, and F of the place where it refuses with 5
+pub record Keeps {A : Type 0} (Q : A → Position → Type 0) (F : ℕ → Type 0) (o : Answer (A × Position)) : Type 0 where
+  pub ends : Holds o Q
   pub refuses : (p : ℕ) → o ≡ refused 5 p → F p
+
+module _ {F : ℕ → Type 0} where
+  -- one step after another
+  pub and-then : {A B : Type 0} {o : Answer (A × Position)} {f : A → Reading B} {Q : B → Position → Type 0}
+      → Keeps (λ a t. Keeps Q F (f a t)) F o → Keeps Q F (after o f)
+  and-then {A} {o = o} {f} h =
+      record { ends = bind (record { known = λ a t e. h .ends .known a t e .ends }); refuses = λ p e. go o refl p e }
+    where
+      go : (o′ : Answer (A × Position)) → o ≡ o′ → (p : ℕ) → after o′ f ≡ refused 5 p → F p
+      go (good r) q p e = h .ends .known (r .0) (r .1) q .refuses p e
+      go (refused n m) q p e = h .refuses p cc
+
+  -- the same, with what the first finds
+  pub next-step : {A B : Type 0} {o : Answer (A × Position)} {f : A → Reading B} {P : A → Position → Type 0} {Q : B → Position → Type 0}
+      → Keeps P F o → ((a : A) (t : Position) → o ≡ good (a, t) → P a t → Keeps Q F (f a t)) → Keeps Q F (after o f)
+  next-step h k = and-then (record { ends = record { known = λ a t e. k a t e (h .ends .known a t e) }; refuses = h .refuses })
+
+  module _ {A : Type 0} {Q : A → Position → Type 0} where
+    pub end : (a : A) (t : Position) → Q a t → Keeps Q F (good (a, t))
+    end a t q = record { ends = done-holds a t q; refuses = λ p e. let no-way : _≡_ {A = ℕ} 0 1 = cc in absurd (omega arith) }
+
+    pub no : (n p : ℕ) → eqb n 5 ≡ false → Keeps Q F (refused n p)
+    no n p e = record { ends = refused-holds n p; refuses = λ q f. absurd (eqb-false n 5 e cc) }
+
+  module _ {Q : Unit → Position → Type 0} where
+    pub rule-keeps : (b : Bool) (n p : ℕ) → eqb n 5 ≡ false → (s : Position) → (b ≡ true → Q tt s) → Keeps Q F (rule b n p s)
+    rule-keeps true n p e s q = end tt s (q refl)
+    rule-keeps false n p e s q = no n p e
+
+    pub version-keeps : (s : Position) → ((b : ℕ) (bs : List ℕ) → s .left ≡ b ∷ bs → Q tt (spot 1 bs (s .rows-taken))) → Keeps Q F (version s)
+    unfolding version
+    version-keeps s q = go (s .left) refl
+      where
+        tested : (b : ℕ) (bs : List ℕ) → s .left ≡ b ∷ bs → (t : Bool)
+            → Keeps Q F (elim t as (λ _. Answer (Unit × Position)) [ true ↦ good (tt, spot 1 bs (s .rows-taken)) | false ↦ refused 1 0 ])
+        tested b bs e true = end tt _ (q b bs e)
+        tested b bs e false = no 1 0 refl
+
+        go : (left : List ℕ) → s .left ≡ left
+            → Keeps Q F (elim left as (λ _. Answer (Unit × Position)) [
+              | [] ↦ refused 1 0
+              | b ∷ bs ↦ elim (eqb b 131) [ true ↦ good (tt, spot 1 bs (s .rows-taken)) | false ↦ refused 1 0 ]
+            ])
+        go [] e = no 1 0 refl
+        go (b ∷ bs) e = tested b bs e (eqb b 131)
 
 -- The head of an atom, read at s: its tag and its form are found, and its fields refuse with 5 at q
 pub record Atom-refused (atoms : Atoms) (s : Position) (q : ℕ) : Type 0 where
@@ -42,25 +87,10 @@ module _ (cap : ℕ) (I : Position → Type 0) (F : ℕ → Type 0)
     (on-byte : (s : Position) (b : ℕ) (bs : List ℕ) → s .left ≡ b ∷ bs → I s → I (record { at = s .at + 1; left = bs; rows-taken = s .rows-taken }))
     (on-row : (s : Position) → s .rows-taken < cap → I s → I (record { at = s .at; left = s .left; rows-taken = s .rows-taken + 1 })) where
   abbrev Kept : {A : Type 0} → Answer (A × Position) → Type 0
-  Kept {A} o = Keeps {A = A} I F o
-
-  -- one step after another, with what the first finds
-  next-step : {A B : Type 0} {o : Answer (A × Position)} {f : A → Reading B} → Kept o → ((a : A) (t : Position) → o ≡ good (a, t) → I t → Kept (f a t)) → Kept (after o f)
-  next-step {A} {o} {f} h k =
-      record { ends = bind (record { known = λ a t e. k a t e (h .ends .known a t e) .ends }); refuses = λ p e. go o refl p e }
-    where
-      go : (o′ : Answer (A × Position)) → o ≡ o′ → (p : ℕ) → after o′ f ≡ refused 5 p → F p
-      go (good r) q p e = k (r .0) (r .1) q (h .ends .known (r .0) (r .1) q) .refuses p e
-      go (refused n m) q p e = h .refuses p cc
+  Kept {A} o = Keeps {A = A} (λ _ t. I t) F o
 
   step : {A B : Type 0} {o : Answer (A × Position)} {f : A → Reading B} → Kept o → ((a : A) (t : Position) → I t → Kept (f a t)) → Kept (after o f)
   step h k = next-step h λ a t _ i. k a t i
-
-  end : {A : Type 0} (a : A) (t : Position) → I t → Kept (good (a, t))
-  end a t i = record { ends = done-holds a t i; refuses = λ p e. let no-way : _≡_ {A = ℕ} 0 1 = cc in absurd (omega arith) }
-
-  no : {A : Type 0} (n p : ℕ) → eqb n 5 ≡ false → Kept {A = A} (refused n p)
-  no n p e = record { ends = refused-holds n p; refuses = λ q f. absurd (eqb-false n 5 e cc) }
 
   byte-kept : (p : ℕ) (s : Position) → I s → Kept (byte p s)
   byte-kept p s i = go (s .left) refl
@@ -79,8 +109,7 @@ module _ (cap : ℕ) (I : Position → Type 0) (F : ℕ → Type 0)
   number-kept p n s i = step (bytes-kept p n s i) λ bs t i. end _ t i
 
   rule-kept : (b : Bool) (n p : ℕ) → eqb n 5 ≡ false → (s : Position) → I s → Kept (rule b n p s)
-  rule-kept true n p e s i = end tt s i
-  rule-kept false n p e s i = no n p e
+  rule-kept b n p e s i = rule-keeps b n p e s (λ _. i)
 
   text-kept : (o : Checked) (n : ℕ) (p : ℕ → ℕ) → eqb n 5 ≡ false → (s : Position) → I s → Kept (text-or o n p s)
   unfolding text-or
@@ -261,21 +290,7 @@ module _ (cap : ℕ) (I : Position → Type 0) (F : ℕ → Type 0)
     -- so do the terms of a message
     module _ (message : List ℕ) (start : I (spot 0 message 0)) where
       version-kept : Kept (version (spot 0 message 0))
-      unfolding version
-      version-kept = go message refl
-        where
-          tested : (b : ℕ) (bs : List ℕ) → message ≡ b ∷ bs → (t : Bool)
-              → Kept {A = Unit} (elim t as (λ _. Answer (Unit × Position)) [ true ↦ good (tt, spot 1 bs 0) | false ↦ refused 1 0 ])
-          tested b bs e true = end tt _ (on-byte (spot 0 message 0) b bs e start)
-          tested b bs e false = no 1 0 refl
-
-          go : (left : List ℕ) → message ≡ left
-              → Kept {A = Unit} (elim left as (λ _. Answer (Unit × Position)) [
-                | [] ↦ refused 1 0
-                | b ∷ bs ↦ elim (eqb b 131) [ true ↦ good (tt, spot 1 bs 0) | false ↦ refused 1 0 ]
-              ])
-          go [] e = no 1 0 refl
-          go (b ∷ bs) e = tested b bs e (eqb b 131)
+      version-kept = version-keeps (spot 0 message 0) λ b bs e. on-byte (spot 0 message 0) b bs e start
 
       ending-kept : (left : List ℕ) (s : Position) → I s → Kept (ending left s)
       unfolding ending
