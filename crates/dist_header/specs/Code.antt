@@ -110,7 +110,7 @@ JudgedAs judging s naming naming′ (answers.BadText k) = (earlier : List Refere
 JudgedAs judging s naming naming′ (answers.Next a) =
     (earlier : List Reference) (i : ℕ) → NamingIs naming earlier → Went (judging earlier i) (at-offset s a 0) naming′ earlier
 
--- where it is good, it is at an offset between these
+-- a good one goes on at an offset between these
 unfoldable pub GoesOn : ℕ → ℕ → ReferenceAnswer → Type 0
 GoesOn least most (answers.Refused k) = Unit {0}
 GoesOn least most (answers.BadText k) = Unit {0}

@@ -266,6 +266,13 @@ fn judge_reference(
     }
 }
 
+// The references of a header, refused.
+fn refused(number: u8, place: usize) -> References
+    ensures { λ r. ⌜ r ≡ References.Refused (record { number = number; place = place }) ⌝ }
+{
+    References::Refused(Refusal { number, place })
+}
+
 // Reads and judges the n references of the header at `at`, the first at `first`, each in turn.
 fn check_references(
     utf8: bool,
@@ -296,16 +303,10 @@ fn check_references(
             &mut naming,
         ) {
             ReferenceAnswer::Refused(number) => {
-                return References::Refused(Refusal {
-                    number: number,
-                    place: i,
-                });
+                return refused(number, i);
             }
             ReferenceAnswer::BadText(place) => {
-                return References::Refused(Refusal {
-                    number: refusals::TEXT,
-                    place: place,
-                });
+                return refused(refusals::TEXT, place);
             }
             ReferenceAnswer::Next(offset) => {
                 next = offset;

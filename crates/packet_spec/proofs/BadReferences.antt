@@ -26,7 +26,7 @@ use Rattle.packet_spec.specs.Header.{Reference, flag-bytes, half, is-new
 use Rattle.packet_spec.specs.Packet.{Kind, normal, starting, continuing, ids, packet-kind, preamble, Packet, payload-after, rest, packet, judged}
 use Rattle.packet_spec.specs.Calls.{Outcome, payload-at, pending-still, complete, told, taken, take-packet}
 use Rattle.packet_spec.specs.Answers.{outcome-case, packet-answer}
-use Rattle.packet_spec.specs.BadReferences.{Count-at, after-68, after-69, count, flags, width, size-at, reference-at, Bad-reference, Bad-references}
+use Rattle.packet_spec.specs.BadReferences.{Count-at, after-68, after-69, reference-count, header-flags, header-width, size-at, reference-at, Bad-reference, Bad-references}
 use Rattle.packet_spec.proofs.Demand.{answer-is}
 
 -- Steps at an offset: what they find stands there
@@ -62,13 +62,13 @@ module _ (agreed : Coding) (holding : ℕ → Held) (bs : List ℕ) where
   -- The references of a header whose count stands at `c`
   module _ (c : ℕ) (there : Count-at bs c) where
     abbrev n : ℕ
-    n = count bs c
+    n = reference-count bs c
 
     abbrev fs : List ℕ
-    fs = flags bs c
+    fs = header-flags bs c
 
     abbrev w : ℕ
-    w = width bs c
+    w = header-width bs c
 
     abbrev begin : ℕ → ℕ
     begin = reference-at bs c

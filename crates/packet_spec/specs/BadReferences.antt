@@ -24,23 +24,23 @@ pub data Count-at (packet : List ℕ) (at : ℕ) : Type 0 where
 
 -- A header whose count stands at `c`
 module _ (packet : List ℕ) (c : ℕ) where
-  abbrev pub count : ℕ
-  count = getD packet c 0
+  abbrev pub reference-count : ℕ
+  reference-count = getD packet c 0
 
-  abbrev pub flags : List ℕ
-  flags = take (flag-bytes count) (drop (c + 1) packet)
+  abbrev pub header-flags : List ℕ
+  header-flags = take (flag-bytes reference-count) (drop (c + 1) packet)
 
-  abbrev pub width : ℕ
-  width = length-width (half flags count)
+  abbrev pub header-width : ℕ
+  header-width = length-width (half header-flags reference-count)
 
   -- the length of a new reference's text, after an internal index at `at`
   abbrev pub size-at : ℕ → ℕ
-  size-at at = big-endian (take width (drop (at + 1) packet))
+  size-at at = big-endian (take header-width (drop (at + 1) packet))
 
   -- Where reference i begins: after the flags and the references before it
   unfoldable pub reference-at : ℕ → ℕ
-  reference-at zero = c + 1 + flag-bytes count
-  reference-at (suc i) = reference-at i + 1 + cond (is-new (half flags i)) (width + size-at (reference-at i)) 0
+  reference-at zero = c + 1 + flag-bytes reference-count
+  reference-at (suc i) = reference-at i + 1 + cond (is-new (half header-flags i)) (header-width + size-at (reference-at i)) 0
 
 -- In the packet's header stands a new reference whose text has so many bytes, from `first` on: before the text its length, and before that the internal index
 pub record Reference-text (packet : List ℕ) (first size : ℕ) : Type 0 where
@@ -49,9 +49,9 @@ pub record Reference-text (packet : List ℕ) (first size : ℕ) : Type 0 where
   pub count-there : Count-at packet c
   -- the reference's number
   pub i : ℕ
-  pub counted : i < count packet c
-  pub new : is-new (half (flags packet c) i) ≡ true
-  pub first-is : first ≡ reference-at packet c i + 1 + width packet c
+  pub counted : i < reference-count packet c
+  pub new : is-new (half (header-flags packet c) i) ≡ true
+  pub first-is : first ≡ reference-at packet c i + 1 + header-width packet c
   pub size-is : size ≡ size-at packet c (reference-at packet c i)
   pub inside : first + size ≤ length packet
 

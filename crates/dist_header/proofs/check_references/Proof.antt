@@ -37,20 +37,26 @@ judge-reference-requires c κs = let h = c .before .before .before .before .befo
 enum-known-number : tie.Need-enum-known-number Inv-loop μ-loop
 enum-known-number c = search needs
 
+refused-requires : tie.Need-refused-requires Inv-loop μ-loop
+refused-requires c κs = search needs
+
 returns : tie.Need-returns Inv-loop μ-loop
-returns c = let a = c .before .before .before .before .before .before .before .before .before .before .before .before .args in
-    let l = c .before .before .before .before .before .before .before .before .loop in
-    let e : ReferenceIs (coding-of (a .utf8)) (held (cache-of (a .cache .now) (a .cache-lengths .now))) (a .packet .now) (half (flags-of (a .packet .now) (a .at) (a .n)) (l .i)) (a .width) (l .next) (l .naming) _ (answers.Refused _) = rw (c .before .number .given .1, c .before .before .before .before .before .before .half-of .ensures .0 ∙ flags-half (a .packet .now) (a .at) (a .n) (l .i) (omega arith) (omega arith)) at (c .before .before .before .before .judge-reference .ensures) in
-    checking-refused (coding-of (a .utf8)) (held (cache-of (a .cache .now) (a .cache-lengths .now))) (a .packet .now) (flags-of (a .packet .now) (a .at) (a .n)) (a .width) (references (coding-of (a .utf8)) (held (cache-of (a .cache .now) (a .cache-lengths .now))) (flags-of (a .packet .now) (a .at) (a .n)) (a .width) [] 0 (a .n) (at-offset (a .packet .now) (a .first) 0)) (a .n) (l .i) (l .next) (l .naming) (l .inv .3) _ _ (c .before .before .before .before .before .before .before .loop-test .taken) e
+returns c = let a = c .before .before .before .before .before .before .before .before .before .before .before .before .before .args in
+    let l = c .before .before .before .before .before .before .before .before .before .loop in
+    let e : ReferenceIs (coding-of (a .utf8)) (held (cache-of (a .cache .now) (a .cache-lengths .now))) (a .packet .now) (half (flags-of (a .packet .now) (a .at) (a .n)) (l .i)) (a .width) (l .next) (l .naming) _ (answers.Refused _) = rw (c .before .before .number .given .1, c .before .before .before .before .before .before .before .half-of .ensures .0 ∙ flags-half (a .packet .now) (a .at) (a .n) (l .i) (omega arith) (omega arith)) at (c .before .before .before .before .before .judge-reference .ensures) in
+    rw (c .refused .ensures) (checking-refused (coding-of (a .utf8)) (held (cache-of (a .cache .now) (a .cache-lengths .now))) (a .packet .now) (flags-of (a .packet .now) (a .at) (a .n)) (a .width) (references (coding-of (a .utf8)) (held (cache-of (a .cache .now) (a .cache-lengths .now))) (flags-of (a .packet .now) (a .at) (a .n)) (a .width) [] 0 (a .n) (at-offset (a .packet .now) (a .first) 0)) (a .n) (l .i) (l .next) (l .naming) (l .inv .3) _ _ (c .before .before .before .before .before .before .before .before .loop-test .taken) e)
 
 enum-known-place : tie.Need-enum-known-place Inv-loop μ-loop
 enum-known-place c = search needs
 
+refused-requires-2 : tie.Need-refused-requires-2 Inv-loop μ-loop
+refused-requires-2 c κs = search needs
+
 returns-2 : tie.Need-returns-2 Inv-loop μ-loop
-returns-2 c = let a = c .before .before .before .before .before .before .before .before .before .before .before .before .args in
-    let l = c .before .before .before .before .before .before .before .before .loop in
-    let e : ReferenceIs (coding-of (a .utf8)) (held (cache-of (a .cache .now) (a .cache-lengths .now))) (a .packet .now) (half (flags-of (a .packet .now) (a .at) (a .n)) (l .i)) (a .width) (l .next) (l .naming) _ (answers.BadText _) = rw (c .before .place .given .1, c .before .before .before .before .before .before .half-of .ensures .0 ∙ flags-half (a .packet .now) (a .at) (a .n) (l .i) (omega arith) (omega arith)) at (c .before .before .before .before .judge-reference .ensures) in
-    checking-bad (coding-of (a .utf8)) (held (cache-of (a .cache .now) (a .cache-lengths .now))) (a .packet .now) (flags-of (a .packet .now) (a .at) (a .n)) (a .width) (references (coding-of (a .utf8)) (held (cache-of (a .cache .now) (a .cache-lengths .now))) (flags-of (a .packet .now) (a .at) (a .n)) (a .width) [] 0 (a .n) (at-offset (a .packet .now) (a .first) 0)) (a .n) (l .i) (l .next) (l .naming) (l .inv .3) _ _ (c .before .before .before .before .before .before .before .loop-test .taken) e
+returns-2 c = let a = c .before .before .before .before .before .before .before .before .before .before .before .before .before .args in
+    let l = c .before .before .before .before .before .before .before .before .before .loop in
+    let e : ReferenceIs (coding-of (a .utf8)) (held (cache-of (a .cache .now) (a .cache-lengths .now))) (a .packet .now) (half (flags-of (a .packet .now) (a .at) (a .n)) (l .i)) (a .width) (l .next) (l .naming) _ (answers.BadText _) = rw (c .before .before .place .given .1, c .before .before .before .before .before .before .before .half-of .ensures .0 ∙ flags-half (a .packet .now) (a .at) (a .n) (l .i) (omega arith) (omega arith)) at (c .before .before .before .before .before .judge-reference .ensures) in
+    rw (c .refused2 .ensures) (checking-bad (coding-of (a .utf8)) (held (cache-of (a .cache .now) (a .cache-lengths .now))) (a .packet .now) (flags-of (a .packet .now) (a .at) (a .n)) (a .width) (references (coding-of (a .utf8)) (held (cache-of (a .cache .now) (a .cache-lengths .now))) (flags-of (a .packet .now) (a .at) (a .n)) (a .width) [] 0 (a .n) (at-offset (a .packet .now) (a .first) 0)) (a .n) (l .i) (l .next) (l .naming) (l .inv .3) _ _ (c .before .before .before .before .before .before .before .before .loop-test .taken) e)
 
 enum-known-offset : tie.Need-enum-known-offset Inv-loop μ-loop
 enum-known-offset c = search needs
@@ -87,8 +93,10 @@ check-references-spec =
     slice-aggregate-judge-reference
     judge-reference-requires
     enum-known-number
+    refused-requires
     returns
     enum-known-place
+    refused-requires-2
     returns-2
     enum-known-offset
     add-i
