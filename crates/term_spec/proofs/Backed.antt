@@ -15,7 +15,7 @@ use Rattle.term_spec.specs.Tree.{Forest, node, empty, _▹_, _▹▹_}
 use Rattle.term_spec.specs.Term.{Label, Term, integer, atom, list, improper-list, map}
 use Rattle.term_spec.specs.Equal.{among}
 use Rattle.term_spec.specs.Answer.{Answer, good, refused, Position, Reading, after, done, rule, byte, first-of, bytes, number}
-use Rattle.term_spec.specs.Head.{Atoms, Wanted, any, tagged, an-atom, one-of, leaf, Form, atom-ext, atom-cache-ref, form, form-in, forms, form-or, fields, Head, parts, characters, elements, pairs, later, term-head, text-or}
+use Rattle.term_spec.specs.Head.{Atoms, limits, Wanted, any, tagged, an-atom, one-of, leaf, Form, atom-ext, atom-cache-ref, form, form-in, forms, form-or, fields, Head, parts, characters, elements, pairs, later, term-head, text-or}
 use Rattle.term_spec.specs.Text.{Coding, latin-1, utf-8, check}
 use Rattle.term_spec.specs.Reading.{Offset, tag-at, character-at, Located, meaning, empty-108, opening, one-term, row, body, contents, term, each, run, entries, string, list-tail}
 use Rattle.term_spec.proofs.Holds.{Holds, both, next, done-holds, refused-holds, rule-holds, weaken, skip, characters-hold}
@@ -97,7 +97,7 @@ module _ (message : List ℕ) (cap : ℕ) (atoms : Atoms) where
 
   -- what a head that ends at b says of the label; later fields are read again where they stand, after the parts
   abbrev pub Agrees : ℕ → Head → Position → Label → Type 0
-  Agrees p (parts ws n l) b x = (s : Position) × (t : Position) × In-step message cap s × After ws n b s × (later p l s ≡ good (x, t))
+  Agrees p (parts ws n l) b x = (s : Position) × (t : Position) × In-step message cap s × After ws n b s × (later (atoms .flags) p l s ≡ good (x, t))
   Agrees p (characters cs) b x = x ≡ list
   Agrees p (elements n) b x = (x ≡ list) ⊎ (x ≡ improper-list)
   Agrees p (pairs n) b x = x ≡ map
@@ -349,7 +349,7 @@ module _ (message : List ℕ) (cap : ℕ) (atoms : Atoms) where
         next (λ us t. Run-backed us t × Ends ws s t) (both Run-backed (λ _ t. Ends ws s t) (each-backed (one-term atoms inner) part-backed ws s i) (each-ends ws s)) λ us t k.
         next (λ vs u. Run-backed vs u × After ws n s u)
         (both Run-backed (λ _ u. After ws n s u) (run-backed (one-term atoms inner) part-backed n t (k .0 .0)) (run-after ws n s t (k .1))) λ vs t₁ k′.
-        next (λ x t. In-step message cap t × (later p l t₁ ≡ good (x, t))) (keep (λ _ t. In-step message cap t) (later-in-step message cap p l t₁ (k′ .0 .0))) λ x t₂ z.
+        next (λ x t. In-step message cap t × (later (atoms .flags) p l t₁ ≡ good (x, t))) (keep (λ _ t. In-step message cap t) (later-in-step message cap (atoms .flags) p l t₁ (k′ .0 .0))) λ x t₂ z.
         done-holds _ t₂ (z .0, ((parts ws n l, h, s, i, e, (t₁, t₂, k′ .0 .0, k′ .1, z .1)), joined us vs (k .0 .1) (k′ .0 .1)))
     whole-backed p (characters cs) s i h e c =
         next Run-backed (string-backed d p (p + 3) cs s i c) λ us t k. done-holds _ t (k .0, ((characters cs, h, s, i, e, refl), k .1))

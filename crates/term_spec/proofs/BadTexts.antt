@@ -10,6 +10,7 @@ use lib.ListN.{length, getD, take, drop}
 use borrow.Author.Tests.{eqb-false}
 use Rattle.term_spec.specs.Numbers.{big-endian}
 use Rattle.term_spec.specs.Text.{Coding, Checked, valid, invalid-at}
+use Rattle.term_spec.specs.Connection.{flags-known}
 use Rattle.term_spec.specs.Answer.{Answer, good, refused, Position, at-offset, after, done, byte}
 use Rattle.term_spec.specs.Head.{Atoms, atom-ext, form-in, forms, fields, text-or}
 use Rattle.term_spec.specs.AtomList.{AtomList, of-size, atoms-of}
@@ -98,24 +99,24 @@ module _ {A : Type 0} where
   pub as-told : (m q n p : ℕ) → _≡_ {A = Refusal} (record { number = m; place = q }) (record { number = n; place = p }) → _≡_ {A = Answer A} (refused m q) (refused n p)
   as-told m q n p e = ap (λ (r : Refusal). refused (r .number) (r .place)) e
 
-module _ (framing : Framing) (atoms : AtomList) (lent : ℕ) (message : List ℕ) (p : ℕ) where
-  rules-bad : read framing atoms lent message ≡ refused 5 p → Bad-text message p
+module _ (flags : ℕ) (framing : Framing) (atoms : AtomList) (lent : ℕ) (message : List ℕ) (p : ℕ) where
+  rules-bad : read flags framing atoms lent message ≡ refused 5 p → Bad-text message p
   unfolding read
   rules-bad e =
-      refused-bad message (atoms-of atoms) (capacity-of lent) framing p
-      (found-refused _ 5 p (past-check (leb (length message) 65536) 12 p _ refl (past-check (of-size atoms) 13 p _ refl e)))
+      refused-bad message (atoms-of flags atoms) (capacity-of lent) framing p
+      (found-refused _ 5 p (past-check (leb (length message) 65536) 12 p _ refl (past-check (flags-known flags) 14 p _ refl (past-check (of-size atoms) 13 p _ refl e))))
 
-  read-bad : read-answer (read framing atoms lent message) ≡ reads.Refused (record { number = 5; place = p }) → Bad-text message p
+  read-bad : read-answer (read flags framing atoms lent message) ≡ reads.Refused (record { number = 5; place = p }) → Bad-text message p
   unfolding read-answer
-  read-bad e = rules-bad (go (read framing atoms lent message) e)
+  read-bad e = rules-bad (go (read flags framing atoms lent message) e)
     where
       go : (o : Answer Terms) → read-answer o ≡ reads.Refused (record { number = 5; place = p }) → o ≡ refused 5 p
       go (good ts) e = let no-way : _≡_ {A = ℕ} 0 1 = cc in absurd (omega arith)
       go (refused n q) e = as-told n q 5 p cc
 
-  write-bad : (room : ℕ) → write-answer (write framing atoms lent room message) ≡ writes.Refused (record { number = 5; place = p }) → Bad-text message p
+  write-bad : (room : ℕ) → write-answer (write flags framing atoms lent room message) ≡ writes.Refused (record { number = 5; place = p }) → Bad-text message p
   unfolding write-answer write written
-  write-bad room e = rules-bad (go (read framing atoms lent message) e)
+  write-bad room e = rules-bad (go (read flags framing atoms lent message) e)
     where
       tested : (fits : Bool) (w : Written) → ¬ (write-answer (elim fits [ true ↦ good w | false ↦ refused 11 0 ]) ≡ writes.Refused (record { number = 5; place = p }))
       tested true w e = let no-way : _≡_ {A = ℕ} 0 1 = cc in omega arith
@@ -129,7 +130,7 @@ pub bad-texts : Bad-texts
 bad-texts =
     record {
       by-the-rules = rules-bad;
-      by-reading = λ framing atoms message table answer left c p e. read-bad framing atoms (length table) message p (sym (c .read-answered) ∙ e);
-      by-writing = λ framing atoms message scratch output answer scratch-is output-is c p e.
-          write-bad framing atoms (length scratch) message p (length output) (sym (c .write-answered) ∙ e);
+      by-reading = λ flags framing atoms message table answer left c p e. read-bad flags framing atoms (length table) message p (sym (c .read-answered) ∙ e);
+      by-writing = λ flags framing atoms message scratch output answer scratch-is output-is c p e.
+          write-bad flags framing atoms (length scratch) message p (length output) (sym (c .write-answered) ∙ e);
     }

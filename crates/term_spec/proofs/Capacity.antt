@@ -11,6 +11,7 @@ use borrow.Author.Tests.{leb-true, leb-false, ltb-true, ltb-false}
 use Rattle.term_spec.specs.Tree.{Forest, node, empty, _▹_, _▹▹_, size, sizes}
 use Rattle.term_spec.specs.Term.{Label, Term, list, improper-list}
 use Rattle.term_spec.specs.Equal.{among}
+use Rattle.term_spec.specs.Connection.{flags-known}
 use Rattle.term_spec.specs.Answer.{Answer, good, refused, Position, Reading, after, done, rule, byte, first-of, bytes}
 use Rattle.term_spec.specs.Head.{Atoms, Wanted, any, Form, fields, Head, parts, characters, elements, pairs, Later, later, term-head}
 use Rattle.term_spec.specs.Reading.{Offset, tag-at, Located, meaning, empty-108, opening, one-term, row, body, contents, term, each, run, entries, string, list-tail}
@@ -160,10 +161,10 @@ module _ (small large total : ℕ) (less : small ≤ large) where
   rule-alike : (b : Bool) (n p : ℕ) (s : Position) → Covered total 0 s → From (λ _. 0) s (rule b n p s) (rule b n p s)
   rule-alike b n p s f = unseen (rule-holds b n p s λ _. (refl, f))
 
-  later-alike : (p : ℕ) (l : Later) (s : Position) → Covered total 0 s → From (λ _. 0) s (later p l s) (later p l s)
-  later-alike p l s f =
+  later-alike : (flags p : ℕ) (l : Later) (s : Position) → Covered total 0 s → From (λ _. 0) s (later flags p l s) (later flags p l s)
+  later-alike flags p l s f =
       let r : ℕ = s .rows-taken in
-      unseen (later-kept 0 (Taken total r 0) (byte-takes total r 0) (no-row total r 0) p l s (refl, f))
+      unseen (later-kept 0 (Taken total r 0) (byte-takes total r 0) (no-row total r 0) flags p l s (refl, f))
 
   module _ (part part′ : Wanted → Reading Located) (alike : (w : Wanted) (s : Position) → Covered total 0 s → From size s (part w s) (part′ w s)) where
     each-alike : (ws : List Wanted) (s : Position) → Covered total 0 s → From sizes s (each part ws s) (each part′ ws s)
@@ -252,7 +253,7 @@ module _ (small large total : ℕ) (less : small ≤ large) where
       whole-alike p (parts ws n l) before s e f =
           step (each-alike (one-term atoms inner) (one-term atoms inner′) part-alike ws s f) λ us t i f.
           step (run-alike (one-term atoms inner) (one-term atoms inner′) part-alike n t f) λ vs t j f.
-          step (later-alike p l t f) λ x t k f. end (node (x, tag-at p) (us ▹▹ vs)) t (omega (arith, sizes-join us vs)) f
+          step (later-alike (atoms .flags) p l t f) λ x t k f. end (node (x, tag-at p) (us ▹▹ vs)) t (omega (arith, sizes-join us vs)) f
       whole-alike p (characters cs) before s e f = step (string-alike d p (p + 3) cs s f) λ us t i f. end _ t (omega arith) f
       whole-alike p (elements n) before s e f =
           step (run-alike (one-term atoms inner) (one-term atoms inner′) part-alike n s f) λ us t i f.
@@ -326,20 +327,20 @@ module _ {A : Type 0} where
   checked true n o o′ x f e = f e
   checked false n o o′ x f e = e
 
-module _ (framing : Framing) (list : AtomList) (message : List ℕ) where
+module _ (flags : ℕ) (framing : Framing) (list : AtomList) (message : List ℕ) where
   -- what is found with that many rows
   abbrev found-with : ℕ → Answer Terms
-  found-with lent = result-of (terms-framed (atoms-of list) (capacity-of lent) framing (spot 0 message 0))
+  found-with lent = result-of (terms-framed (atoms-of flags list) (capacity-of lent) framing (spot 0 message 0))
 
-  read-with : (lent lent′ : ℕ) (x : Answer Terms) → (found-with lent ≡ x → found-with lent′ ≡ x) → read framing list lent message ≡ x → read framing list lent′ message ≡ x
+  read-with : (lent lent′ : ℕ) (x : Answer Terms) → (found-with lent ≡ x → found-with lent′ ≡ x) → read flags framing list lent message ≡ x → read flags framing list lent′ message ≡ x
   unfolding read
-  read-with lent lent′ x f e = checked (of-size list) 13 _ _ x (checked (leb (length message) 65536) 12 (found-with lent) (found-with lent′) x f) e
+  read-with lent lent′ x f e = checked (of-size list) 13 _ _ x (checked (flags-known flags) 14 _ _ x (checked (leb (length message) 65536) 12 (found-with lent) (found-with lent′) x f)) e
 
   -- the walk, over the whole message
   both-ways : (lent lent′ : ℕ) (more : capacity-of lent ≤ capacity-of lent′)
       → From (capacity-of lent) (capacity-of lent′) (length message) more sizes (spot 0 message 0)
-      (terms-framed (atoms-of list) (capacity-of lent) framing (spot 0 message 0)) (terms-framed (atoms-of list) (capacity-of lent′) framing (spot 0 message 0))
-  both-ways lent lent′ more = framed-alike (capacity-of lent) (capacity-of lent′) (length message) more (atoms-of list) framing (spot 0 message 0) (omega arith)
+      (terms-framed (atoms-of flags list) (capacity-of lent) framing (spot 0 message 0)) (terms-framed (atoms-of flags list) (capacity-of lent′) framing (spot 0 message 0))
+  both-ways lent lent′ more = framed-alike (capacity-of lent) (capacity-of lent′) (length message) more (atoms-of flags list) framing (spot 0 message 0) (omega arith)
 
   -- with a larger and with a smaller number of rows
   up : (lent lent′ : ℕ) → capacity-of lent ≤ capacity-of lent′ → (x : Answer Terms) → ((p : ℕ) → x ≡ refused 9 p → ⊥)
@@ -353,20 +354,21 @@ module _ (framing : Framing) (list : AtomList) (message : List ℕ) where
       (weaken (λ us t. (t .rows-taken ≡ 0 + sizes us) × (0 ≤ t .rows-taken) × Covered (length message) 0 t) (both .rows-are) λ us t i. omega (arith, i .0)) ts (omega arith)
 
   -- What is accepted with some number of rows has no more rows than are lent, and no more than 8,192
-  pub rows-lent : (lent : ℕ) (ts : Terms) → read framing list lent message ≡ good ts → sizes ts ≤ capacity-of lent
+  pub rows-lent : (lent : ℕ) (ts : Terms) → read flags framing list lent message ≡ good ts → sizes ts ≤ capacity-of lent
   unfolding read
   rows-lent lent ts e =
-      let o : Answer (Terms × Position) = terms-framed (atoms-of list) (capacity-of lent) framing (spot 0 message 0) in
+      let o : Answer (Terms × Position) = terms-framed (atoms-of flags list) (capacity-of lent) framing (spot 0 message 0) in
       let a = passed (of-size list) 13 _ ts e in
-      let b = passed (leb (length message) 65536) 12 (result-of o) ts (a .1) in
+      let k = passed (flags-known flags) 14 _ ts (a .1) in
+      let b = passed (leb (length message) 65536) 12 (result-of o) ts (k .1) in
       let g = found-good o ts (b .1) in
       let costs = both-ways lent lent (omega arith) .rows-are .known ts (g .0) (g .1) in
       let room : g .0 .rows-taken ≤ capacity-of lent
-      = framed-kept (capacity-of lent) (λ t. t .rows-taken ≤ capacity-of lent) (λ s b bs e i. i) (λ s less i. omega arith) (atoms-of list) message (omega arith) framing .known ts (g .0) (g .1) in
+      = framed-kept (capacity-of lent) (λ t. t .rows-taken ≤ capacity-of lent) (λ s b bs e i. i) (λ s less i. omega arith) (atoms-of flags list) message (omega arith) framing .known ts (g .0) (g .1) in
       omega (arith, costs .0)
 
   -- What is accepted with some number of rows is accepted, as the same terms, with any number that is at least the rows that the terms have
-  pub enough : (lent lent′ : ℕ) (ts : Terms) → read framing list lent message ≡ good ts → sizes ts ≤ lent′ → read framing list lent′ message ≡ good ts
+  pub enough : (lent lent′ : ℕ) (ts : Terms) → read flags framing list lent message ≡ good ts → sizes ts ≤ lent′ → read flags framing list lent′ message ≡ good ts
   enough lent lent′ ts e few = read-with lent lent′ (good ts) (go (leb (capacity-of lent) (capacity-of lent′)) refl) e
     where
       go : (z : Bool) → leb (capacity-of lent) (capacity-of lent′) ≡ z → found-with lent ≡ good ts → found-with lent′ ≡ good ts
@@ -374,16 +376,16 @@ module _ (framing : Framing) (list : AtomList) (message : List ℕ) where
       go false h = down lent lent′ (leb-false (capacity-of lent) (capacity-of lent′) h) ts few
 
   -- A refusal other than 9 with some number of rows is the same refusal at the same place with any larger number
-  pub refusal-stays : (lent lent′ : ℕ) → lent ≤ lent′ → (n p : ℕ) → (n ≡ 9 → ⊥) → read framing list lent message ≡ refused n p → read framing list lent′ message ≡ refused n p
+  pub refusal-stays : (lent lent′ : ℕ) → lent ≤ lent′ → (n p : ℕ) → (n ≡ 9 → ⊥) → read flags framing list lent message ≡ refused n p → read flags framing list lent′ message ≡ refused n p
   refusal-stays lent lent′ more n p other e =
       read-with lent lent′ (refused n p) (up lent lent′ (omega arith) (refused n p) λ q same. let is : n ≡ 9 = cc in other is) e
 
   -- A table of as many rows as the message has bytes reads it as one of 8,192 rows does: a message has no more rows than bytes
-  pub row-for-each-byte : (lent : ℕ) → length message ≤ lent → read framing list lent message ≡ read framing list 8192 message
-  row-for-each-byte lent all = sym (read-with lent 8192 (read framing list lent message) (λ e. sym (go (leb lent 8192) refl) ∙ e) refl)
+  pub row-for-each-byte : (lent : ℕ) → length message ≤ lent → read flags framing list lent message ≡ read flags framing list 8192 message
+  row-for-each-byte lent all = sym (read-with lent 8192 (read flags framing list lent message) (λ e. sym (go (leb lent 8192) refl) ∙ e) refl)
     where
       go : (z : Bool) → leb lent 8192 ≡ z → found-with lent ≡ found-with 8192
       go true h = let few : lent ≤ 8192 = leb-true lent 8192 h in with-total _ _ (both-ways lent 8192 (omega arith) .agree) (omega arith)
       go false h =
           let many : capacity-of lent ≡ 8192 = omega (arith, leb-false lent 8192 h) in
-          ap (λ (c : ℕ). result-of (terms-framed (atoms-of list) c framing (spot 0 message 0))) many
+          ap (λ (c : ℕ). result-of (terms-framed (atoms-of flags list) c framing (spot 0 message 0))) many

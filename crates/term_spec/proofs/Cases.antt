@@ -1,4 +1,4 @@
--- The cases P of document 01, for any empty atom list, as a single statement: `cases`. Proved by computing what the definitions answer.
+-- The cases P of document 01, for any known flags and any empty atom list, as a single statement: `cases`. Proved by computing what the definitions answer.
 use mathlib.Core.Path.{_≡_, refl, _∙_, ap}
 use mathlib.Core.Bool.{Bool, true, false}
 use mathlib.Core.List.{List, [], _∷_, _++_}
@@ -10,8 +10,9 @@ use native.Mathlib.Decide.{ℕ-discrete}
 use Rattle.term_spec.specs.Numbers.{big-endian, in-bytes, little-endian, digits-within, digits, signed32, with-sign}
 use Rattle.term_spec.specs.Text.{holds, lines, marker, first, emit, decode, check, is-character, encode, encodes}
 use Rattle.term_spec.specs.Equal.{list-discrete, integer-discrete, term-discrete, same, among}
+use Rattle.term_spec.specs.Connection.{v4-nc, flags-known}
 use Rattle.term_spec.specs.Answer.{Answer, good, refused, bytes, number}
-use Rattle.term_spec.specs.Head.{forms, form-in, form-or, form, text-or, finite, bits-rule, clear-low, bits-meaning, fields, term-head, creation-rule, id-words, words-rule, later}
+use Rattle.term_spec.specs.Head.{forms, form-in, form-or, form, text-or, finite, bits-rule, clear-low, bits-meaning, fields, term-head, creation-rule, id-words, words-rule, limits, later}
 use Rattle.term_spec.specs.Reading.{opening, each, run, entries, row, string, list-tail, contents, body, one-term}
 use Rattle.term_spec.specs.AtomList.{AtomList, of-size, place-length, place-bytes, place-text, atoms-of, empty-list, lent-list}
 use Rattle.term_spec.specs.Message.{standalone, payload, Terms, meanings, ending, version, standalone-term, payload-terms, terms-framed, result-of, first-check, read}
@@ -22,38 +23,38 @@ use Rattle.term_spec.specs.Rows.{rows, tree-rows, kind-of, kind-at, offs
 use Rattle.term_spec.specs.Cases.{nested, Cases, Writes, Refuses, Call-writes, Call-refuses}
 use Rattle.term_spec.proofs.Demand.{written-good, written-by, refused-by}
 
--- what the writer answers for a standalone term, with an empty list of zeros, 8,192 rows and 65,536 bytes of output
+-- what the writer answers for a standalone term, with both flags, an empty list of zeros, 8,192 rows and 65,536 bytes of output
 unfoldable pub output : List ℕ → Answer Written
-unfolding ℕ-discrete big-endian in-bytes little-endian digits-within digits signed32 with-sign holds lines marker first emit decode check is-character encode encodes list-discrete integer-discrete term-discrete same among bytes number forms form-in form-or form text-or finite bits-rule clear-low bits-meaning fields term-head creation-rule id-words words-rule later opening each run entries row string list-tail contents body one-term of-size place-length place-bytes place-text atoms-of big-bytes integer-bytes atom-bytes tuple-bytes port-bytes words-bytes small all-small list-bytes term-bytes canonical canonical-standalone standalones ending version standalone-term payload-terms read written write
-output message = write standalone empty-list 8192 65536 message
+unfolding ℕ-discrete big-endian in-bytes little-endian digits-within digits signed32 with-sign holds lines marker first emit decode check is-character encode encodes list-discrete integer-discrete term-discrete same among bytes number forms form-in form-or form text-or finite bits-rule clear-low bits-meaning fields term-head creation-rule id-words words-rule later opening each run entries row string list-tail contents body one-term of-size place-length place-bytes place-text atoms-of v4-nc flags-known limits big-bytes integer-bytes atom-bytes tuple-bytes port-bytes words-bytes small all-small list-bytes term-bytes canonical canonical-standalone standalones ending version standalone-term payload-terms read written write
+output message = write 3 standalone empty-list 8192 65536 message
 
 -- one term, and its bytes
 abbrev pub one : List ℕ → Answer Written
 one bs = good (record { terms = 1; bytes = bs })
 
 -- what is computed: the bytes written in 65,536 bytes of output, or the refusal of the reading; each with 8,192 rows
-abbrev Computed : AtomList → List ℕ → List ℕ → Type 0
-Computed list message bs = write standalone list 8192 65536 message ≡ one bs
+abbrev Computed : ℕ → AtomList → List ℕ → List ℕ → Type 0
+Computed flags list message bs = write flags standalone list 8192 65536 message ≡ one bs
 
-abbrev Found-wrong : AtomList → List ℕ → ℕ → ℕ → Type 0
-Found-wrong list message number place = read standalone list 8192 message ≡ refused number place
+abbrev Found-wrong : ℕ → AtomList → List ℕ → ℕ → ℕ → Type 0
+Found-wrong flags list message number place = read flags standalone list 8192 message ≡ refused number place
 
--- With any list that is empty: n = 0, of its stated size, whatever its places and lengths hold
-module _ (places lengths : List ℕ) (sized : of-size (lent-list 0 places lengths) ≡ true) where
-  computed : Cases (Computed (lent-list 0 places lengths)) (Found-wrong (lent-list 0 places lengths))
+-- With any flags that are known, and any list that is empty: n = 0, of its stated size, whatever its places and lengths hold
+module _ (flags : ℕ) (known : flags-known flags ≡ true) (places lengths : List ℕ) (sized : of-size (lent-list 0 places lengths) ≡ true) where
+  computed : Cases (Computed flags (lent-list 0 places lengths)) (Found-wrong flags (lent-list 0 places lengths))
   unfolding output nested write read
   computed = record {
-    p1 = rw sized refl;
-    p2 = rw sized refl;
-    p4 = rw sized refl;
-    p6 = rw sized refl;
-    p8 = rw sized refl;
-    p9 = rw sized refl;
-    p10 = rw sized refl;
-    p11 = rw sized refl;
-    p13 = rw sized refl;
-    deep64 = rw sized refl;
-    deep65 = rw sized refl;
+    p1 = rw (sized, known) refl;
+    p2 = rw (sized, known) refl;
+    p4 = rw (sized, known) refl;
+    p6 = rw (sized, known) refl;
+    p8 = rw (sized, known) refl;
+    p9 = rw (sized, known) refl;
+    p10 = rw (sized, known) refl;
+    p11 = rw (sized, known) refl;
+    p13 = rw (sized, known) refl;
+    deep64 = rw (sized, known) refl;
+    deep65 = rw (sized, known) refl;
   }
 
 -- the same cases, said in another way
@@ -75,12 +76,12 @@ said-so w r c = record {
 }
 
 -- more than 8,192 rows are as good as 8,192
-more-rows : (list : AtomList) (message : List ℕ) (lent : ℕ) → 8192 ≤ lent → read standalone list lent message ≡ read standalone list 8192 message
+more-rows : (flags : ℕ) (list : AtomList) (message : List ℕ) (lent : ℕ) → 8192 ≤ lent → read flags standalone list lent message ≡ read flags standalone list 8192 message
 unfolding read
-more-rows list message lent h =
+more-rows flags list message lent h =
     let same : min 8192 lent ≡ 8192 = omega arith in
-    ap (λ (cap : ℕ). first-check (of-size list) 13 (first-check (leb (length message) 65536) 12
-    (result-of (terms-framed (atoms-of list) cap standalone (record { at = 0; left = message; rows-taken = 0 }))))) same
+    ap (λ (cap : ℕ). first-check (of-size list) 13 (first-check (flags-known flags) 14 (first-check (leb (length message) 65536) 12
+    (result-of (terms-framed (atoms-of flags list) cap standalone (record { at = 0; left = message; rows-taken = 0 })))))) same
 
 -- what is written in 65,536 bytes of output is written in any that has room for it
 written-in-room : (o : Answer Terms) (bs : List ℕ) → written 65536 o ≡ one bs → (room : ℕ) → length bs ≤ room → written room o ≡ one bs
@@ -95,39 +96,39 @@ written-in-room (good ts) bs e room fits = go (leb (length (standalones (meaning
         written-good ts bs (ap (λ (w : Written). w .bytes) same) room fits ∙ ap (λ (w : Written). good (record { terms = w .terms; bytes = bs })) same
     go false e = let no-way : _≡_ {A = ℕ} 0 1 = cc in absurd (omega arith)
 
-writes-so : (list : AtomList) (message bs : List ℕ) → Computed list message bs → Writes list message bs
+writes-so : (flags : ℕ) (list : AtomList) (message bs : List ℕ) → Computed flags list message bs → Writes flags list message bs
 unfolding write
-writes-so list message bs e rows room enough fits =
-    ap (written room) (more-rows list message rows enough) ∙ written-in-room (read standalone list 8192 message) bs e room fits
+writes-so flags list message bs e rows room enough fits =
+    ap (written room) (more-rows flags list message rows enough) ∙ written-in-room (read flags standalone list 8192 message) bs e room fits
 
-refuses-so : (list : AtomList) (message : List ℕ) (number place : ℕ) → Found-wrong list message number place → Refuses list message number place
+refuses-so : (flags : ℕ) (list : AtomList) (message : List ℕ) (number place : ℕ) → Found-wrong flags list message number place → Refuses flags list message number place
 unfolding write written
-refuses-so list message number place e rows room enough = ap (written room) (more-rows list message rows enough ∙ e)
+refuses-so flags list message number place e rows room enough = ap (written room) (more-rows flags list message rows enough ∙ e)
 
-pub cases : (places lengths : List ℕ) → of-size (lent-list 0 places lengths) ≡ true
-    → Cases (Writes (lent-list 0 places lengths)) (Refuses (lent-list 0 places lengths))
-cases places lengths sized =
+pub cases : (flags : ℕ) → flags-known flags ≡ true → (places lengths : List ℕ) → of-size (lent-list 0 places lengths) ≡ true
+    → Cases (Writes flags (lent-list 0 places lengths)) (Refuses flags (lent-list 0 places lengths))
+cases flags known places lengths sized =
     let list : AtomList = lent-list 0 places lengths in
-    said-so {W = Computed list} {W₂ = Writes list} {R = Found-wrong list} {R₂ = Refuses list} (writes-so list) (refuses-so list) (computed places lengths sized)
+    said-so {W = Computed flags list} {W₂ = Writes flags list} {R = Found-wrong flags list} {R₂ = Refuses flags list} (writes-so flags list) (refuses-so flags list) (computed flags known places lengths sized)
 
 -- and so for any call of the writer, by its promise
-pub called-cases : (places lengths : List ℕ) → of-size (lent-list 0 places lengths) ≡ true
-    → Cases (Call-writes (lent-list 0 places lengths)) (Call-refuses (lent-list 0 places lengths))
-called-cases places lengths sized =
+pub called-cases : (flags : ℕ) → flags-known flags ≡ true → (places lengths : List ℕ) → of-size (lent-list 0 places lengths) ≡ true
+    → Cases (Call-writes flags (lent-list 0 places lengths)) (Call-refuses flags (lent-list 0 places lengths))
+called-cases flags known places lengths sized =
     let list : AtomList = lent-list 0 places lengths in
-    said-so {W = Writes list} {W₂ = Call-writes list} {R = Refuses list} {R₂ = Call-refuses list}
+    said-so {W = Writes flags list} {W₂ = Call-writes flags list} {R = Refuses flags list} {R₂ = Call-refuses flags list}
     (λ message bs e scratch output rows fits answer s o w. written-by (record { terms = 1; bytes = bs }) (e (length scratch) (length output) rows fits) w)
     (λ message number place e scratch output rows answer s o w. refused-by number place (e (length scratch) (length output) rows) w)
-    (cases places lengths sized)
+    (cases flags known places lengths sized)
 
--- what the writer answers for a payload, with an empty list of zeros, so many rows and 100 bytes of output; and the table after reading it
+-- what the writer answers for a payload, with both flags, an empty list of zeros, so many rows and 100 bytes of output; and the table after reading it
 unfoldable pub output-of : ℕ → List ℕ → Answer Written
 unfolding output
-output-of rows message = write payload empty-list rows 100 message
+output-of rows message = write 3 payload empty-list rows 100 message
 
 unfoldable pub table-of : ℕ → List ℕ → List ℕ
 unfolding output table-after rows tree-rows row-words word kind-at kind-of offset-of whole-code pack
-table-of lent message = table-after lent (read payload empty-list lent message)
+table-of lent message = table-after lent (read 3 payload empty-list lent message)
 
 -- a list of two: a length of 33, a text that is not UTF-8
 abbrev pub false-list : AtomList
@@ -135,7 +136,7 @@ false-list = lent-list 2 (replicate 32 0 ++ (255 ∷ replicate 8127 0)) (33 ∷ 
 
 unfoldable pub output-false : List ℕ → Answer Written
 unfolding output
-output-false message = write payload false-list 9 100 message
+output-false message = write 3 payload false-list 9 100 message
 
 -- Further examples, at the ends of the rules of the canonical form, and where two refusals compete
 pub record Examples : Type 0 where

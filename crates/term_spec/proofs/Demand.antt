@@ -10,6 +10,7 @@ use lib.ListN.{length}
 use borrow.Author.Tests.{le-leb}
 use Rattle.term_spec.specs.Tree.{Forest, empty, _▹_, count, size, sizes}
 use Rattle.term_spec.specs.Term.{Label, Term}
+use Rattle.term_spec.specs.Connection.{flags-known}
 use Rattle.term_spec.specs.Answer.{Answer, good, refused}
 use Rattle.term_spec.specs.Head.{any}
 use Rattle.term_spec.specs.Reading.{Located, meaning, term}
@@ -30,17 +31,17 @@ use Rattle.term_spec.proofs.RoundTrip.{read-tree}
 use Rattle.term_spec.proofs.Injective.{canonical-injective}
 use Rattle.term_spec.proofs.Rows.{size-meaning}
 use Rattle.term_spec.proofs.Capacity.{enough}
-use Rattle.term_spec.proofs.Message.{Allowed, All-allowed, accepted-message}
+use Rattle.term_spec.proofs.Message.{Allowed, All-allowed, Accepted-message, accepted-message}
 
 -- The canonical standalone term of a tree within the limits is read back, with any atom list of its size and any table of as many rows.
-read-back : (t : Term) → Allowed t → (list : AtomList) → of-size list ≡ true → (lent : ℕ) → size t ≤ lent → length (canonical-standalone t) ≤ 65536
-    → (tree : Located) × (read standalone list lent (canonical-standalone t) ≡ good (tree ▹ empty)) × (meaning tree ≡ t)
-unfolding read standalone-term version ending canonical-standalone
-read-back t a list sized lent enough short =
+read-back : (flags : ℕ) (t : Term) → flags-known flags ≡ true → Allowed flags t → (list : AtomList) → of-size list ≡ true → (lent : ℕ) → size t ≤ lent → length (canonical-standalone t) ≤ 65536
+    → (tree : Located) × (read flags standalone list lent (canonical-standalone t) ≡ good (tree ▹ empty)) × (meaning tree ≡ t)
+unfolding read standalone-term version ending canonical-standalone atoms-of
+read-back flags t known a list sized lent enough short =
     let cap : ℕ = min 8192 lent in
-    let r : Reads (atoms-of list) cap 64 any (canonical t ++ []) [] 1 0 t = read-tree (atoms-of list) cap t (a .valid-tree) 64 (a .levels) 1 0 [] (omega (arith, a .few-rows)) in
-    let e : term (atoms-of list) cap 64 any (spot 1 (canonical t) 0) ≡ good (r .tree, spot (r .end) [] (0 + size t)) = rw (append-nil (canonical t)) at (r .reads) in
-    (r .tree, rw (sized, le-leb _ 65536 short, e) refl, r .means)
+    let r : Reads (atoms-of flags list) cap 64 any (canonical t ++ []) [] 1 0 t = read-tree (atoms-of flags list) cap t (a .valid-tree) 64 (a .levels) 1 0 [] (omega (arith, a .few-rows)) in
+    let e : term (atoms-of flags list) cap 64 any (spot 1 (canonical t) 0) ≡ good (r .tree, spot (r .end) [] (0 + size t)) = rw (append-nil (canonical t)) at (r .reads) in
+    (r .tree, rw (sized, known, le-leb _ 65536 short, e) refl, r .means)
 
 -- what is written where the room is enough
 pub written-good : (ts : Terms) (bs : List ℕ) → standalones (meanings ts) ≡ bs → (room : ℕ) → length bs ≤ room
@@ -49,11 +50,11 @@ unfolding written
 written-good ts bs e room enough = rw (e, le-leb (length bs) room enough, written) (ap (λ (x : List ℕ). good (record { terms = count ts; bytes = x })) e)
 
 -- the writer writes each accepted message in canonical form where room and scratch rows are enough
-pub writes : (framing : Framing) (list : AtomList) (message : List ℕ) (ts : Terms) → read framing list 8192 message ≡ good ts → (scratch room : ℕ) → sizes ts ≤ scratch
-    → length (standalones (meanings ts)) ≤ room → write framing list scratch room message ≡ good (record { terms = count ts; bytes = standalones (meanings ts) })
+pub writes : (flags : ℕ) (framing : Framing) (list : AtomList) (message : List ℕ) (ts : Terms) → read flags framing list 8192 message ≡ good ts → (scratch room : ℕ) → sizes ts ≤ scratch
+    → length (standalones (meanings ts)) ≤ room → write flags framing list scratch room message ≡ good (record { terms = count ts; bytes = standalones (meanings ts) })
 unfolding write
-writes framing list message ts e scratch room rows fits =
-    ap (written room) (enough framing list message 8192 scratch ts e rows) ∙ written-good ts (standalones (meanings ts)) refl room fits
+writes flags framing list message ts e scratch room rows fits =
+    ap (written room) (enough flags framing list message 8192 scratch ts e rows) ∙ written-good ts (standalones (meanings ts)) refl room fits
 
 written-back : (t : Term) (tree : Located) (o : Answer Terms) → o ≡ good (tree ▹ empty) → meaning tree ≡ t → (room : ℕ) → length (canonical-standalone t) ≤ room
     → written room o ≡ good (record { terms = 1; bytes = canonical-standalone t })
@@ -63,18 +64,23 @@ written-back t tree o e m room enough =
     ap (written room) e ∙ written-good (tree ▹ empty) (canonical-standalone t) is room enough
 
 -- equal bytes exactly where the meanings are equal
-pub same-bytes : (t u : Term) → Allowed t → Allowed u → (canonical-standalone t ≡ canonical-standalone u) ↔ (t ≡ u)
+pub same-bytes : (flags : ℕ) (t u : Term) → Allowed flags t → Allowed flags u → (canonical-standalone t ≡ canonical-standalone u) ↔ (t ≡ u)
 unfolding canonical-standalone
-same-bytes t u a b =
-    (λ e. canonical-injective t u (a .valid-tree) (b .valid-tree) (let rest : canonical t ≡ canonical u = cc in rest), λ e. ap canonical-standalone e)
+same-bytes flags t u a b =
+    (λ e. canonical-injective flags t u (a .valid-tree) (b .valid-tree) (let rest : canonical t ≡ canonical u = cc in rest), λ e. ap canonical-standalone e)
 
-one-allowed : (t : Term) (ts : Forest Label) → All-allowed ts → One-of t ts → Allowed t
-one-allowed t empty a o = absurd o
-one-allowed t (u ▹ us) a (inl e) = subst Allowed (sym e) (a .0)
-one-allowed t (u ▹ us) a (inr o) = one-allowed t us (a .1) o
+one-allowed : (flags : ℕ) (t : Term) (ts : Forest Label) → All-allowed flags ts → One-of t ts → Allowed flags t
+one-allowed flags t empty a o = absurd o
+one-allowed flags t (u ▹ us) a (inl e) = subst (Allowed flags) (sym e) (a .0)
+one-allowed flags t (u ▹ us) a (inr o) = one-allowed flags t us (a .1) o
 
-term-allowed : (t : Term) → Accepted-term t → Allowed t
-term-allowed t a = one-allowed t (meanings (a .terms)) (accepted-message (a .framing) (a .list) 8192 (a .message) (a .are-bytes) (a .terms) (a .accepted) .known .all-allowed) (a .one-of-them)
+module _ (flags : ℕ) (t : Term) (a : Accepted-term flags t) where
+  its-message : Accepted-message flags (a .list) 8192 (a .message) (a .terms)
+  its-message = accepted-message flags (a .framing) (a .list) 8192 (a .message) (a .are-bytes) (a .terms) (a .accepted)
+
+  term-allowed : Allowed flags t
+  unfolding atoms-of
+  term-allowed = one-allowed flags t (meanings (a .terms)) (its-message .known .all-allowed) (a .one-of-them)
 
 -- a term's own output stands in what is written for its message
 own-output : (t : Term) (ts : Forest Label) → One-of t ts → Own-output t ts
@@ -101,9 +107,9 @@ own-output t (u ▹ us) (inr o) =
 -- ---- over the promises of the calls
 
 -- What the calls come to where the definitions' answers are known
-pub written-by : {framing : Framing} {list : AtomList} {message scratch output : List ℕ} {answer : WriteAnswer} {scratch-is output-is : List ℕ} (w : Written)
-    → write framing list (length scratch) (length output) message ≡ good w
-    → Write-call framing list message scratch output answer scratch-is output-is
+pub written-by : {flags : ℕ} {framing : Framing} {list : AtomList} {message scratch output : List ℕ} {answer : WriteAnswer} {scratch-is output-is : List ℕ} (w : Written)
+    → write flags framing list (length scratch) (length output) message ≡ good w
+    → Write-call flags framing list message scratch output answer scratch-is output-is
     → Written-out (w .terms) (w .bytes) scratch output answer scratch-is output-is
 unfolding write-answer output-after scratch-after
 written-by {output = output} w e c =
@@ -114,11 +120,11 @@ written-by {output = output} w e c =
     }
 
 -- what the reader's call on the canonical standalone term of t comes to where it is read back as a tree
-means-by : (t : Term) (list : AtomList) (table : List ℕ) (answer : ReadAnswer) (left : List ℕ) (tree : Located)
-    → read standalone list (length table) (canonical-standalone t) ≡ good (tree ▹ empty) → meaning tree ≡ t
-    → Read-call standalone list (canonical-standalone t) table answer left → Means t table answer left
+means-by : (flags : ℕ) (t : Term) (list : AtomList) (table : List ℕ) (answer : ReadAnswer) (left : List ℕ) (tree : Located)
+    → read flags standalone list (length table) (canonical-standalone t) ≡ good (tree ▹ empty) → meaning tree ≡ t
+    → Read-call flags standalone list (canonical-standalone t) table answer left → Means t table answer left
 unfolding read-answer
-means-by t list table answer left tree e m w =
+means-by flags t list table answer left tree e m w =
     let k : size tree + 0 ≡ size t = omega (arith, size-meaning tree, ap size m) in
     record {
       tree = tree;
@@ -127,9 +133,9 @@ means-by t list table answer left tree e m w =
       rows-are = w .table-left ∙ ap (table-after (length table)) e;
     }
 
-pub refused-by : {framing : Framing} {list : AtomList} {message scratch output : List ℕ} {answer : WriteAnswer} {scratch-is output-is : List ℕ} (number place : ℕ)
-    → write framing list (length scratch) (length output) message ≡ refused number place
-    → Write-call framing list message scratch output answer scratch-is output-is
+pub refused-by : {flags : ℕ} {framing : Framing} {list : AtomList} {message scratch output : List ℕ} {answer : WriteAnswer} {scratch-is output-is : List ℕ} (number place : ℕ)
+    → write flags framing list (length scratch) (length output) message ≡ refused number place
+    → Write-call flags framing list message scratch output answer scratch-is output-is
     → Refused-out number place scratch output answer scratch-is output-is
 unfolding write-answer output-after scratch-after
 refused-by {output = output} number place e c =
@@ -139,27 +145,27 @@ refused-by {output = output} number place e c =
       scratch-zero = c .scratch-left;
     }
 
-output-of : (t : Term) (a : Accepted-term t) → Output-of t a
+output-of : (flags : ℕ) (t : Term) (a : Accepted-term flags t) → Output-of flags t a
 unfolding write
-output-of t a =
-    let back = read-back t (term-allowed t a) in
+output-of flags t a =
+    let back = read-back flags t (its-message flags t a .flags-true) (term-allowed flags t a) in
     record {
       canonical-written = λ scratch output rows fits answer s o w.
           written-by (record { terms = count (a .terms); bytes = standalones (meanings (a .terms)) })
-          (writes (a .framing) (a .list) (a .message) (a .terms) (a .accepted) (length scratch) (length output) rows fits) w;
+          (writes flags (a .framing) (a .list) (a .message) (a .terms) (a .accepted) (length scratch) (length output) rows fits) w;
       own-output = own-output t (meanings (a .terms)) (a .one-of-them);
       read-again = λ list sized short table rows answer left w.
           let b = back list sized (length table) rows short in
-          means-by t list table answer left (b .0) (b .1) (b .2) w;
+          means-by flags t list table answer left (b .0) (b .1) (b .2) w;
       written-again = λ list sized short scratch output rows fits answer s o w.
           let b = back list sized (length scratch) rows short in
           written-by (record { terms = 1; bytes = canonical-standalone t }) (written-back t (b .0) _ (b .1) (b .2) (length output) fits) w;
     }
 
-pub demand-3 : (t u : Term) (a : Accepted-term t) (b : Accepted-term u) → Demand-3 t u a b
-demand-3 t u a b =
+pub demand-3 : (flags : ℕ) (t u : Term) (a : Accepted-term flags t) (b : Accepted-term flags u) → Demand-3 flags t u a b
+demand-3 flags t u a b =
     record {
-      first-output = output-of t a;
-      second-output = output-of u b;
-      same-output = same-bytes t u (term-allowed t a) (term-allowed u b);
+      first-output = output-of flags t a;
+      second-output = output-of flags u b;
+      same-output = same-bytes flags t u (term-allowed flags t a) (term-allowed flags u b);
     }

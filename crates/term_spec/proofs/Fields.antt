@@ -12,8 +12,9 @@ use Rattle.term_spec.specs.Numbers.{in-bytes, little-endian, signed32, w
 use Rattle.term_spec.specs.Text.{utf-8, encodes, Characters}
 use Rattle.term_spec.specs.Term.{integer, float, atom, tuple, binary, bitstring, pid, port, reference}
 use Rattle.term_spec.specs.Answer.{good}
-use Rattle.term_spec.specs.Head.{Atoms, small-integer-ext, integer-ext, big-ext, new-float-ext, atom-ext, tuple-ext, list-ext, string-ext, binary-ext, bit-binary-ext, map-ext, new-reference-ext, fields, leaf, parts, characters, elements, pairs, known, finite, bits-rule, bits-meaning, text-or, an-atom, pid-fields, port-fields, reference-fields, id-words, words-rule, creation-rule, later}
+use Rattle.term_spec.specs.Head.{Atoms, limits, small-integer-ext, integer-ext, big-ext, new-float-ext, atom-ext, tuple-ext, list-ext, string-ext, binary-ext, bit-binary-ext, map-ext, new-reference-ext, fields, leaf, parts, characters, elements, pairs, known, finite, bits-rule, bits-meaning, text-or, an-atom, pid-fields, port-fields, reference-fields, id-words, words-rule, creation-rule, later}
 use Rattle.term_spec.specs.Canonical.{words-bytes}
+use Rattle.term_spec.proofs.Limits.{limits-most}
 use Rattle.term_spec.proofs.Steps.{spot, ends-at, number-of, bytes-append}
 use Rattle.term_spec.proofs.Text.{utf8-encodes}
 
@@ -96,11 +97,11 @@ module _ (atoms : Atoms) (p at r : ℕ) (rest : List ℕ) where
   unfolding fields
   map-fields n h = rw (number-of p 4 n rest at r h)
 
-  pub reference-head : (w n : ℕ) → 1 ≤ n → n ≤ 3
+  pub reference-head : (w n : ℕ) → 1 ≤ n → n ≤ limits (atoms .flags) w .word-count
       → fields atoms p (new-reference-ext w) (spot at (in-bytes 2 n ++ rest) r)
       ≡ good (parts (an-atom ∷ []) 0 (reference-fields n w), spot (at + 2) rest r)
   unfolding fields
-  reference-head w n h k = rw (number-of p 2 n rest at r (omega arith), le-leb 1 n h, le-leb n 3 k)
+  reference-head w n h k = rw (number-of p 2 n rest at r (omega (arith, limits-most (atoms .flags) w .counts)), le-leb 1 n h, le-leb n (limits (atoms .flags) w .word-count) k)
 
 -- Later fields.
 
@@ -122,23 +123,23 @@ unfolding words-rule
 wide [] = refl
 wide (w ∷ ws) = refl
 
-module _ (p at r : ℕ) (rest : List ℕ) where
-  pub pid-later : (id serial creation : ℕ) → id < 2 ^ 15 → serial < 2 ^ 13 → creation < 2 ^ 32
-      → later p (pid-fields 4) (spot at (in-bytes 4 id ++ (in-bytes 4 serial ++ (in-bytes 4 creation ++ rest))) r)
+module _ (flags p at r : ℕ) (rest : List ℕ) where
+  pub pid-later : (id serial creation : ℕ) → id < limits flags 4 .id → serial < limits flags 4 .serial → creation < 2 ^ 32
+      → later flags p (pid-fields 4) (spot at (in-bytes 4 id ++ (in-bytes 4 serial ++ (in-bytes 4 creation ++ rest))) r)
       ≡ good (pid id serial creation, spot (at + 4 + 4 + 4) rest r)
   unfolding later creation-rule
   pid-later id serial creation h k l =
       rw (
-        number-of p 4 id (in-bytes 4 serial ++ (in-bytes 4 creation ++ rest)) at r (omega arith),
-        number-of p 4 serial (in-bytes 4 creation ++ rest) (at + 4) r (omega arith),
+        number-of p 4 id (in-bytes 4 serial ++ (in-bytes 4 creation ++ rest)) at r (omega (arith, limits-most flags 4 .ids)),
+        number-of p 4 serial (in-bytes 4 creation ++ rest) (at + 4) r (omega (arith, limits-most flags 4 .serials)),
         number-of p 4 creation rest (at + 4 + 4) r l,
-        lt-ltb id (2 ^ 15) h,
-        lt-ltb serial (2 ^ 13) k,
+        lt-ltb id (limits flags 4 .id) h,
+        lt-ltb serial (limits flags 4 .serial) k,
       )
 
   -- over the width of the ID
   pub port-later : (v id creation : ℕ) → id < 256 ^ v → (eqb v 8 || ltb id (2 ^ 28)) ≡ true → creation < 2 ^ 32
-      → later p (port-fields v 4) (spot at (in-bytes v id ++ (in-bytes 4 creation ++ rest)) r)
+      → later flags p (port-fields v 4) (spot at (in-bytes v id ++ (in-bytes 4 creation ++ rest)) r)
       ≡ good (port id creation, spot (at + v + 4) rest r)
   unfolding later creation-rule
   port-later v id creation h e l =
@@ -149,7 +150,7 @@ module _ (p at r : ℕ) (rest : List ℕ) where
       )
 
   pub reference-later : (creation : ℕ) (ws : List ℕ) → creation < 2 ^ 32 → Under (2 ^ 32) ws
-      → later p (reference-fields (length ws) 4) (spot at (in-bytes 4 creation ++ (words-bytes ws ++ rest)) r)
+      → later flags p (reference-fields (length ws) 4) (spot at (in-bytes 4 creation ++ (words-bytes ws ++ rest)) r)
       ≡ good (reference creation ws, spot (at + 4 + 4 * length ws) rest r)
   unfolding later creation-rule
   reference-later creation ws l ok =

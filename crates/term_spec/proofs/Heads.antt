@@ -15,7 +15,7 @@ use Rattle.term_spec.specs.Numbers.{little-endian, signed32, with-sign, 
 use Rattle.term_spec.specs.Text.{valid, latin-1, utf-8, Characters}
 use Rattle.term_spec.specs.Term.{Label, integer, float, atom, tuple, binary, bitstring, export}
 use Rattle.term_spec.specs.Answer.{refused, Position, Reading}
-use Rattle.term_spec.specs.Head.{Atoms, Wanted, any, an-atom, an-arity, one-of, Form, small-integer-ext, integer-ext, big-ext, new-float-ext, atom-ext, atom-cache-ref, tuple-ext, nil-ext, string-ext, list-ext, binary-ext, bit-binary-ext, map-ext, pid-ext, port-ext, new-reference-ext, reference-ext, export-ext, form, form-in, forms, form-or, fields, Head, leaf, parts, characters, elements, pairs, known, term-head, bits-rule, bits-meaning, clear-low, pid-fields, port-fields, reference-fields, old-reference-fields}
+use Rattle.term_spec.specs.Head.{Atoms, limits, Wanted, any, an-atom, an-arity, one-of, Form, small-integer-ext, integer-ext, big-ext, new-float-ext, atom-ext, atom-cache-ref, tuple-ext, nil-ext, string-ext, list-ext, binary-ext, bit-binary-ext, map-ext, pid-ext, port-ext, new-reference-ext, reference-ext, export-ext, form, form-in, forms, form-or, fields, Head, leaf, parts, characters, elements, pairs, known, term-head, bits-rule, bits-meaning, clear-low, pid-fields, port-fields, reference-fields, old-reference-fields}
 use Rattle.term_spec.specs.Valid.{Fits, IsList, magnitude}
 use Rattle.term_spec.proofs.Numbers.{length-digits}
 use Rattle.term_spec.proofs.Text.{check-characters}
@@ -44,17 +44,17 @@ Widths (new-reference-ext w) = 256 ^ w ≤ 2 ^ 32
 Widths (port-ext v w) = (256 ^ v ≤ 2 ^ 64) × (256 ^ w ≤ 2 ^ 32)
 
 -- what an accepted head may be
-pub data Sound : Head → Type 0 where
-  a-leaf : {l : Label} → Fits l Forest.empty → ¬ IsList l → Sound (leaf l)
-  a-tuple : {n : ℕ} → n < 2 ^ 32 → Sound (parts [] n (known tuple))
-  a-pid : {w : ℕ} → 256 ^ w ≤ 2 ^ 32 → Sound (parts (an-atom ∷ []) 0 (pid-fields w))
-  a-port : {v w : ℕ} → 256 ^ v ≤ 2 ^ 64 → 256 ^ w ≤ 2 ^ 32 → Sound (parts (an-atom ∷ []) 0 (port-fields v w))
-  a-reference : {k w : ℕ} → 1 ≤ k → k ≤ 3 → 256 ^ w ≤ 2 ^ 32 → Sound (parts (an-atom ∷ []) 0 (reference-fields k w))
-  an-old-reference : Sound (parts (an-atom ∷ []) 0 old-reference-fields)
-  an-export : Sound (parts (an-atom ∷ an-atom ∷ an-arity ∷ []) 0 (known export))
-  a-string : {cs : List ℕ} → Under 256 cs → Sound (characters cs)
-  a-list : {n : ℕ} → Sound (elements n)
-  a-map : {n : ℕ} → Sound (pairs n)
+pub data Sound (flags : ℕ) : Head → Type 0 where
+  a-leaf : {l : Label} → Fits flags l Forest.empty → ¬ IsList l → Sound flags (leaf l)
+  a-tuple : {n : ℕ} → n < 2 ^ 32 → Sound flags (parts [] n (known tuple))
+  a-pid : {w : ℕ} → 256 ^ w ≤ 2 ^ 32 → Sound flags (parts (an-atom ∷ []) 0 (pid-fields w))
+  a-port : {v w : ℕ} → 256 ^ v ≤ 2 ^ 64 → 256 ^ w ≤ 2 ^ 32 → Sound flags (parts (an-atom ∷ []) 0 (port-fields v w))
+  a-reference : {k w : ℕ} → 1 ≤ k → k ≤ limits flags w .word-count → 256 ^ w ≤ 2 ^ 32 → Sound flags (parts (an-atom ∷ []) 0 (reference-fields k w))
+  an-old-reference : Sound flags (parts (an-atom ∷ []) 0 old-reference-fields)
+  an-export : Sound flags (parts (an-atom ∷ an-atom ∷ an-arity ∷ []) 0 (known export))
+  a-string : {cs : List ℕ} → Under 256 cs → Sound flags (characters cs)
+  a-list : {n : ℕ} → Sound flags (elements n)
+  a-map : {n : ℕ} → Sound flags (pairs n)
 
 -- numbers
 signed-magnitude : (n : ℕ) → n < 2 ^ 32 → magnitude (signed32 n) ≤ 2 ^ 32
@@ -71,8 +71,8 @@ sign-magnitude zero m = refl
 sign-magnitude (suc s) zero = refl
 sign-magnitude (suc s) (suc m) = refl
 
-pub integer-fits : (z : ℤ) (k : ℕ) → magnitude z < 256 ^ k → k < 2 ^ 32 → Fits (integer z) Forest.empty
-integer-fits z k h l = (refl, omega (arith, length-digits (magnitude z) k h))
+pub integer-fits : (flags : ℕ) (z : ℤ) (k : ℕ) → magnitude z < 256 ^ k → k < 2 ^ 32 → Fits flags (integer z) Forest.empty
+integer-fits flags z k h l = (refl, omega (arith, length-digits (magnitude z) k h))
 
 -- bits
 cleared : (b m : ℕ) → (b - b % m) % m ≡ 0
@@ -97,11 +97,11 @@ clear-clear bits (b ∷ c ∷ bs) = again (clear-low bits (c ∷ bs)) refl (clea
     again [] e ih = let no-way : _≡_ {A = ℕ} (suc (length bs)) 0 = sym (length-clear bits (c ∷ bs)) ∙ ap length e in absurd (omega arith)
     again (x ∷ xs) e ih = rw e (ap (λ (ys : List ℕ). b ∷ ys) (rw e at ih))
 
-bits-fit : (bits : ℕ) (bs : List ℕ) → length bs < 2 ^ 32 → bits < 256 → bits-rule (length bs) bits ≡ true → Fits (bits-meaning bits bs) Forest.empty
+bits-fit : (flags bits : ℕ) (bs : List ℕ) → length bs < 2 ^ 32 → bits < 256 → bits-rule (length bs) bits ≡ true → Fits flags (bits-meaning bits bs) Forest.empty
 unfolding bits-meaning
-bits-fit bits bs h k e = go (eqb bits 0 || eqb bits 8) refl
+bits-fit flags bits bs h k e = go (eqb bits 0 || eqb bits 8) refl
   where
-    go : (t : Bool) → (eqb bits 0 || eqb bits 8) ≡ t → Fits (elim t [ true ↦ binary bs | false ↦ bitstring bits (clear-low bits bs) ]) Forest.empty
+    go : (t : Bool) → (eqb bits 0 || eqb bits 8) ≡ t → Fits flags (elim t [ true ↦ binary bs | false ↦ bitstring bits (clear-low bits bs) ]) Forest.empty
     go true f = (refl, h)
     go false f = (
       refl,
@@ -152,13 +152,13 @@ True-atoms atoms = (i : ℕ) (cs : List ℕ) → atoms .text i ≡ valid cs → 
 
 module _ (atoms : Atoms) (true-atoms : True-atoms atoms) where
   pub fields-holds : {r : ℕ} (p : ℕ) (f : Form) → Widths f → (s : Position) → Fine r s → {Q : Head → Position → Type 0}
-      → ((h : Head) (t : Position) → Sound h → Comes f h → Fine r t → Q h t) → Holds (fields atoms p f s) Q
+      → ((h : Head) (t : Position) → Sound (atoms .flags) h → Comes f h → Fine r t → Q h t) → Holds (fields atoms p f s) Q
   unfolding fields
   fields-holds p small-integer-ext w s g q =
-      bind (number-holds p 1 s g λ n t h g. done-holds _ t (q _ t (a-leaf (integer-fits (pos n) 1 h (lit< tt)) (λ x. x)) (n, h, refl) g))
+      bind (number-holds p 1 s g λ n t h g. done-holds _ t (q _ t (a-leaf (integer-fits (atoms .flags) (pos n) 1 h (lit< tt)) (λ x. x)) (n, h, refl) g))
   fields-holds p integer-ext w s g q =
       bind (number-holds p 4 s g λ n t h g.
-      done-holds _ t (q _ t (a-leaf (integer-fits (signed32 n) 5 (omega (arith, signed-magnitude n h)) (lit< tt)) (λ x. x)) tt g))
+      done-holds _ t (q _ t (a-leaf (integer-fits (atoms .flags) (signed32 n) 5 (omega (arith, signed-magnitude n h)) (lit< tt)) (λ x. x)) tt g))
   fields-holds p new-float-ext w s g q =
       bind (number-holds p 8 s g λ n t h g. bind (rule-holds _ 4 p t λ e. done-holds _ t (q _ t (a-leaf {l = float n} (refl, h, e) (λ x. x)) tt g)))
   fields-holds p atom-cache-ref w s g q =
@@ -172,14 +172,14 @@ module _ (atoms : Atoms) (true-atoms : True-atoms atoms) where
       bind (number-holds p 4 s g λ n t h g. bind (bytes-holds p n t g λ bs u l us g. done-holds _ u (q _ u (a-leaf {l = binary bs} (refl, rw l h) (λ x. x)) tt g)))
   fields-holds p bit-binary-ext w s g q =
       bind (number-holds p 4 s g λ n t h g. bind (number-holds p 1 t g λ bits t k g. bind (bytes-holds p n t g λ bs u l us g.
-      bind (rule-holds _ 4 p u λ e. done-holds _ u (q _ u (a-leaf (bits-fit bits bs (rw l h) k (rw l e)) (bits-no-list bits bs)) tt g)))))
+      bind (rule-holds _ 4 p u λ e. done-holds _ u (q _ u (a-leaf (bits-fit (atoms .flags) bits bs (rw l h) k (rw l e)) (bits-no-list bits bs)) tt g)))))
   fields-holds p map-ext w s g q = bind (number-holds p 4 s g λ n t h g. done-holds _ t (q _ t a-map tt g))
   fields-holds p reference-ext w s g q = done-holds _ s (q _ s an-old-reference tt g)
   fields-holds p export-ext w s g q = done-holds _ s (q _ s an-export tt g)
   fields-holds p (big-ext w) ok s g q =
       bind (number-holds p w s g λ n t h g. bind (number-holds p 1 t g λ sign t k g. bind (bytes-holds p n t g λ ds u l us g.
       bind (rule-holds (leb sign 1) 4 p u λ e. done-holds _ u (q _ u
-      (a-leaf {l = integer (with-sign sign (little-endian ds))} (integer-fits (with-sign sign (little-endian ds)) n (rw (sign-magnitude sign (little-endian ds)) (rw l at (little-under ds us))) (omega arith)) (λ x. x)) tt g)))))
+      (a-leaf {l = integer (with-sign sign (little-endian ds))} (integer-fits (atoms .flags) (with-sign sign (little-endian ds)) n (rw (sign-magnitude sign (little-endian ds)) (rw l at (little-under ds us))) (omega arith)) (λ x. x)) tt g)))))
   fields-holds p (atom-ext coding w) ok s g q =
       bind (number-holds p w s g λ n t h g. bind (bytes-holds p n t g λ bs u l us g. bind (text-holds _ 5 _ u λ cs e.
       let ok : Characters cs × (length cs ≤ 255) = check-characters coding bs cs us e in
@@ -188,14 +188,14 @@ module _ (atoms : Atoms) (true-atoms : True-atoms atoms) where
   fields-holds p (pid-ext w) ok s g q = done-holds _ s (q _ s (a-pid ok) tt g)
   fields-holds p (new-reference-ext w) ok s g q =
       bind (number-holds p 2 s g λ n t h g. bind (rule-holds _ 4 p t λ e.
-      let few : (1 ≤ n) × (n ≤ 3) = both-true n e in
+      let few : (1 ≤ n) × (n ≤ limits (atoms .flags) w .word-count) = both-true n e in
       done-holds _ t (q _ t (a-reference (few .0) (few .1) ok) tt g)))
     where
-      both-true : (n : ℕ) → (leb 1 n && leb n 3) ≡ true → (1 ≤ n) × (n ≤ 3)
-      both-true n e = go (leb 1 n) refl (leb n 3) refl e
+      both-true : (n : ℕ) → (leb 1 n && leb n (limits (atoms .flags) w .word-count)) ≡ true → (1 ≤ n) × (n ≤ limits (atoms .flags) w .word-count)
+      both-true n e = go (leb 1 n) refl (leb n (limits (atoms .flags) w .word-count)) refl e
         where
-          go : (x : Bool) → leb 1 n ≡ x → (y : Bool) → leb n 3 ≡ y → (x && y) ≡ true → (1 ≤ n) × (n ≤ 3)
-          go true p true q f = (leb-true 1 n p, leb-true n 3 q)
+          go : (x : Bool) → leb 1 n ≡ x → (y : Bool) → leb n (limits (atoms .flags) w .word-count) ≡ y → (x && y) ≡ true → (1 ≤ n) × (n ≤ limits (atoms .flags) w .word-count)
+          go true p true q f = (leb-true 1 n p, leb-true n (limits (atoms .flags) w .word-count) q)
           go true p false q f = let no-way : _≡_ {A = ℕ} 0 1 = cc in (omega arith, omega arith)
           go false p y q f = let no-way : _≡_ {A = ℕ} 0 1 = cc in (omega arith, omega arith)
   fields-holds p (port-ext v w) ok s g q = done-holds _ s (q _ s (a-port (ok .0) (ok .1)) tt g)
@@ -289,7 +289,7 @@ form-holds p for-arity tag s {Q} q = go (one-of tag (97 ∷ [])) refl
 
 module _ (atoms : Atoms) (true-atoms : True-atoms atoms) where
   pub head-holds : {r : ℕ} {w : Wanted} (a : Asked w) (s : Position) → Fine r s → {Q : Head → Position → Type 0}
-      → ((h : Head) (t : Position) → Sound h → Suits a h → Fine r t → Q h t) → Holds (term-head atoms w s) Q
+      → ((h : Head) (t : Position) → Sound (atoms .flags) h → Suits a h → Fine r t → Q h t) → Holds (term-head atoms w s) Q
   unfolding term-head
   head-holds {r} {w} a s g q =
       bind (byte-holds (s .at) s g λ tag t _ g. bind (form-holds (s .at) a tag t λ f ws suits.

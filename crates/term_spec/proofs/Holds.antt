@@ -11,7 +11,7 @@ use lib.ListN.{length}
 use Rattle.term_spec.specs.Numbers.{big-endian, little-endian, Under}
 use Rattle.term_spec.specs.Text.{Checked, valid, invalid-at, check}
 use Rattle.term_spec.specs.Answer.{Answer, good, refused, Position, Reading, after, rule, byte, first-of, bytes, number}
-use Rattle.term_spec.specs.Head.{Atoms, Wanted, Later, Form, small-integer-ext, integer-ext, big-ext, new-float-ext, atom-ext, atom-cache-ref, tuple-ext, nil-ext, string-ext, list-ext, binary-ext, bit-binary-ext, map-ext, pid-ext, port-ext, new-reference-ext, reference-ext, export-ext, fields, Head, parts, characters, elements, pairs, finite, bits-rule, text-or}
+use Rattle.term_spec.specs.Head.{Atoms, limits, Wanted, Later, Form, small-integer-ext, integer-ext, big-ext, new-float-ext, atom-ext, atom-cache-ref, tuple-ext, nil-ext, string-ext, list-ext, binary-ext, bit-binary-ext, map-ext, pid-ext, port-ext, new-reference-ext, reference-ext, export-ext, fields, Head, parts, characters, elements, pairs, finite, bits-rule, text-or}
 use Rattle.term_spec.specs.Message.{version, ending}
 
 -- if the answer is good, Q holds of what is found and of where reading ends
@@ -153,5 +153,5 @@ module _ (atoms : Atoms) (Q : Head → Position → Type 0) (of-parts : (ws : Li
   characters-hold p (tuple-ext w) s none some = skip (number p w s) λ n t. done-holds _ t (of-parts _ _ _ t)
   characters-hold p (pid-ext w) s none some = done-holds _ s (of-parts _ _ _ s)
   characters-hold p (new-reference-ext w) s none some =
-      skip (number p 2 s) λ n t. skip (rule (leb 1 n && leb n 3) 4 p t) λ _ t. done-holds _ t (of-parts _ _ _ t)
+      skip (number p 2 s) λ n t. skip (rule (leb 1 n && leb n (limits (atoms .flags) w .word-count)) 4 p t) λ _ t. done-holds _ t (of-parts _ _ _ t)
   characters-hold p (port-ext v w) s none some = done-holds _ s (of-parts _ _ _ s)

@@ -19,9 +19,9 @@ use Rattle.term_spec.proofs.RoundTrip.{read-tree}
 pub good-is : {A : Type 0} {a b : A} → _≡_ {A = Answer A} (good a) (good b) → a ≡ b
 good-is e = cc
 
-pub canonical-prefix : (t u : Term) → Valid t → Valid u → (x y : List ℕ) → canonical t ++ x ≡ canonical u ++ y → (t ≡ u) × (x ≡ y)
-canonical-prefix t u v w x y e =
-    let none-known : Atoms = record { n = 0; text = λ i. invalid-at 0 } in
+pub canonical-prefix : (flags : ℕ) (t u : Term) → Valid flags t → Valid flags u → (x y : List ℕ) → canonical t ++ x ≡ canonical u ++ y → (t ≡ u) × (x ≡ y)
+canonical-prefix flags t u v w x y e =
+    let none-known : Atoms = record { flags = flags; n = 0; text = λ i. invalid-at 0 } in
     let cap : ℕ = size t + size u in
     let d : ℕ = depth t + depth u in
     let a : Reads none-known cap d any (canonical t ++ x) x 0 0 t = read-tree none-known cap t v d (omega arith) 0 0 x (omega arith) in
@@ -30,6 +30,6 @@ canonical-prefix t u v w x y e =
     = good-is (sym (a .reads) ∙ ap (λ (left : List ℕ). term none-known cap d any (spot 0 left 0)) e ∙ b .reads) in
     (sym (a .means) ∙ ap (λ (p : Located × Position). meaning (p .0)) same ∙ b .means, ap (λ (p : Located × Position). p .1 .left) same)
 
-pub canonical-injective : (t u : Term) → Valid t → Valid u → canonical t ≡ canonical u → t ≡ u
-canonical-injective t u v w e =
-    (canonical-prefix t u v w [] [] (append-nil (canonical t) ∙ e ∙ sym (append-nil (canonical u)))) .0
+pub canonical-injective : (flags : ℕ) (t u : Term) → Valid flags t → Valid flags u → canonical t ≡ canonical u → t ≡ u
+canonical-injective flags t u v w e =
+    (canonical-prefix flags t u v w [] [] (append-nil (canonical t) ∙ e ∙ sym (append-nil (canonical u)))) .0

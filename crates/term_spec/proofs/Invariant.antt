@@ -26,8 +26,8 @@ module _ (cap : ℕ) (I : Position → Type 0)
   pub number-kept : (p n : ℕ) (s : Position) → I s → Kept (number p n s)
   number-kept p n s i = walk.number-kept cap I Nothing on-byte on-row p n s i .ends
 
-  pub later-kept : (p : ℕ) (l : Later) (s : Position) → I s → Kept (later p l s)
-  later-kept p l s i = walk.later-kept cap I Nothing on-byte on-row p l s i .ends
+  pub later-kept : (flags p : ℕ) (l : Later) (s : Position) → I s → Kept (later flags p l s)
+  later-kept flags p l s i = walk.later-kept cap I Nothing on-byte on-row flags p l s i .ends
 
   module _ (atoms : Atoms) where
     pub fields-kept : (p : ℕ) (f : Form) (s : Position) → I s → Kept (fields atoms p f s)
@@ -76,7 +76,7 @@ module _ (message : List ℕ) (cap : ℕ) where
   abbrev In-step-after : {A : Type 0} → Answer (A × Position) → Type 0
   In-step-after {A} o = Holds {A = A} o (λ _ t. In-step message cap t)
 
-  pub later-in-step : (p : ℕ) (l : Later) (s : Position) → In-step message cap s → In-step-after (later p l s)
+  pub later-in-step : (flags p : ℕ) (l : Later) (s : Position) → In-step message cap s → In-step-after (later flags p l s)
   later-in-step = later-kept cap (In-step message cap) on-byte on-row
 
   module _ (atoms : Atoms) where

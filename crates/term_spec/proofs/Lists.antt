@@ -25,27 +25,27 @@ use Rattle.term_spec.proofs.Capacity.{rows-lent}
 from-count : (l : Label) (ts : Forest Label) → count ts < 8192 → Short-list l ts
 from-count l ts h is-list = omega arith
 
-module _ (framing : Framing) (atoms : AtomList) (lent : ℕ) (message : List ℕ) where
-  allowed-short : (ts : Terms) → read framing atoms lent message ≡ good ts → Each-nodes Short-list (meanings ts)
+module _ (flags : ℕ) (framing : Framing) (atoms : AtomList) (lent : ℕ) (message : List ℕ) where
+  allowed-short : (ts : Terms) → read flags framing atoms lent message ≡ good ts → Each-nodes Short-list (meanings ts)
   allowed-short ts e =
       each-nodes-map (λ l us. count us < 8192) Short-list from-count (meanings ts)
-      (fewer-parts-each (meanings ts) 8192 (omega (arith, sizes-meanings ts, rows-lent framing atoms message lent ts e)))
+      (fewer-parts-each (meanings ts) 8192 (omega (arith, sizes-meanings ts, rows-lent flags framing atoms message lent ts e)))
 
-  found-short : (ts : Terms) (terms : ℕ) → read framing atoms lent message ≡ good ts → count ts ≡ terms → Short-lists framing atoms lent message terms
+  found-short : (ts : Terms) (terms : ℕ) → read flags framing atoms lent message ≡ good ts → count ts ≡ terms → Short-lists flags framing atoms lent message terms
   found-short ts terms e many = record { found = ts; accepted = e; terms-are = many; no-longer = allowed-short ts e }
 
-  read-short : (terms rows : ℕ) → read-answer (read framing atoms lent message) ≡ reads.Terms terms rows → Short-lists framing atoms lent message terms
+  read-short : (terms rows : ℕ) → read-answer (read flags framing atoms lent message) ≡ reads.Terms terms rows → Short-lists flags framing atoms lent message terms
   unfolding read-answer
-  read-short terms rows e = go (read framing atoms lent message) refl e
+  read-short terms rows e = go (read flags framing atoms lent message) refl e
     where
-      go : (o : Answer Terms) → read framing atoms lent message ≡ o → read-answer o ≡ reads.Terms terms rows → Short-lists framing atoms lent message terms
+      go : (o : Answer Terms) → read flags framing atoms lent message ≡ o → read-answer o ≡ reads.Terms terms rows → Short-lists flags framing atoms lent message terms
       go (good ts) f e = found-short ts terms f cc
       go (refused n p) f e = let no-way : _≡_ {A = ℕ} 0 1 = cc in absurd (omega arith)
 
-  write-short : (room terms bytes : ℕ) → write-answer (write framing atoms lent room message) ≡ writes.Written terms bytes
-      → Short-lists framing atoms lent message terms
+  write-short : (room terms bytes : ℕ) → write-answer (write flags framing atoms lent room message) ≡ writes.Written terms bytes
+      → Short-lists flags framing atoms lent message terms
   unfolding write-answer write written
-  write-short room terms bytes e = go (read framing atoms lent message) refl e
+  write-short room terms bytes e = go (read flags framing atoms lent message) refl e
     where
       answered : Terms → Bool → Answer Written
       answered ts fits = elim fits [ true ↦ good (record { terms = count ts; bytes = standalones (meanings ts) }) | false ↦ refused 11 0 ]
@@ -54,8 +54,8 @@ module _ (framing : Framing) (atoms : AtomList) (lent : ℕ) (message : List ℕ
       fitting ts true e = cc
       fitting ts false e = let no-way : _≡_ {A = ℕ} 0 1 = cc in absurd (omega arith)
 
-      go : (o : Answer Terms) → read framing atoms lent message ≡ o → write-answer (written room o) ≡ writes.Written terms bytes
-          → Short-lists framing atoms lent message terms
+      go : (o : Answer Terms) → read flags framing atoms lent message ≡ o → write-answer (written room o) ≡ writes.Written terms bytes
+          → Short-lists flags framing atoms lent message terms
       go (good ts) f e = found-short ts terms f (fitting ts (leb (length (standalones (meanings ts))) room) e)
       go (refused n p) f e = let no-way : _≡_ {A = ℕ} 0 1 = cc in absurd (omega arith)
 
@@ -70,8 +70,8 @@ pub no-long-list : No-long-list
 no-long-list =
     record {
       by-the-rules = allowed-short;
-      by-reading = λ framing atoms message table answer left c terms rows e. read-short framing atoms (length table) message terms rows (sym (c .read-answered) ∙ e);
-      by-writing = λ framing atoms message scratch output answer scratch-is output-is c terms bytes e.
-          write-short framing atoms (length scratch) message (length output) terms bytes (sym (c .write-answered) ∙ e);
-      of-demand-3 = λ t a. one-short t (meanings (a .terms)) (a .one-of-them) (allowed-short (a .framing) (a .list) 8192 (a .message) (a .terms) (a .accepted));
+      by-reading = λ flags framing atoms message table answer left c terms rows e. read-short flags framing atoms (length table) message terms rows (sym (c .read-answered) ∙ e);
+      by-writing = λ flags framing atoms message scratch output answer scratch-is output-is c terms bytes e.
+          write-short flags framing atoms (length scratch) message (length output) terms bytes (sym (c .write-answered) ∙ e);
+      of-demand-3 = λ flags t a. one-short t (meanings (a .terms)) (a .one-of-them) (allowed-short flags (a .framing) (a .list) 8192 (a .message) (a .terms) (a .accepted));
     }

@@ -10,6 +10,7 @@ use borrow.Author.Tests.{leb-true}
 use Rattle.term_spec.specs.Tree.{Forest, empty, _▹_, size, sizes, depth}
 use Rattle.term_spec.specs.Text.{Checked, valid, invalid-at, utf-8, check, Characters}
 use Rattle.term_spec.specs.Term.{Label, Term}
+use Rattle.term_spec.specs.Connection.{flags-known}
 use Rattle.term_spec.specs.Answer.{Answer, good, refused, Position, Reading, after, done}
 use Rattle.term_spec.specs.Head.{Atoms, any}
 use Rattle.term_spec.specs.Reading.{Located, meaning, term}
@@ -26,30 +27,30 @@ use Rattle.term_spec.proofs.Accepted.{Found, term-holds}
 use Rattle.term_spec.proofs.Invariant.{In-step, on-byte}
 use Rattle.term_spec.proofs.Backed.{Backed, Backeds, term-backed}
 
--- a tree within the limits: valid, 64 levels at most, 8,192 rows at most
-pub record Allowed (t : Term) : Type 0 where
-  pub valid-tree : Valid t
+-- a tree within the limits: valid with these flags, 64 levels at most, 8,192 rows at most
+pub record Allowed (flags : ℕ) (t : Term) : Type 0 where
+  pub valid-tree : Valid flags t
   pub levels : depth t ≤ 64
   pub few-rows : size t ≤ 8192
 
-abbrev pub All-allowed : Forest Label → Type 0
-All-allowed empty = Unit {0}
-All-allowed (t ▹ ts) = Allowed t × All-allowed ts
+abbrev pub All-allowed : ℕ → Forest Label → Type 0
+All-allowed flags empty = Unit {0}
+All-allowed flags (t ▹ ts) = Allowed flags t × All-allowed flags ts
 
-pub allowed-valid : (ts : Forest Label) → All-allowed ts → Valids ts
-allowed-valid empty a = tt
-allowed-valid (t ▹ ts) a = (a .0 .valid-tree, allowed-valid ts (a .1))
+pub allowed-valid : (flags : ℕ) (ts : Forest Label) → All-allowed flags ts → Valids flags ts
+allowed-valid flags empty a = tt
+allowed-valid flags (t ▹ ts) a = (a .0 .valid-tree, allowed-valid flags ts (a .1))
 
 -- what is known of the terms of a message, read with `cap` rows
 pub record Known (message : List ℕ) (cap : ℕ) (atoms : Atoms) (ts : Terms) : Type 0 where
-  pub all-allowed : All-allowed (meanings ts)
+  pub all-allowed : All-allowed (atoms .flags) (meanings ts)
   pub few : sizes ts ≤ cap
   pub all-backed : Backeds message cap atoms ts
 
 module _ (atoms : Atoms) (true-atoms : True-atoms atoms) (cap : ℕ) (least : cap ≤ 8192) (message : List ℕ) (under : Under 256 message) where
   -- a term that is no part, with r rows before its own
   abbrev Outer : ℕ → Located → Position → Type 0
-  Outer r x t = Found cap for-any 64 r x t × (In-step message cap t × Backed message cap atoms x)
+  Outer r x t = Found cap atoms for-any 64 r x t × (In-step message cap t × Backed message cap atoms x)
 
   outer : (r : ℕ) (s : Position) → Fine r s → r ≤ cap → In-step message cap s → Holds (term atoms cap 64 any s) (Outer r)
   outer r s g h i = both _ _ (term-holds cap atoms true-atoms (omega arith) 64 for-any r s g h) (term-backed message cap atoms 64 any s i)
@@ -57,7 +58,7 @@ module _ (atoms : Atoms) (true-atoms : True-atoms atoms) (cap : ℕ) (least : ca
   start : In-step message cap (spot 0 message 0)
   start = record { bytes-are = refl; inside = omega arith; room = omega arith }
 
-  allowed : (r : ℕ) (x : Located) (t : Position) → Outer r x t → Allowed (meaning x)
+  allowed : (r : ℕ) (x : Located) (t : Position) → Outer r x t → Allowed (atoms .flags) (meaning x)
   allowed r x t f = record { valid-tree = f .0 .valid; levels = f .0 .deep; few-rows = omega (arith, f .0 .room) }
 
   one-known : (x : Located) (t : Position) → Outer 0 x t → Known message cap atoms (x ▹ empty)
@@ -98,9 +99,9 @@ module _ (atoms : Atoms) (true-atoms : True-atoms atoms) (cap : ℕ) (least : ca
   framed-known payload = payload-known
 
 -- the lent atom list holds texts of characters
-list-true : (list : AtomList) → True-atoms (atoms-of list)
+list-true : (flags : ℕ) (list : AtomList) → True-atoms (atoms-of flags list)
 unfolding atoms-of place-text
-list-true list i cs e = go (leb (place-length list i) 32) e
+list-true flags list i cs e = go (leb (place-length list i) 32) e
   where
     go : (z : Bool) → _≡_ {A = Checked} (elim z [ true ↦ check utf-8 (place-bytes list i) | false ↦ invalid-at 32 ]) (valid cs) → Characters cs × (length cs ≤ 255)
     go true f = let s = utf8-spells (place-bytes list i) cs f in (s .characters, s .few)
@@ -115,22 +116,25 @@ pub found-good : {A : Type 0} (o : Answer (A × Position)) (a : A) → result-of
 found-good (good r) a e = let is : r .0 ≡ a = cc in (r .1, ap (λ x. good (x, r .1)) is)
 found-good (refused n p) a e = let no-way : _≡_ {A = ℕ} 0 1 = cc in absurd (omega arith)
 
-pub record Accepted-message (list : AtomList) (lent : ℕ) (message : List ℕ) (ts : Terms) : Type 0 where
+pub record Accepted-message (flags : ℕ) (list : AtomList) (lent : ℕ) (message : List ℕ) (ts : Terms) : Type 0 where
   pub sized : of-size list ≡ true
+  pub flags-true : flags-known flags ≡ true
   pub short : length message ≤ 65536
-  pub known : Known message (min 8192 lent) (atoms-of list) ts
+  pub known : Known message (min 8192 lent) (atoms-of flags list) ts
 
-pub accepted-message : (framing : Framing) (list : AtomList) (lent : ℕ) (message : List ℕ) → Under 256 message → (ts : Terms)
-    → read framing list lent message ≡ good ts → Accepted-message list lent message ts
+pub accepted-message : (flags : ℕ) (framing : Framing) (list : AtomList) (lent : ℕ) (message : List ℕ) → Under 256 message → (ts : Terms)
+    → read flags framing list lent message ≡ good ts → Accepted-message flags list lent message ts
 unfolding read
-accepted-message framing list lent message under ts e =
+accepted-message flags framing list lent message under ts e =
     let cap : ℕ = min 8192 lent in
-    let o : Answer (Terms × Position) = terms-framed (atoms-of list) cap framing (spot 0 message 0) in
+    let o : Answer (Terms × Position) = terms-framed (atoms-of flags list) cap framing (spot 0 message 0) in
     let a = passed (of-size list) 13 _ ts e in
-    let b = passed (leb (length message) 65536) 12 (result-of o) ts (a .1) in
+    let k = passed (flags-known flags) 14 _ ts (a .1) in
+    let b = passed (leb (length message) 65536) 12 (result-of o) ts (k .1) in
     let g = found-good o ts (b .1) in
     record {
       sized = a .0;
+      flags-true = k .0;
       short = leb-true (length message) 65536 (b .0);
-      known = framed-known (atoms-of list) (list-true list) cap (omega arith) message under framing .known ts (g .0) (g .1);
+      known = framed-known (atoms-of flags list) (list-true flags list) cap (omega arith) message under framing .known ts (g .0) (g .1);
     }

@@ -11,7 +11,7 @@ use Rattle.term_spec.specs.Numbers.{in-bytes, digits, little-endian, sig
 use Rattle.term_spec.specs.Text.{utf-8, encodes, Characters}
 use Rattle.term_spec.specs.Term.{integer, float, atom, tuple, binary, bitstring, export}
 use Rattle.term_spec.specs.Answer.{good, Reading, done}
-use Rattle.term_spec.specs.Head.{Atoms, Wanted, any, an-atom, an-arity, Form, small-integer-ext, integer-ext, big-ext, new-float-ext, atom-ext, tuple-ext, nil-ext, string-ext, list-ext, binary-ext, bit-binary-ext, map-ext, pid-ext, port-ext, new-reference-ext, export-ext, form, form-in, forms, form-or, fields, Head, leaf, parts, characters, elements, pairs, known, term-head, finite, bits-rule, bits-meaning, pid-fields, port-fields, reference-fields}
+use Rattle.term_spec.specs.Head.{Atoms, limits, Wanted, any, an-atom, an-arity, Form, small-integer-ext, integer-ext, big-ext, new-float-ext, atom-ext, tuple-ext, nil-ext, string-ext, list-ext, binary-ext, bit-binary-ext, map-ext, pid-ext, port-ext, new-reference-ext, export-ext, form, form-in, forms, form-or, fields, Head, leaf, parts, characters, elements, pairs, known, term-head, finite, bits-rule, bits-meaning, pid-fields, port-fields, reference-fields}
 use Rattle.term_spec.specs.Reading.{empty-108, opening}
 use Rattle.term_spec.specs.Canonical.{integer-bytes, big-bytes, atom-bytes, tuple-bytes}
 use Rattle.term_spec.specs.Valid.{magnitude}
@@ -235,7 +235,7 @@ module _ (atoms : Atoms) where
     unfolding fields
     long-port-opens ps = starting any-120 at r (at + 1) ps ps _ refl refl
 
-    pub reference-opens : (n : ℕ) → 1 ≤ n → n ≤ 3
+    pub reference-opens : (n : ℕ) → 1 ≤ n → n ≤ limits (atoms .flags) 4 .word-count
         → Opens any (90 ∷ (in-bytes 2 n ++ rest)) at r (parts (an-atom ∷ []) 0 (reference-fields n 4)) rest
     reference-opens n h k = starting any-90 at r _ _ rest _ refl (reference-head atoms at (at + 1) r rest 4 n h k)
 

@@ -44,8 +44,8 @@ small-is (port i d) c e = cc
 small-is (reference d ws) c e = cc
 small-is export c e = cc
 
-small-leaf : (l : Label) (us : Forest Label) (c : ℕ) → small l ≡ some c → Fits l us → us ≡ empty
-small-leaf l us c e f = (rw (small-is l c e) at f) .0
+small-leaf : (flags : ℕ) (l : Label) (us : Forest Label) (c : ℕ) → small l ≡ some c → Fits flags l us → us ≡ empty
+small-leaf flags l us c e f = (rw (small-is l c e) at f) .0
 
 -- no list's head
 abbrev pub Plain : Head → Type 0
@@ -117,7 +117,7 @@ module _ (atoms : Atoms) (cap : ℕ) where
     pub reads : string atoms cap d p off cs (spot at rest r) ≡ good (trees, spot at rest (r + sizes ts))
     pub means : relabels (λ l. l .0) trees ≡ ts
 
-  pub string-reads : (d : ℕ) (ts : Forest Label) (cs : List ℕ) → all-small ts ≡ some cs → Valids ts → deepest ts ≤ suc d
+  pub string-reads : (d : ℕ) (ts : Forest Label) (cs : List ℕ) → all-small ts ≡ some cs → Valids (atoms .flags) ts → deepest ts ≤ suc d
       → (p off at r : ℕ) (rest : List ℕ) → r + sizes ts ≤ cap → Strings (suc d) p off at cs rest r ts
   unfolding string all-small
   string-reads d empty cs e ok h p off at r rest k =
@@ -134,7 +134,7 @@ module _ (atoms : Atoms) (cap : ℕ) where
       go (some c) x (some cs′) y z ih =
           let one-more : cs ≡ c ∷ cs′ = cc in
           let others : Strings (suc d) p (off + 1) at cs′ rest (r + 1) ts = ih cs′ y in
-          rw (one-more, small-is l c x, small-leaf l us c x (ok .0 .0))
+          rw (one-more, small-is l c x, small-leaf (atoms .flags) l us c x (ok .0 .0))
           (record {
             trees = node (integer (pos c), character-at off) empty ▹ others .trees;
             reads =

@@ -11,7 +11,7 @@ use Rattle.term_spec.specs.Tree.{Forest, node, empty, _▹_, _▹▹_, s
 use Rattle.term_spec.specs.Numbers.{in-bytes}
 use Rattle.term_spec.specs.Term.{Label, Term, integer, float, atom, tuple, list, improper-list, binary, bitstring, map, pid, port, reference, export}
 use Rattle.term_spec.specs.Answer.{Answer, good, refused, Position, Reading}
-use Rattle.term_spec.specs.Head.{Atoms, any, an-atom, an-arity, Head, leaf, parts, characters, elements, pairs, known, pid-fields, port-fields, reference-fields, later, Later}
+use Rattle.term_spec.specs.Head.{Atoms, limits, any, an-atom, an-arity, Head, leaf, parts, characters, elements, pairs, known, pid-fields, port-fields, reference-fields, later, Later}
 use Rattle.term_spec.specs.Reading.{tag-at, Located, opening, one-term, body, contents, each, run, string, list-tail}
 use Rattle.term_spec.specs.Canonical.{all-small, put, small, list-bytes, port-bytes, words-bytes, term-bytes, canonical, canonicals}
 use Rattle.term_spec.specs.Valid.{Fits, Valid, Valids, Keys, Values, Improper, IsList}
@@ -90,7 +90,7 @@ pub record Plainly (atoms : Atoms) (l : Label) (ts : Forest Label) (at r : ℕ) 
   pub opens : Opens atoms any (canonical (node l ts) ++ rest) at r says more
   pub plain : Plain says
 
-plainly : (atoms : Atoms) (l : Label) (ts : Forest Label) → Fits l ts → ¬ IsList l → (at r : ℕ) (rest : List ℕ) → Plainly atoms l ts at r rest
+plainly : (atoms : Atoms) (l : Label) (ts : Forest Label) → Fits (atoms .flags) l ts → ¬ IsList l → (at r : ℕ) (rest : List ℕ) → Plainly atoms l ts at r rest
 unfolding canonical term-bytes port-bytes
 plainly atoms (integer z) ts f n at r rest = record { says = _; more = rest; opens = Opening.integer-opens atoms at r rest z (f .1); plain = tt }
 plainly atoms (float bits) ts f n at r rest = record { says = _; more = rest; opens = Opening.float-opens atoms at r rest bits (f .1) (f .2); plain = tt }
@@ -119,7 +119,7 @@ plainly atoms export ts f n at r rest = record { says = _; more = _; opens = Ope
 
 module _ (atoms : Atoms) (cap d : ℕ) where
   -- a tuple
-  tuple-reads : (ts : Forest Label) → Fits tuple ts → All-readable atoms cap d ts → Readable atoms cap (suc d) (node tuple ts)
+  tuple-reads : (ts : Forest Label) → Fits (atoms .flags) tuple ts → All-readable atoms cap d ts → Readable atoms cap (suc d) (node tuple ts)
   unfolding canonical term-bytes contents each later
   tuple-reads ts f all at r rest h =
       let o : Opens atoms any (canonical (node tuple ts) ++ rest) at r (parts [] (count ts) (known tuple)) (canonicals ts ++ rest)
@@ -133,7 +133,7 @@ module _ (atoms : Atoms) (cap d : ℕ) where
       }
 
   -- a map
-  map-reads : (ts : Forest Label) → Fits map ts → All-readable atoms cap d ts → Readable atoms cap (suc d) (node map ts)
+  map-reads : (ts : Forest Label) → Fits (atoms .flags) map ts → All-readable atoms cap d ts → Readable atoms cap (suc d) (node map ts)
   unfolding canonical term-bytes contents
   map-reads ts f all at r rest h =
       let half : (n : ℕ) × (count ts ≡ n + n) = even [] ts (f .1) in
@@ -187,7 +187,7 @@ small-count (node l us ▹ ts) cs e = go (small l) (all-small ts) refl e (λ cs�
 
 module _ (atoms : Atoms) (cap : ℕ) where
   -- a list of characters
-  characters-read : (d : ℕ) (ts : Forest Label) (cs : List ℕ) → all-small ts ≡ some cs → Valids ts → deepest ts ≤ suc d → count ts ≤ 8191
+  characters-read : (d : ℕ) (ts : Forest Label) (cs : List ℕ) → all-small ts ≡ some cs → Valids (atoms .flags) ts → deepest ts ≤ suc d → count ts ≤ 8191
       → (at r : ℕ) (rest : List ℕ) → r + size (node list ts) ≤ cap
       → Reads atoms cap (suc (suc d)) any (107 ∷ ((in-bytes 2 (count ts) ++ cs) ++ rest)) rest at r (node list ts)
   unfolding contents
@@ -205,7 +205,7 @@ module _ (atoms : Atoms) (cap : ℕ) where
         means = ap (λ (us : Forest Label). node list us) (inner .means);
       })
 
-  list-reads : (d : ℕ) (ts : Forest Label) → Fits list ts → Valids ts → deepest ts ≤ d → All-readable atoms cap d ts
+  list-reads : (d : ℕ) (ts : Forest Label) → Fits (atoms .flags) list ts → Valids (atoms .flags) ts → deepest ts ≤ d → All-readable atoms cap d ts
       → Readable atoms cap (suc d) (node list ts)
   unfolding canonical term-bytes list-bytes contents string
   list-reads d empty f ok h all at r rest k =
@@ -229,7 +229,7 @@ module _ (atoms : Atoms) (cap : ℕ) where
   All-join d empty t all = (tt, all .0)
   All-join d (u ▹ ts) t all = let both = All-join d ts t (all .1) in ((all .0, both .0), both .1)
 
-  Valids-last : (ts : Forest Label) (t : Term) → Valids (ts ▹▹ (t ▹ empty)) → Valid t
+  Valids-last : (ts : Forest Label) (t : Term) → Valids (atoms .flags) (ts ▹▹ (t ▹ empty)) → Valid (atoms .flags) t
   Valids-last empty t ok = ok .0
   Valids-last (u ▹ ts) t ok = Valids-last ts t (ok .1)
 
@@ -241,7 +241,7 @@ module _ (atoms : Atoms) (cap : ℕ) where
   tail-at d at r inner [] more h u s o ok e = let no-way : _≡_ {A = Answer ((ℕ × Head) × Position)} (refused 2 at) (good ((at, h), spot (o .end) more r)) = o .opens in cc
   tail-at d at r inner (b ∷ bs) more h u s o ok e = tail-plain atoms cap d at r inner b bs (b ∷ bs) more h u s o ok e
 
-  improper-from : (d : ℕ) (ts : Forest Label) (l : Label) (us : Forest Label) → count ts < 2 ^ 32 → 0 < count ts → ¬ IsList l → Fits l us
+  improper-from : (d : ℕ) (ts : Forest Label) (l : Label) (us : Forest Label) → count ts < 2 ^ 32 → 0 < count ts → ¬ IsList l → Fits (atoms .flags) l us
       → All-readable atoms cap d ts → Readable atoms cap d (node l us)
       → Readable atoms cap (suc d) (node improper-list (ts ▹▹ (node l us ▹ empty)))
   unfolding contents
@@ -270,7 +270,7 @@ module _ (atoms : Atoms) (cap : ℕ) where
             ∙ ap₂ (λ (vs : Forest Label) (v : Term). vs ▹▹ (v ▹ empty)) (front .means) (t .means));
       })
 
-  improper-reads : (d : ℕ) (ts : Forest Label) → Fits improper-list ts → Valids ts → All-readable atoms cap d ts
+  improper-reads : (d : ℕ) (ts : Forest Label) → Fits (atoms .flags) improper-list ts → Valids (atoms .flags) ts → All-readable atoms cap d ts
       → Readable atoms cap (suc d) (node improper-list ts)
   improper-reads d ts f ok all =
       let s : Split ts = split ts (f .1) in
@@ -283,7 +283,7 @@ module _ (atoms : Atoms) (cap : ℕ) where
       (each-one .0) (each-one .1))
 
   -- an atom where one is wanted, and where anything is
-  node-reads : (d : ℕ) (cs : List ℕ) → Fits (atom cs) empty → (at r : ℕ) (rest : List ℕ) → r < cap
+  node-reads : (d : ℕ) (cs : List ℕ) → Fits (atoms .flags) (atom cs) empty → (at r : ℕ) (rest : List ℕ) → r < cap
       → Reads atoms cap (suc d) an-atom (canonical (node (atom cs) empty) ++ rest) rest at r (node (atom cs) empty)
   unfolding canonical term-bytes
   node-reads d cs f at r rest k = leaf-reads atoms cap d (Opening.atom-opens atoms at r rest atom-119 atom-118 cs (f .1) (f .2)) k
@@ -294,16 +294,16 @@ module _ (atoms : Atoms) (cap : ℕ) where
   arity-reads d n h at r rest k = leaf-reads atoms cap d (Opening.small-opens atoms at r rest arity-97 n h) k
 
   -- over the identifiers: a node, then the later fields
-  named-reads : (d : ℕ) (l : Label) (cs : List ℕ) → Fits (atom cs) empty → (w : Later) (left fs rest : List ℕ) (at r : ℕ)
+  named-reads : (d : ℕ) (l : Label) (cs : List ℕ) → Fits (atoms .flags) (atom cs) empty → (w : Later) (left fs rest : List ℕ) (at r : ℕ)
       → Opens atoms any left at r (parts (an-atom ∷ []) 0 w) (canonical (node (atom cs) empty) ++ (fs ++ rest))
-      → ((b s : ℕ) → (e : ℕ) × (later at w (spot b (fs ++ rest) s) ≡ good (l, spot e rest s)))
+      → ((b s : ℕ) → (e : ℕ) × (later (atoms .flags) at w (spot b (fs ++ rest) s) ≡ good (l, spot e rest s)))
       → r + 2 ≤ cap
       → Reads atoms cap (suc (suc d)) any left rest at r (node l (node (atom cs) empty ▹ empty))
   unfolding contents each run
   named-reads d l cs f w left fs rest at r o after k =
       let n : Reads atoms cap (suc d) an-atom (canonical (node (atom cs) empty) ++ (fs ++ rest)) (fs ++ rest) (o .end) (r + 1) (node (atom cs) empty)
       = node-reads d cs f (o .end) (r + 1) (fs ++ rest) (omega arith) in
-      let z : (e : ℕ) × (later at w (spot (n .end) (fs ++ rest) (r + 1 + 1)) ≡ good (l, spot e rest (r + 1 + 1))) = after (n .end) (r + 1 + 1) in
+      let z : (e : ℕ) × (later (atoms .flags) at w (spot (n .end) (fs ++ rest) (r + 1 + 1)) ≡ good (l, spot e rest (r + 1 + 1))) = after (n .end) (r + 1 + 1) in
       record {
         tree = node (l, tag-at at) (n .tree ▹ empty);
         end = z .0;
@@ -315,7 +315,7 @@ module _ (atoms : Atoms) (cap : ℕ) where
   one-part : (t : Term) (fs rest : List ℕ) → (canonical t ++ [] ++ fs) ++ rest ≡ canonical t ++ (fs ++ rest)
   one-part t fs rest = simp (append-nil, append-assoc)
 
-  pid-reads : (d id serial creation : ℕ) (cs : List ℕ) → Fits (atom cs) empty → id < 2 ^ 15 → serial < 2 ^ 13 → creation < 2 ^ 32
+  pid-reads : (d id serial creation : ℕ) (cs : List ℕ) → Fits (atoms .flags) (atom cs) empty → id < limits (atoms .flags) 4 .id → serial < limits (atoms .flags) 4 .serial → creation < 2 ^ 32
       → Readable atoms cap (suc (suc d)) (node (pid id serial creation) (node (atom cs) empty ▹ empty))
   unfolding canonical term-bytes
   pid-reads d id serial creation cs f h₁ h₂ h₃ at r rest k =
@@ -325,11 +325,11 @@ module _ (atoms : Atoms) (cap : ℕ) where
       (λ b s. (
         b + 4 + 4 + 4,
         rw (append-assoc (in-bytes 4 id) (in-bytes 4 serial ++ in-bytes 4 creation) rest, append-assoc (in-bytes 4 serial) (in-bytes 4 creation) rest)
-            (pid-later at b s rest id serial creation h₁ h₂ h₃),
+            (pid-later (atoms .flags) at b s rest id serial creation h₁ h₂ h₃),
       ))
       (omega arith))
 
-  port-reads : (d id creation : ℕ) (cs : List ℕ) → Fits (atom cs) empty → id < 2 ^ 64 → creation < 2 ^ 32
+  port-reads : (d id creation : ℕ) (cs : List ℕ) → Fits (atoms .flags) (atom cs) empty → id < 2 ^ 64 → creation < 2 ^ 32
       → Readable atoms cap (suc (suc d)) (node (port id creation) (node (atom cs) empty ▹ empty))
   unfolding canonical term-bytes port-bytes
   port-reads d id creation cs f h₁ h₂ at r rest k =
@@ -341,7 +341,7 @@ module _ (atoms : Atoms) (cap : ℕ) where
       (λ b s. (
         b + 4 + 4,
         rw (append-assoc (in-bytes 4 id) (in-bytes 4 creation) rest)
-            (port-later at b s rest 4 id creation (omega arith) (lt-ltb id (2 ^ 28) less) h₂),
+            (port-later (atoms .flags) at b s rest 4 id creation (omega arith) (lt-ltb id (2 ^ 28) less) h₂),
       ))
       (omega arith)))
       (λ over.
@@ -351,11 +351,11 @@ module _ (atoms : Atoms) (cap : ℕ) where
       (λ b s. (
         b + 8 + 4,
         rw (append-assoc (in-bytes 8 id) (in-bytes 4 creation) rest)
-            (port-later at b s rest 8 id creation h₁ refl h₂),
+            (port-later (atoms .flags) at b s rest 8 id creation h₁ refl h₂),
       ))
       (omega arith)))
 
-  reference-reads : (d creation : ℕ) (ws cs : List ℕ) → Fits (atom cs) empty → Fits (reference creation ws) (node (atom cs) empty ▹ empty)
+  reference-reads : (d creation : ℕ) (ws cs : List ℕ) → Fits (atoms .flags) (atom cs) empty → Fits (atoms .flags) (reference creation ws) (node (atom cs) empty ▹ empty)
       → Readable atoms cap (suc (suc d)) (node (reference creation ws) (node (atom cs) empty ▹ empty))
   unfolding canonical term-bytes
   reference-reads d creation ws cs f g at r rest k =
@@ -366,11 +366,11 @@ module _ (atoms : Atoms) (cap : ℕ) where
       (λ b s. (
         b + 4 + 4 * length ws,
         rw (append-assoc (in-bytes 4 creation) (words-bytes ws) rest)
-            (reference-later at b s rest creation ws (g .1) (g .4)),
+            (reference-later (atoms .flags) at b s rest creation ws (g .1) (g .4)),
       ))
       (omega arith))
 
-  export-reads : (d : ℕ) (m f : List ℕ) (a : ℕ) → Fits (atom m) empty → Fits (atom f) empty → a < 256
+  export-reads : (d : ℕ) (m f : List ℕ) (a : ℕ) → Fits (atoms .flags) (atom m) empty → Fits (atoms .flags) (atom f) empty → a < 256
       → Readable atoms cap (suc (suc d)) (node export (node (atom m) empty ▹ node (atom f) empty ▹ node (integer (pos a)) empty ▹ empty))
   unfolding canonical term-bytes contents each run later
   export-reads d m f a okm okf h at r rest k =
@@ -405,7 +405,7 @@ module _ (atoms : Atoms) (cap : ℕ) where
   under-node : (cs : List ℕ) (ts : Forest Label) → ts ≡ node (atom cs) empty ▹ empty → (d : ℕ) → deepest ts ≤ d → 1 ≤ d
   under-node cs ts e d h = omega (arith, ap deepest e)
 
-  node-fits : (cs : List ℕ) (ts : Forest Label) → ts ≡ node (atom cs) empty ▹ empty → Valids ts → Fits (atom cs) empty
+  node-fits : (cs : List ℕ) (ts : Forest Label) → ts ≡ node (atom cs) empty ▹ empty → Valids (atoms .flags) ts → Fits (atoms .flags) (atom cs) empty
   node-fits cs ts e ok = (rw e at ok) .0 .0
 
   -- a term without parts, as anything
@@ -415,7 +415,7 @@ module _ (atoms : Atoms) (cap : ℕ) where
   plain-leaf d l ts e o = rw e (λ at r rest k. leaf-reads atoms cap d (o at r rest) (omega arith))
 
   -- a term whose parts are readable
-  label-reads : (l : Label) (ts : Forest Label) → Fits l ts → Valids ts → (d : ℕ) → deepest ts ≤ d → All-readable atoms cap d ts
+  label-reads : (l : Label) (ts : Forest Label) → Fits (atoms .flags) l ts → Valids (atoms .flags) ts → (d : ℕ) → deepest ts ≤ d → All-readable atoms cap d ts
       → Readable atoms cap (suc d) (node l ts)
   unfolding canonical term-bytes
   label-reads (integer z) ts f ok d h all = plain-leaf d _ ts (f .0) (λ at r rest. Opening.integer-opens atoms at r rest z (f .1))
@@ -439,15 +439,15 @@ module _ (atoms : Atoms) (cap : ℕ) where
       rw (f .0 .1) (reference-reads d creation ws (f .0 .0) (node-fits (f .0 .0) ts (f .0 .1) ok) (rw (f .0 .1) at f))
   label-reads export ts f ok zero h all = absurd (omega (arith, ap deepest (f .4)))
   label-reads export ts f ok (suc d) h all =
-      let parts-ok : Valids (node (atom (f .0)) empty ▹ node (atom (f .1)) empty ▹ node (integer (pos (f .2))) empty ▹ empty) = rw (f .4) at ok in
+      let parts-ok : Valids (atoms .flags) (node (atom (f .0)) empty ▹ node (atom (f .1)) empty ▹ node (integer (pos (f .2))) empty ▹ empty) = rw (f .4) at ok in
       rw (f .4) (export-reads d (f .0) (f .1) (f .2) (parts-ok .0 .0) (parts-ok .1 .0 .0) (f .3))
 
   -- reading the canonical form of a valid term, with levels and rows enough, finds the term
   mutual
-    pub read-tree : (t : Term) → Valid t → (d : ℕ) → depth t ≤ d → Readable atoms cap d t
+    pub read-tree : (t : Term) → Valid (atoms .flags) t → (d : ℕ) → depth t ≤ d → Readable atoms cap d t
     read-tree (node l ts) v zero h = absurd (omega arith)
     read-tree (node l ts) v (suc d) h = label-reads l ts (v .0) (v .1) d (omega arith) (read-forest ts (v .1) d (omega arith))
 
-    pub read-forest : (ts : Forest Label) → Valids ts → (d : ℕ) → deepest ts ≤ d → All-readable atoms cap d ts
+    pub read-forest : (ts : Forest Label) → Valids (atoms .flags) ts → (d : ℕ) → deepest ts ≤ d → All-readable atoms cap d ts
     read-forest empty v d h = tt
     read-forest (t ▹ ts) v d h = (read-tree t (v .0) d (omega arith), read-forest ts (v .1) d (omega arith))

@@ -13,7 +13,7 @@ use Rattle.term_spec.specs.Text.{Checked, valid, invalid-at, Coding, che
 use Rattle.term_spec.specs.Term.{Label, Term, list, improper-list}
 use Rattle.term_spec.specs.Equal.{among}
 use Rattle.term_spec.specs.Answer.{Answer, good, refused, Position, Reading, after, done, rule, byte, first-of, bytes, number}
-use Rattle.term_spec.specs.Head.{Atoms, Wanted, any, tagged, one-of, Form, small-integer-ext, integer-ext, big-ext, new-float-ext, atom-ext, atom-cache-ref, tuple-ext, nil-ext, string-ext, list-ext, binary-ext, bit-binary-ext, map-ext, pid-ext, port-ext, new-reference-ext, reference-ext, export-ext, form, form-in, forms, form-or, fields, Head, parts, characters, elements, pairs, Later, known, pid-fields, port-fields, reference-fields, old-reference-fields, later, id-words, words-rule, creation-rule, finite, bits-rule, term-head, text-or}
+use Rattle.term_spec.specs.Head.{Atoms, limits, Wanted, any, tagged, one-of, Form, small-integer-ext, integer-ext, big-ext, new-float-ext, atom-ext, atom-cache-ref, tuple-ext, nil-ext, string-ext, list-ext, binary-ext, bit-binary-ext, map-ext, pid-ext, port-ext, new-reference-ext, reference-ext, export-ext, form, form-in, forms, form-or, fields, Head, parts, characters, elements, pairs, Later, known, pid-fields, port-fields, reference-fields, old-reference-fields, later, id-words, words-rule, creation-rule, finite, bits-rule, term-head, text-or}
 use Rattle.term_spec.specs.Reading.{Offset, Located, meaning, empty-108, opening, one-term, row, body, contents, term, each, run, entries, string, list-tail}
 use Rattle.term_spec.specs.Message.{Framing, standalone, payload, Terms, version, ending, standalone-term, payload-terms, terms-framed}
 use Rattle.term_spec.proofs.Steps.{spot}
@@ -121,17 +121,17 @@ module _ (cap : ℕ) (I : Position → Type 0) (F : ℕ → Type 0)
   words-kept p zero s i = end [] s i
   words-kept p (suc k) s i = step (number-kept p 4 s i) λ w t i. step (words-kept p k t i) λ ws t i. end _ t i
 
-  pub later-kept : (p : ℕ) (l : Later) (s : Position) → I s → Kept (later p l s)
+  pub later-kept : (flags p : ℕ) (l : Later) (s : Position) → I s → Kept (later flags p l s)
   unfolding later
-  later-kept p (known l) s i = end l s i
-  later-kept p (pid-fields w) s i =
+  later-kept flags p (known l) s i = end l s i
+  later-kept flags p (pid-fields w) s i =
       step (number-kept p 4 s i) λ id t i. step (number-kept p 4 t i) λ serial t i. step (number-kept p w t i) λ creation t i.
-      step (rule-kept (ltb id (2 ^ 15) && ltb serial (2 ^ 13) && creation-rule w creation) 4 p refl t i) λ _ t i. end _ t i
-  later-kept p (port-fields v w) s i =
+      step (rule-kept (ltb id (limits flags w .id) && ltb serial (limits flags w .serial) && creation-rule w creation) 4 p refl t i) λ _ t i. end _ t i
+  later-kept flags p (port-fields v w) s i =
       step (number-kept p v s i) λ id t i. step (number-kept p w t i) λ creation t i. step (rule-kept ((eqb v 8 || ltb id (2 ^ 28)) && creation-rule w creation) 4 p refl t i) λ _ t i. end _ t i
-  later-kept p (reference-fields k w) s i =
+  later-kept flags p (reference-fields k w) s i =
       step (number-kept p w s i) λ creation t i. step (words-kept p k t i) λ ws t i. step (rule-kept (creation-rule w creation && words-rule w ws) 4 p refl t i) λ _ t i. end _ t i
-  later-kept p old-reference-fields s i =
+  later-kept flags p old-reference-fields s i =
       step (words-kept p 1 s i) λ ws t i. step (number-kept p 1 t i) λ creation t i. step (rule-kept (words-rule 1 ws && creation-rule 1 creation) 4 p refl t i) λ _ t i. end _ t i
 
   module _ (atoms : Atoms) where
@@ -166,7 +166,7 @@ module _ (cap : ℕ) (I : Position → Type 0) (F : ℕ → Type 0)
         }
     fields-kept p (tuple-ext w) s texts i = step (number-kept p w s i) λ n t i. end _ t i
     fields-kept p (pid-ext w) s texts i = end _ s i
-    fields-kept p (new-reference-ext w) s texts i = step (number-kept p 2 s i) λ n t i. step (rule-kept (leb 1 n && leb n 3) 4 p refl t i) λ _ t i. end _ t i
+    fields-kept p (new-reference-ext w) s texts i = step (number-kept p 2 s i) λ n t i. step (rule-kept (leb 1 n && leb n (limits (atoms .flags) w .word-count)) 4 p refl t i) λ _ t i. end _ t i
     fields-kept p (port-ext v w) s texts i = end _ s i
 
     form-or-kept : (n p : ℕ) → eqb n 5 ≡ false → (o : Option Form) (s : Position) → I s → Kept (form-or n p o s)
@@ -272,7 +272,7 @@ module _ (cap : ℕ) (I : Position → Type 0) (F : ℕ → Type 0)
       unfolding contents
       whole-kept p (parts ws n l) s i =
           step (each-kept (one-term atoms inner) part-kept ws s i) λ us t i. step (run-kept (one-term atoms inner) part-kept n t i) λ vs t i.
-          step (later-kept p l t i) λ x t i. end _ t i
+          step (later-kept (atoms .flags) p l t i) λ x t i. end _ t i
       whole-kept p (characters cs) s i = step (string-kept d p (p + 3) cs s i) λ us t i. end _ t i
       whole-kept p (elements n) s i =
           step (run-kept (one-term atoms inner) part-kept n s i) λ us t i. step (tail-kept (t .left) t i) λ e t i. end _ t i

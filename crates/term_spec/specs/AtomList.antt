@@ -35,6 +35,6 @@ place-bytes list i = take (place-length list i) (drop (32 * i) (list .places))
 unfoldable pub place-text : AtomList → ℕ → Checked
 place-text list i = elim (leb (place-length list i) 32) [ true ↦ check utf-8 (place-bytes list i) | false ↦ invalid-at 32 ]
 
--- what reading asks of the list
-unfoldable pub atoms-of : AtomList → Atoms
-atoms-of list = record { n = list .n; text = place-text list }
+-- what reading asks of the connection's flags and of the list
+unfoldable pub atoms-of : ℕ → AtomList → Atoms
+atoms-of flags list = record { flags = flags; n = list .n; text = place-text list }

@@ -36,16 +36,16 @@ pub record Bad-text (message : List ℕ) (p : ℕ) : Type 0 where
   pub place-is : p ≡ first + k
   pub bad : Bad-byte coding (take size (drop first message)) k
 
--- The place of refusal 5 is such a byte: in a standalone term or a payload, with any atom list and any number of lent rows
+-- The place of refusal 5 is such a byte: in a standalone term or a payload, with any flags, any atom list and any number of lent rows
 pub record Bad-texts : Type 0 where
   -- of all that the rules refuse with 5
-  pub by-the-rules : (framing : Framing) (atoms : AtomList) (lent : ℕ) (message : List ℕ) (p : ℕ) → read framing atoms lent message ≡ refused 5 p
+  pub by-the-rules : (flags : ℕ) (framing : Framing) (atoms : AtomList) (lent : ℕ) (message : List ℕ) (p : ℕ) → read flags framing atoms lent message ≡ refused 5 p
       → Bad-text message p
   -- of all that a call that reads refuses with 5
-  pub by-reading : (framing : Framing) (atoms : AtomList) (message table : List ℕ) (answer : ReadAnswer) (left : List ℕ)
-      → Read-call framing atoms message table answer left
+  pub by-reading : (flags : ℕ) (framing : Framing) (atoms : AtomList) (message table : List ℕ) (answer : ReadAnswer) (left : List ℕ)
+      → Read-call flags framing atoms message table answer left
       → (p : ℕ) → answer ≡ reads.Refused (record { number = 5; place = p }) → Bad-text message p
   -- of all that a call that writes refuses with 5
-  pub by-writing : (framing : Framing) (atoms : AtomList) (message scratch output : List ℕ) (answer : WriteAnswer) (scratch-is output-is : List ℕ)
-      → Write-call framing atoms message scratch output answer scratch-is output-is
+  pub by-writing : (flags : ℕ) (framing : Framing) (atoms : AtomList) (message scratch output : List ℕ) (answer : WriteAnswer) (scratch-is output-is : List ℕ)
+      → Write-call flags framing atoms message scratch output answer scratch-is output-is
       → (p : ℕ) → answer ≡ writes.Refused (record { number = 5; place = p }) → Bad-text message p

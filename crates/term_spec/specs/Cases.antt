@@ -31,22 +31,22 @@ pub record Cases (Writes : List ℕ → List ℕ → Type 0) (Refuses : List ℕ
   pub deep64 : Writes (131 ∷ nested 63 (104 ∷ 0 ∷ [])) (131 ∷ nested 63 (104 ∷ 0 ∷ []))
   pub deep65 : Refuses (131 ∷ nested 64 (104 ∷ 0 ∷ [])) 8 129
 
--- with this list, 8,192 rows or more, and room for these bytes, they are what is written for a standalone term
-abbrev pub Writes : AtomList → List ℕ → List ℕ → Type 0
-Writes list message bs = (rows room : ℕ) → 8192 ≤ rows → length bs ≤ room → write standalone list rows room message ≡ good (record { terms = 1; bytes = bs })
+-- with these flags and this list, 8,192 rows or more, and room for these bytes, they are what is written for a standalone term
+abbrev pub Writes : ℕ → AtomList → List ℕ → List ℕ → Type 0
+Writes flags list message bs = (rows room : ℕ) → 8192 ≤ rows → length bs ≤ room → write flags standalone list rows room message ≡ good (record { terms = 1; bytes = bs })
 
--- with this list and 8,192 rows or more it is refused, whatever the room
-abbrev pub Refuses : AtomList → List ℕ → ℕ → ℕ → Type 0
-Refuses list message number place = (rows room : ℕ) → 8192 ≤ rows → write standalone list rows room message ≡ refused number place
+-- with these flags, this list and 8,192 rows or more it is refused, whatever the room
+abbrev pub Refuses : ℕ → AtomList → List ℕ → ℕ → ℕ → Type 0
+Refuses flags list message number place = (rows room : ℕ) → 8192 ≤ rows → write flags standalone list rows room message ≡ refused number place
 
--- any call of the writer on a standalone term, with this list, 8,192 scratch rows or more, and room for these bytes, leaves them
-abbrev pub Call-writes : AtomList → List ℕ → List ℕ → Type 0
-Call-writes list message bs =
+-- any call of the writer on a standalone term, with these flags, this list, 8,192 scratch rows or more, and room for these bytes, leaves them
+abbrev pub Call-writes : ℕ → AtomList → List ℕ → List ℕ → Type 0
+Call-writes flags list message bs =
     (scratch output : List ℕ) → 8192 ≤ length scratch → length bs ≤ length output → (answer : WriteAnswer) (scratch-is output-is : List ℕ)
-    → Write-call standalone list message scratch output answer scratch-is output-is → Written-out 1 bs scratch output answer scratch-is output-is
+    → Write-call flags standalone list message scratch output answer scratch-is output-is → Written-out 1 bs scratch output answer scratch-is output-is
 
--- any call of the writer on a standalone term, with this list and 8,192 scratch rows or more, refuses
-abbrev pub Call-refuses : AtomList → List ℕ → ℕ → ℕ → Type 0
-Call-refuses list message number place =
+-- any call of the writer on a standalone term, with these flags, this list and 8,192 scratch rows or more, refuses
+abbrev pub Call-refuses : ℕ → AtomList → List ℕ → ℕ → ℕ → Type 0
+Call-refuses flags list message number place =
     (scratch output : List ℕ) → 8192 ≤ length scratch → (answer : WriteAnswer) (scratch-is output-is : List ℕ)
-    → Write-call standalone list message scratch output answer scratch-is output-is → Refused-out number place scratch output answer scratch-is output-is
+    → Write-call flags standalone list message scratch output answer scratch-is output-is → Refused-out number place scratch output answer scratch-is output-is

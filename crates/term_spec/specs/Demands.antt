@@ -25,14 +25,14 @@ abbrev pub One-of : Term → Forest Label → Type 0
 One-of t empty = ⊥
 One-of t (u ▹ us) = (t ≡ u) ⊎ One-of t us
 
--- An accepted term: a term of a message, standalone or payload, that the rules allow whole, with its own atom list and 8,192 rows. A message is bytes
-pub record Accepted-term (t : Term) : Type 0 where
+-- An accepted term: a term of a message, standalone or payload, that the rules allow whole, with the connection's flags, its own atom list and 8,192 rows. A message is bytes
+pub record Accepted-term (flags : ℕ) (t : Term) : Type 0 where
   pub framing : Framing
   pub list : AtomList
   pub message : List ℕ
   pub are-bytes : Under 256 message
   pub terms : Terms
-  pub accepted : read framing list 8192 message ≡ good terms
+  pub accepted : read flags framing list 8192 message ≡ good terms
   pub one-of-them : One-of t (meanings terms)
 
 -- in what is written for these terms stands the output of this one of them: after the outputs of those before it, and before those of the others
@@ -62,26 +62,26 @@ pub record Means (t : Term) (table : List ℕ) (answer : ReadAnswer) (left : Lis
   pub rows-are : left ≡ table-after (length table) (good (tree ▹ empty))
 
 -- The output of an accepted term, over the promises of the calls, with room and scratch rows enough where they are lent
-pub record Output-of (t : Term) (a : Accepted-term t) : Type 0 where
+pub record Output-of (flags : ℕ) (t : Term) (a : Accepted-term flags t) : Type 0 where
   -- whatever scratch table and output held before, the writer's call on its message leaves in the output the canonical standalone terms of the message's
   -- terms, one after the other, the bytes past them as they were, and the scratch table all zero
   pub canonical-written : (scratch output : List ℕ) → sizes (a .terms) ≤ length scratch → length (standalones (meanings (a .terms))) ≤ length output
-      → (answer : WriteAnswer) (scratch-is output-is : List ℕ) → Write-call (a .framing) (a .list) (a .message) scratch output answer scratch-is output-is
+      → (answer : WriteAnswer) (scratch-is output-is : List ℕ) → Write-call flags (a .framing) (a .list) (a .message) scratch output answer scratch-is output-is
       → Written-out (count (a .terms)) (standalones (meanings (a .terms))) scratch output answer scratch-is output-is
   -- its own output stands there
   pub own-output : Own-output t (meanings (a .terms))
   -- its bytes, where they are at most 65,536, are accepted by the reader's call, with any atom list of the stated size, so with an empty one, and any table of
   -- at least as many rows as the term has; and they mean the same term
   pub read-again : (list : AtomList) → of-size list ≡ true → length (canonical-standalone t) ≤ 65536 → (table : List ℕ) → size t ≤ length table
-      → (answer : ReadAnswer) (left : List ℕ) → Read-call standalone list (canonical-standalone t) table answer left → Means t table answer left
+      → (answer : ReadAnswer) (left : List ℕ) → Read-call flags standalone list (canonical-standalone t) table answer left → Means t table answer left
   -- and the writer's call on them leaves the same bytes
   pub written-again : (list : AtomList) → of-size list ≡ true → length (canonical-standalone t) ≤ 65536
       → (scratch output : List ℕ) → size t ≤ length scratch → length (canonical-standalone t) ≤ length output
-      → (answer : WriteAnswer) (scratch-is output-is : List ℕ) → Write-call standalone list (canonical-standalone t) scratch output answer scratch-is output-is
+      → (answer : WriteAnswer) (scratch-is output-is : List ℕ) → Write-call flags standalone list (canonical-standalone t) scratch output answer scratch-is output-is
       → Written-out 1 (canonical-standalone t) scratch output answer scratch-is output-is
 
--- Demand 3, for any two accepted terms, of one message or of two: each has its output, and the two outputs are the same bytes exactly when the terms mean the same
-pub record Demand-3 (t u : Term) (a : Accepted-term t) (b : Accepted-term u) : Type 0 where
-  pub first-output : Output-of t a
-  pub second-output : Output-of u b
+-- Demand 3, for any two terms accepted with the same flags, of one message or of two: each has its output under these flags, and the two outputs are the same bytes exactly when the terms mean the same
+pub record Demand-3 (flags : ℕ) (t u : Term) (a : Accepted-term flags t) (b : Accepted-term flags u) : Type 0 where
+  pub first-output : Output-of flags t a
+  pub second-output : Output-of flags u b
   pub same-output : (canonical-standalone t ≡ canonical-standalone u) ↔ (t ≡ u)

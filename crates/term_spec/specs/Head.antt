@@ -1,5 +1,5 @@
 -- A term's tag, and its fields before the first part.
-use mathlib.Core.Bool.{Bool, true, false, not, _&&_, _||_}
+use mathlib.Core.Bool.{Bool, true, false, not, _&&_, _||_, cond}
 use mathlib.Core.List.{List, [], _∷_}
 use mathlib.Core.Option.{Option, none, some}
 use Prim.Native.Nat.{ℕ, zero, suc, _+_, _-_, _/_, _%_, _^_}
@@ -8,6 +8,7 @@ use lib.IntN.{pos}
 use Rattle.term_spec.specs.Numbers.{little-endian, signed32, with-sign}
 use Rattle.term_spec.specs.Text.{Checked, valid, invalid-at, Coding, latin-1, utf-8, check}
 use Rattle.term_spec.specs.Term.{Label, integer, float, atom, tuple, binary, bitstring, pid, port, reference, export}
+use Rattle.term_spec.specs.Connection.{v4-nc}
 use Rattle.term_spec.specs.Answer.{Reading, _>>=_, _>>_, done, refuse, here, rule, byte, bytes, number}
 
 -- The layouts of the tag table, under source document 002's names. A number after the name is a width in bytes: of the
@@ -110,8 +111,9 @@ pub data Head : Type 0 where
 abbrev pub leaf : Label → Head
 leaf l = parts [] 0 (known l)
 
--- What reading asks of the atom list: its count n, and the text at an index
+-- What reading asks of what is lent with a message: the connection's flags; the atom list's count n, and its text at an index
 pub record Atoms : Type 0 where
+  pub flags : ℕ
   pub n : ℕ
   pub text : ℕ → Checked
 
@@ -126,8 +128,10 @@ pub record Limits : Type 0 where
   pub serial : ℕ
   pub word-count : ℕ
 
-abbrev pub limits : Limits
-limits = record { id = 2 ^ 15; serial = 2 ^ 13; word-count = 3 }
+-- With these flags and a Creation of this width. With V4_NC, tag 88 may use all 32 bits of ID and Serial and tag 90 up to 5 words: theirs has four bytes
+unfoldable pub limits : ℕ → ℕ → Limits
+limits flags w =
+    cond (v4-nc flags && eqb w 4) (record { id = 2 ^ 32; serial = 2 ^ 32; word-count = 5 }) (record { id = 2 ^ 15; serial = 2 ^ 13; word-count = 3 })
 
 -- tag 70: all-ones exponent refused
 unfoldable pub finite : ℕ → Bool
@@ -207,7 +211,7 @@ module _ (atoms : Atoms) where
   fields p (port-ext v w) = done (parts (an-atom ∷ []) 0 (port-fields v w))
   fields p (new-reference-ext w) = do
     n ← number p 2
-    rule (leb 1 n && leb n (limits .word-count)) 4 p
+    rule (leb 1 n && leb n (limits (atoms .flags) w .word-count)) 4 p
     done (parts (an-atom ∷ []) 0 (reference-fields n w))
   fields p reference-ext = done (parts (an-atom ∷ []) 0 old-reference-fields)
   fields p export-ext = done (parts (an-atom ∷ an-atom ∷ an-arity ∷ []) 0 (known export))
@@ -237,26 +241,26 @@ unfoldable pub words-rule : ℕ → List ℕ → Bool
 words-rule w [] = true
 words-rule w (word ∷ rest) = not (eqb w 1) || ltb word (2 ^ 18)
 
--- The later fields, at their term's place: all are read (2) before a rule is judged (4)
-unfoldable pub later : ℕ → Later → Reading Label
-later p (known l) = done l
-later p (pid-fields w) = do
+-- The later fields, with these flags, at their term's place: all are read (2) before a rule is judged (4)
+unfoldable pub later : ℕ → ℕ → Later → Reading Label
+later flags p (known l) = done l
+later flags p (pid-fields w) = do
   id ← number p 4
   serial ← number p 4
   creation ← number p w
-  rule (ltb id (limits .id) && ltb serial (limits .serial) && creation-rule w creation) 4 p
+  rule (ltb id (limits flags w .id) && ltb serial (limits flags w .serial) && creation-rule w creation) 4 p
   done (pid id serial creation)
-later p (port-fields v w) = do
+later flags p (port-fields v w) = do
   id ← number p v
   creation ← number p w
   rule ((eqb v 8 || ltb id (2 ^ 28)) && creation-rule w creation) 4 p
   done (port id creation)
-later p (reference-fields k w) = do
+later flags p (reference-fields k w) = do
   creation ← number p w
   ws ← id-words p k
   rule (creation-rule w creation && words-rule w ws) 4 p
   done (reference creation ws)
-later p old-reference-fields = do
+later flags p old-reference-fields = do
   ws ← id-words p 1
   creation ← number p 1
   rule (words-rule 1 ws && creation-rule 1 creation) 4 p

@@ -2,6 +2,7 @@ pub mod Tree
 pub mod Numbers
 pub mod Text
 pub mod BadByte
+pub mod Connection
 pub mod Term
 pub mod Equal
 pub mod Answer

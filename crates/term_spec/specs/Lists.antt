@@ -21,25 +21,25 @@ abbrev pub Short-list : Label → Forest Label → Type 0
 Short-list l ts = (l ≡ list) ⊎ (l ≡ improper-list) → count ts ≤ 8191
 
 -- What a call accepted: the terms that the rules find in the message with so many rows lent, and no list in them, at any depth, is longer
-pub record Short-lists (framing : Framing) (atoms : AtomList) (lent : ℕ) (message : List ℕ) (terms : ℕ) : Type 0 where
+pub record Short-lists (flags : ℕ) (framing : Framing) (atoms : AtomList) (lent : ℕ) (message : List ℕ) (terms : ℕ) : Type 0 where
   pub found : Terms
-  pub accepted : read framing atoms lent message ≡ good found
+  pub accepted : read flags framing atoms lent message ≡ good found
   pub terms-are : count found ≡ terms
   pub no-longer : Each-nodes Short-list (meanings found)
 
--- No list in an accepted term, at any depth, proper or improper, has more than 8,191 elements: in a standalone term or a payload, with any atom list and any
+-- No list in an accepted term, at any depth, proper or improper, has more than 8,191 elements: in a standalone term or a payload, with any flags, any atom list and any
 -- number of lent rows
 pub record No-long-list : Type 0 where
   -- of all that the rules allow
-  pub by-the-rules : (framing : Framing) (atoms : AtomList) (lent : ℕ) (message : List ℕ) (ts : Terms) → read framing atoms lent message ≡ good ts
+  pub by-the-rules : (flags : ℕ) (framing : Framing) (atoms : AtomList) (lent : ℕ) (message : List ℕ) (ts : Terms) → read flags framing atoms lent message ≡ good ts
       → Each-nodes Short-list (meanings ts)
   -- of all that a call that reads accepts
-  pub by-reading : (framing : Framing) (atoms : AtomList) (message table : List ℕ) (answer : ReadAnswer) (left : List ℕ)
-      → Read-call framing atoms message table answer left
-      → (terms rows : ℕ) → answer ≡ reads.Terms terms rows → Short-lists framing atoms (length table) message terms
+  pub by-reading : (flags : ℕ) (framing : Framing) (atoms : AtomList) (message table : List ℕ) (answer : ReadAnswer) (left : List ℕ)
+      → Read-call flags framing atoms message table answer left
+      → (terms rows : ℕ) → answer ≡ reads.Terms terms rows → Short-lists flags framing atoms (length table) message terms
   -- of all that a call that writes writes
-  pub by-writing : (framing : Framing) (atoms : AtomList) (message scratch output : List ℕ) (answer : WriteAnswer) (scratch-is output-is : List ℕ)
-      → Write-call framing atoms message scratch output answer scratch-is output-is
-      → (terms bytes : ℕ) → answer ≡ writes.Written terms bytes → Short-lists framing atoms (length scratch) message terms
+  pub by-writing : (flags : ℕ) (framing : Framing) (atoms : AtomList) (message scratch output : List ℕ) (answer : WriteAnswer) (scratch-is output-is : List ℕ)
+      → Write-call flags framing atoms message scratch output answer scratch-is output-is
+      → (terms bytes : ℕ) → answer ≡ writes.Written terms bytes → Short-lists flags framing atoms (length scratch) message terms
   -- of each accepted term of demand 3
-  pub of-demand-3 : (t : Term) → Accepted-term t → Each-node Short-list t
+  pub of-demand-3 : (flags : ℕ) (t : Term) → Accepted-term flags t → Each-node Short-list t

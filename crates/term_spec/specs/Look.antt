@@ -49,8 +49,8 @@ row-number i (refused n p) = refused n p
 row-number i (good ts) = good (number-at i (rows none 0 ts))
 
 -- the number of a row of a message
-unfoldable pub number-in : Framing → AtomList → List ℕ → ℕ → Answer Number
-number-in framing atoms message i = row-number i (read framing atoms 8192 message)
+unfoldable pub number-in : ℕ → Framing → AtomList → List ℕ → ℕ → Answer Number
+number-in flags framing atoms message i = row-number i (read flags framing atoms 8192 message)
 
 abbrev is-atom : Label → Bool
 is-atom (integer z) = false
@@ -99,8 +99,8 @@ atom-text message atoms at (refused n p) = refused n p
 atom-text message atoms at (good ts) = cond (atom-at at (rows none 0 ts)) (good (text-of message atoms at)) (refused 4 at)
 
 -- the text of an atom of a message, asked for by its term's offset
-unfoldable pub text-in : Framing → AtomList → List ℕ → ℕ → Answer (Stretch × Coding)
-text-in framing atoms message at = atom-text message atoms at (read framing atoms 8192 message)
+unfoldable pub text-in : ℕ → Framing → AtomList → List ℕ → ℕ → Answer (Stretch × Coding)
+text-in flags framing atoms message at = atom-text message atoms at (read flags framing atoms 8192 message)
 
 -- the bytes of a stretch
 unfoldable pub stretch-bytes : List ℕ → AtomList → Stretch → List ℕ

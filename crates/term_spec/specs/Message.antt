@@ -6,6 +6,7 @@ use lib.Dec.{eqb, leb}
 use lib.ListN.{length}
 use Rattle.term_spec.specs.Tree.{Forest, empty, _▹_, relabels}
 use Rattle.term_spec.specs.Term.{Label}
+use Rattle.term_spec.specs.Connection.{flags-known}
 use Rattle.term_spec.specs.Answer.{Answer, good, refused, Position, Reading, _>>=_, _>>_, done, refuse, here}
 use Rattle.term_spec.specs.Head.{Atoms, any}
 use Rattle.term_spec.specs.AtomList.{AtomList, of-size, atoms-of}
@@ -84,9 +85,11 @@ first-check false number answer = refused number 0
 abbrev pub capacity-of : ℕ → ℕ
 capacity-of lent = min 8192 lent
 
--- What reading a message answers, with this atom list and so many rows lent. Order: 13, then 12 on the term bytes, then byte order
-unfoldable pub read : Framing → AtomList → ℕ → List ℕ → Answer Terms
-read framing list lent message =
+-- What reading a message answers, with the connection's flags, this atom list and so many rows lent. Order: 13, 14 for an unknown flag, then 12 on the
+-- term bytes, then byte order
+unfoldable pub read : ℕ → Framing → AtomList → ℕ → List ℕ → Answer Terms
+read flags framing list lent message =
     first-check (of-size list) 13
+    (first-check (flags-known flags) 14
     (first-check (leb (length message) 65536) 12
-    (result-of (terms-framed (atoms-of list) (capacity-of lent) framing (record { at = 0; left = message; rows-taken = 0 }))))
+    (result-of (terms-framed (atoms-of flags list) (capacity-of lent) framing (record { at = 0; left = message; rows-taken = 0 })))))

@@ -11,13 +11,13 @@ use Rattle.term_spec.specs.Answers.{read-answer, write-answer}
 use Rattle.term_spec.specs.declared.ReadAnswer.{ReadAnswer}
 use Rattle.term_spec.specs.declared.WriteAnswer.{WriteAnswer}
 
--- Reading: the message, the atom list and the lent table; the answer, and the table after it
-pub record Read-call (framing : Framing) (list : AtomList) (message table : List ℕ) (answer : ReadAnswer) (table′ : List ℕ) : Type 0 where
-  pub read-answered : answer ≡ read-answer (read framing list (length table) message)
-  pub table-left : table′ ≡ table-after (length table) (read framing list (length table) message)
+-- Reading: the connection's flags, the message, the atom list and the lent table; the answer, and the table after it
+pub record Read-call (flags : ℕ) (framing : Framing) (list : AtomList) (message table : List ℕ) (answer : ReadAnswer) (table′ : List ℕ) : Type 0 where
+  pub read-answered : answer ≡ read-answer (read flags framing list (length table) message)
+  pub table-left : table′ ≡ table-after (length table) (read flags framing list (length table) message)
 
 -- Writing: also the lent scratch table and output, and both after it
-pub record Write-call (framing : Framing) (list : AtomList) (message scratch output : List ℕ) (answer : WriteAnswer) (scratch′ output′ : List ℕ) : Type 0 where
-  pub write-answered : answer ≡ write-answer (write framing list (length scratch) (length output) message)
+pub record Write-call (flags : ℕ) (framing : Framing) (list : AtomList) (message scratch output : List ℕ) (answer : WriteAnswer) (scratch′ output′ : List ℕ) : Type 0 where
+  pub write-answered : answer ≡ write-answer (write flags framing list (length scratch) (length output) message)
   pub scratch-left : scratch′ ≡ scratch-after (length scratch)
-  pub output-left : output′ ≡ output-after output (write framing list (length scratch) (length output) message)
+  pub output-left : output′ ≡ output-after output (write flags framing list (length scratch) (length output) message)

@@ -130,7 +130,7 @@ module _ (atoms : Atoms) (capacity : ℕ) where
     contents p (parts ws n l) = do
       ts ← each (one-term atoms inner) ws
       us ← run (one-term atoms inner) n
-      label ← later p l
+      label ← later (atoms .flags) p l
       done (node (label, tag-at p) (ts ▹▹ us))
     contents p (characters cs) = do
       ts ← string deep p (p + 3) cs

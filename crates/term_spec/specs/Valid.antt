@@ -10,7 +10,7 @@ use Rattle.term_spec.specs.Tree.{Forest, node, empty, _▹_, count}
 use Rattle.term_spec.specs.Numbers.{digits, Under}
 use Rattle.term_spec.specs.Term.{Label, Term, integer, float, atom, tuple, list, improper-list, binary, bitstring, map, pid, port, reference, export}
 use Rattle.term_spec.specs.Equal.{among}
-use Rattle.term_spec.specs.Head.{finite, bits-rule, bits-meaning}
+use Rattle.term_spec.specs.Head.{limits, finite, bits-rule, bits-meaning}
 use Rattle.term_spec.specs.Text.{Characters}
 
 -- a whole number without its sign
@@ -55,28 +55,28 @@ abbrev mutual
 abbrev pub One-atom : Forest Label → Type 0
 One-atom ts = (cs : List ℕ) × (ts ≡ node (atom cs) empty ▹ empty)
 
--- what holds of a term's own fields and of its parts, by its label
-abbrev pub Fits : Label → Forest Label → Type 0
-Fits (integer z) ts = (ts ≡ empty) × (length (digits (magnitude z)) < 2 ^ 32)
-Fits (float bits) ts = (ts ≡ empty) × (bits < 2 ^ 64) × (finite bits ≡ true)
-Fits (atom cs) ts = (ts ≡ empty) × Characters cs × (length cs ≤ 255)
-Fits tuple ts = count ts < 2 ^ 32
-Fits list ts = count ts ≤ 8191
-Fits improper-list ts = (count ts ≤ 8191) × Improper ts
-Fits (binary bs) ts = (ts ≡ empty) × (length bs < 2 ^ 32)
-Fits (bitstring bits bs) ts = (ts ≡ empty) × (length bs < 2 ^ 32) × (bits < 256) × (bits-rule (length bs) bits ≡ true) × (bits-meaning bits bs ≡ bitstring bits bs)
-Fits map ts = (count ts < 2 ^ 33) × Keys [] ts
-Fits (pid id serial creation) ts = One-atom ts × (id < 2 ^ 15) × (serial < 2 ^ 13) × (creation < 2 ^ 32)
-Fits (port id creation) ts = One-atom ts × (id < 2 ^ 64) × (creation < 2 ^ 32)
-Fits (reference creation ws) ts = One-atom ts × (creation < 2 ^ 32) × (1 ≤ length ws) × (length ws ≤ 3) × Under (2 ^ 32) ws
-Fits export ts =
+-- what holds of a term's own fields and of its parts, by its label, with the connection's flags. The limits are those of tags 88 and 90, which the canonical form has
+abbrev pub Fits : ℕ → Label → Forest Label → Type 0
+Fits flags (integer z) ts = (ts ≡ empty) × (length (digits (magnitude z)) < 2 ^ 32)
+Fits flags (float bits) ts = (ts ≡ empty) × (bits < 2 ^ 64) × (finite bits ≡ true)
+Fits flags (atom cs) ts = (ts ≡ empty) × Characters cs × (length cs ≤ 255)
+Fits flags tuple ts = count ts < 2 ^ 32
+Fits flags list ts = count ts ≤ 8191
+Fits flags improper-list ts = (count ts ≤ 8191) × Improper ts
+Fits flags (binary bs) ts = (ts ≡ empty) × (length bs < 2 ^ 32)
+Fits flags (bitstring bits bs) ts = (ts ≡ empty) × (length bs < 2 ^ 32) × (bits < 256) × (bits-rule (length bs) bits ≡ true) × (bits-meaning bits bs ≡ bitstring bits bs)
+Fits flags map ts = (count ts < 2 ^ 33) × Keys [] ts
+Fits flags (pid id serial creation) ts = One-atom ts × (id < limits flags 4 .id) × (serial < limits flags 4 .serial) × (creation < 2 ^ 32)
+Fits flags (port id creation) ts = One-atom ts × (id < 2 ^ 64) × (creation < 2 ^ 32)
+Fits flags (reference creation ws) ts = One-atom ts × (creation < 2 ^ 32) × (1 ≤ length ws) × (length ws ≤ limits flags 4 .word-count) × Under (2 ^ 32) ws
+Fits flags export ts =
     (m : List ℕ) × (f : List ℕ) × (a : ℕ) × (a < 256) × (ts ≡ node (atom m) empty ▹ node (atom f) empty ▹ node (integer (pos a)) empty ▹ empty)
 
 -- each term of the tree has a label that fits
 abbrev mutual
-  pub Valid : Term → Type 0
-  Valid (node l ts) = Fits l ts × Valids ts
+  pub Valid : ℕ → Term → Type 0
+  Valid flags (node l ts) = Fits flags l ts × Valids flags ts
 
-  pub Valids : Forest Label → Type 0
-  Valids empty = Unit {0}
-  Valids (t ▹ ts) = Valid t × Valids ts
+  pub Valids : ℕ → Forest Label → Type 0
+  Valids flags empty = Unit {0}
+  Valids flags (t ▹ ts) = Valid flags t × Valids flags ts

@@ -22,9 +22,9 @@ written room (good ts) =
     let bs : List ℕ = standalones (meanings ts) in
     elim (leb (length bs) room) [ true ↦ good (record { terms = count ts; bytes = bs }) | false ↦ refused 11 0 ]
 
--- with this atom list, so many scratch rows and so many bytes of output lent
-unfoldable pub write : Framing → AtomList → ℕ → ℕ → List ℕ → Answer Written
-write framing list scratch room message = written room (read framing list scratch message)
+-- with the connection's flags, this atom list, so many scratch rows and so many bytes of output lent
+unfoldable pub write : ℕ → Framing → AtomList → ℕ → ℕ → List ℕ → Answer Written
+write flags framing list scratch room message = written room (read flags framing list scratch message)
 
 -- the lent output after it: bytes past those written stay, and all stay where it is refused
 unfoldable pub output-after : List ℕ → Answer Written → List ℕ
