@@ -3,6 +3,7 @@ ghost use mathlib.Core.Path.{_≡_};
 ghost use Rattle.packet_spec.specs.Memory.{cache-of};
 ghost use Rattle.packet_spec.specs.Promises.{Drop-call, Reset-call};
 ghost use Rattle.link_state.specs.Code.{state-refused, state-zero};
+use connection::Connection;
 use packet_spec::Pending;
 use packet_spec::Settled;
 use packet_spec::StateAnswer;
@@ -36,10 +37,13 @@ fn zeroed() -> Settled
     }
 }
 
-// Drops the pending sequence: 14, 25.
-pub fn drop_sequence(pending: Pending) -> Settled
-    ensures { λ r. ⌜ Drop-call pending r ⌝ }
+// Drops the pending sequence: 14 for an unknown flag, 14 on the record, 25.
+pub fn drop_sequence(connection: Connection, pending: Pending) -> Settled
+    ensures { λ r. ⌜ Drop-call (connection .flags) pending r ⌝ }
 {
+    if !connection::flags_known(connection.flags) {
+        return refused(refusals::STATE, pending);
+    }
     if pending.gathered > term_spec::sizes::MESSAGE_MOST as u64 {
         return refused(refusals::STATE, pending);
     }

@@ -1,8 +1,8 @@
 // Taking a packet.
 ghost use Rattle.term_spec.specs.AtomList.{lent-list};
-ghost use Rattle.term_spec.specs.Text.{coding-of};
 ghost use Rattle.packet_spec.specs.Memory.{cache-of, memory-of};
 ghost use Rattle.packet_spec.specs.Promises.{Packet-call};
+use connection::Connection;
 use packet_preamble::Preamble;
 use packet_spec::Pending;
 use packet_spec::Taken;
@@ -10,7 +10,7 @@ use term_spec::refusals;
 
 // Takes a packet, over all lent memory: the cache, the list for a plain packet, the list for the pending sequence, the record, the gather buffer.
 pub fn take_packet(
-    utf8: bool,
+    connection: Connection,
     packet: &[u8],
     cache: &mut [u8],
     cache_lengths: &mut [u16],
@@ -23,7 +23,7 @@ pub fn take_packet(
     pending: Pending,
     gather: &mut [u8],
 ) -> Taken
-    ensures { λ r. ⌜ Packet-call (coding-of utf8) (now (packet .entry))
+    ensures { λ r. ⌜ Packet-call (connection .flags) (now (packet .entry))
         (memory-of (cache-of (now (cache .entry)) (now («cache_lengths» .entry)))
         (lent-list (now («plain_n» .entry)) (now («plain_places» .entry)) (now («plain_lengths» .entry)))
         (lent-list (now («pending_n» .entry)) (now («pending_places» .entry)) (now («pending_lengths» .entry)))
@@ -45,9 +45,13 @@ pub fn take_packet(
     ) {
         return fragments::refused(refusals::SIZE, pending);
     }
+    if !connection::flags_known(connection.flags) {
+        return fragments::refused(refusals::STATE, pending);
+    }
     if pending.gathered > term_spec::sizes::MESSAGE_MOST as u64 {
         return fragments::refused(refusals::STATE, pending);
     }
+    let utf8 = connection::utf8_agreed(connection.flags);
     match packet_preamble::read_preamble(packet) {
         Preamble::Refused(number) => fragments::refused(number, pending),
         Preamble::Plain => {

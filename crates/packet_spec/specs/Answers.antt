@@ -2,7 +2,6 @@
 use mathlib.Core.List.{List, []}
 use Prim.Native.Nat.{ℕ, _*_}
 use lib.ListN.{length}
-use Rattle.term_spec.specs.Text.{Coding}
 use Rattle.term_spec.specs.Answer.{Answer, good, refused}
 use Rattle.packet_spec.specs.declared.Pending.{Pending}
 use Rattle.packet_spec.specs.declared.Taken.{Taken}
@@ -28,8 +27,8 @@ packet-answer (good o) = outcome-case o
 packet-answer (refused n p) = packets.Refused (record { number = n; place = p })
 
 -- taking a packet: its answer, and the record after it
-unfoldable pub taken-answer : Coding → Memory → List ℕ → Taken
-taken-answer agreed m bs = record { answer = packet-answer (take-packet agreed m bs); pending = after-packet agreed m bs .pending }
+unfoldable pub taken-answer : ℕ → Memory → List ℕ → Taken
+taken-answer flags m bs = record { answer = packet-answer (take-packet flags m bs); pending = after-packet flags m bs .pending }
 
 -- a drop or a reset: done, or the refusal
 unfoldable pub state-answer : {A : Type 0} → Answer A → StateAnswer
@@ -37,8 +36,8 @@ state-answer (good a) = states.Done
 state-answer (refused n p) = states.Refused (record { number = n; place = p })
 
 -- a drop: its answer, and the record after it
-unfoldable pub drop-answer : Pending → Settled
-drop-answer r = record { answer = state-answer (drop-sequence r); pending = unless-refused r (drop-sequence r) }
+unfoldable pub drop-answer : ℕ → Pending → Settled
+drop-answer flags r = record { answer = state-answer (drop-sequence flags r); pending = unless-refused r (drop-sequence flags r) }
 
 -- a reset: its answer, and the record after it
 unfoldable pub reset-answer : Cache → Pending → Settled

@@ -5,7 +5,7 @@ use mathlib.Core.List.{List}
 use Prim.Native.Nat.{ℕ, zero, suc, _+_, _≤_, _<_}
 use lib.ListN.{length, getD, take, drop}
 use Rattle.term_spec.specs.Numbers.{big-endian}
-use Rattle.term_spec.specs.Text.{Coding}
+use Rattle.term_spec.specs.Connection.{coding-agreed}
 use Rattle.term_spec.specs.BadByte.{Bad-byte}
 use Rattle.term_spec.specs.Answer.{refused}
 use Rattle.packet_spec.specs.declared.Taken.{Taken}
@@ -56,18 +56,18 @@ pub record Reference-text (packet : List ℕ) (first size : ℕ) : Type 0 where
   pub inside : first + size ≤ length packet
 
 -- byte p of the packet is the bad byte of such a text, in the coding agreed
-pub record Bad-reference (agreed : Coding) (packet : List ℕ) (p : ℕ) : Type 0 where
+pub record Bad-reference (flags : ℕ) (packet : List ℕ) (p : ℕ) : Type 0 where
   pub first : ℕ
   pub size : ℕ
   pub k : ℕ
   pub there : Reference-text packet first size
   pub place-is : p ≡ first + k
-  pub bad : Bad-byte agreed (take size (drop first packet)) k
+  pub bad : Bad-byte (coding-agreed flags) (take size (drop first packet)) k
 
--- The place of refusal 5 is such a byte, counted from the packet's first byte, ids and all: in either coding, whatever memory is lent
+-- The place of refusal 5 is such a byte, counted from the packet's first byte, ids and all: with any flags, whatever memory is lent
 pub record Bad-references : Type 0 where
   -- of all that the rules refuse with 5
-  pub by-the-rules : (agreed : Coding) (m : Memory) (packet : List ℕ) (p : ℕ) → judged agreed m packet ≡ refused 5 p → Bad-reference agreed packet p
+  pub by-the-rules : (flags : ℕ) (m : Memory) (packet : List ℕ) (p : ℕ) → judged flags m packet ≡ refused 5 p → Bad-reference flags packet p
   -- of all that a call refuses with 5
-  pub by-taking : (agreed : Coding) (packet : List ℕ) (m : Memory) (r : Taken) (m′ : Memory) → Packet-call agreed packet m r m′
-      → (p : ℕ) → r .answer ≡ packets.Refused (record { number = 5; place = p }) → Bad-reference agreed packet p
+  pub by-taking : (flags : ℕ) (packet : List ℕ) (m : Memory) (r : Taken) (m′ : Memory) → Packet-call flags packet m r m′
+      → (p : ℕ) → r .answer ≡ packets.Refused (record { number = 5; place = p }) → Bad-reference flags packet p

@@ -1,13 +1,14 @@
 -- The packet calls: what each answers, and every lent byte after it.
-use mathlib.Core.Bool.{true, false, cond}
+use mathlib.Core.Bool.{true, false, not, cond}
 use mathlib.Core.List.{List, [], _∷_, _++_}
 use Prim.Native.Nat.{ℕ, _+_, _*_, _-_}
 use lib.Dec.{eqb}
 use lib.ListN.{length, set, replicate}
 use lib.Seq.{sets}
-use Rattle.term_spec.specs.Text.{Coding}
+use Rattle.term_spec.specs.Connection.{flags-known}
 use Rattle.term_spec.specs.Answer.{Answer, good, refused}
 use Rattle.term_spec.specs.AtomList.{AtomList}
+use Rattle.term_spec.specs.Message.{first-check}
 use Rattle.packet_spec.specs.declared.Pending.{Pending}
 use Rattle.packet_spec.specs.Memory.{Cache, Memory, cache-of-size, record-true, none-pending, empty-cache}
 use Rattle.packet_spec.specs.Header.{Reference}
@@ -111,21 +112,24 @@ left-after m (good p) = left-by m p
 left-after m (refused number place) = m
 
 -- what taking a packet answers
-unfoldable pub take-packet : Coding → Memory → List ℕ → Answer Outcome
-take-packet agreed m bs = taken m (judged agreed m bs)
+unfoldable pub take-packet : ℕ → Memory → List ℕ → Answer Outcome
+take-packet flags m bs = taken m (judged flags m bs)
 
 -- all lent memory after taking a packet
-unfoldable pub after-packet : Coding → Memory → List ℕ → Memory
-after-packet agreed m bs = left-after m (judged agreed m bs)
+unfoldable pub after-packet : ℕ → Memory → List ℕ → Memory
+after-packet flags m bs = left-after m (judged flags m bs)
 
 -- after a call that gives new memory: every refusal leaves all lent memory unchanged
 abbrev pub unless-refused : {A : Type 0} → A → Answer A → A
 unless-refused old (good new) = new
 unless-refused old (refused number place) = old
 
--- A drop gives 14, 25. It touches the record alone, which is then zero
-unfoldable pub drop-sequence : Pending → Answer Pending
-drop-sequence r = cond (record-true r) (cond (eqb (r .due) 0) (refused 25 0) (good none-pending)) (refused 14 0)
+-- A drop gives 14 for an unknown flag, 14 on the record, 25. It touches the record alone, which is then zero
+unfoldable pub drop-sequence : ℕ → Pending → Answer Pending
+drop-sequence flags r =
+    first-check (flags-known flags) 14
+    (first-check (record-true r) 14
+    (first-check (not (eqb (r .due) 0)) 25 (good none-pending)))
 
 -- A reset: only 13. It touches the cache, which is then empty, and the record, which is then zero
 unfoldable pub reset : Cache → Answer (Cache × Pending)

@@ -5,10 +5,11 @@ use Prim.Native.Nat.{ℕ}
 use native.Mathlib.Decide.{ℕ-discrete}
 use lib.ListN.{take, replicate}
 use Rattle.term_spec.specs.Numbers.{big-endian, in-bytes, little-endian, digits-within, digits, signed32, with-sign}
-use Rattle.term_spec.specs.Text.{utf-8, holds, lines, marker, first, emit, decode, check, is-character, encode, encodes}
+use Rattle.term_spec.specs.Text.{coding-of, holds, lines, marker, first, emit, decode, check, is-character, encode, encodes}
 use Rattle.term_spec.specs.Equal.{list-discrete, integer-discrete, term-discrete, same, among}
+use Rattle.term_spec.specs.Connection.{coding-agreed, v4-nc, flags-known}
 use Rattle.term_spec.specs.Answer.{Answer, good, refused, bytes, number}
-use Rattle.term_spec.specs.Head.{forms, form-in, form-or, form, text-or, finite, bits-rule, clear-low, bits-meaning, fields, term-head, creation-rule, id-words, words-rule, later}
+use Rattle.term_spec.specs.Head.{forms, form-in, form-or, form, text-or, finite, bits-rule, clear-low, bits-meaning, fields, term-head, creation-rule, id-words, words-rule, limits, later}
 use Rattle.term_spec.specs.Reading.{opening, each, run, entries, row, string, list-tail, contents, body, one-term}
 use Rattle.term_spec.specs.AtomList.{of-size, place-length, place-bytes, place-text, atoms-of, empty-list}
 use Rattle.term_spec.specs.Message.{payload, ending, version, standalone-term, payload-terms, read}
@@ -34,12 +35,12 @@ fresh =
 -- what a packet answers with a memory, in UTF-8, and what it leaves
 -- (the definitions after `unfolding` are those that computing it goes through)
 unfoldable pub answer : Memory → List ℕ → Answer Outcome
-unfolding big-endian holds lines marker first emit decode check encode encodes bytes number text-or version of-size cache-of-size memory-of-size record-true empty-cache text-if held-as held flag-bytes half is-new place-at length-width named filled held-or new-reference cached-reference reference references header ids packet-kind preamble payload-after rest packet judged zeros-to enter entered texts-in-places lengths-of list-of record-after told-after told left-by take-packet after-packet
-answer m bs = take-packet utf-8 m bs
+unfolding big-endian holds lines marker first emit decode check encode encodes bytes number text-or version coding-agreed flags-known of-size cache-of-size memory-of-size record-true empty-cache text-if held-as held flag-bytes half is-new place-at length-width named filled held-or new-reference cached-reference reference references header ids packet-kind preamble payload-after rest packet judged zeros-to enter entered texts-in-places lengths-of list-of record-after told-after told left-by take-packet after-packet
+answer m bs = take-packet 1 m bs
 
 unfoldable pub then : Memory → List ℕ → Memory
 unfolding answer
-then m bs = after-packet utf-8 m bs
+then m bs = after-packet 1 m bs
 
 -- a plain packet with one new reference to place 0, whose text is that many letters `a`
 abbrev pub letters : ℕ → List ℕ
@@ -98,11 +99,11 @@ seen-of a b c m =
       texts = place-bytes (m .pending-list) 0 ∷ place-bytes (m .pending-list) 1 ∷ place-bytes (m .pending-list) 2 ∷ place-bytes (m .pending-list) 3 ∷ place-bytes (m .pending-list) 4 ∷ [];
       places-hold = held (m .cache) 1034 ∷ held (m .cache) 5 ∷ held (m .cache) 492 ∷ held (m .cache) 9 ∷ held (m .cache) 494 ∷ [];
       record-then = m .pending;
-      payload-written = write payload (m .pending-list) 8192 65536 (take 173 (m .gather));
+      payload-written = write 1 payload (m .pending-list) 8192 65536 (take 173 (m .gather));
     }
 
 unfoldable pub example : Seen
-unfolding then ℕ-discrete in-bytes little-endian digits-within digits signed32 with-sign is-character list-discrete integer-discrete term-discrete same among forms form-in form-or form finite bits-rule clear-low bits-meaning fields term-head creation-rule id-words words-rule later opening each run entries row string list-tail contents body one-term place-length place-bytes place-text atoms-of big-bytes integer-bytes atom-bytes tuple-bytes port-bytes words-bytes small all-small list-bytes term-bytes canonical canonical-standalone standalones ending standalone-term payload-terms read written write
+unfolding then ℕ-discrete in-bytes little-endian digits-within digits signed32 with-sign is-character list-discrete integer-discrete term-discrete same among forms form-in form-or form finite bits-rule clear-low bits-meaning fields term-head creation-rule id-words words-rule v4-nc limits later opening each run entries row string list-tail contents body one-term place-length place-bytes place-text atoms-of big-bytes integer-bytes atom-bytes tuple-bytes port-bytes words-bytes small all-small list-bytes term-bytes canonical canonical-standalone standalones ending standalone-term payload-terms read written write
 example =
     let m : Memory = then fresh filling in
     let n : Memory = then m first-packet in

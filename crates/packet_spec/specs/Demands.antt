@@ -3,7 +3,6 @@ use mathlib.Core.Path.{_≡_}
 use mathlib.Core.List.{List, [], _∷_}
 use Prim.Native.Nat.{ℕ}
 use lib.ListN.{length, take}
-use Rattle.term_spec.specs.Text.{Coding}
 use Rattle.term_spec.specs.Numbers.{Under}
 use Rattle.term_spec.specs.Answer.{good}
 use Rattle.packet_spec.specs.declared.Taken.{Taken}
@@ -20,10 +19,10 @@ use Rattle.packet_spec.specs.Gathering.{So-far, none-begun, gathered-aft
 -- A run of calls, each by its promise alone, memory lent back as the last call left it
 pub data Ran : Memory → List Call → Memory → Type 0 where
   ended : {m : Memory} → Ran m [] m
-  packet-then : {m n : Memory} {cs : List Call} (agreed : Coding) (packet : List ℕ) (r : Taken) (m′ : Memory)
-      → Packet-call agreed packet m r m′ → Ran m′ cs n → Ran m (taking agreed packet ∷ cs) n
-  drop-then : {m n : Memory} {cs : List Call} (r : Settled)
-      → Drop-call (m .pending) r → Ran (with-state m (m .cache, r .pending)) cs n → Ran m (dropping ∷ cs) n
+  packet-then : {m n : Memory} {cs : List Call} (flags : ℕ) (packet : List ℕ) (r : Taken) (m′ : Memory)
+      → Packet-call flags packet m r m′ → Ran m′ cs n → Ran m (taking flags packet ∷ cs) n
+  drop-then : {m n : Memory} {cs : List Call} (flags : ℕ) (r : Settled)
+      → Drop-call flags (m .pending) r → Ran (with-state m (m .cache, r .pending)) cs n → Ran m (dropping flags ∷ cs) n
   reset-then : {m n : Memory} {cs : List Call} (r : Settled) (c′ : Cache)
       → Reset-call (m .cache) (m .pending) r c′ → Ran (with-state m (c′, r .pending)) cs n → Ran m (resetting ∷ cs) n
 
@@ -43,15 +42,15 @@ pub record Gathered (m : Memory) (cs : List Call) (n : Memory) : Type 0 where
   -- is its first id less the fragments accepted, or 0 after a drop or a reset; while one is due, the record names the SequenceId that its start gave
   pub so-far : Has n (gathered-after-all m cs (none-begun m))
   -- a continuation accepted next has the SequenceId that the start gave and the id due
-  pub next-continuation : (agreed : Coding) (packet : List ℕ) (sequence fragment : ℕ) (bs : List ℕ) → Under 256 packet
-      → judged agreed n packet ≡ good (continuation sequence fragment bs)
+  pub next-continuation : (flags : ℕ) (packet : List ℕ) (sequence fragment : ℕ) (bs : List ℕ) → Under 256 packet
+      → judged flags n packet ≡ good (continuation sequence fragment bs)
       → (sequence ≡ gathered-after-all m cs (none-begun m) .sequence) × (fragment ≡ gathered-after-all m cs (none-begun m) .due)
   -- the packet taken next answers by the sequence with it
-  pub next-answer : (agreed : Coding) (packet : List ℕ) (r : Taken) (m′ : Memory) → Under 256 packet → Packet-call agreed packet n r m′
-      → r .answer ≡ packet-answer (packet-told (judged agreed n packet) (gathered-after n (taking agreed packet) (gathered-after-all m cs (none-begun m))))
+  pub next-answer : (flags : ℕ) (packet : List ℕ) (r : Taken) (m′ : Memory) → Under 256 packet → Packet-call flags packet n r m′
+      → r .answer ≡ packet-answer (packet-told (judged flags n packet) (gathered-after n (taking flags packet) (gathered-after-all m cs (none-begun m))))
   -- if it answers Complete, the sequence is whole
-  pub completes : (agreed : Coding) (packet : List ℕ) (r : Taken) (m′ : Memory) → Under 256 packet → Packet-call agreed packet n r m′
-      → (k : ℕ) → r .answer ≡ packets.Complete k → Completed k (gathered-after n (taking agreed packet) (gathered-after-all m cs (none-begun m))) m′
+  pub completes : (flags : ℕ) (packet : List ℕ) (r : Taken) (m′ : Memory) → Under 256 packet → Packet-call flags packet n r m′
+      → (k : ℕ) → r .answer ≡ packets.Complete k → Completed k (gathered-after n (taking flags packet) (gathered-after-all m cs (none-begun m))) m′
 
 -- From any memory m, by the calls of a run, to memory n
 pub record Demand-2 (m : Memory) (cs : List Call) (n : Memory) : Type 0 where
@@ -60,8 +59,8 @@ pub record Demand-2 (m : Memory) (cs : List Call) (n : Memory) : Type 0 where
   -- what every place holds is what the new references of the accepted packets give, in turn
   pub places-hold : held (n .cache) ≡ holding-after-all m cs (held (m .cache))
   -- the packet taken next, if it is accepted: the place of each of its new references then holds the text, zeros after it
-  pub next-new : (agreed : Coding) (packet : List ℕ) (r : Taken) (m′ : Memory) → Under 256 packet → Packet-call agreed packet n r m′
-      → (p : Packet) → judged agreed n packet ≡ good p → Held-new (m′ .cache) (brought p)
+  pub next-new : (flags : ℕ) (packet : List ℕ) (r : Taken) (m′ : Memory) → Under 256 packet → Packet-call flags packet n r m′
+      → (p : Packet) → judged flags n packet ≡ good p → Held-new (m′ .cache) (brought p)
   -- the list for plain packets is the list of the last accepted plain packet's references, or as it was
   pub plain-listed : n .plain-list ≡ plain-list-after-all m cs (m .plain-list)
   -- sequences of fragments

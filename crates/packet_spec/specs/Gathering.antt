@@ -5,7 +5,6 @@ use mathlib.Core.List.{List, [], _∷_, _++_}
 use Prim.Native.Nat.{ℕ, _-_}
 use lib.Dec.{eqb}
 use lib.ListN.{length, take}
-use Rattle.term_spec.specs.Text.{Coding}
 use Rattle.term_spec.specs.Numbers.{Under}
 use Rattle.term_spec.specs.Answer.{Answer, good, refused}
 use Rattle.term_spec.specs.AtomList.{AtomList}
@@ -25,12 +24,12 @@ join (p ∷ ps) = p ++ join ps
 -- From one memory to another, by packets of which the continuations brought these payloads: plain packets may come between, and refused ones
 pub data Fragments : Memory → List (List ℕ) → Memory → Type 0 where
   none-more : {m : Memory} → Fragments m [] m
-  refused-between : {m n : Memory} {ps : List (List ℕ)} (agreed : Coding) (bs : List ℕ) (number place : ℕ)
-      → judged agreed m bs ≡ refused number place → Fragments (after-packet agreed m bs) ps n → Fragments m ps n
-  plain-between : {m n : Memory} {ps : List (List ℕ)} (agreed : Coding) (bs : List ℕ) (rs : List Reference) (at : ℕ) (p : List ℕ)
-      → Under 256 bs → judged agreed m bs ≡ good (plain rs at p) → Fragments (after-packet agreed m bs) ps n → Fragments m ps n
-  next-fragment : {m n : Memory} {ps : List (List ℕ)} (agreed : Coding) (bs : List ℕ) (sequence id : ℕ) (p : List ℕ)
-      → Under 256 bs → judged agreed m bs ≡ good (continuation sequence id p) → Fragments (after-packet agreed m bs) ps n → Fragments m (p ∷ ps) n
+  refused-between : {m n : Memory} {ps : List (List ℕ)} (flags : ℕ) (bs : List ℕ) (number place : ℕ)
+      → judged flags m bs ≡ refused number place → Fragments (after-packet flags m bs) ps n → Fragments m ps n
+  plain-between : {m n : Memory} {ps : List (List ℕ)} (flags : ℕ) (bs : List ℕ) (rs : List Reference) (at : ℕ) (p : List ℕ)
+      → Under 256 bs → judged flags m bs ≡ good (plain rs at p) → Fragments (after-packet flags m bs) ps n → Fragments m ps n
+  next-fragment : {m n : Memory} {ps : List (List ℕ)} (flags : ℕ) (bs : List ℕ) (sequence id : ℕ) (p : List ℕ)
+      → Under 256 bs → judged flags m bs ≡ good (continuation sequence id p) → Fragments (after-packet flags m bs) ps n → Fragments m (p ∷ ps) n
 
 -- so far: the bytes gathered, the list, the id due and, while a sequence is pending, its id and how many bytes are gathered; the record is zero after the last
 pub record Gathering (m : Memory) (sequence due : ℕ) (bytes : List ℕ) (list : AtomList) : Type 0 where
@@ -67,8 +66,8 @@ ended-by (refused number place) g = g
 
 -- after a call
 unfoldable pub gathered-after : Memory → Call → So-far → So-far
-gathered-after m (taking agreed bs) g = gathered-by (judged agreed m bs) g
-gathered-after m dropping g = ended-by (drop-sequence (m .pending)) g
+gathered-after m (taking flags bs) g = gathered-by (judged flags m bs) g
+gathered-after m (dropping flags) g = ended-by (drop-sequence flags (m .pending)) g
 gathered-after m resetting g = ended-by (reset (m .cache)) g
 
 -- and after all calls of a run

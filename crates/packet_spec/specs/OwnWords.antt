@@ -4,7 +4,7 @@ use mathlib.Core.Bool.{Bool, true, false}
 use mathlib.Core.List.{List, [], _∷_}
 use Prim.Native.Nat.{ℕ, _*_}
 use lib.ListN.{length, take, drop}
-use Rattle.term_spec.specs.Text.{Coding}
+use Rattle.term_spec.specs.Connection.{flags-known}
 use Rattle.term_spec.specs.Answer.{good}
 use Rattle.term_spec.specs.AtomList.{AtomList}
 use Rattle.term_spec.specs.declared.Refusal.{Refusal}
@@ -19,11 +19,11 @@ use Rattle.packet_spec.specs.Answers.{word-answer, word-bytes}
 use Rattle.packet_spec.specs.Promises.{Locate-word-call, Word-call}
 use Rattle.packet_spec.specs.Runs.{Call, taking, dropping, resetting, after-call}
 
--- Every word call on this list answers what these references say: below their number reference i's text, from there on 6
+-- Every word call on this list, with flags that are known, answers what these references say: below their number reference i's text, from there on 6
 pub record Says (list : AtomList) (rs : List Reference) : Type 0 where
   pub counted : list .n ≡ length rs
-  pub word-said : (i : ℕ) (bytes : List ℕ) → Word-call list i bytes → bytes ≡ word-bytes (own-word rs i)
-  pub stretch-said : (i : ℕ) (answer : WordAnswer) → Locate-word-call list i answer → answer ≡ word-answer i (own-word rs i)
+  pub word-said : (flags i : ℕ) (bytes : List ℕ) → flags-known flags ≡ true → Word-call flags list i bytes → bytes ≡ word-bytes (own-word rs i)
+  pub stretch-said : (flags i : ℕ) (answer : WordAnswer) → flags-known flags ≡ true → Locate-word-call flags list i answer → answer ≡ word-answer i (own-word rs i)
   -- and where it is told to stand, the list's places have that text
   pub stands-there : (i : ℕ) (t : List ℕ) → own-word rs i ≡ good t → take (length t) (drop (32 * i) (list .places)) ≡ t
 
@@ -39,8 +39,8 @@ is-start (continuation sequence fragment bs) = false
 
 -- a call accepts no packet of this kind
 abbrev pub Accepts-none : (Packet → Bool) → Memory → Call → Type 0
-Accepts-none kind m (taking agreed bs) = (p : Packet) → judged agreed m bs ≡ good p → kind p ≡ false
-Accepts-none kind m dropping = Unit {0}
+Accepts-none kind m (taking flags bs) = (p : Packet) → judged flags m bs ≡ good p → kind p ≡ false
+Accepts-none kind m (dropping flags) = Unit {0}
 Accepts-none kind m resetting = Unit {0}
 
 -- nor does any call of a run
@@ -54,17 +54,17 @@ All-pending m [] = Unit {0}
 All-pending m (c ∷ cs) = (m .pending .due ≡ 0 → ⊥) × All-pending (after-call m c) cs
 
 -- A packet is taken with memory m, which any packets before may have left, and answered by r; then come any calls, to memory n
-pub record Own-words (agreed : Coding) (packet : List ℕ) (m : Memory) (r : Taken) (m′ : Memory) (cs : List Call) (n : Memory) : Type 0 where
+pub record Own-words (flags : ℕ) (packet : List ℕ) (m : Memory) (r : Taken) (m′ : Memory) (cs : List Call) (n : Memory) : Type 0 where
   -- an answer that is no refusal is of an accepted packet, the answer Plain of a plain one
-  pub accepted-told : ((f : Refusal) → r .answer ≡ packets.Refused f → ⊥) → (p : Packet) × (judged agreed m packet ≡ good p)
+  pub accepted-told : ((f : Refusal) → r .answer ≡ packets.Refused f → ⊥) → (p : Packet) × (judged flags m packet ≡ good p)
   pub plain-told : (offset size : ℕ) → r .answer ≡ packets.Plain offset size
-      → (rs : List Reference) × ((bs : List ℕ) × (judged agreed m packet ≡ good (plain rs offset bs)))
+      → (rs : List Reference) × ((bs : List ℕ) × (judged flags m packet ≡ good (plain rs offset bs)))
   -- a plain packet's list says what its header's references say, until the next plain packet is accepted
-  pub of-plain : (rs : List Reference) (at : ℕ) (bs : List ℕ) → judged agreed m packet ≡ good (plain rs at bs)
+  pub of-plain : (rs : List Reference) (at : ℕ) (bs : List ℕ) → judged flags m packet ≡ good (plain rs at bs)
       → All-accept-none is-plain m′ cs → Says (n .plain-list) rs
   -- a sequence's list says what its start's references say, until the next start is accepted
-  pub of-sequence : (sequence fragment : ℕ) (rs : List Reference) (bs : List ℕ) → judged agreed m packet ≡ good (start sequence fragment rs bs)
+  pub of-sequence : (sequence fragment : ℕ) (rs : List Reference) (bs : List ℕ) → judged flags m packet ≡ good (start sequence fragment rs bs)
       → All-accept-none is-start m′ cs → Says (n .pending-list) rs
   -- so it does up to the sequence's end, whatever packets come: while it is pending none is accepted as a start
-  pub to-its-end : (sequence fragment : ℕ) (rs : List Reference) (bs : List ℕ) → judged agreed m packet ≡ good (start sequence fragment rs bs)
+  pub to-its-end : (sequence fragment : ℕ) (rs : List Reference) (bs : List ℕ) → judged flags m packet ≡ good (start sequence fragment rs bs)
       → All-pending m′ cs → Says (n .pending-list) rs

@@ -5,9 +5,10 @@ use Prim.Native.Nat.{ℕ, _+_}
 use lib.Dec.{eqb, leb}
 use lib.ListN.{length}
 use Rattle.term_spec.specs.Text.{Coding}
-use Rattle.term_spec.specs.Answer.{Answer, refused, Reading, _>>=_, _>>_, done, refuse, here, rule, byte, number}
+use Rattle.term_spec.specs.Connection.{coding-agreed, flags-known}
+use Rattle.term_spec.specs.Answer.{Answer, Reading, _>>=_, _>>_, done, refuse, here, rule, byte, number}
 use Rattle.term_spec.specs.Reading.{bytes-left}
-use Rattle.term_spec.specs.Message.{version, result-of}
+use Rattle.term_spec.specs.Message.{version, result-of, first-check}
 use Rattle.packet_spec.specs.declared.Pending.{Pending}
 use Rattle.packet_spec.specs.Memory.{Memory, memory-of-size, record-true, Held, held}
 use Rattle.packet_spec.specs.Header.{Reference, header}
@@ -85,10 +86,9 @@ module _ (agreed : Coding) (holding : ℕ → Held) (r : Pending) where
     kind ← preamble
     rest kind
 
--- Order: 13 first. A packet as it is judged with the memory lent to its call
-unfoldable pub judged : Coding → Memory → List ℕ → Answer Packet
-judged agreed m bs =
-    elim (memory-of-size m) [
-      | true ↦ result-of (packet agreed (held (m .cache)) (m .pending) (record { at = 0; left = bs; rows-taken = 0 }))
-      | false ↦ refused 13 0
-    ]
+-- Order: 13 first, then 14 for an unknown flag. A packet as it is judged with the connection's flags and the memory lent to its call
+unfoldable pub judged : ℕ → Memory → List ℕ → Answer Packet
+judged flags m bs =
+    first-check (memory-of-size m) 13
+    (first-check (flags-known flags) 14
+    (result-of (packet (coding-agreed flags) (held (m .cache)) (m .pending) (record { at = 0; left = bs; rows-taken = 0 }))))

@@ -39,8 +39,8 @@ brought (continuation sequence fragment bs) = []
 
 -- a call leaves a place alone: a packet that does not fill it new, a drop, a reset that is refused
 abbrev pub Alone : Memory → Call → ℕ → Type 0
-Alone m (taking agreed bs) q = (p : Packet) → judged agreed m bs ≡ good p → filled q (brought p) ≡ false
-Alone m dropping q = Unit {0}
+Alone m (taking flags bs) q = (p : Packet) → judged flags m bs ≡ good p → filled q (brought p) ≡ false
+Alone m (dropping flags) q = Unit {0}
 Alone m resetting q = cache-of-size (m .cache) ≡ false
 
 -- each call of a run leaves it alone
@@ -71,8 +71,8 @@ emptied (refused number place) h = h
 
 -- what the places hold after a call
 unfoldable pub holding-after : Memory → Call → (ℕ → Held) → ℕ → Held
-holding-after m (taking agreed bs) h = holding-of (judged agreed m bs) h
-holding-after m dropping h = h
+holding-after m (taking flags bs) h = holding-of (judged flags m bs) h
+holding-after m (dropping flags) h = h
 holding-after m resetting h = emptied (reset (m .cache)) h
 
 -- and after all calls of a run
@@ -91,8 +91,8 @@ plain-list-of (refused number place) list = list
 
 -- after a call: a drop and a reset leave it
 unfoldable pub plain-list-after : Memory → Call → AtomList → AtomList
-plain-list-after m (taking agreed bs) list = plain-list-of (judged agreed m bs) list
-plain-list-after m dropping list = list
+plain-list-after m (taking flags bs) list = plain-list-of (judged flags m bs) list
+plain-list-after m (dropping flags) list = list
 plain-list-after m resetting list = list
 
 -- and after all calls of a run
