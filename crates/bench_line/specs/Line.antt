@@ -39,9 +39,9 @@ unfoldable pub line-of : Answer Written → List ℕ
 line-of (good w) = ok-line (w .bytes)
 line-of (refused n p) = refused-line n p
 
--- the bench's answer: 8,192 scratch rows and 65,536 bytes of output
+-- the bench's answer: both flags on, an empty list, 8,192 scratch rows and 65,536 bytes of output
 unfoldable pub bench-answer : List ℕ → Answer Written
-bench-answer input = write standalone empty-list 8192 65536 input
+bench-answer input = write 3 standalone empty-list 8192 65536 input
 
 -- r bytes, this text, stand at the front of lent bytes; every byte past them is as it was
 pub record Stored (text before : List ℕ) (r : ℕ) (later : List ℕ) : Type 0 where

@@ -1,4 +1,5 @@
 // One line of the bench program: the canonical form of a standalone term in hex, or its refusal.
+use connection::Connection;
 use term_spec::WriteAnswer;
 use term_spec::sizes;
 ghost use mathlib.Core.Path.{_≡_};
@@ -78,7 +79,7 @@ fn put_refused(dst: &mut [u8], number: usize, place: usize) -> usize
     put_text(dst, d, b"\n")
 }
 
-// The line of what writing answers with these lent.
+// The line of what writing answers with both flags on and these lent.
 fn put_answer(
     msg: &[u8],
     places: &[u8],
@@ -88,9 +89,12 @@ fn put_answer(
     dst: &mut [u8],
 ) -> usize
     requires { ⌜ 2 * length (now output) + 50 ≤ length (now dst) ⌝ }
-    ensures { λ r. ⌜ Stored (line-of (write standalone (lent-list 0 (now (places .entry)) (now (lengths .entry))) (length (now (scratch .entry))) (length (now (output .entry))) (now (msg .entry)))) (now (dst .entry)) r (now (dst .exit)) ⌝ }
+    ensures { λ r. ⌜ Stored (line-of (write 3 standalone (lent-list 0 (now (places .entry)) (now (lengths .entry))) (length (now (scratch .entry))) (length (now (output .entry))) (now (msg .entry)))) (now (dst .entry)) r (now (dst .exit)) ⌝ }
 {
-    match writer::write_standalone(msg, 0, places, lengths, scratch, output) {
+    let connection = Connection {
+        flags: connection::UTF8 + connection::V4_NC,
+    };
+    match writer::write_standalone(connection, msg, 0, places, lengths, scratch, output) {
         WriteAnswer::Written { terms, length } => put_ok(dst, &output[..length]),
         WriteAnswer::Refused(r) => put_refused(dst, octets::wide(r.number), r.place),
     }

@@ -5,7 +5,6 @@ use mathlib.Core.List.{List}
 use Prim.Native.Nat.{ℕ}
 use Rattle.term_spec.specs.AtomList.{AtomList}
 use Rattle.term_spec.specs.Message.{Framing}
-use Rattle.term_spec.specs.Text.{Coding}
 use Rattle.term_spec.specs.Promises.{Read-call, Write-call}
 use Rattle.term_spec.specs.declared.ReadAnswer.{ReadAnswer}
 use Rattle.term_spec.specs.declared.WriteAnswer.{WriteAnswer}
@@ -23,28 +22,28 @@ use Rattle.c_replies.specs.declared.PacketReply.{PacketReply}
 use Rattle.c_replies.specs.declared.StateReply.{StateReply}
 use Rattle.c_replies.specs.declared.WordReply.{WordReply}
 
--- Reading: the message, the atom list and the lent table; the reply, and the table after it
-pub record Read-reply (framing : Framing) (list : AtomList) (message table : List ℕ) (reply : ReadReply) (table′ : List ℕ) : Type 0 where
+-- Reading: the connection's flags, the message, the atom list and the lent table; the reply, and the table after it
+pub record Read-reply (flags : ℕ) (framing : Framing) (list : AtomList) (message table : List ℕ) (reply : ReadReply) (table′ : List ℕ) : Type 0 where
   pub answer : ReadAnswer
-  pub called : Read-call framing list message table answer table′
+  pub called : Read-call flags framing list message table answer table′
   pub reply-is : reply ≡ flat-read answer
 
 -- Writing: also the lent scratch table and output, and both after it
-pub record Write-reply (framing : Framing) (list : AtomList) (message scratch output : List ℕ) (reply : WriteReply) (scratch′ output′ : List ℕ) : Type 0 where
+pub record Write-reply (flags : ℕ) (framing : Framing) (list : AtomList) (message scratch output : List ℕ) (reply : WriteReply) (scratch′ output′ : List ℕ) : Type 0 where
   pub answer : WriteAnswer
-  pub called : Write-call framing list message scratch output answer scratch′ output′
+  pub called : Write-call flags framing list message scratch output answer scratch′ output′
   pub reply-is : reply ≡ flat-write answer
 
--- Taking a packet: all memory lent, the record in it; the reply, and all memory after it
-pub record Packet-reply (agreed : Coding) (packet : List ℕ) (m : Memory) (reply : PacketReply) (m′ : Memory) : Type 0 where
+-- Taking a packet: the connection's flags, all memory lent, the record in it; the reply, and all memory after it
+pub record Packet-reply (flags : ℕ) (packet : List ℕ) (m : Memory) (reply : PacketReply) (m′ : Memory) : Type 0 where
   pub taken : Taken
-  pub called : Packet-call agreed packet m taken m′
+  pub called : Packet-call flags packet m taken m′
   pub reply-is : reply ≡ flat-packet (taken .answer)
 
--- A drop: the record lent; the reply, and the record after it
-pub record Drop-reply (p : Pending) (reply : StateReply) (p′ : Pending) : Type 0 where
+-- A drop: the connection's flags, the record lent; the reply, and the record after it
+pub record Drop-reply (flags : ℕ) (p : Pending) (reply : StateReply) (p′ : Pending) : Type 0 where
   pub settled : Settled
-  pub called : Drop-call p settled
+  pub called : Drop-call flags p settled
   pub reply-is : reply ≡ flat-state (settled .answer)
   pub record-left : p′ ≡ settled .pending
 
@@ -55,8 +54,8 @@ pub record Reset-reply (c : Cache) (p : Pending) (reply : StateReply) (c′ : Ca
   pub reply-is : reply ≡ flat-state (settled .answer)
   pub record-left : p′ ≡ settled .pending
 
--- A word: the atom list lent and the reference's index; the reply
-pub record Word-reply (list : AtomList) (i : ℕ) (reply : WordReply) : Type 0 where
+-- A word: the connection's flags, the atom list lent and the reference's index; the reply
+pub record Word-reply (flags : ℕ) (list : AtomList) (i : ℕ) (reply : WordReply) : Type 0 where
   pub answer : WordAnswer
-  pub called : Locate-word-call list i answer
+  pub called : Locate-word-call flags list i answer
   pub reply-is : reply ≡ flat-word answer

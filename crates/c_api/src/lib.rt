@@ -7,6 +7,7 @@ use c_replies::StateReply;
 use c_replies::TextReply;
 use c_replies::WordReply;
 use c_replies::WriteReply;
+use connection::Connection;
 use packet_spec::Pending;
 use packet_spec::ReferenceIndex;
 ghost use mathlib.Core.Path.{_≡_};
@@ -14,44 +15,52 @@ ghost use Rattle.term_spec.specs.Answers.{number-answer, mark-answer};
 ghost use Rattle.term_spec.specs.AtomList.{lent-list};
 ghost use Rattle.term_spec.specs.Look.{number-in, text-in};
 ghost use Rattle.term_spec.specs.Message.{standalone, payload};
-ghost use Rattle.term_spec.specs.Text.{coding-of};
 ghost use Rattle.queries.specs.Promises.{text-at};
 ghost use Rattle.packet_spec.specs.Memory.{cache-of, memory-of};
 ghost use Rattle.c_replies.specs.Terms.{flat-number, flat-text, flat-mark};
-ghost use Rattle.c_replies.specs.Packets.{flag};
 ghost use Rattle.c_api.specs.Promises.{Read-reply, Write-reply, Packet-reply, Drop-reply, Reset-reply, Word-reply};
 
 // Reads a standalone term into the table.
 #[no_mangle]
 pub extern "C" fn ik_read_standalone(
+    flags: u8,
     msg: &[u8],
     n: u8,
     places: &[u8],
     lengths: &[u16],
     table: &mut [u64],
 ) -> ReadReply
-    ensures { λ r. ⌜ Read-reply standalone (lent-list n (now (places .entry)) (now (lengths .entry))) (now (msg .entry)) (now (table .entry)) r (now (table .exit)) ⌝ }
+    ensures { λ r. ⌜ Read-reply flags standalone (lent-list n (now (places .entry)) (now (lengths .entry))) (now (msg .entry)) (now (table .entry)) r (now (table .exit)) ⌝ }
 {
-    c_replies::flat_read(reader::read_standalone(msg, n, places, lengths, table))
+    c_replies::flat_read(reader::read_standalone(
+        Connection { flags },
+        msg,
+        n,
+        places,
+        lengths,
+        table,
+    ))
 }
 
 // Reads a payload into the table.
 #[no_mangle]
 pub extern "C" fn ik_read_payload(
+    flags: u8,
     msg: &[u8],
     n: u8,
     places: &[u8],
     lengths: &[u16],
     table: &mut [u64],
 ) -> ReadReply
-    ensures { λ r. ⌜ Read-reply payload (lent-list n (now (places .entry)) (now (lengths .entry))) (now (msg .entry)) (now (table .entry)) r (now (table .exit)) ⌝ }
+    ensures { λ r. ⌜ Read-reply flags payload (lent-list n (now (places .entry)) (now (lengths .entry))) (now (msg .entry)) (now (table .entry)) r (now (table .exit)) ⌝ }
 {
-    c_replies::flat_read(reader::read_payload(msg, n, places, lengths, table))
+    c_replies::flat_read(reader::read_payload(Connection { flags }, msg, n, places, lengths, table))
 }
 
 // Writes the canonical form of a standalone term.
 #[no_mangle]
 pub extern "C" fn ik_write_standalone(
+    flags: u8,
     msg: &[u8],
     n: u8,
     places: &[u8],
@@ -59,14 +68,23 @@ pub extern "C" fn ik_write_standalone(
     scratch: &mut [u64],
     output: &mut [u8],
 ) -> WriteReply
-    ensures { λ r. ⌜ Write-reply standalone (lent-list n (now (places .entry)) (now (lengths .entry))) (now (msg .entry)) (now (scratch .entry)) (now (output .entry)) r (now (scratch .exit)) (now (output .exit)) ⌝ }
+    ensures { λ r. ⌜ Write-reply flags standalone (lent-list n (now (places .entry)) (now (lengths .entry))) (now (msg .entry)) (now (scratch .entry)) (now (output .entry)) r (now (scratch .exit)) (now (output .exit)) ⌝ }
 {
-    c_replies::flat_write(writer::write_standalone(msg, n, places, lengths, scratch, output))
+    c_replies::flat_write(writer::write_standalone(
+        Connection { flags },
+        msg,
+        n,
+        places,
+        lengths,
+        scratch,
+        output,
+    ))
 }
 
 // Writes the canonical form of each term of a payload.
 #[no_mangle]
 pub extern "C" fn ik_write_payload(
+    flags: u8,
     msg: &[u8],
     n: u8,
     places: &[u8],
@@ -74,101 +92,169 @@ pub extern "C" fn ik_write_payload(
     scratch: &mut [u64],
     output: &mut [u8],
 ) -> WriteReply
-    ensures { λ r. ⌜ Write-reply payload (lent-list n (now (places .entry)) (now (lengths .entry))) (now (msg .entry)) (now (scratch .entry)) (now (output .entry)) r (now (scratch .exit)) (now (output .exit)) ⌝ }
+    ensures { λ r. ⌜ Write-reply flags payload (lent-list n (now (places .entry)) (now (lengths .entry))) (now (msg .entry)) (now (scratch .entry)) (now (output .entry)) r (now (scratch .exit)) (now (output .exit)) ⌝ }
 {
-    c_replies::flat_write(writer::write_payload(msg, n, places, lengths, scratch, output))
+    c_replies::flat_write(writer::write_payload(
+        Connection { flags },
+        msg,
+        n,
+        places,
+        lengths,
+        scratch,
+        output,
+    ))
 }
 
 // The number of a row of a standalone term.
 #[no_mangle]
 pub extern "C" fn ik_number_standalone(
+    flags: u8,
     msg: &[u8],
     n: u8,
     places: &[u8],
     lengths: &[u16],
     row: usize,
 ) -> NumberReply
-    ensures { λ r. ⌜ r ≡ flat-number (number-answer (number-in standalone (lent-list n (now (places .entry)) (now (lengths .entry))) (now (msg .entry)) row)) ⌝ }
+    ensures { λ r. ⌜ r ≡ flat-number (number-answer (number-in flags standalone (lent-list n (now (places .entry)) (now (lengths .entry))) (now (msg .entry)) row)) ⌝ }
 {
-    c_replies::flat_number(queries::number_standalone(msg, n, places, lengths, row))
+    c_replies::flat_number(queries::number_standalone(
+        Connection { flags },
+        msg,
+        n,
+        places,
+        lengths,
+        row,
+    ))
 }
 
 // Where the text stands of the atom whose tag is at this offset of a standalone term.
 #[no_mangle]
 pub extern "C" fn ik_text_standalone(
+    flags: u8,
     msg: &[u8],
     n: u8,
     places: &[u8],
     lengths: &[u16],
     offset: usize,
 ) -> TextReply
-    ensures { λ r. ⌜ r ≡ flat-text (text-at (text-in standalone (lent-list n (now (places .entry)) (now (lengths .entry))) (now (msg .entry)) offset)) ⌝ }
+    ensures { λ r. ⌜ r ≡ flat-text (text-at (text-in flags standalone (lent-list n (now (places .entry)) (now (lengths .entry))) (now (msg .entry)) offset)) ⌝ }
 {
-    c_replies::flat_text(queries::locate_standalone(msg, n, places, lengths, offset))
+    c_replies::flat_text(queries::locate_standalone(
+        Connection { flags },
+        msg,
+        n,
+        places,
+        lengths,
+        offset,
+    ))
 }
 
 // The mark of the atom whose tag is at this offset of a standalone term.
 #[no_mangle]
 pub extern "C" fn ik_mark_standalone(
+    flags: u8,
     msg: &[u8],
     n: u8,
     places: &[u8],
     lengths: &[u16],
     offset: usize,
 ) -> MarkReply
-    ensures { λ r. ⌜ r ≡ flat-mark (mark-answer (text-in standalone (lent-list n (now (places .entry)) (now (lengths .entry))) (now (msg .entry)) offset)) ⌝ }
+    ensures { λ r. ⌜ r ≡ flat-mark (mark-answer (text-in flags standalone (lent-list n (now (places .entry)) (now (lengths .entry))) (now (msg .entry)) offset)) ⌝ }
 {
-    c_replies::flat_mark(queries::mark_standalone(msg, n, places, lengths, offset))
+    c_replies::flat_mark(queries::mark_standalone(
+        Connection { flags },
+        msg,
+        n,
+        places,
+        lengths,
+        offset,
+    ))
 }
 
 // The number of a row of a payload.
 #[no_mangle]
 pub extern "C" fn ik_number_payload(
+    flags: u8,
     msg: &[u8],
     n: u8,
     places: &[u8],
     lengths: &[u16],
     row: usize,
 ) -> NumberReply
-    ensures { λ r. ⌜ r ≡ flat-number (number-answer (number-in payload (lent-list n (now (places .entry)) (now (lengths .entry))) (now (msg .entry)) row)) ⌝ }
+    ensures { λ r. ⌜ r ≡ flat-number (number-answer (number-in flags payload (lent-list n (now (places .entry)) (now (lengths .entry))) (now (msg .entry)) row)) ⌝ }
 {
-    c_replies::flat_number(queries::number_payload(msg, n, places, lengths, row))
+    c_replies::flat_number(queries::number_payload(
+        Connection { flags },
+        msg,
+        n,
+        places,
+        lengths,
+        row,
+    ))
 }
 
 // Where the text stands of the atom whose tag is at this offset of a payload.
 #[no_mangle]
 pub extern "C" fn ik_text_payload(
+    flags: u8,
     msg: &[u8],
     n: u8,
     places: &[u8],
     lengths: &[u16],
     offset: usize,
 ) -> TextReply
-    ensures { λ r. ⌜ r ≡ flat-text (text-at (text-in payload (lent-list n (now (places .entry)) (now (lengths .entry))) (now (msg .entry)) offset)) ⌝ }
+    ensures { λ r. ⌜ r ≡ flat-text (text-at (text-in flags payload (lent-list n (now (places .entry)) (now (lengths .entry))) (now (msg .entry)) offset)) ⌝ }
 {
-    c_replies::flat_text(queries::locate_payload(msg, n, places, lengths, offset))
+    c_replies::flat_text(queries::locate_payload(
+        Connection { flags },
+        msg,
+        n,
+        places,
+        lengths,
+        offset,
+    ))
 }
 
 // The mark of the atom whose tag is at this offset of a payload.
 #[no_mangle]
 pub extern "C" fn ik_mark_payload(
+    flags: u8,
     msg: &[u8],
     n: u8,
     places: &[u8],
     lengths: &[u16],
     offset: usize,
 ) -> MarkReply
-    ensures { λ r. ⌜ r ≡ flat-mark (mark-answer (text-in payload (lent-list n (now (places .entry)) (now (lengths .entry))) (now (msg .entry)) offset)) ⌝ }
+    ensures { λ r. ⌜ r ≡ flat-mark (mark-answer (text-in flags payload (lent-list n (now (places .entry)) (now (lengths .entry))) (now (msg .entry)) offset)) ⌝ }
 {
-    c_replies::flat_mark(queries::mark_payload(msg, n, places, lengths, offset))
+    c_replies::flat_mark(queries::mark_payload(
+        Connection { flags },
+        msg,
+        n,
+        places,
+        lengths,
+        offset,
+    ))
 }
 
 // The text of reference `index` of a message, by that message's own list.
 #[no_mangle]
-pub extern "C" fn ik_word(n: u8, places: &[u8], lengths: &[u16], index: usize) -> WordReply
-    ensures { λ r. ⌜ Word-reply (lent-list n (now (places .entry)) (now (lengths .entry))) index r ⌝ }
+pub extern "C" fn ik_word(
+    flags: u8,
+    n: u8,
+    places: &[u8],
+    lengths: &[u16],
+    index: usize,
+) -> WordReply
+    ensures { λ r. ⌜ Word-reply flags (lent-list n (now (places .entry)) (now (lengths .entry))) index r ⌝ }
 {
-    c_replies::flat_word(word_lookup::locate_word(n, places, lengths, ReferenceIndex(index)))
+    c_replies::flat_word(word_lookup::locate_word(
+        Connection { flags },
+        n,
+        places,
+        lengths,
+        ReferenceIndex(index),
+    ))
 }
 
 // What a drop or a reset answers, and the record as it is then.
@@ -184,10 +270,10 @@ pub struct Received {
 }
 
 // A drop, by value.
-pub fn drop_by_value(pending: Pending) -> Kept
-    ensures { λ r. ⌜ Drop-reply pending (r .answer) (r .pending) ⌝ }
+pub fn drop_by_value(flags: u8, pending: Pending) -> Kept
+    ensures { λ r. ⌜ Drop-reply flags pending (r .answer) (r .pending) ⌝ }
 {
-    let settled = link_state::drop_sequence(pending);
+    let settled = link_state::drop_sequence(Connection { flags }, pending);
     let answer = settled.answer;
     let then = settled.pending;
     let reply = c_replies::flat_state(answer);
@@ -213,7 +299,7 @@ pub fn reset_by_value(cache: &mut [u8], cache_lengths: &mut [u16], pending: Pend
 
 // Takes a packet, the record by value.
 pub fn packet_by_value(
-    utf8: u8,
+    flags: u8,
     packet: &[u8],
     cache: &mut [u8],
     cache_lengths: &mut [u16],
@@ -226,7 +312,7 @@ pub fn packet_by_value(
     pending: Pending,
     gather: &mut [u8],
 ) -> Received
-    ensures { λ r. ⌜ Packet-reply (coding-of (flag utf8)) (now (packet .entry))
+    ensures { λ r. ⌜ Packet-reply flags (now (packet .entry))
         (memory-of (cache-of (now (cache .entry)) (now («cache_lengths» .entry))) (lent-list (now («plain_n» .entry)) (now («plain_places» .entry)) (now («plain_lengths» .entry)))
         (lent-list (now («pending_n» .entry)) (now («pending_places» .entry)) (now («pending_lengths» .entry))) pending (now (gather .entry)))
         (r .answer)
@@ -234,7 +320,7 @@ pub fn packet_by_value(
         (lent-list (now («pending_n» .exit)) (now («pending_places» .exit)) (now («pending_lengths» .exit))) (r .pending) (now (gather .exit))) ⌝ }
 {
     let taken = packet_calls::take_packet(
-        c_replies::agreed(utf8),
+        Connection { flags },
         packet,
         cache,
         cache_lengths,
@@ -258,10 +344,10 @@ pub fn packet_by_value(
 
 // Drops the pending sequence of the record lent.
 #[no_mangle]
-pub extern "C" fn ik_drop(pending: &mut Pending) -> StateReply
-    ensures { λ r. ⌜ Drop-reply (now (pending .entry)) r (now (pending .exit)) ⌝ }
+pub extern "C" fn ik_drop(flags: u8, pending: &mut Pending) -> StateReply
+    ensures { λ r. ⌜ Drop-reply flags (now (pending .entry)) r (now (pending .exit)) ⌝ }
 {
-    let d = drop_by_value(*pending);
+    let d = drop_by_value(flags, *pending);
     *pending = d.pending;
     d.answer
 }
@@ -283,7 +369,7 @@ pub extern "C" fn ik_reset(
 // Takes a packet, over all lent memory.
 #[no_mangle]
 pub extern "C" fn ik_packet(
-    utf8: u8,
+    flags: u8,
     packet: &[u8],
     cache: &mut [u8],
     cache_lengths: &mut [u16],
@@ -296,7 +382,7 @@ pub extern "C" fn ik_packet(
     pending: &mut Pending,
     gather: &mut [u8],
 ) -> PacketReply
-    ensures { λ r. ⌜ Packet-reply (coding-of (flag utf8)) (now (packet .entry))
+    ensures { λ r. ⌜ Packet-reply flags (now (packet .entry))
         (memory-of (cache-of (now (cache .entry)) (now («cache_lengths» .entry))) (lent-list (now («plain_n» .entry)) (now («plain_places» .entry)) (now («plain_lengths» .entry)))
         (lent-list (now («pending_n» .entry)) (now («pending_places» .entry)) (now («pending_lengths» .entry))) (now (pending .entry)) (now (gather .entry)))
         r
@@ -304,7 +390,7 @@ pub extern "C" fn ik_packet(
         (lent-list (now («pending_n» .exit)) (now («pending_places» .exit)) (now («pending_lengths» .exit))) (now (pending .exit)) (now (gather .exit))) ⌝ }
 {
     let d = packet_by_value(
-        utf8,
+        flags,
         packet,
         cache,
         cache_lengths,

@@ -12,10 +12,6 @@ use Rattle.c_replies.specs.declared.PacketReply.{PacketReply}
 use Rattle.c_replies.specs.declared.StateReply.{StateReply}
 use Rattle.c_replies.specs.declared.WordReply.{WordReply}
 
--- In Latin-1 or UTF-8 as the caller states was agreed: 0 Latin-1, anything else UTF-8
-unfoldable pub flag : ℕ → Bool
-flag utf8 = not (eqb utf8 0)
-
 -- start and length along the list's places; a refusal's number is not 0, so that an empty word and a refusal differ
 unfoldable pub flat-word : WordAnswer → WordReply
 flat-word (words.Word start size) = record { refusal = 0; place = 0; start = start; length = size }

@@ -14,7 +14,7 @@ use term_spec::ReadAnswer;
 use term_spec::WriteAnswer;
 ghost use mathlib.Core.Path.{_≡_};
 ghost use Rattle.c_replies.specs.Terms.{flat-read, flat-write, flat-number, flat-text, flat-mark};
-ghost use Rattle.c_replies.specs.Packets.{flag, flat-word, flat-state, flat-packet};
+ghost use Rattle.c_replies.specs.Packets.{flat-word, flat-state, flat-packet};
 
 // What reading answers: the refusal's number (0: accepted) and place, the number of terms and of rows.
 #[repr(C)]
@@ -87,13 +87,6 @@ pub struct PacketReply {
     pub length: u64,
     pub due: u64,
     pub gathered: u64,
-}
-
-// Whether UTF-8 was agreed: 0 is Latin-1, anything else UTF-8.
-pub fn agreed(utf8: u8) -> bool
-    ensures { λ r. ⌜ r ≡ flag utf8 ⌝ }
-{
-    utf8 != 0
 }
 
 pub fn flat_read(answer: ReadAnswer) -> ReadReply

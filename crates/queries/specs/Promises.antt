@@ -35,18 +35,18 @@ Text-inside m places (texts.List start n) = start + n ≤ length places
 Text-inside m places (texts.Refused refusal) = Unit {0}
 
 -- a row's number
-abbrev pub Number-call : Framing → AtomList → List ℕ → ℕ → NumberAnswer → Type 0
-Number-call framing list message row answer = answer ≡ number-answer (number-in framing list message row)
+abbrev pub Number-call : ℕ → Framing → AtomList → List ℕ → ℕ → NumberAnswer → Type 0
+Number-call flags framing list message row answer = answer ≡ number-answer (number-in flags framing list message row)
 
 -- where the text stands of the atom whose tag is at this offset: settled whole, and inside the message or the list's places
-pub record Locate-call (framing : Framing) (list : AtomList) (message : List ℕ) (at : ℕ) (answer : TextAt) : Type 0 where
-  pub text-located : answer ≡ text-at (text-in framing list message at)
+pub record Locate-call (flags : ℕ) (framing : Framing) (list : AtomList) (message : List ℕ) (at : ℕ) (answer : TextAt) : Type 0 where
+  pub text-located : answer ≡ text-at (text-in flags framing list message at)
   pub text-inside : Text-inside message (list .places) answer
 
 -- its bytes, none where refused
-abbrev pub Text-call : Framing → AtomList → List ℕ → ℕ → List ℕ → Type 0
-Text-call framing list message at bytes = bytes ≡ text-bytes message list (text-in framing list message at)
+abbrev pub Text-call : ℕ → Framing → AtomList → List ℕ → ℕ → List ℕ → Type 0
+Text-call flags framing list message at bytes = bytes ≡ text-bytes message list (text-in flags framing list message at)
 
 -- its mark
-abbrev pub Mark-call : Framing → AtomList → List ℕ → ℕ → MarkAnswer → Type 0
-Mark-call framing list message at answer = answer ≡ mark-answer (text-in framing list message at)
+abbrev pub Mark-call : ℕ → Framing → AtomList → List ℕ → ℕ → MarkAnswer → Type 0
+Mark-call flags framing list message at answer = answer ≡ mark-answer (text-in flags framing list message at)

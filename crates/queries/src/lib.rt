@@ -9,6 +9,7 @@ ghost use Rattle.reader.specs.Code.{framing-of};
 ghost use Rattle.queries.specs.Code.{signed-number, float-number, content-number, numbered, atom-row, atom-among, text-said, located, mark-at, bytes-at};
 ghost use Rattle.queries.specs.Promises.{Text-inside, Number-call, Locate-call, Text-call, Mark-call};
 ghost use Rattle.term_spec.specs.AtomList.{lent-list};
+use connection::Connection;
 use map_keys::row_at;
 use reader::FEW_BYTES;
 use reader::Framing;
@@ -252,6 +253,7 @@ fn bytes_at<'a>(msg: &'a [u8], places: &'a [u8], t: TextAt) -> &'a [u8]
 
 // The number of a row of a message of at most FEW_BYTES, with a table of a row for each byte.
 fn number_few(
+    flags: u8,
     msg: &[u8],
     n: u8,
     places: &[u8],
@@ -260,15 +262,16 @@ fn number_few(
     framing: Framing,
 ) -> NumberAnswer
     requires { ⌜ length (now msg) ≤ 256 ⌝ }
-    ensures { λ r. ⌜ Number-call (framing-of framing) (lent-list n (now (places .entry)) (now (lengths .entry))) (now (msg .entry)) row r ⌝ }
+    ensures { λ r. ⌜ Number-call flags (framing-of framing) (lent-list n (now (places .entry)) (now (lengths .entry))) (now (msg .entry)) row r ⌝ }
 {
     let mut table = [0u64; FEW_ROWS];
-    let read = read_few(msg, n, places, lengths, &mut table, framing);
+    let read = read_few(flags, msg, n, places, lengths, &mut table, framing);
     numbered(msg, places, lengths, &table, read, row)
 }
 
 // The number of a row of a message of at most SOME_BYTES, with a table of a row for each byte.
 fn number_some(
+    flags: u8,
     msg: &[u8],
     n: u8,
     places: &[u8],
@@ -277,15 +280,16 @@ fn number_some(
     framing: Framing,
 ) -> NumberAnswer
     requires { ⌜ length (now msg) ≤ 1024 ⌝ }
-    ensures { λ r. ⌜ Number-call (framing-of framing) (lent-list n (now (places .entry)) (now (lengths .entry))) (now (msg .entry)) row r ⌝ }
+    ensures { λ r. ⌜ Number-call flags (framing-of framing) (lent-list n (now (places .entry)) (now (lengths .entry))) (now (msg .entry)) row r ⌝ }
 {
     let mut table = [0u64; SOME_ROWS];
-    let read = read_larger(msg, n, places, lengths, &mut table, framing);
+    let read = read_larger(flags, msg, n, places, lengths, &mut table, framing);
     numbered(msg, places, lengths, &table, read, row)
 }
 
 // The number of a row of a message of any length, with a table of 8,192 rows.
 fn number_many(
+    flags: u8,
     msg: &[u8],
     n: u8,
     places: &[u8],
@@ -293,15 +297,16 @@ fn number_many(
     row: usize,
     framing: Framing,
 ) -> NumberAnswer
-    ensures { λ r. ⌜ Number-call (framing-of framing) (lent-list n (now (places .entry)) (now (lengths .entry))) (now (msg .entry)) row r ⌝ }
+    ensures { λ r. ⌜ Number-call flags (framing-of framing) (lent-list n (now (places .entry)) (now (lengths .entry))) (now (msg .entry)) row r ⌝ }
 {
     let mut table = [0u64; sizes::ROWS_MOST];
-    let read = read_larger(msg, n, places, lengths, &mut table, framing);
+    let read = read_larger(flags, msg, n, places, lengths, &mut table, framing);
     numbered(msg, places, lengths, &table, read, row)
 }
 
 // Where the text stands of the atom at this offset of a message of at most FEW_BYTES, with a table of a row for each byte.
 fn locate_few(
+    flags: u8,
     msg: &[u8],
     n: u8,
     places: &[u8],
@@ -310,15 +315,16 @@ fn locate_few(
     framing: Framing,
 ) -> TextAt
     requires { ⌜ length (now msg) ≤ 256 ⌝ }
-    ensures { λ r. ⌜ Locate-call (framing-of framing) (lent-list n (now (places .entry)) (now (lengths .entry))) (now (msg .entry)) at r ⌝ }
+    ensures { λ r. ⌜ Locate-call flags (framing-of framing) (lent-list n (now (places .entry)) (now (lengths .entry))) (now (msg .entry)) at r ⌝ }
 {
     let mut table = [0u64; FEW_ROWS];
-    let read = read_few(msg, n, places, lengths, &mut table, framing);
+    let read = read_few(flags, msg, n, places, lengths, &mut table, framing);
     located(msg, places, lengths, &table, read, at)
 }
 
 // Where the text stands of the atom at this offset of a message of at most SOME_BYTES, with a table of a row for each byte.
 fn locate_some(
+    flags: u8,
     msg: &[u8],
     n: u8,
     places: &[u8],
@@ -327,15 +333,16 @@ fn locate_some(
     framing: Framing,
 ) -> TextAt
     requires { ⌜ length (now msg) ≤ 1024 ⌝ }
-    ensures { λ r. ⌜ Locate-call (framing-of framing) (lent-list n (now (places .entry)) (now (lengths .entry))) (now (msg .entry)) at r ⌝ }
+    ensures { λ r. ⌜ Locate-call flags (framing-of framing) (lent-list n (now (places .entry)) (now (lengths .entry))) (now (msg .entry)) at r ⌝ }
 {
     let mut table = [0u64; SOME_ROWS];
-    let read = read_larger(msg, n, places, lengths, &mut table, framing);
+    let read = read_larger(flags, msg, n, places, lengths, &mut table, framing);
     located(msg, places, lengths, &table, read, at)
 }
 
 // Where the text stands of the atom at this offset of a message of any length, with a table of 8,192 rows.
 fn locate_many(
+    flags: u8,
     msg: &[u8],
     n: u8,
     places: &[u8],
@@ -343,109 +350,251 @@ fn locate_many(
     at: usize,
     framing: Framing,
 ) -> TextAt
-    ensures { λ r. ⌜ Locate-call (framing-of framing) (lent-list n (now (places .entry)) (now (lengths .entry))) (now (msg .entry)) at r ⌝ }
+    ensures { λ r. ⌜ Locate-call flags (framing-of framing) (lent-list n (now (places .entry)) (now (lengths .entry))) (now (msg .entry)) at r ⌝ }
 {
     let mut table = [0u64; sizes::ROWS_MOST];
-    let read = read_larger(msg, n, places, lengths, &mut table, framing);
+    let read = read_larger(flags, msg, n, places, lengths, &mut table, framing);
     located(msg, places, lengths, &table, read, at)
 }
 
 // Each public call picks the size itself: what has two callers stays a function of its own, and a small message has a small stack.
 
-// The number of a row of a standalone term, with this atom list.
+// The number of a row of a standalone term, with the connection's flags and this atom list.
 pub fn number_standalone(
+    connection: Connection,
     msg: &[u8],
     n: u8,
     places: &[u8],
     lengths: &[u16],
     row: usize,
 ) -> NumberAnswer
-    ensures { λ r. ⌜ Number-call standalone (lent-list n (now (places .entry)) (now (lengths .entry))) (now (msg .entry)) row r ⌝ }
+    ensures { λ r. ⌜ Number-call (connection .flags) standalone (lent-list n (now (places .entry)) (now (lengths .entry))) (now (msg .entry)) row r ⌝ }
 {
     if msg.len() <= FEW_BYTES {
-        return number_few(msg, n, places, lengths, row, Framing::Standalone);
+        return number_few(
+            connection.flags,
+            msg,
+            n,
+            places,
+            lengths,
+            row,
+            Framing::Standalone,
+        );
     }
     if msg.len() <= SOME_BYTES {
-        return number_some(msg, n, places, lengths, row, Framing::Standalone);
+        return number_some(
+            connection.flags,
+            msg,
+            n,
+            places,
+            lengths,
+            row,
+            Framing::Standalone,
+        );
     }
-    number_many(msg, n, places, lengths, row, Framing::Standalone)
+    number_many(
+        connection.flags,
+        msg,
+        n,
+        places,
+        lengths,
+        row,
+        Framing::Standalone,
+    )
 }
 
 // Where the text stands of the atom whose tag is at this offset of a standalone term.
-pub fn locate_standalone(msg: &[u8], n: u8, places: &[u8], lengths: &[u16], at: usize) -> TextAt
-    ensures { λ r. ⌜ Locate-call standalone (lent-list n (now (places .entry)) (now (lengths .entry))) (now (msg .entry)) at r ⌝ }
+pub fn locate_standalone(
+    connection: Connection,
+    msg: &[u8],
+    n: u8,
+    places: &[u8],
+    lengths: &[u16],
+    at: usize,
+) -> TextAt
+    ensures { λ r. ⌜ Locate-call (connection .flags) standalone (lent-list n (now (places .entry)) (now (lengths .entry))) (now (msg .entry)) at r ⌝ }
 {
     if msg.len() <= FEW_BYTES {
-        return locate_few(msg, n, places, lengths, at, Framing::Standalone);
+        return locate_few(
+            connection.flags,
+            msg,
+            n,
+            places,
+            lengths,
+            at,
+            Framing::Standalone,
+        );
     }
     if msg.len() <= SOME_BYTES {
-        return locate_some(msg, n, places, lengths, at, Framing::Standalone);
+        return locate_some(
+            connection.flags,
+            msg,
+            n,
+            places,
+            lengths,
+            at,
+            Framing::Standalone,
+        );
     }
-    locate_many(msg, n, places, lengths, at, Framing::Standalone)
+    locate_many(
+        connection.flags,
+        msg,
+        n,
+        places,
+        lengths,
+        at,
+        Framing::Standalone,
+    )
 }
 
 // The text of the atom whose tag is at this offset of a standalone term, empty where refused.
 pub fn text_standalone<'a>(
+    connection: Connection,
     msg: &'a [u8],
     n: u8,
     places: &'a [u8],
     lengths: &[u16],
     at: usize,
 ) -> &'a [u8]
-    ensures { λ r. ⌜ Text-call standalone (lent-list n (now (places .entry)) (now (lengths .entry))) (now (msg .entry)) at (now r) ⌝ }
+    ensures { λ r. ⌜ Text-call (connection .flags) standalone (lent-list n (now (places .entry)) (now (lengths .entry))) (now (msg .entry)) at (now r) ⌝ }
 {
-    bytes_at(msg, places, locate_standalone(msg, n, places, lengths, at))
+    bytes_at(
+        msg,
+        places,
+        locate_standalone(connection, msg, n, places, lengths, at),
+    )
 }
 
 // The mark of that text, or the refusal.
-pub fn mark_standalone(msg: &[u8], n: u8, places: &[u8], lengths: &[u16], at: usize) -> MarkAnswer
-    ensures { λ r. ⌜ Mark-call standalone (lent-list n (now (places .entry)) (now (lengths .entry))) (now (msg .entry)) at r ⌝ }
+pub fn mark_standalone(
+    connection: Connection,
+    msg: &[u8],
+    n: u8,
+    places: &[u8],
+    lengths: &[u16],
+    at: usize,
+) -> MarkAnswer
+    ensures { λ r. ⌜ Mark-call (connection .flags) standalone (lent-list n (now (places .entry)) (now (lengths .entry))) (now (msg .entry)) at r ⌝ }
 {
-    mark_at(locate_standalone(msg, n, places, lengths, at))
+    mark_at(locate_standalone(connection, msg, n, places, lengths, at))
 }
 
-// The number of a row of a payload, with this atom list.
-pub fn number_payload(msg: &[u8], n: u8, places: &[u8], lengths: &[u16], row: usize) -> NumberAnswer
-    ensures { λ r. ⌜ Number-call payload (lent-list n (now (places .entry)) (now (lengths .entry))) (now (msg .entry)) row r ⌝ }
+// The number of a row of a payload, with the connection's flags and this atom list.
+pub fn number_payload(
+    connection: Connection,
+    msg: &[u8],
+    n: u8,
+    places: &[u8],
+    lengths: &[u16],
+    row: usize,
+) -> NumberAnswer
+    ensures { λ r. ⌜ Number-call (connection .flags) payload (lent-list n (now (places .entry)) (now (lengths .entry))) (now (msg .entry)) row r ⌝ }
 {
     if msg.len() <= FEW_BYTES {
-        return number_few(msg, n, places, lengths, row, Framing::Payload);
+        return number_few(
+            connection.flags,
+            msg,
+            n,
+            places,
+            lengths,
+            row,
+            Framing::Payload,
+        );
     }
     if msg.len() <= SOME_BYTES {
-        return number_some(msg, n, places, lengths, row, Framing::Payload);
+        return number_some(
+            connection.flags,
+            msg,
+            n,
+            places,
+            lengths,
+            row,
+            Framing::Payload,
+        );
     }
-    number_many(msg, n, places, lengths, row, Framing::Payload)
+    number_many(
+        connection.flags,
+        msg,
+        n,
+        places,
+        lengths,
+        row,
+        Framing::Payload,
+    )
 }
 
 // Where the text stands of the atom whose tag is at this offset of a payload.
-pub fn locate_payload(msg: &[u8], n: u8, places: &[u8], lengths: &[u16], at: usize) -> TextAt
-    ensures { λ r. ⌜ Locate-call payload (lent-list n (now (places .entry)) (now (lengths .entry))) (now (msg .entry)) at r ⌝ }
+pub fn locate_payload(
+    connection: Connection,
+    msg: &[u8],
+    n: u8,
+    places: &[u8],
+    lengths: &[u16],
+    at: usize,
+) -> TextAt
+    ensures { λ r. ⌜ Locate-call (connection .flags) payload (lent-list n (now (places .entry)) (now (lengths .entry))) (now (msg .entry)) at r ⌝ }
 {
     if msg.len() <= FEW_BYTES {
-        return locate_few(msg, n, places, lengths, at, Framing::Payload);
+        return locate_few(
+            connection.flags,
+            msg,
+            n,
+            places,
+            lengths,
+            at,
+            Framing::Payload,
+        );
     }
     if msg.len() <= SOME_BYTES {
-        return locate_some(msg, n, places, lengths, at, Framing::Payload);
+        return locate_some(
+            connection.flags,
+            msg,
+            n,
+            places,
+            lengths,
+            at,
+            Framing::Payload,
+        );
     }
-    locate_many(msg, n, places, lengths, at, Framing::Payload)
+    locate_many(
+        connection.flags,
+        msg,
+        n,
+        places,
+        lengths,
+        at,
+        Framing::Payload,
+    )
 }
 
 // The text of the atom whose tag is at this offset of a payload, empty where refused.
 pub fn text_payload<'a>(
+    connection: Connection,
     msg: &'a [u8],
     n: u8,
     places: &'a [u8],
     lengths: &[u16],
     at: usize,
 ) -> &'a [u8]
-    ensures { λ r. ⌜ Text-call payload (lent-list n (now (places .entry)) (now (lengths .entry))) (now (msg .entry)) at (now r) ⌝ }
+    ensures { λ r. ⌜ Text-call (connection .flags) payload (lent-list n (now (places .entry)) (now (lengths .entry))) (now (msg .entry)) at (now r) ⌝ }
 {
-    bytes_at(msg, places, locate_payload(msg, n, places, lengths, at))
+    bytes_at(
+        msg,
+        places,
+        locate_payload(connection, msg, n, places, lengths, at),
+    )
 }
 
 // The mark of that text, or the refusal.
-pub fn mark_payload(msg: &[u8], n: u8, places: &[u8], lengths: &[u16], at: usize) -> MarkAnswer
-    ensures { λ r. ⌜ Mark-call payload (lent-list n (now (places .entry)) (now (lengths .entry))) (now (msg .entry)) at r ⌝ }
+pub fn mark_payload(
+    connection: Connection,
+    msg: &[u8],
+    n: u8,
+    places: &[u8],
+    lengths: &[u16],
+    at: usize,
+) -> MarkAnswer
+    ensures { λ r. ⌜ Mark-call (connection .flags) payload (lent-list n (now (places .entry)) (now (lengths .entry))) (now (msg .entry)) at r ⌝ }
 {
-    mark_at(locate_payload(msg, n, places, lengths, at))
+    mark_at(locate_payload(connection, msg, n, places, lengths, at))
 }

@@ -1,4 +1,5 @@
 // Reading messages into a table of rows: a standalone term, or the terms of a payload.
+use connection::Connection;
 use term_head::Wanted;
 use term_reader::Step;
 use term_spec::ReadAnswer;
@@ -13,6 +14,7 @@ ghost use Rattle.term_spec.specs.AtomList.{lent-list};
 ghost use Rattle.term_spec.specs.Message.{standalone, payload};
 ghost use Rattle.term_spec.specs.Promises.{Read-call};
 ghost use Rattle.octets.specs.Cleared.{cleared};
+ghost use Rattle.context.specs.Word.{capacity-in, list-in, atoms-in};
 ghost use Rattle.term_reader.specs.Code.{Room};
 ghost use Rattle.reader.specs.Code.{first-refusal, rows-in, framing-of, Outermost-read, Message-read};
 
@@ -40,22 +42,21 @@ pub enum Framing {
 // An outermost term: 64 levels are left for it, and it has no whole.
 fn read_outermost(
     msg: &[u8],
-    n: u8,
+    context: usize,
     places: &[u8],
     lengths: &[u16],
     table: &mut [u64],
     seen: &mut [u16],
     at: usize,
     row: usize,
-    cap: usize,
 ) -> Step
-    requires { ⌜ Room (now msg) (lent-list n (now places) (now lengths)) (now table) cap at row 0 ⌝ }
+    requires { ⌜ Room (now msg) (list-in context (now places) (now lengths)) (now table) (capacity-in context) at row 0 ⌝ }
     requires { ⌜ 0 < length (now seen) ⌝ }
-    ensures { λ r. ⌜ Outermost-read (now (msg .entry)) (lent-list n (now (places .entry)) (now (lengths .entry))) cap at row (now (table .entry)) r (now (table .exit)) ⌝ }
+    ensures { λ r. ⌜ Outermost-read (now (msg .entry)) (atoms-in context (now (places .entry)) (now (lengths .entry))) (capacity-in context) at row (now (table .entry)) r (now (table .exit)) ⌝ }
 {
     term_reader::read_run(
         msg,
-        n,
+        context,
         places,
         lengths,
         table,
@@ -64,7 +65,6 @@ fn read_outermost(
         row,
         0,
         sizes::DEPTH_MOST,
-        cap,
         Wanted::Any,
         1,
     )
@@ -73,16 +73,15 @@ fn read_outermost(
 // A standalone term: 131, one term, end.
 fn standalone_terms(
     msg: &[u8],
-    n: u8,
+    context: usize,
     places: &[u8],
     lengths: &[u16],
     table: &mut [u64],
     seen: &mut [u16],
-    cap: usize,
 ) -> ReadAnswer
-    requires { ⌜ Room (now msg) (lent-list n (now places) (now lengths)) (now table) cap 0 0 0 ⌝ }
+    requires { ⌜ Room (now msg) (list-in context (now places) (now lengths)) (now table) (capacity-in context) 0 0 0 ⌝ }
     requires { ⌜ 0 < length (now seen) ⌝ }
-    ensures { λ r. ⌜ Message-read standalone (now (msg .entry)) (lent-list n (now (places .entry)) (now (lengths .entry))) cap (now (table .entry)) r (now (table .exit)) ⌝ }
+    ensures { λ r. ⌜ Message-read standalone (now (msg .entry)) (atoms-in context (now (places .entry)) (now (lengths .entry))) (capacity-in context) (now (table .entry)) r (now (table .exit)) ⌝ }
 {
     if msg.len() == 0 {
         return ReadAnswer::Refused(Refusal {
@@ -96,7 +95,7 @@ fn standalone_terms(
             place: 0,
         });
     }
-    match read_outermost(msg, n, places, lengths, table, seen, 1, 0, cap) {
+    match read_outermost(msg, context, places, lengths, table, seen, 1, 0) {
         Step::Refused { number, place } => ReadAnswer::Refused(Refusal { number, place }),
         Step::Got { next, rows } => {
             if next < msg.len() {
@@ -113,24 +112,23 @@ fn standalone_terms(
 // A payload: one or two terms, end.
 fn payload_terms(
     msg: &[u8],
-    n: u8,
+    context: usize,
     places: &[u8],
     lengths: &[u16],
     table: &mut [u64],
     seen: &mut [u16],
-    cap: usize,
 ) -> ReadAnswer
-    requires { ⌜ Room (now msg) (lent-list n (now places) (now lengths)) (now table) cap 0 0 0 ⌝ }
+    requires { ⌜ Room (now msg) (list-in context (now places) (now lengths)) (now table) (capacity-in context) 0 0 0 ⌝ }
     requires { ⌜ 0 < length (now seen) ⌝ }
-    ensures { λ r. ⌜ Message-read payload (now (msg .entry)) (lent-list n (now (places .entry)) (now (lengths .entry))) cap (now (table .entry)) r (now (table .exit)) ⌝ }
+    ensures { λ r. ⌜ Message-read payload (now (msg .entry)) (atoms-in context (now (places .entry)) (now (lengths .entry))) (capacity-in context) (now (table .entry)) r (now (table .exit)) ⌝ }
 {
-    match read_outermost(msg, n, places, lengths, table, seen, 0, 0, cap) {
+    match read_outermost(msg, context, places, lengths, table, seen, 0, 0) {
         Step::Refused { number, place } => ReadAnswer::Refused(Refusal { number, place }),
         Step::Got { next, rows } => {
             if msg.len() <= next {
                 return ReadAnswer::Terms { terms: 1, rows };
             }
-            match read_outermost(msg, n, places, lengths, table, seen, next, rows, cap) {
+            match read_outermost(msg, context, places, lengths, table, seen, next, rows) {
                 Step::Refused { number, place } => ReadAnswer::Refused(Refusal { number, place }),
                 Step::Got { next, rows } => {
                     if next < msg.len() {
@@ -149,30 +147,32 @@ fn payload_terms(
 // The terms of a message that are set so.
 fn framed_terms(
     msg: &[u8],
-    n: u8,
+    context: usize,
     places: &[u8],
     lengths: &[u16],
     table: &mut [u64],
     seen: &mut [u16],
-    cap: usize,
     framing: Framing,
 ) -> ReadAnswer
-    requires { ⌜ Room (now msg) (lent-list n (now places) (now lengths)) (now table) cap 0 0 0 ⌝ }
+    requires { ⌜ Room (now msg) (list-in context (now places) (now lengths)) (now table) (capacity-in context) 0 0 0 ⌝ }
     requires { ⌜ 0 < length (now seen) ⌝ }
-    ensures { λ r. ⌜ Message-read (framing-of framing) (now (msg .entry)) (lent-list n (now (places .entry)) (now (lengths .entry))) cap (now (table .entry)) r (now (table .exit)) ⌝ }
+    ensures { λ r. ⌜ Message-read (framing-of framing) (now (msg .entry)) (atoms-in context (now (places .entry)) (now (lengths .entry))) (capacity-in context) (now (table .entry)) r (now (table .exit)) ⌝ }
 {
     match framing {
-        Framing::Standalone => standalone_terms(msg, n, places, lengths, table, seen, cap),
-        Framing::Payload => payload_terms(msg, n, places, lengths, table, seen, cap),
+        Framing::Standalone => standalone_terms(msg, context, places, lengths, table, seen),
+        Framing::Payload => payload_terms(msg, context, places, lengths, table, seen),
     }
 }
 
-// The refusal that comes before any byte is read: 13 for an atom list not of its size, 12 for a message too long, or 0.
-fn first_refusal(msg: &[u8], places: &[u8], lengths: &[u16]) -> u8
-    ensures { λ r. ⌜ ((n : ℕ) → r ≡ first-refusal (lent-list n (now (places .entry)) (now (lengths .entry))) (now (msg .entry))) ⌝ }
+// The refusal that comes before any byte is read: 13 for an atom list not of its size, 14 for an unknown flag, 12 for a message too long, or 0.
+fn first_refusal(flags: u8, msg: &[u8], places: &[u8], lengths: &[u16]) -> u8
+    ensures { λ r. ⌜ ((n : ℕ) → r ≡ first-refusal flags (lent-list n (now (places .entry)) (now (lengths .entry))) (now (msg .entry))) ⌝ }
 {
     if !atom_list::list_fits(places, lengths) {
         return refusals::SIZE;
+    }
+    if !connection::flags_known(flags) {
+        return refusals::STATE;
     }
     if sizes::MESSAGE_MOST < msg.len() {
         return refusals::LONG;
@@ -196,8 +196,9 @@ fn settle(table: &mut [u64], answer: ReadAnswer) -> ReadAnswer
     }
 }
 
-// Reads the terms of a message that are set so into the table, with this atom list and these slots for keys.
+// Reads the terms of a message that are set so into the table, with these flags, this atom list and these slots for keys.
 fn read_with(
+    flags: u8,
     msg: &[u8],
     n: u8,
     places: &[u8],
@@ -207,19 +208,24 @@ fn read_with(
     framing: Framing,
 ) -> ReadAnswer
     requires { ⌜ 0 < length (now seen) ⌝ }
-    ensures { λ r. ⌜ Read-call (framing-of framing) (lent-list n (now (places .entry)) (now (lengths .entry))) (now (msg .entry)) (now (table .entry)) r (now (table .exit)) ⌝ }
+    ensures { λ r. ⌜ Read-call flags (framing-of framing) (lent-list n (now (places .entry)) (now (lengths .entry))) (now (msg .entry)) (now (table .entry)) r (now (table .exit)) ⌝ }
 {
-    let number = first_refusal(msg, places, lengths);
+    let number = first_refusal(flags, msg, places, lengths);
     if number != 0 {
         return settle(table, ReadAnswer::Refused(Refusal { number, place: 0 }));
     }
-    let cap = term_reader::at_most(table.len(), sizes::ROWS_MOST);
-    let answer = framed_terms(msg, n, places, lengths, table, seen, cap, framing);
+    let context = context::pack(
+        n,
+        flags,
+        term_reader::at_most(table.len(), sizes::ROWS_MOST),
+    );
+    let answer = framed_terms(msg, context, places, lengths, table, seen, framing);
     settle(table, answer)
 }
 
 // Reads a message with the slots that one of at most FEW_BYTES needs.
 pub fn read_few(
+    flags: u8,
     msg: &[u8],
     n: u8,
     places: &[u8],
@@ -227,14 +233,15 @@ pub fn read_few(
     table: &mut [u64],
     framing: Framing,
 ) -> ReadAnswer
-    ensures { λ r. ⌜ Read-call (framing-of framing) (lent-list n (now (places .entry)) (now (lengths .entry))) (now (msg .entry)) (now (table .entry)) r (now (table .exit)) ⌝ }
+    ensures { λ r. ⌜ Read-call flags (framing-of framing) (lent-list n (now (places .entry)) (now (lengths .entry))) (now (msg .entry)) (now (table .entry)) r (now (table .exit)) ⌝ }
 {
     let mut seen = [0u16; FEW_SLOTS];
-    read_with(msg, n, places, lengths, table, &mut seen, framing)
+    read_with(flags, msg, n, places, lengths, table, &mut seen, framing)
 }
 
 // Reads a message with the slots that one of at most SOME_BYTES needs.
 fn read_some(
+    flags: u8,
     msg: &[u8],
     n: u8,
     places: &[u8],
@@ -242,14 +249,15 @@ fn read_some(
     table: &mut [u64],
     framing: Framing,
 ) -> ReadAnswer
-    ensures { λ r. ⌜ Read-call (framing-of framing) (lent-list n (now (places .entry)) (now (lengths .entry))) (now (msg .entry)) (now (table .entry)) r (now (table .exit)) ⌝ }
+    ensures { λ r. ⌜ Read-call flags (framing-of framing) (lent-list n (now (places .entry)) (now (lengths .entry))) (now (msg .entry)) (now (table .entry)) r (now (table .exit)) ⌝ }
 {
     let mut seen = [0u16; SOME_SLOTS];
-    read_with(msg, n, places, lengths, table, &mut seen, framing)
+    read_with(flags, msg, n, places, lengths, table, &mut seen, framing)
 }
 
 // Reads a message with the slots that one of at most MORE_BYTES needs.
 fn read_more(
+    flags: u8,
     msg: &[u8],
     n: u8,
     places: &[u8],
@@ -257,14 +265,15 @@ fn read_more(
     table: &mut [u64],
     framing: Framing,
 ) -> ReadAnswer
-    ensures { λ r. ⌜ Read-call (framing-of framing) (lent-list n (now (places .entry)) (now (lengths .entry))) (now (msg .entry)) (now (table .entry)) r (now (table .exit)) ⌝ }
+    ensures { λ r. ⌜ Read-call flags (framing-of framing) (lent-list n (now (places .entry)) (now (lengths .entry))) (now (msg .entry)) (now (table .entry)) r (now (table .exit)) ⌝ }
 {
     let mut seen = [0u16; MORE_SLOTS];
-    read_with(msg, n, places, lengths, table, &mut seen, framing)
+    read_with(flags, msg, n, places, lengths, table, &mut seen, framing)
 }
 
 // Reads a message with the slots that the longest needs.
 fn read_most(
+    flags: u8,
     msg: &[u8],
     n: u8,
     places: &[u8],
@@ -272,15 +281,16 @@ fn read_most(
     table: &mut [u64],
     framing: Framing,
 ) -> ReadAnswer
-    ensures { λ r. ⌜ Read-call (framing-of framing) (lent-list n (now (places .entry)) (now (lengths .entry))) (now (msg .entry)) (now (table .entry)) r (now (table .exit)) ⌝ }
+    ensures { λ r. ⌜ Read-call flags (framing-of framing) (lent-list n (now (places .entry)) (now (lengths .entry))) (now (msg .entry)) (now (table .entry)) r (now (table .exit)) ⌝ }
 {
     let mut seen = [0u16; MOST_SLOTS];
-    read_with(msg, n, places, lengths, table, &mut seen, framing)
+    read_with(flags, msg, n, places, lengths, table, &mut seen, framing)
 }
 
 // Reads a message with the slots that one of more than FEW_BYTES needs. A smaller one does not come here, so that its stack is free of them. A list that is not of
 // its size is refused with few; looked at here, its two slices are handed on as numbers, which is quicker than a copy of what was just stored.
 pub fn read_larger(
+    flags: u8,
     msg: &[u8],
     n: u8,
     places: &[u8],
@@ -288,48 +298,82 @@ pub fn read_larger(
     table: &mut [u64],
     framing: Framing,
 ) -> ReadAnswer
-    ensures { λ r. ⌜ Read-call (framing-of framing) (lent-list n (now (places .entry)) (now (lengths .entry))) (now (msg .entry)) (now (table .entry)) r (now (table .exit)) ⌝ }
+    ensures { λ r. ⌜ Read-call flags (framing-of framing) (lent-list n (now (places .entry)) (now (lengths .entry))) (now (msg .entry)) (now (table .entry)) r (now (table .exit)) ⌝ }
 {
     if !atom_list::list_fits(places, lengths) {
-        return read_few(msg, n, places, lengths, table, framing);
+        return read_few(flags, msg, n, places, lengths, table, framing);
     }
     if msg.len() <= SOME_BYTES {
-        return read_some(msg, n, places, lengths, table, framing);
+        return read_some(flags, msg, n, places, lengths, table, framing);
     }
     if msg.len() <= MORE_BYTES {
-        return read_more(msg, n, places, lengths, table, framing);
+        return read_more(flags, msg, n, places, lengths, table, framing);
     }
-    read_most(msg, n, places, lengths, table, framing)
+    read_most(flags, msg, n, places, lengths, table, framing)
 }
 
-// Reads a standalone term into the table, with this atom list.
+// Reads a standalone term into the table, with the connection's flags and this atom list.
 pub fn read_standalone(
+    connection: Connection,
     msg: &[u8],
     n: u8,
     places: &[u8],
     lengths: &[u16],
     table: &mut [u64],
 ) -> ReadAnswer
-    ensures { λ r. ⌜ Read-call standalone (lent-list n (now (places .entry)) (now (lengths .entry))) (now (msg .entry)) (now (table .entry)) r (now (table .exit)) ⌝ }
+    ensures { λ r. ⌜ Read-call (connection .flags) standalone (lent-list n (now (places .entry)) (now (lengths .entry))) (now (msg .entry)) (now (table .entry)) r (now (table .exit)) ⌝ }
 {
     if msg.len() <= FEW_BYTES {
-        return read_few(msg, n, places, lengths, table, Framing::Standalone);
+        return read_few(
+            connection.flags,
+            msg,
+            n,
+            places,
+            lengths,
+            table,
+            Framing::Standalone,
+        );
     }
-    read_larger(msg, n, places, lengths, table, Framing::Standalone)
+    read_larger(
+        connection.flags,
+        msg,
+        n,
+        places,
+        lengths,
+        table,
+        Framing::Standalone,
+    )
 }
 
-// Reads the terms of a payload into the table, with this atom list.
+// Reads the terms of a payload into the table, with the connection's flags and this atom list.
 pub fn read_payload(
+    connection: Connection,
     msg: &[u8],
     n: u8,
     places: &[u8],
     lengths: &[u16],
     table: &mut [u64],
 ) -> ReadAnswer
-    ensures { λ r. ⌜ Read-call payload (lent-list n (now (places .entry)) (now (lengths .entry))) (now (msg .entry)) (now (table .entry)) r (now (table .exit)) ⌝ }
+    ensures { λ r. ⌜ Read-call (connection .flags) payload (lent-list n (now (places .entry)) (now (lengths .entry))) (now (msg .entry)) (now (table .entry)) r (now (table .exit)) ⌝ }
 {
     if msg.len() <= FEW_BYTES {
-        return read_few(msg, n, places, lengths, table, Framing::Payload);
+        return read_few(
+            connection.flags,
+            msg,
+            n,
+            places,
+            lengths,
+            table,
+            Framing::Payload,
+        );
     }
-    read_larger(msg, n, places, lengths, table, Framing::Payload)
+    read_larger(
+        connection.flags,
+        msg,
+        n,
+        places,
+        lengths,
+        table,
+        Framing::Payload,
+    )
 }

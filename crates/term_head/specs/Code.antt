@@ -74,9 +74,9 @@ unfoldable pub step-of : Answer (Label × Position) → Step
 step-of (refused n p) = step.Refused n p
 step-of (good x) = step.Got (x .1 .at)
 
--- the later fields, from `at` on, of the term at `place`
-unfoldable pub later-fields : List ℕ → ℕ → ℕ → head-spec.Later → ℕ → Step
-later-fields m at place l rows = step-of (later place l (at-offset m at rows))
+-- the later fields, with these flags, from `at` on, of the term at `place`
+unfoldable pub later-fields : ℕ → List ℕ → ℕ → ℕ → head-spec.Later → ℕ → Step
+later-fields flags m at place l rows = step-of (later flags place l (at-offset m at rows))
 
 -- the fields that a tag has; refusal 3: a tag not in the table
 unfoldable pub tag-fields : head-spec.Atoms → List ℕ → ℕ → ℕ → ℕ → Head

@@ -3,7 +3,7 @@ use term_spec::kinds;
 use term_spec::refusals;
 use term_spec::tags;
 ghost use mathlib.Core.Path.{_≡_};
-ghost use mathlib.Core.Bool.{true, _||_};
+ghost use mathlib.Core.Bool.{true, _&&_, _||_};
 ghost use mathlib.Core.List.{[], _∷_};
 ghost use Prim.Native.Nat.{ℕ, _+_, _*_, _≤_, _<_};
 ghost use lib.Dec.{eqb, ltb};
@@ -12,15 +12,17 @@ ghost use lib.ListN.{length, take, drop};
 ghost use Rattle.term_spec.specs.Numbers.{big-endian};
 ghost use Rattle.term_spec.specs.Text.{coding-of};
 ghost use Rattle.term_spec.specs.Term.{integer};
+ghost use Rattle.term_spec.specs.Connection.{v4-nc};
 ghost use Rattle.term_spec.specs.Answer.{good, after, done, at-offset};
 ghost use Rattle.term_spec.specs.Answer as answer;
-ghost use Rattle.term_spec.specs.Head.{Atoms, leaf, tuple-ext, list-ext, map-ext, string-ext, binary-ext, bit-binary-ext, big-ext, new-float-ext, new-reference-ext, atom-ext, atom-cache-ref};
+ghost use Rattle.term_spec.specs.Head.{Atoms, limits, leaf, tuple-ext, list-ext, map-ext, string-ext, binary-ext, bit-binary-ext, big-ext, new-float-ext, new-reference-ext, atom-ext, atom-cache-ref};
 ghost use Rattle.term_spec.specs.Head.{pid-fields, port-fields, reference-fields, old-reference-fields, creation-rule, words-rule, one-of, any, an-atom, characters, term-head};
 ghost use Rattle.term_spec.specs.Head as head-spec;
 ghost use Rattle.term_spec.specs.Reading.{opening};
-ghost use Rattle.term_spec.specs.AtomList.{of-size, atoms-of, lent-list};
+ghost use Rattle.term_spec.specs.AtomList.{of-size};
 ghost use Rattle.term_head.specs.Quick.{fit, quick-later, quick-word};
 ghost use Rattle.octets.specs.Parts.{Width, words-at};
+ghost use Rattle.context.specs.Word.{flags-in, list-in, atoms-in};
 ghost use Rattle.term_head.specs.Code.{Bits, head-of, fields-of, later-of, step-of, later-fields, tag-fields, allowed, wanted-of, empty-at, Elements-at, Skipped, opened-at, opening-of};
 
 // An exponent of all ones, and what a float's bits are divided by to find its 11 bits of exponent.
@@ -29,6 +31,12 @@ const EXPONENT_ONES: u64 = 2047;
 const EXPONENTS: u64 = 2048;
 
 const FRACTIONS: u64 = 4503599627370496;
+// A pid's ID and Serial are below this, and a reference has at most so many words, where newer identifiers were agreed on and it is one.
+const NEWER_IDS: usize = 4294967296;
+
+const NEWER_WORDS_MOST: usize = 5;
+// The width of a newer identifier's Creation.
+const NEWER_WIDTH: usize = 4;
 // A Creation of one byte, a pid's ID and Serial, a port's ID and the first word of a reference are each below these.
 const CREATIONS: usize = 4;
 
@@ -325,10 +333,50 @@ fn map(msg: &[u8], at: usize) -> Head
     }
 }
 
-// Tags 90 and 114: a count of words, 1 to 3.
-fn reference(msg: &[u8], at: usize, width: usize) -> Head
+// Whether the wider limits of newer identifiers hold for one with such a Creation.
+fn is_newer(context: usize, width: usize) -> bool
+    ensures { λ r. ⌜ r ≡ (v4-nc (flags-in context) && eqb width 4) ⌝ }
+{
+    if !context::v4_nc(context) {
+        return false;
+    }
+    width == NEWER_WIDTH
+}
+
+// The most words of a reference with such a Creation.
+fn words_most(context: usize, width: usize) -> usize
+    ensures { λ r. ⌜ r ≡ limits (flags-in context) width .word-count ⌝ }
+{
+    if is_newer(context, width) {
+        return NEWER_WORDS_MOST;
+    }
+    WORDS_MOST
+}
+
+// The ID of a pid with such a Creation is below this.
+fn pid_ids(context: usize, width: usize) -> usize
+    ensures { λ r. ⌜ (r ≡ limits (flags-in context) width .id) × (1 ≤ r) × (r ≤ 4294967296) ⌝ }
+{
+    if is_newer(context, width) {
+        return NEWER_IDS;
+    }
+    PID_IDS
+}
+
+// Its Serial is below this.
+fn pid_serials(context: usize, width: usize) -> usize
+    ensures { λ r. ⌜ (r ≡ limits (flags-in context) width .serial) × (1 ≤ r) × (r ≤ 4294967296) ⌝ }
+{
+    if is_newer(context, width) {
+        return NEWER_IDS;
+    }
+    PID_SERIALS
+}
+
+// Tags 90 and 114: a count of words, from 1 to the most.
+fn reference(msg: &[u8], context: usize, at: usize, width: usize) -> Head
     requires { ⌜ at < length (now msg) ⌝ }
-    ensures { λ r. ⌜ ((atoms : Atoms) (rows : ℕ) → r ≡ fields-of atoms (now (msg .entry)) at (new-reference-ext width) rows) ⌝ }
+    ensures { λ r. ⌜ ((atoms : Atoms) → atoms .flags ≡ flags-in context → (rows : ℕ) → r ≡ fields-of atoms (now (msg .entry)) at (new-reference-ext width) rows) ⌝ }
 {
     if msg.len() - at - 1 < 2 {
         return Head::Refused {
@@ -343,7 +391,7 @@ fn reference(msg: &[u8], at: usize, width: usize) -> Head
             place: at,
         };
     }
-    if WORDS_MOST < words {
+    if words_most(context, width) < words {
         return Head::Refused {
             number: refusals::FIELD,
             place: at,
@@ -387,9 +435,9 @@ fn atom(msg: &[u8], at: usize, width: usize, utf8: bool) -> Head
 }
 
 // Tag 82: an index of this list, and the text at its place.
-fn cached_atom(msg: &[u8], n: u8, places: &[u8], lengths: &[u16], at: usize) -> Head
-    requires { ⌜ (at < length (now msg)) × (of-size (lent-list n (now places) (now lengths)) ≡ true) ⌝ }
-    ensures { λ r. ⌜ ((rows : ℕ) → r ≡ fields-of (atoms-of (lent-list n (now (places .entry)) (now (lengths .entry)))) (now (msg .entry)) at atom-cache-ref rows) ⌝ }
+fn cached_atom(msg: &[u8], context: usize, places: &[u8], lengths: &[u16], at: usize) -> Head
+    requires { ⌜ (at < length (now msg)) × (of-size (list-in context (now places) (now lengths)) ≡ true) ⌝ }
+    ensures { λ r. ⌜ ((rows : ℕ) → r ≡ fields-of (atoms-in context (now (places .entry)) (now (lengths .entry))) (now (msg .entry)) at atom-cache-ref rows) ⌝ }
 {
     if msg.len() - at - 1 < 1 {
         return Head::Refused {
@@ -398,7 +446,7 @@ fn cached_atom(msg: &[u8], n: u8, places: &[u8], lengths: &[u16], at: usize) -> 
         };
     }
     let i = octets::big1(msg, at + 1);
-    if octets::wide(n) <= i {
+    if context::count_in(context) <= i {
         return Head::Refused {
             number: refusals::INDEX,
             place: at,
@@ -473,9 +521,9 @@ fn words_fit(msg: &[u8], at: usize, words: usize, width: usize) -> bool
 }
 
 // ID, Serial, Creation.
-fn pid_fields(msg: &[u8], at: usize, place: usize, width: usize) -> Step
+fn pid_fields(msg: &[u8], context: usize, at: usize, place: usize, width: usize) -> Step
     requires { ⌜ at ≤ length (now msg) ⌝ }
-    ensures { λ r. ⌜ ((rows : ℕ) → r ≡ later-fields (now (msg .entry)) at place (pid-fields width) rows) ⌝ }
+    ensures { λ r. ⌜ ((rows : ℕ) → r ≡ later-fields (flags-in context) (now (msg .entry)) at place (pid-fields width) rows) ⌝ }
 {
     let left = msg.len() - at;
     if left < 8 {
@@ -490,13 +538,13 @@ fn pid_fields(msg: &[u8], at: usize, place: usize, width: usize) -> Step
             place,
         };
     }
-    if !below(msg, at, 4, PID_IDS) {
+    if !below(msg, at, 4, pid_ids(context, width)) {
         return Step::Refused {
             number: refusals::FIELD,
             place,
         };
     }
-    if !below(msg, at + 4, 4, PID_SERIALS) {
+    if !below(msg, at + 4, 4, pid_serials(context, width)) {
         return Step::Refused {
             number: refusals::FIELD,
             place,
@@ -516,7 +564,7 @@ fn pid_fields(msg: &[u8], at: usize, place: usize, width: usize) -> Step
 // ID, Creation.
 fn port_fields(msg: &[u8], at: usize, place: usize, id: usize, width: usize) -> Step
     requires { ⌜ at ≤ length (now msg) ⌝ }
-    ensures { λ r. ⌜ ((rows : ℕ) → r ≡ later-fields (now (msg .entry)) at place (port-fields id width) rows) ⌝ }
+    ensures { λ r. ⌜ ((flags rows : ℕ) → r ≡ later-fields flags (now (msg .entry)) at place (port-fields id width) rows) ⌝ }
 {
     let left = msg.len() - at;
     if left < id {
@@ -551,7 +599,7 @@ fn port_fields(msg: &[u8], at: usize, place: usize, id: usize, width: usize) -> 
 // Creation, words.
 fn reference_fields(msg: &[u8], at: usize, place: usize, words: usize, width: usize) -> Step
     requires { ⌜ at ≤ length (now msg) ⌝ }
-    ensures { λ r. ⌜ ((rows : ℕ) → r ≡ later-fields (now (msg .entry)) at place (reference-fields words width) rows) ⌝ }
+    ensures { λ r. ⌜ ((flags rows : ℕ) → r ≡ later-fields flags (now (msg .entry)) at place (reference-fields words width) rows) ⌝ }
 {
     let left = msg.len() - at;
     if left < width {
@@ -586,7 +634,7 @@ fn reference_fields(msg: &[u8], at: usize, place: usize, words: usize, width: us
 // One word, Creation of one byte.
 fn old_reference_fields(msg: &[u8], at: usize, place: usize) -> Step
     requires { ⌜ at ≤ length (now msg) ⌝ }
-    ensures { λ r. ⌜ ((rows : ℕ) → r ≡ later-fields (now (msg .entry)) at place old-reference-fields rows) ⌝ }
+    ensures { λ r. ⌜ ((flags rows : ℕ) → r ≡ later-fields flags (now (msg .entry)) at place old-reference-fields rows) ⌝ }
 {
     if msg.len() - at < 5 {
         return Step::Refused {
@@ -610,13 +658,13 @@ fn old_reference_fields(msg: &[u8], at: usize, place: usize) -> Step
 }
 
 // The fields after the parts of the term at `place`: all are there (2) before one is judged (4).
-pub fn read_later(msg: &[u8], at: usize, place: usize, later: Later) -> Step
+pub fn read_later(msg: &[u8], context: usize, at: usize, place: usize, later: Later) -> Step
     requires { ⌜ at ≤ length (now msg) ⌝ }
-    ensures { λ r. ⌜ ((l : head-spec.Later) → later-of l ≡ later → (rows : ℕ) → r ≡ step-of (head-spec.later place l (at-offset (now (msg .entry)) at rows))) ⌝ }
+    ensures { λ r. ⌜ ((l : head-spec.Later) → later-of l ≡ later → (rows : ℕ) → r ≡ step-of (head-spec.later (flags-in context) place l (at-offset (now (msg .entry)) at rows))) ⌝ }
 {
     match later {
         Later::Known => Step::Got { next: at },
-        Later::Pid { width } => pid_fields(msg, at, place, width),
+        Later::Pid { width } => pid_fields(msg, context, at, place, width),
         Later::Port { id, width } => port_fields(msg, at, place, id, width),
         Later::Reference { words, width } => reference_fields(msg, at, place, words, width),
         Later::OldReference => old_reference_fields(msg, at, place),
@@ -638,9 +686,9 @@ fn no_fields(at: usize, kind: usize, wanted: usize, later: Later) -> Head
 }
 
 // The fields that this tag has: the tag table.
-fn by_tag(msg: &[u8], n: u8, places: &[u8], lengths: &[u16], at: usize, tag: u8) -> Head
-    requires { ⌜ (at < length (now msg)) × (length (now msg) ≤ 65536) × (of-size (lent-list n (now places) (now lengths)) ≡ true) ⌝ }
-    ensures { λ r. ⌜ ((rows : ℕ) → r ≡ tag-fields (atoms-of (lent-list n (now (places .entry)) (now (lengths .entry)))) (now (msg .entry)) at tag rows) ⌝ }
+fn by_tag(msg: &[u8], context: usize, places: &[u8], lengths: &[u16], at: usize, tag: u8) -> Head
+    requires { ⌜ (at < length (now msg)) × (length (now msg) ≤ 65536) × (of-size (list-in context (now places) (now lengths)) ≡ true) ⌝ }
+    ensures { λ r. ⌜ ((rows : ℕ) → r ≡ tag-fields (atoms-in context (now (places .entry)) (now (lengths .entry))) (now (msg .entry)) at tag rows) ⌝ }
 {
     match tag {
         tags::SMALL_INTEGER_EXT => integer(msg, at, 1),
@@ -652,7 +700,7 @@ fn by_tag(msg: &[u8], n: u8, places: &[u8], lengths: &[u16], at: usize, tag: u8)
         tags::SMALL_ATOM_EXT => atom(msg, at, 1, false),
         tags::ATOM_UTF8_EXT => atom(msg, at, 2, true),
         tags::SMALL_ATOM_UTF8_EXT => atom(msg, at, 1, true),
-        tags::ATOM_CACHE_REF => cached_atom(msg, n, places, lengths, at),
+        tags::ATOM_CACHE_REF => cached_atom(msg, context, places, lengths, at),
         tags::SMALL_TUPLE_EXT => tuple(msg, at, 1),
         tags::LARGE_TUPLE_EXT => tuple(msg, at, 4),
         tags::NIL_EXT => Head::Characters {
@@ -669,8 +717,8 @@ fn by_tag(msg: &[u8], n: u8, places: &[u8], lengths: &[u16], at: usize, tag: u8)
         tags::NEW_PORT_EXT => no_fields(at, kinds::PORT, 1, Later::Port { id: 4, width: 4 }),
         tags::PORT_EXT => no_fields(at, kinds::PORT, 1, Later::Port { id: 4, width: 1 }),
         tags::V4_PORT_EXT => no_fields(at, kinds::PORT, 1, Later::Port { id: 8, width: 4 }),
-        tags::NEWER_REFERENCE_EXT => reference(msg, at, 4),
-        tags::NEW_REFERENCE_EXT => reference(msg, at, 1),
+        tags::NEWER_REFERENCE_EXT => reference(msg, context, at, 4),
+        tags::NEW_REFERENCE_EXT => reference(msg, context, at, 1),
         tags::REFERENCE_EXT => no_fields(at, kinds::REFERENCE, 1, Later::OldReference),
         tags::EXPORT_EXT => no_fields(at, kinds::EXPORT, 3, Later::Known),
         _ => Head::Refused {
@@ -706,9 +754,16 @@ fn may_stand(wanted: Wanted, tag: u8) -> bool
 }
 
 // A term's tag and the fields before its first part.
-fn read_head(msg: &[u8], n: u8, places: &[u8], lengths: &[u16], at: usize, wanted: Wanted) -> Head
-    requires { ⌜ (at ≤ length (now msg)) × (length (now msg) ≤ 65536) × (of-size (lent-list n (now places) (now lengths)) ≡ true) ⌝ }
-    ensures { λ r. ⌜ ((rows : ℕ) → r ≡ head-of (term-head (atoms-of (lent-list n (now (places .entry)) (now (lengths .entry)))) (wanted-of wanted) (at-offset (now (msg .entry)) at rows))) ⌝ }
+fn read_head(
+    msg: &[u8],
+    context: usize,
+    places: &[u8],
+    lengths: &[u16],
+    at: usize,
+    wanted: Wanted,
+) -> Head
+    requires { ⌜ (at ≤ length (now msg)) × (length (now msg) ≤ 65536) × (of-size (list-in context (now places) (now lengths)) ≡ true) ⌝ }
+    ensures { λ r. ⌜ ((rows : ℕ) → r ≡ head-of (term-head (atoms-in context (now (places .entry)) (now (lengths .entry))) (wanted-of wanted) (at-offset (now (msg .entry)) at rows))) ⌝ }
 {
     if msg.len() <= at {
         return Head::Refused {
@@ -723,7 +778,7 @@ fn read_head(msg: &[u8], n: u8, places: &[u8], lengths: &[u16], at: usize, wante
             place: at,
         };
     }
-    by_tag(msg, n, places, lengths, at, tag)
+    by_tag(msg, context, places, lengths, at, tag)
 }
 
 // Whether a 106 stands here.
@@ -820,25 +875,31 @@ fn opened(at: usize, head: Head) -> Opening
 // A term's tag and fields, with the tag's offset: what stands in the place of a 108 of length 0 is taken.
 pub fn read_opening(
     msg: &[u8],
-    n: u8,
+    context: usize,
     places: &[u8],
     lengths: &[u16],
     at: usize,
     wanted: Wanted,
 ) -> Opening
-    requires { ⌜ (at ≤ length (now msg)) × (length (now msg) ≤ 65536) × (of-size (lent-list n (now places) (now lengths)) ≡ true) ⌝ }
-    ensures { λ r. ⌜ ((rows : ℕ) → r ≡ opening-of (opening (atoms-of (lent-list n (now (places .entry)) (now (lengths .entry)))) (drop at (now (msg .entry))) (wanted-of wanted) (at-offset (now (msg .entry)) at rows))) ⌝ }
+    requires { ⌜ (at ≤ length (now msg)) × (length (now msg) ≤ 65536) × (of-size (list-in context (now places) (now lengths)) ≡ true) ⌝ }
+    ensures { λ r. ⌜ ((rows : ℕ) → r ≡ opening-of (opening (atoms-in context (now (places .entry)) (now (lengths .entry))) (drop at (now (msg .entry))) (wanted-of wanted) (at-offset (now (msg .entry)) at rows))) ⌝ }
 {
     match wanted {
         Wanted::Any => {
             let place = skip_empty(msg, at);
             opened(
                 place,
-                read_head(msg, n, places, lengths, place, Wanted::Any),
+                read_head(msg, context, places, lengths, place, Wanted::Any),
             )
         }
-        Wanted::Atom => opened(at, read_head(msg, n, places, lengths, at, Wanted::Atom)),
-        Wanted::Arity => opened(at, read_head(msg, n, places, lengths, at, Wanted::Arity)),
+        Wanted::Atom => opened(
+            at,
+            read_head(msg, context, places, lengths, at, Wanted::Atom),
+        ),
+        Wanted::Arity => opened(
+            at,
+            read_head(msg, context, places, lengths, at, Wanted::Arity),
+        ),
     }
 }
 
@@ -944,16 +1005,23 @@ fn entry_word(msg: &[u8], at: usize, tag: u8) -> usize
 }
 
 // Common terms, with parts and without.
-fn common_word(msg: &[u8], n: u8, places: &[u8], lengths: &[u16], at: usize, tag: u8) -> usize
-    requires { ⌜ (at < length (now msg)) × (length (now msg) ≤ 65536) × (of-size (lent-list n (now places) (now lengths)) ≡ true) ⌝ }
-    ensures { λ r. ⌜ ((r ≡ 0 → ⊥) → (rows : ℕ) → r ≡ quick-word (tag-fields (atoms-of (lent-list n (now (places .entry)) (now (lengths .entry)))) (now (msg .entry)) at tag rows)) ⌝ }
+fn common_word(
+    msg: &[u8],
+    context: usize,
+    places: &[u8],
+    lengths: &[u16],
+    at: usize,
+    tag: u8,
+) -> usize
+    requires { ⌜ (at < length (now msg)) × (length (now msg) ≤ 65536) × (of-size (list-in context (now places) (now lengths)) ≡ true) ⌝ }
+    ensures { λ r. ⌜ ((r ≡ 0 → ⊥) → (rows : ℕ) → r ≡ quick-word (tag-fields (atoms-in context (now (places .entry)) (now (lengths .entry))) (now (msg .entry)) at tag rows)) ⌝ }
 {
     match tag {
         tags::SMALL_TUPLE_EXT => word_of(tuple(msg, at, 1)),
         tags::LARGE_TUPLE_EXT => word_of(tuple(msg, at, 4)),
         tags::LIST_EXT => word_of(list(msg, at)),
         tags::MAP_EXT => word_of(map(msg, at)),
-        tags::ATOM_CACHE_REF => word_of(cached_atom(msg, n, places, lengths, at)),
+        tags::ATOM_CACHE_REF => word_of(cached_atom(msg, context, places, lengths, at)),
         tags::ATOM_EXT => word_of(atom(msg, at, 2, false)),
         tags::SMALL_ATOM_EXT => word_of(atom(msg, at, 1, false)),
         tags::ATOM_UTF8_EXT => word_of(atom(msg, at, 2, true)),
@@ -1004,14 +1072,14 @@ pub fn node_at(msg: &[u8], at: usize) -> usize
 // The head of a common term in one word; 0 of any other, and of one that is not wanted.
 pub fn quick_at(
     msg: &[u8],
-    n: u8,
+    context: usize,
     places: &[u8],
     lengths: &[u16],
     at: usize,
     wanted: Wanted,
 ) -> usize
-    requires { ⌜ (at ≤ length (now msg)) × (length (now msg) ≤ 65536) × (of-size (lent-list n (now places) (now lengths)) ≡ true) ⌝ }
-    ensures { λ r. ⌜ ((r ≡ 0 → ⊥) → (rows : ℕ) → r ≡ quick-word (head-of (term-head (atoms-of (lent-list n (now (places .entry)) (now (lengths .entry)))) (wanted-of wanted) (at-offset (now (msg .entry)) at rows)))) ⌝ }
+    requires { ⌜ (at ≤ length (now msg)) × (length (now msg) ≤ 65536) × (of-size (list-in context (now places) (now lengths)) ≡ true) ⌝ }
+    ensures { λ r. ⌜ ((r ≡ 0 → ⊥) → (rows : ℕ) → r ≡ quick-word (head-of (term-head (atoms-in context (now (places .entry)) (now (lengths .entry))) (wanted-of wanted) (at-offset (now (msg .entry)) at rows)))) ⌝ }
 {
     if msg.len() <= at {
         return 0;
@@ -1020,5 +1088,5 @@ pub fn quick_at(
     if !may_stand(wanted, tag) {
         return 0;
     }
-    common_word(msg, n, places, lengths, at, tag)
+    common_word(msg, context, places, lengths, at, tag)
 }

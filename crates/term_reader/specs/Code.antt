@@ -11,7 +11,7 @@ use Rattle.term_spec.specs.Tree.{_▹▹_, count, size, sizes, Each-node, Each-
 use Rattle.term_spec.specs.Term.{Label, list, map}
 use Rattle.term_spec.specs.Answer.{_>>=_, Answer, good, refused, Position, at-offset, Reading, done}
 use Rattle.term_spec.specs.Head.{Atoms, Wanted, any, an-atom, an-arity, Head, parts, characters, elements, pairs, Later, later}
-use Rattle.term_spec.specs.AtomList.{AtomList, of-size, atoms-of}
+use Rattle.term_spec.specs.AtomList.{AtomList, of-size}
 use Rattle.term_spec.specs.Reading.{Located, bytes-left, each, run, entries, string, list-tail, opening, body, term}
 use Rattle.term_spec.specs.Message.{Terms}
 use Rattle.term_spec.specs.Rows.{tree-rows, rows, kind-of, pack, row-words, Placed}
@@ -79,7 +79,7 @@ module _ (atoms : Atoms) (cap deep : ℕ) where
   inner p (parts ws n l) = do
     ts ← each (term atoms cap deep) ws
     us ← run (term atoms cap deep) n
-    label ← later p l
+    label ← later (atoms .flags) p l
     done (ts ▹▹ us, label)
   inner p (characters cs) = do
     ts ← string atoms cap deep p (p + 3) cs
@@ -123,55 +123,55 @@ PartsDone m before cap row whole =
     Done (λ e next end. parts-of.Got next end (before + count (e .0)) (kind-of (e .1))) parts-of.Refused (λ e. sizes (e .0)) (λ e. row-words (rows (whole-of whole) row (e .0)))
     (λ e. Each-nodes (Placed 65536) (e .0)) m cap row
 
--- What the functions that read promise. Of the message m they read with this atom list, room for cap rows and `left` levels, from the offset `at` and the row `row` on,
+-- What the functions that read promise. Of the message m they read with these flags and this atom list, room for cap rows and `left` levels, from the offset `at` and the row `row` on,
 -- as parts of `whole`; they store rows in the table T and remember keys in S. T′ and S′ are the two after it
-module _ (m : List ℕ) (list : AtomList) (cap left at row whole : ℕ) (T S : List ℕ) where
+module _ (m : List ℕ) (atoms : Atoms) (cap left at row whole : ℕ) (T S : List ℕ) where
   -- a term that is wanted so
   pub record Term-read (wanted : Wanted) (r : Step) (T′ S′ : List ℕ) : Type 0 where
-    pub rows-stored : TermDone m cap row whole T (term (atoms-of list) cap left wanted (at-offset m at row)) r T′
+    pub rows-stored : TermDone m cap row whole T (term atoms cap left wanted (at-offset m at row)) r T′
     pub keys-kept : Keeps S S′
 
   -- n terms that are wanted so, in turn
   pub record Run-read (n : ℕ) (wanted : List Wanted) (r : Step) (T′ S′ : List ℕ) : Type 0 where
-    pub rows-stored : RunDone m n cap row whole T (each (term (atoms-of list) cap left) wanted (at-offset m at row)) r T′
+    pub rows-stored : RunDone m n cap row whole T (each (term atoms cap left) wanted (at-offset m at row)) r T′
     pub keys-kept : Keeps S S′
 
   -- the term at `at`, whose head is read
   pub record Body-read (head : code.Head) (r : Step) (T′ S′ : List ℕ) : Type 0 where
     pub rows-stored : (h : Head) (next : ℕ) → head ≡ head-at h next → Sound-head m at next h
-        → TermDone m cap row whole T (body (atoms-of list) cap left at h (at-offset m next row)) r T′
+        → TermDone m cap row whole T (body atoms cap left at h (at-offset m next row)) r T′
     pub keys-kept : Keeps S S′
 
   -- the parts of the term at `at`, whose head is read
   pub record Inner-read (head : code.Head) (r : Parts) (T′ S′ : List ℕ) : Type 0 where
     pub rows-stored : (h : Head) (next : ℕ) → head ≡ head-at h next → Sound-head m at next h
-        → PartsDone m 0 cap row whole T (inner (atoms-of list) cap left at h (at-offset m next row)) r T′
+        → PartsDone m 0 cap row whole T (inner atoms cap left at h (at-offset m next row)) r T′
     pub keys-kept : Keeps S S′
 
   -- the parts of the term at `place`, of this kind: wanted parts, then `count` of any kind, then later fields
   pub record Parts-read (place kind wanted count : ℕ) (later : code-later.Later) (r : Parts) (T′ S′ : List ℕ) : Type 0 where
     pub rows-stored : (l : Later) → kind ≡ kind-later l → later-of l ≡ later
-        → PartsDone m 0 cap row whole T (inner (atoms-of list) cap left place (parts (asked wanted) count l) (at-offset m at row)) r T′
+        → PartsDone m 0 cap row whole T (inner atoms cap left place (parts (asked wanted) count l) (at-offset m at row)) r T′
     pub keys-kept : Keeps S S′
 
   -- the parts of any term with the head h
   pub record Many-read (h : Head) (r : Parts) (T′ S′ : List ℕ) : Type 0 where
-    pub rows-stored : (place : ℕ) → PartsDone m 0 cap row whole T (inner (atoms-of list) cap left place h (at-offset m at row)) r T′
+    pub rows-stored : (place : ℕ) → PartsDone m 0 cap row whole T (inner atoms cap left place h (at-offset m at row)) r T′
     pub keys-kept : Keeps S S′
 
   -- what follows the elements of a list, of which `before` are read
   pub record Tail-read (before : ℕ) (r : Parts) (T′ S′ : List ℕ) : Type 0 where
-    pub rows-stored : PartsDone m before cap row whole T (list-tail (atoms-of list) cap left (body (atoms-of list) cap left) (drop at m) (at-offset m at row)) r T′
+    pub rows-stored : PartsDone m before cap row whole T (list-tail atoms cap left (body atoms cap left) (drop at m) (at-offset m at row)) r T′
     pub keys-kept : Keeps S S′
 
   -- the same of a tail that is joined no further, by any bound as long as the bytes left
   pub record Last-read (before : ℕ) (r : Parts) (T′ S′ : List ℕ) : Type 0 where
     pub rows-stored : (bound : List ℕ) → length m - at ≤ length bound
-        → PartsDone m before cap row whole T (list-tail (atoms-of list) cap left (body (atoms-of list) cap left) bound (at-offset m at row)) r T′
+        → PartsDone m before cap row whole T (list-tail atoms cap left (body atoms cap left) bound (at-offset m at row)) r T′
     pub keys-kept : Keeps S S′
 
 -- the parts of a term whose head is in a word
-pub record Common-read (m : List ℕ) (list : AtomList) (cap left row whole : ℕ) (T S : List ℕ) (word : ℕ) (r : Parts) (T′ S′ : List ℕ) : Type 0 where
+pub record Common-read (m : List ℕ) (atoms : Atoms) (cap left row whole : ℕ) (T S : List ℕ) (word : ℕ) (r : Parts) (T′ S′ : List ℕ) : Type 0 where
   pub rows-stored : (place : ℕ) (h : Head) (next : ℕ) → Told word h next
-      → PartsDone m 0 cap row whole T (inner (atoms-of list) cap left place h (at-offset m next row)) r T′
+      → PartsDone m 0 cap row whole T (inner atoms cap left place h (at-offset m next row)) r T′
   pub keys-kept : Keeps S S′

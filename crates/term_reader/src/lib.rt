@@ -10,10 +10,10 @@ ghost use mathlib.Core.List.{List};
 ghost use Prim.Native.Nat.{ℕ, _+_, _/_, _%_, _≤_, _<_, min};
 ghost use lib.ListN.{length, replicate};
 ghost use lib.Seq.{sets};
-ghost use Rattle.term_spec.specs.AtomList.{atoms-of, lent-list};
 ghost use Rattle.term_spec.specs.Head as head-spec;
 ghost use Rattle.term_spec.specs.Head.{any, characters, elements, pairs, term-head};
 ghost use Rattle.term_spec.specs.Answer.{at-offset};
+ghost use Rattle.context.specs.Word.{capacity-in, list-in, atoms-in};
 ghost use Rattle.term_head.specs.Code.{wanted-of, head-of};
 ghost use Rattle.term_head.specs.Quick.{quick-word};
 ghost use Rattle.term_reader.specs.Code.{asked, character-words, Room, Head-read, Last-at, inner, PartsDone, Term-read, Run-read, Body-read, Inner-read, Parts-read, Many-read, Tail-read, Last-read, Common-read};
@@ -55,7 +55,7 @@ pub fn at_most(n: usize, most: usize) -> usize
 // A term. `whole` is the row of its whole plus 1, or 0; `left` the levels that are left for it.
 fn read_term(
     msg: &[u8],
-    n: u8,
+    context: usize,
     places: &[u8],
     lengths: &[u16],
     table: &mut [u64],
@@ -64,18 +64,17 @@ fn read_term(
     row: usize,
     whole: usize,
     left: usize,
-    cap: usize,
     wanted: Wanted,
 ) -> Step
-    requires { ⌜ Room (now msg) (lent-list n (now places) (now lengths)) (now table) cap at row whole ⌝ }
+    requires { ⌜ Room (now msg) (list-in context (now places) (now lengths)) (now table) (capacity-in context) at row whole ⌝ }
     requires { ⌜ 0 < length (now seen) ⌝ }
-    ensures { λ r. ⌜ Term-read (now (msg .entry)) (lent-list n (now (places .entry)) (now (lengths .entry))) cap left at row whole (now (table .entry)) (now (seen .entry)) (wanted-of wanted) r (now (table .exit)) (now (seen .exit)) ⌝ }
+    ensures { λ r. ⌜ Term-read (now (msg .entry)) (atoms-in context (now (places .entry)) (now (lengths .entry))) (capacity-in context) left at row whole (now (table .entry)) (now (seen .entry)) (wanted-of wanted) r (now (table .exit)) (now (seen .exit)) ⌝ }
 {
-    let word = term_head::quick_at(msg, n, places, lengths, at, wanted);
+    let word = term_head::quick_at(msg, context, places, lengths, at, wanted);
     if word != 0 {
         return read_quick(
             msg,
-            n,
+            context,
             places,
             lengths,
             table,
@@ -84,19 +83,18 @@ fn read_term(
             row,
             whole,
             left,
-            cap,
             wanted,
             word,
         );
     }
-    let opening = term_head::read_opening(msg, n, places, lengths, at, wanted);
+    let opening = term_head::read_opening(msg, context, places, lengths, at, wanted);
     let place = opening.place;
     let head = opening.head;
     match head {
         Head::Refused { number, place } => Step::Refused { number, place },
         _ => read_body(
             msg,
-            n,
+            context,
             places,
             lengths,
             table,
@@ -106,7 +104,6 @@ fn read_term(
             row,
             whole,
             left,
-            cap,
         ),
     }
 }
@@ -114,7 +111,7 @@ fn read_term(
 // A common term, whose head is in `word`. Its own row is stored after its parts.
 fn read_quick(
     msg: &[u8],
-    n: u8,
+    context: usize,
     places: &[u8],
     lengths: &[u16],
     table: &mut [u64],
@@ -123,13 +120,12 @@ fn read_quick(
     row: usize,
     whole: usize,
     left: usize,
-    cap: usize,
     wanted: Wanted,
     word: usize,
 ) -> Step
-    requires { ⌜ Room (now msg) (lent-list n (now places) (now lengths)) (now table) cap at row whole × (word ≡ 0 → ⊥) × ((rows : ℕ) → word ≡ quick-word (head-of (term-head (atoms-of (lent-list n (now places) (now lengths))) (wanted-of wanted) (at-offset (now msg) at rows)))) ⌝ }
+    requires { ⌜ Room (now msg) (list-in context (now places) (now lengths)) (now table) (capacity-in context) at row whole × (word ≡ 0 → ⊥) × ((rows : ℕ) → word ≡ quick-word (head-of (term-head (atoms-in context (now places) (now lengths)) (wanted-of wanted) (at-offset (now msg) at rows)))) ⌝ }
     requires { ⌜ 0 < length (now seen) ⌝ }
-    ensures { λ r. ⌜ Term-read (now (msg .entry)) (lent-list n (now (places .entry)) (now (lengths .entry))) cap left at row whole (now (table .entry)) (now (seen .entry)) (wanted-of wanted) r (now (table .exit)) (now (seen .exit)) ⌝ }
+    ensures { λ r. ⌜ Term-read (now (msg .entry)) (atoms-in context (now (places .entry)) (now (lengths .entry))) (capacity-in context) left at row whole (now (table .entry)) (now (seen .entry)) (wanted-of wanted) r (now (table .exit)) (now (seen .exit)) ⌝ }
 {
     if left == 0 {
         return Step::Refused {
@@ -137,7 +133,7 @@ fn read_quick(
             place: at,
         };
     }
-    if cap <= row {
+    if !context::has_row(context, row) {
         return Step::Refused {
             number: refusals::ROWS,
             place: at,
@@ -145,14 +141,13 @@ fn read_quick(
     }
     match read_common(
         msg,
-        n,
+        context,
         places,
         lengths,
         table,
         seen,
         row + 1,
         left - 1,
-        cap,
         word,
     ) {
         Parts::Refused { number, place } => Step::Refused { number, place },
@@ -171,19 +166,18 @@ fn read_quick(
 // The parts of a common term, whose head is in `word`, from `row` on; their whole is the row before.
 fn read_common(
     msg: &[u8],
-    n: u8,
+    context: usize,
     places: &[u8],
     lengths: &[u16],
     table: &mut [u64],
     seen: &mut [u16],
     row: usize,
     deep: usize,
-    cap: usize,
     word: usize,
 ) -> Parts
-    requires { ⌜ Room (now msg) (lent-list n (now places) (now lengths)) (now table) cap (word / 16 % 131072) row row ⌝ }
+    requires { ⌜ Room (now msg) (list-in context (now places) (now lengths)) (now table) (capacity-in context) (word / 16 % 131072) row row ⌝ }
     requires { ⌜ 0 < length (now seen) ⌝ }
-    ensures { λ r. ⌜ Common-read (now (msg .entry)) (lent-list n (now (places .entry)) (now (lengths .entry))) cap deep row row (now (table .entry)) (now (seen .entry)) word r (now (table .exit)) (now (seen .exit)) ⌝ }
+    ensures { λ r. ⌜ Common-read (now (msg .entry)) (atoms-in context (now (places .entry)) (now (lengths .entry))) (capacity-in context) deep row row (now (table .entry)) (now (seen .entry)) word r (now (table .exit)) (now (seen .exit)) ⌝ }
 {
     let kind = word % term_head::WORD_KINDS;
     let at = word / term_head::WORD_KINDS % term_head::WORD_OFFSETS;
@@ -199,7 +193,7 @@ fn read_common(
     if kind == term_head::WORD_ELEMENTS {
         return read_list(
             msg,
-            n,
+            context,
             places,
             lengths,
             table,
@@ -207,14 +201,13 @@ fn read_common(
             at,
             row,
             deep,
-            cap,
             count,
         );
     }
     if kind == term_head::WORD_PAIRS {
         return read_pairs(
             msg,
-            n,
+            context,
             places,
             lengths,
             table,
@@ -222,13 +215,12 @@ fn read_common(
             at,
             row,
             deep,
-            cap,
             count,
         );
     }
     match read_run(
         msg,
-        n,
+        context,
         places,
         lengths,
         table,
@@ -237,7 +229,6 @@ fn read_common(
         row,
         row,
         deep,
-        cap,
         Wanted::Any,
         count,
     ) {
@@ -254,7 +245,7 @@ fn read_common(
 // The term at `place`, whose tag and fields are read. Its own row is stored after its parts.
 fn read_body(
     msg: &[u8],
-    n: u8,
+    context: usize,
     places: &[u8],
     lengths: &[u16],
     table: &mut [u64],
@@ -264,11 +255,10 @@ fn read_body(
     row: usize,
     whole: usize,
     left: usize,
-    cap: usize,
 ) -> Step
-    requires { ⌜ Room (now msg) (lent-list n (now places) (now lengths)) (now table) cap place row whole × Head-read (now msg) place head ⌝ }
+    requires { ⌜ Room (now msg) (list-in context (now places) (now lengths)) (now table) (capacity-in context) place row whole × Head-read (now msg) place head ⌝ }
     requires { ⌜ 0 < length (now seen) ⌝ }
-    ensures { λ r. ⌜ Body-read (now (msg .entry)) (lent-list n (now (places .entry)) (now (lengths .entry))) cap left place row whole (now (table .entry)) (now (seen .entry)) head r (now (table .exit)) (now (seen .exit)) ⌝ }
+    ensures { λ r. ⌜ Body-read (now (msg .entry)) (atoms-in context (now (places .entry)) (now (lengths .entry))) (capacity-in context) left place row whole (now (table .entry)) (now (seen .entry)) head r (now (table .exit)) (now (seen .exit)) ⌝ }
 {
     if left == 0 {
         return Step::Refused {
@@ -276,7 +266,7 @@ fn read_body(
             place,
         };
     }
-    if cap <= row {
+    if !context::has_row(context, row) {
         return Step::Refused {
             number: refusals::ROWS,
             place,
@@ -284,7 +274,7 @@ fn read_body(
     }
     match read_inner(
         msg,
-        n,
+        context,
         places,
         lengths,
         table,
@@ -293,7 +283,6 @@ fn read_body(
         head,
         row + 1,
         left - 1,
-        cap,
     ) {
         Parts::Refused { number, place } => Step::Refused { number, place },
         Parts::Got {
@@ -311,7 +300,7 @@ fn read_body(
 // The parts of the term at `place`, from `row` on; their whole is the row before.
 fn read_inner(
     msg: &[u8],
-    n: u8,
+    context: usize,
     places: &[u8],
     lengths: &[u16],
     table: &mut [u64],
@@ -320,11 +309,10 @@ fn read_inner(
     head: Head,
     row: usize,
     deep: usize,
-    cap: usize,
 ) -> Parts
-    requires { ⌜ Room (now msg) (lent-list n (now places) (now lengths)) (now table) cap place row row × Head-read (now msg) place head ⌝ }
+    requires { ⌜ Room (now msg) (list-in context (now places) (now lengths)) (now table) (capacity-in context) place row row × Head-read (now msg) place head ⌝ }
     requires { ⌜ 0 < length (now seen) ⌝ }
-    ensures { λ r. ⌜ Inner-read (now (msg .entry)) (lent-list n (now (places .entry)) (now (lengths .entry))) cap deep place row row (now (table .entry)) (now (seen .entry)) head r (now (table .exit)) (now (seen .exit)) ⌝ }
+    ensures { λ r. ⌜ Inner-read (now (msg .entry)) (atoms-in context (now (places .entry)) (now (lengths .entry))) (capacity-in context) deep place row row (now (table .entry)) (now (seen .entry)) head r (now (table .exit)) (now (seen .exit)) ⌝ }
 {
     match head {
         Head::Refused { number, place } => Parts::Refused { number, place },
@@ -336,7 +324,7 @@ fn read_inner(
             next,
         } => read_parts(
             msg,
-            n,
+            context,
             places,
             lengths,
             table,
@@ -345,19 +333,18 @@ fn read_inner(
             next,
             row,
             deep,
-            cap,
             kind,
             wanted,
             count,
             later,
         ),
         Head::Characters { count, next } => {
-            read_characters(table, place, count, next, row, row, deep, cap, 0)
+            read_characters(context, table, place, count, next, row, row, deep, 0)
         }
         Head::Elements { count, next } => {
             read_list(
                 msg,
-                n,
+                context,
                 places,
                 lengths,
                 table,
@@ -365,14 +352,13 @@ fn read_inner(
                 next,
                 row,
                 deep,
-                cap,
                 count,
             )
         }
         Head::Pairs { count, next } => {
             read_pairs(
                 msg,
-                n,
+                context,
                 places,
                 lengths,
                 table,
@@ -380,7 +366,6 @@ fn read_inner(
                 next,
                 row,
                 deep,
-                cap,
                 count,
             )
         }
@@ -390,7 +375,7 @@ fn read_inner(
 // The wanted parts, then `count` parts of any kind, then the later fields.
 fn read_parts(
     msg: &[u8],
-    n: u8,
+    context: usize,
     places: &[u8],
     lengths: &[u16],
     table: &mut [u64],
@@ -399,19 +384,18 @@ fn read_parts(
     at: usize,
     row: usize,
     deep: usize,
-    cap: usize,
     kind: usize,
     wanted: usize,
     count: usize,
     later: Later,
 ) -> Parts
-    requires { ⌜ Room (now msg) (lent-list n (now places) (now lengths)) (now table) cap at row row ⌝ }
+    requires { ⌜ Room (now msg) (list-in context (now places) (now lengths)) (now table) (capacity-in context) at row row ⌝ }
     requires { ⌜ 0 < length (now seen) ⌝ }
-    ensures { λ r. ⌜ Parts-read (now (msg .entry)) (lent-list n (now (places .entry)) (now (lengths .entry))) cap deep at row row (now (table .entry)) (now (seen .entry)) place kind wanted count later r (now (table .exit)) (now (seen .exit)) ⌝ }
+    ensures { λ r. ⌜ Parts-read (now (msg .entry)) (atoms-in context (now (places .entry)) (now (lengths .entry))) (capacity-in context) deep at row row (now (table .entry)) (now (seen .entry)) place kind wanted count later r (now (table .exit)) (now (seen .exit)) ⌝ }
 {
     match read_wanted(
         msg,
-        n,
+        context,
         places,
         lengths,
         table,
@@ -420,13 +404,12 @@ fn read_parts(
         row,
         row,
         deep,
-        cap,
         wanted,
     ) {
         Step::Refused { number, place } => Parts::Refused { number, place },
         Step::Got { next, rows } => match read_more(
             msg,
-            n,
+            context,
             places,
             lengths,
             table,
@@ -435,12 +418,17 @@ fn read_parts(
             rows,
             row,
             deep,
-            cap,
             Wanted::Any,
             count,
         ) {
             Step::Refused { number, place } => Parts::Refused { number, place },
-            Step::Got { next, rows } => match term_head::read_later(msg, next, place, later) {
+            Step::Got { next, rows } => match term_head::read_later(
+                msg,
+                context,
+                next,
+                place,
+                later,
+            ) {
                 term_head::Step::Refused { number, place } => Parts::Refused { number, place },
                 term_head::Step::Got { next } => Parts::Got {
                     next,
@@ -456,7 +444,7 @@ fn read_parts(
 // Terms as in a run, where there are any: most terms that go this way have none, and an empty run is no call.
 fn read_more(
     msg: &[u8],
-    n: u8,
+    context: usize,
     places: &[u8],
     lengths: &[u16],
     table: &mut [u64],
@@ -465,13 +453,12 @@ fn read_more(
     row: usize,
     whole: usize,
     deep: usize,
-    cap: usize,
     wanted: Wanted,
     count: usize,
 ) -> Step
-    requires { ⌜ Room (now msg) (lent-list n (now places) (now lengths)) (now table) cap at row whole ⌝ }
+    requires { ⌜ Room (now msg) (list-in context (now places) (now lengths)) (now table) (capacity-in context) at row whole ⌝ }
     requires { ⌜ 0 < length (now seen) ⌝ }
-    ensures { λ r. ⌜ Run-read (now (msg .entry)) (lent-list n (now (places .entry)) (now (lengths .entry))) cap deep at row whole (now (table .entry)) (now (seen .entry)) count (replicate count (wanted-of wanted)) r (now (table .exit)) (now (seen .exit)) ⌝ }
+    ensures { λ r. ⌜ Run-read (now (msg .entry)) (atoms-in context (now (places .entry)) (now (lengths .entry))) (capacity-in context) deep at row whole (now (table .entry)) (now (seen .entry)) count (replicate count (wanted-of wanted)) r (now (table .exit)) (now (seen .exit)) ⌝ }
 {
     if count == 0 {
         return Step::Got {
@@ -481,7 +468,7 @@ fn read_more(
     }
     read_run(
         msg,
-        n,
+        context,
         places,
         lengths,
         table,
@@ -490,7 +477,6 @@ fn read_more(
         row,
         whole,
         deep,
-        cap,
         wanted,
         count,
     )
@@ -499,7 +485,7 @@ fn read_more(
 // `wanted` parts, each an atom; of three the last is an arity. One alone is a node: most are read here, without a call for a run.
 fn read_wanted(
     msg: &[u8],
-    n: u8,
+    context: usize,
     places: &[u8],
     lengths: &[u16],
     table: &mut [u64],
@@ -508,16 +494,15 @@ fn read_wanted(
     row: usize,
     whole: usize,
     deep: usize,
-    cap: usize,
     wanted: usize,
 ) -> Step
-    requires { ⌜ Room (now msg) (lent-list n (now places) (now lengths)) (now table) cap at row whole ⌝ }
+    requires { ⌜ Room (now msg) (list-in context (now places) (now lengths)) (now table) (capacity-in context) at row whole ⌝ }
     requires { ⌜ 0 < length (now seen) ⌝ }
-    ensures { λ r. ⌜ Run-read (now (msg .entry)) (lent-list n (now (places .entry)) (now (lengths .entry))) cap deep at row whole (now (table .entry)) (now (seen .entry)) wanted (asked wanted) r (now (table .exit)) (now (seen .exit)) ⌝ }
+    ensures { λ r. ⌜ Run-read (now (msg .entry)) (atoms-in context (now (places .entry)) (now (lengths .entry))) (capacity-in context) deep at row whole (now (table .entry)) (now (seen .entry)) wanted (asked wanted) r (now (table .exit)) (now (seen .exit)) ⌝ }
 {
     if wanted == 1 {
         let word = term_head::node_at(msg, at);
-        if is_leaf(word, deep, row, cap) {
+        if is_leaf(word, deep, row, context) {
             table[row] = row::pack(word % term_head::WORD_KINDS, at, whole, 0, 1);
             return Step::Got {
                 next: word / term_head::WORD_KINDS,
@@ -528,7 +513,7 @@ fn read_wanted(
     let atoms = at_most(wanted, WANTED_ATOMS);
     match read_run(
         msg,
-        n,
+        context,
         places,
         lengths,
         table,
@@ -537,14 +522,13 @@ fn read_wanted(
         row,
         whole,
         deep,
-        cap,
         Wanted::Atom,
         atoms,
     ) {
         Step::Refused { number, place } => Step::Refused { number, place },
         Step::Got { next, rows } => read_more(
             msg,
-            n,
+            context,
             places,
             lengths,
             table,
@@ -553,7 +537,6 @@ fn read_wanted(
             rows,
             whole,
             deep,
-            cap,
             Wanted::Arity,
             wanted - atoms,
         ),
@@ -561,8 +544,8 @@ fn read_wanted(
 }
 
 // Whether a word is the head of a term without parts, and there are a level and a row for it.
-fn is_leaf(word: usize, deep: usize, row: usize, cap: usize) -> bool
-    ensures { λ r. ⌜ (r ≡ true → (word ≡ 0 → ⊥) × (word < 2097152) × (deep ≡ 0 → ⊥) × (row < cap)) ⌝ }
+fn is_leaf(word: usize, deep: usize, row: usize, context: usize) -> bool
+    ensures { λ r. ⌜ (r ≡ true → (word ≡ 0 → ⊥) × (word < 2097152) × (deep ≡ 0 → ⊥) × (row < capacity-in context)) ⌝ }
 {
     if word == 0 {
         return false;
@@ -573,13 +556,13 @@ fn is_leaf(word: usize, deep: usize, row: usize, cap: usize) -> bool
     if deep == 0 {
         return false;
     }
-    row < cap
+    context::has_row(context, row)
 }
 
 // `count` terms in turn.
 pub fn read_run(
     msg: &[u8],
-    n: u8,
+    context: usize,
     places: &[u8],
     lengths: &[u16],
     table: &mut [u64],
@@ -588,20 +571,19 @@ pub fn read_run(
     row: usize,
     whole: usize,
     deep: usize,
-    cap: usize,
     wanted: Wanted,
     count: usize,
 ) -> Step
-    requires { ⌜ Room (now msg) (lent-list n (now places) (now lengths)) (now table) cap at row whole ⌝ }
+    requires { ⌜ Room (now msg) (list-in context (now places) (now lengths)) (now table) (capacity-in context) at row whole ⌝ }
     requires { ⌜ 0 < length (now seen) ⌝ }
-    ensures { λ r. ⌜ Run-read (now (msg .entry)) (lent-list n (now (places .entry)) (now (lengths .entry))) cap deep at row whole (now (table .entry)) (now (seen .entry)) count (replicate count (wanted-of wanted)) r (now (table .exit)) (now (seen .exit)) ⌝ }
+    ensures { λ r. ⌜ Run-read (now (msg .entry)) (atoms-in context (now (places .entry)) (now (lengths .entry))) (capacity-in context) deep at row whole (now (table .entry)) (now (seen .entry)) count (replicate count (wanted-of wanted)) r (now (table .exit)) (now (seen .exit)) ⌝ }
 {
     let mut at_now = at;
     let mut row_now = row;
     let mut more = count;
     while more > 0 {
         let word = term_head::leaf_at(msg, at_now, wanted);
-        if is_leaf(word, deep, row_now, cap) {
+        if is_leaf(word, deep, row_now, context) {
             table[row_now] = row::pack(word % term_head::WORD_KINDS, at_now, whole, 0, 1);
             at_now = word / term_head::WORD_KINDS;
             row_now += 1;
@@ -610,7 +592,7 @@ pub fn read_run(
         }
         match read_term(
             msg,
-            n,
+            context,
             places,
             lengths,
             table,
@@ -619,7 +601,6 @@ pub fn read_run(
             row_now,
             whole,
             deep,
-            cap,
             wanted,
         ) {
             Step::Refused { number, place } => return Step::Refused { number, place },
@@ -650,6 +631,7 @@ fn put_characters(table: &mut [u64], at: usize, count: usize, row: usize, whole:
 
 // The characters of the 107 at `place`, or no element where `count` is 0.
 fn read_characters(
+    context: usize,
     table: &mut [u64],
     place: usize,
     count: usize,
@@ -657,11 +639,10 @@ fn read_characters(
     row: usize,
     whole: usize,
     deep: usize,
-    cap: usize,
     before: usize,
 ) -> Parts
-    requires { ⌜ (cap ≤ 8192) × (cap ≤ length (now table)) × (row ≤ cap) × (whole ≤ row) × (before ≤ row) × ((count ≡ 0 → ⊥) → place + 3 + count ≤ 65536) ⌝ }
-    ensures { λ r. ⌜ ((atoms : head-spec.Atoms) (m cs : List ℕ) → length cs ≡ count → next ≤ length m → PartsDone m before cap row whole (now (table .entry)) (inner atoms cap deep place (characters cs) (at-offset m next row)) r (now (table .exit))) ⌝ }
+    requires { ⌜ (capacity-in context ≤ 8192) × (capacity-in context ≤ length (now table)) × (row ≤ capacity-in context) × (whole ≤ row) × (before ≤ row) × ((count ≡ 0 → ⊥) → place + 3 + count ≤ 65536) ⌝ }
+    ensures { λ r. ⌜ ((atoms : head-spec.Atoms) (m cs : List ℕ) → length cs ≡ count → next ≤ length m → PartsDone m before (capacity-in context) row whole (now (table .entry)) (inner atoms (capacity-in context) deep place (characters cs) (at-offset m next row)) r (now (table .exit))) ⌝ }
 {
     if count == 0 {
         return Parts::Got {
@@ -677,7 +658,7 @@ fn read_characters(
             place,
         };
     }
-    if cap - row < count {
+    if context::capacity_in(context) - row < count {
         return Parts::Refused {
             number: refusals::ROWS,
             place,
@@ -695,7 +676,7 @@ fn read_characters(
 // The elements of a 108, and what its tail joins on.
 fn read_list(
     msg: &[u8],
-    n: u8,
+    context: usize,
     places: &[u8],
     lengths: &[u16],
     table: &mut [u64],
@@ -703,16 +684,15 @@ fn read_list(
     at: usize,
     row: usize,
     deep: usize,
-    cap: usize,
     count: usize,
 ) -> Parts
-    requires { ⌜ Room (now msg) (lent-list n (now places) (now lengths)) (now table) cap at row row ⌝ }
+    requires { ⌜ Room (now msg) (list-in context (now places) (now lengths)) (now table) (capacity-in context) at row row ⌝ }
     requires { ⌜ 0 < length (now seen) ⌝ }
-    ensures { λ r. ⌜ Many-read (now (msg .entry)) (lent-list n (now (places .entry)) (now (lengths .entry))) cap deep at row row (now (table .entry)) (now (seen .entry)) (elements count) r (now (table .exit)) (now (seen .exit)) ⌝ }
+    ensures { λ r. ⌜ Many-read (now (msg .entry)) (atoms-in context (now (places .entry)) (now (lengths .entry))) (capacity-in context) deep at row row (now (table .entry)) (now (seen .entry)) (elements count) r (now (table .exit)) (now (seen .exit)) ⌝ }
 {
     match read_run(
         msg,
-        n,
+        context,
         places,
         lengths,
         table,
@@ -721,14 +701,13 @@ fn read_list(
         row,
         row,
         deep,
-        cap,
         Wanted::Any,
         count,
     ) {
         Step::Refused { number, place } => Parts::Refused { number, place },
         Step::Got { next, rows } => read_tail(
             msg,
-            n,
+            context,
             places,
             lengths,
             table,
@@ -737,7 +716,6 @@ fn read_list(
             rows,
             row,
             deep,
-            cap,
             count,
         ),
     }
@@ -746,7 +724,7 @@ fn read_list(
 // What follows the elements of a 108, `before` of which are read: tails that are 108s are joined on, up to one that is not.
 fn read_tail(
     msg: &[u8],
-    n: u8,
+    context: usize,
     places: &[u8],
     lengths: &[u16],
     table: &mut [u64],
@@ -755,12 +733,11 @@ fn read_tail(
     row: usize,
     whole: usize,
     deep: usize,
-    cap: usize,
     before: usize,
 ) -> Parts
-    requires { ⌜ Room (now msg) (lent-list n (now places) (now lengths)) (now table) cap at row whole × (before ≤ row) ⌝ }
+    requires { ⌜ Room (now msg) (list-in context (now places) (now lengths)) (now table) (capacity-in context) at row whole × (before ≤ row) ⌝ }
     requires { ⌜ 0 < length (now seen) ⌝ }
-    ensures { λ r. ⌜ Tail-read (now (msg .entry)) (lent-list n (now (places .entry)) (now (lengths .entry))) cap deep at row whole (now (table .entry)) (now (seen .entry)) before r (now (table .exit)) (now (seen .exit)) ⌝ }
+    ensures { λ r. ⌜ Tail-read (now (msg .entry)) (atoms-in context (now (places .entry)) (now (lengths .entry))) (capacity-in context) deep at row whole (now (table .entry)) (now (seen .entry)) before r (now (table .exit)) (now (seen .exit)) ⌝ }
 {
     let mut at_now = at;
     let mut row_now = row;
@@ -779,7 +756,7 @@ fn read_tail(
         if count == 0 {
             return read_last(
                 msg,
-                n,
+                context,
                 places,
                 lengths,
                 table,
@@ -788,13 +765,12 @@ fn read_tail(
                 row_now,
                 whole,
                 deep,
-                cap,
                 sum,
             );
         }
         match read_run(
             msg,
-            n,
+            context,
             places,
             lengths,
             table,
@@ -803,7 +779,6 @@ fn read_tail(
             row_now,
             whole,
             deep,
-            cap,
             Wanted::Any,
             count,
         ) {
@@ -820,7 +795,7 @@ fn read_tail(
 // The tail of a list that is joined no further: the empty list or a 107 ends a proper list.
 fn read_last(
     msg: &[u8],
-    n: u8,
+    context: usize,
     places: &[u8],
     lengths: &[u16],
     table: &mut [u64],
@@ -829,24 +804,23 @@ fn read_last(
     row: usize,
     whole: usize,
     deep: usize,
-    cap: usize,
     before: usize,
 ) -> Parts
-    requires { ⌜ Room (now msg) (lent-list n (now places) (now lengths)) (now table) cap at row whole × Last-at (now msg) at × (before ≤ row) ⌝ }
+    requires { ⌜ Room (now msg) (list-in context (now places) (now lengths)) (now table) (capacity-in context) at row whole × Last-at (now msg) at × (before ≤ row) ⌝ }
     requires { ⌜ 0 < length (now seen) ⌝ }
-    ensures { λ r. ⌜ Last-read (now (msg .entry)) (lent-list n (now (places .entry)) (now (lengths .entry))) cap deep at row whole (now (table .entry)) (now (seen .entry)) before r (now (table .exit)) (now (seen .exit)) ⌝ }
+    ensures { λ r. ⌜ Last-read (now (msg .entry)) (atoms-in context (now (places .entry)) (now (lengths .entry))) (capacity-in context) deep at row whole (now (table .entry)) (now (seen .entry)) before r (now (table .exit)) (now (seen .exit)) ⌝ }
 {
-    let opening = term_head::read_opening(msg, n, places, lengths, at, Wanted::Any);
+    let opening = term_head::read_opening(msg, context, places, lengths, at, Wanted::Any);
     let place = opening.place;
     let head = opening.head;
     match head {
         Head::Refused { number, place } => Parts::Refused { number, place },
         Head::Characters { count, next } => {
-            read_characters(table, place, count, next, row, whole, deep, cap, before)
+            read_characters(context, table, place, count, next, row, whole, deep, before)
         }
         _ => match read_body(
             msg,
-            n,
+            context,
             places,
             lengths,
             table,
@@ -856,7 +830,6 @@ fn read_last(
             row,
             whole,
             deep,
-            cap,
         ) {
             Step::Refused { number, place } => Parts::Refused { number, place },
             Step::Got { next, rows } => Parts::Got {
@@ -872,7 +845,7 @@ fn read_last(
 // A key or a value of a map: the commonest ones, without parts, are read right here.
 fn read_entry(
     msg: &[u8],
-    n: u8,
+    context: usize,
     places: &[u8],
     lengths: &[u16],
     table: &mut [u64],
@@ -881,14 +854,13 @@ fn read_entry(
     row: usize,
     whole: usize,
     deep: usize,
-    cap: usize,
 ) -> Step
-    requires { ⌜ Room (now msg) (lent-list n (now places) (now lengths)) (now table) cap at row whole ⌝ }
+    requires { ⌜ Room (now msg) (list-in context (now places) (now lengths)) (now table) (capacity-in context) at row whole ⌝ }
     requires { ⌜ 0 < length (now seen) ⌝ }
-    ensures { λ r. ⌜ Term-read (now (msg .entry)) (lent-list n (now (places .entry)) (now (lengths .entry))) cap deep at row whole (now (table .entry)) (now (seen .entry)) any r (now (table .exit)) (now (seen .exit)) ⌝ }
+    ensures { λ r. ⌜ Term-read (now (msg .entry)) (atoms-in context (now (places .entry)) (now (lengths .entry))) (capacity-in context) deep at row whole (now (table .entry)) (now (seen .entry)) any r (now (table .exit)) (now (seen .exit)) ⌝ }
 {
     let word = term_head::entry_at(msg, at);
-    if is_leaf(word, deep, row, cap) {
+    if is_leaf(word, deep, row, context) {
         table[row] = row::pack(word % term_head::WORD_KINDS, at, whole, 0, 1);
         return Step::Got {
             next: word / term_head::WORD_KINDS,
@@ -897,7 +869,7 @@ fn read_entry(
     }
     read_run(
         msg,
-        n,
+        context,
         places,
         lengths,
         table,
@@ -906,7 +878,6 @@ fn read_entry(
         row,
         whole,
         deep,
-        cap,
         Wanted::Any,
         1,
     )
@@ -915,7 +886,7 @@ fn read_entry(
 // `count` keys, each with its value after it. A key is judged before its value is read.
 fn read_pairs(
     msg: &[u8],
-    n: u8,
+    context: usize,
     places: &[u8],
     lengths: &[u16],
     table: &mut [u64],
@@ -923,12 +894,11 @@ fn read_pairs(
     at: usize,
     row: usize,
     deep: usize,
-    cap: usize,
     count: usize,
 ) -> Parts
-    requires { ⌜ Room (now msg) (lent-list n (now places) (now lengths)) (now table) cap at row row ⌝ }
+    requires { ⌜ Room (now msg) (list-in context (now places) (now lengths)) (now table) (capacity-in context) at row row ⌝ }
     requires { ⌜ 0 < length (now seen) ⌝ }
-    ensures { λ r. ⌜ Many-read (now (msg .entry)) (lent-list n (now (places .entry)) (now (lengths .entry))) cap deep at row row (now (table .entry)) (now (seen .entry)) (pairs count) r (now (table .exit)) (now (seen .exit)) ⌝ }
+    ensures { λ r. ⌜ Many-read (now (msg .entry)) (atoms-in context (now (places .entry)) (now (lengths .entry))) (capacity-in context) deep at row row (now (table .entry)) (now (seen .entry)) (pairs count) r (now (table .exit)) (now (seen .exit)) ⌝ }
 {
     let mut at_now = at;
     let mut row_now = row;
@@ -936,7 +906,7 @@ fn read_pairs(
     while parts / PAIR_PARTS < count {
         match read_entry(
             msg,
-            n,
+            context,
             places,
             lengths,
             table,
@@ -945,7 +915,6 @@ fn read_pairs(
             row_now,
             row,
             deep,
-            cap,
         ) {
             Step::Refused { number, place } => return Parts::Refused { number, place },
             Step::Got { next, rows } => {

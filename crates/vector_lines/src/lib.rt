@@ -1,5 +1,5 @@
 // A book of cases. A line is one case: a verb, which says what is asked (`read`, `write`, `ask`, `word`; its second letter decides), and words, each hex
-// or COUNT*HEX for a repetition, all parted by single spaces. The bytes that the words stand for: form (1 byte), rows lent (2), output room (3), n of the atom list (1), number of places given (1), for each of them its length (2), a
+// or COUNT*HEX for a repetition, all parted by single spaces. The bytes that the words stand for: form (1 byte), rows lent (2), output room (3), n of the atom list (1), the connection's flags (1), number of places given (1), for each of them its length (2), a
 // count (1) and that many bytes of text, then the message. Forms: 's' standalone, 'p' payload; 'S', 'P' the same with the places lent a
 // byte short, 't', 'q' with a length too many. No function has a `requires`: what is missing counts as 0, what has no room is left out.
 ghost use mathlib.Core.Path.{_≡_};
@@ -458,6 +458,16 @@ pub fn list_count(case: &[u8]) -> u8
     case[6]
 }
 
+// The connection's flags.
+pub fn connection_flags(case: &[u8]) -> u8
+    ensures { λ r. ⌜ r ≡ getD (now (case .entry)) 7 0 ⌝ }
+{
+    if case.len() <= 7 {
+        return 0;
+    }
+    case[7]
+}
+
 fn places_size(form: usize) -> usize {
     if form == 83 {
         return sizes::LIST_BYTES - 1;
@@ -527,8 +537,8 @@ fn put_part(dst: &mut [u8], at: usize, src: &[u8], from: usize, n: usize) {
 pub fn fill_list(case: &[u8], places: &mut [u8], lengths: &mut [u16]) -> usize
     ensures { λ r. ⌜ r ≤ length (now (case .entry)) ⌝ }
 {
-    let count = number1(case, 7);
-    let mut at = 8usize;
+    let count = number1(case, 8);
+    let mut at = 9usize;
     let mut k = 0usize;
     while k < count {
         set_length(lengths, k, number2(case, at));

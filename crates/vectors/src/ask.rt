@@ -2,6 +2,7 @@
 // (`whole,N`, `float,BITS`, `neither`), then each offset's text (`message,START,LENGTH`, `list,START,LENGTH`, `empty`, with ` differs` if the
 // text itself has other bytes), then each offset's mark (`latin1`, `utf8`); `refused,N,P` where a question is refused.
 ghost use Rattle.io.specs.Counts.{Counts};
+use crate::parts::connection;
 use crate::parts::put_differs;
 use crate::parts::put_named;
 use crate::parts::put_pair;
@@ -17,25 +18,25 @@ use vector_lines::put_word;
 fn number(case: &[u8], msg: &[u8], places: &[u8], lengths: &[u16], row: usize) -> NumberAnswer {
     let n = vector_lines::list_count(case);
     if vector_lines::is_payload(case) {
-        return queries::number_payload(msg, n, places, lengths, row);
+        return queries::number_payload(connection(case), msg, n, places, lengths, row);
     }
-    queries::number_standalone(msg, n, places, lengths, row)
+    queries::number_standalone(connection(case), msg, n, places, lengths, row)
 }
 
 fn locate(case: &[u8], msg: &[u8], places: &[u8], lengths: &[u16], offset: usize) -> TextAt {
     let n = vector_lines::list_count(case);
     if vector_lines::is_payload(case) {
-        return queries::locate_payload(msg, n, places, lengths, offset);
+        return queries::locate_payload(connection(case), msg, n, places, lengths, offset);
     }
-    queries::locate_standalone(msg, n, places, lengths, offset)
+    queries::locate_standalone(connection(case), msg, n, places, lengths, offset)
 }
 
 fn mark(case: &[u8], msg: &[u8], places: &[u8], lengths: &[u16], offset: usize) -> MarkAnswer {
     let n = vector_lines::list_count(case);
     if vector_lines::is_payload(case) {
-        return queries::mark_payload(msg, n, places, lengths, offset);
+        return queries::mark_payload(connection(case), msg, n, places, lengths, offset);
     }
-    queries::mark_standalone(msg, n, places, lengths, offset)
+    queries::mark_standalone(connection(case), msg, n, places, lengths, offset)
 }
 
 // x without its sign; of the least x too.
@@ -121,10 +122,10 @@ fn put_text_at<'a>(
     let n = vector_lines::list_count(case);
     let answer = locate(case, msg, places, lengths, offset);
     if vector_lines::is_payload(case) {
-        let text = queries::text_payload(msg, n, places, lengths, offset);
+        let text = queries::text_payload(connection(case), msg, n, places, lengths, offset);
         return put_text(dst, at, msg, places, answer, text);
     }
-    let text = queries::text_standalone(msg, n, places, lengths, offset);
+    let text = queries::text_standalone(connection(case), msg, n, places, lengths, offset);
     put_text(dst, at, msg, places, answer, text)
 }
 

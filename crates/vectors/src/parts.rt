@@ -1,9 +1,17 @@
 // What the lines of `ask` and `word` are made of.
 ghost use Rattle.io.specs.Counts.{Counts};
+use connection::Connection;
 use term_spec::Refusal;
 use vector_lines::put_byte;
 use vector_lines::put_decimal;
 use vector_lines::put_word;
+
+// The connection record of a case.
+pub fn connection(case: &[u8]) -> Connection {
+    Connection {
+        flags: vector_lines::connection_flags(case),
+    }
+}
 
 // A word, then a comma and n in decimal.
 pub fn put_named(dst: &mut [u8], at: usize, word: &[u8], n: u64) -> usize

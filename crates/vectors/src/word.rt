@@ -1,6 +1,7 @@
 // A case whose words are asked for: its output room says how many indices, from 0 on. For each its word (`word,START,LENGTH`) or `refused,N,P`;
 // ` differs` after it if the word itself has other bytes than that stretch of the places, or has any where refused.
 ghost use Rattle.io.specs.Counts.{Counts};
+use crate::parts::connection;
 use crate::parts::put_differs;
 use crate::parts::put_pair;
 use crate::parts::put_refused;
@@ -28,7 +29,7 @@ fn put_answer(dst: &mut [u8], at: usize, places: &[u8], answer: WordAnswer, word
 fn put_word_at<'a>(
     dst: &mut [u8],
     at: usize,
-    n: u8,
+    case: &[u8],
     places: &'a [u8],
     lengths: &[u16],
     i: usize,
@@ -36,19 +37,26 @@ fn put_word_at<'a>(
     ensures { λ r. ⌜ Counts r (now (dst .exit)) ⌝ }
 {
     let a = put_space(dst, at);
-    let answer = word_lookup::locate_word(n, places, lengths, ReferenceIndex(i));
-    let word = word_lookup::word(n, places, lengths, ReferenceIndex(i));
+    let n = vector_lines::list_count(case);
+    let answer = word_lookup::locate_word(connection(case), n, places, lengths, ReferenceIndex(i));
+    let word = word_lookup::word(connection(case), n, places, lengths, ReferenceIndex(i));
     put_answer(dst, a, places, answer, word)
 }
 
 // The words of the indices from 0 up to `count`.
-fn put_words<'a>(dst: &mut [u8], n: u8, places: &'a [u8], lengths: &[u16], count: usize) -> usize
+fn put_words<'a>(
+    dst: &mut [u8],
+    case: &[u8],
+    places: &'a [u8],
+    lengths: &[u16],
+    count: usize,
+) -> usize
     ensures { λ r. ⌜ Counts r (now (dst .exit)) ⌝ }
 {
     let mut next = 0usize;
     let mut i = 0usize;
     while i < count {
-        next = put_word_at(dst, next, n, places, lengths, i);
+        next = put_word_at(dst, next, case, places, lengths, i);
         i += 1;
     }
     next
@@ -57,7 +65,6 @@ fn put_words<'a>(dst: &mut [u8], n: u8, places: &'a [u8], lengths: &[u16], count
 pub fn put_line<'a>(dst: &mut [u8], case: &[u8], places: &'a [u8], lengths: &[u16]) -> usize
     ensures { λ r. ⌜ Counts r (now (dst .exit)) ⌝ }
 {
-    let n = vector_lines::list_count(case);
-    let a = put_words(dst, n, places, lengths, vector_lines::number3(case, 3));
+    let a = put_words(dst, case, places, lengths, vector_lines::number3(case, 3));
     vector_lines::put_byte(dst, a, 10)
 }

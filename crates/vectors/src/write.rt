@@ -1,6 +1,7 @@
 // A case that is written: `refused N P`, or `ok HEX`; ` touched` after it if a byte of the output past those written changed, and ` dirty` at
 // the end if a word of the scratch table is not zero. Before, every byte of the output is 165 and the table has ones in every bit.
 ghost use Rattle.io.specs.Counts.{Counts};
+use crate::parts::connection;
 use term_spec::WriteAnswer;
 
 // Whether every byte from `from` on is 165.
@@ -54,9 +55,9 @@ fn write(
 ) -> WriteAnswer {
     let n = vector_lines::list_count(case);
     if vector_lines::is_payload(case) {
-        return writer::write_payload(msg, n, places, lengths, scratch, output);
+        return writer::write_payload(connection(case), msg, n, places, lengths, scratch, output);
     }
-    writer::write_standalone(msg, n, places, lengths, scratch, output)
+    writer::write_standalone(connection(case), msg, n, places, lengths, scratch, output)
 }
 
 // The line, where scratch table and output are as lent.

@@ -1,4 +1,5 @@
 // The canonical writer: the terms of a message as standalone terms, written from the rows that reading made of them.
+use connection::Connection;
 use term_spec::ReadAnswer;
 use term_spec::Refusal;
 use term_spec::WriteAnswer;
@@ -113,8 +114,9 @@ fn write_and_clear(
     answer
 }
 
-// Writes the term of a standalone message, with this atom list, as a canonical standalone term; the scratch table ends all zero.
+// Writes the term of a standalone message, with the connection's flags and this atom list, as a canonical standalone term; the scratch table ends all zero.
 pub fn write_standalone(
+    connection: Connection,
     msg: &[u8],
     n: u8,
     places: &[u8],
@@ -122,9 +124,9 @@ pub fn write_standalone(
     scratch: &mut [u64],
     output: &mut [u8],
 ) -> WriteAnswer
-    ensures { λ r. ⌜ Write-call standalone (lent-list n (now (places .entry)) (now (lengths .entry))) (now (msg .entry)) (now (scratch .entry)) (now (output .entry)) r (now (scratch .exit)) (now (output .exit)) ⌝ }
+    ensures { λ r. ⌜ Write-call (connection .flags) standalone (lent-list n (now (places .entry)) (now (lengths .entry))) (now (msg .entry)) (now (scratch .entry)) (now (output .entry)) r (now (scratch .exit)) (now (output .exit)) ⌝ }
 {
-    match reader::read_standalone(msg, n, places, lengths, scratch) {
+    match reader::read_standalone(connection, msg, n, places, lengths, scratch) {
         ReadAnswer::Terms { terms, rows } => write_and_clear(
             msg,
             places,
@@ -138,8 +140,9 @@ pub fn write_standalone(
     }
 }
 
-// Writes the terms of a payload, with this atom list, as canonical standalone terms one after the other; the scratch table ends all zero.
+// Writes the terms of a payload, with the connection's flags and this atom list, as canonical standalone terms one after the other; the scratch table ends all zero.
 pub fn write_payload(
+    connection: Connection,
     msg: &[u8],
     n: u8,
     places: &[u8],
@@ -147,9 +150,9 @@ pub fn write_payload(
     scratch: &mut [u64],
     output: &mut [u8],
 ) -> WriteAnswer
-    ensures { λ r. ⌜ Write-call payload (lent-list n (now (places .entry)) (now (lengths .entry))) (now (msg .entry)) (now (scratch .entry)) (now (output .entry)) r (now (scratch .exit)) (now (output .exit)) ⌝ }
+    ensures { λ r. ⌜ Write-call (connection .flags) payload (lent-list n (now (places .entry)) (now (lengths .entry))) (now (msg .entry)) (now (scratch .entry)) (now (output .entry)) r (now (scratch .exit)) (now (output .exit)) ⌝ }
 {
-    match reader::read_payload(msg, n, places, lengths, scratch) {
+    match reader::read_payload(connection, msg, n, places, lengths, scratch) {
         ReadAnswer::Terms { terms, rows } => write_and_clear(
             msg,
             places,
