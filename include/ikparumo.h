@@ -41,6 +41,13 @@ enum {
     IK_GATHER_BYTES = 65536
 };
 
+/* The connection record: one byte of flags that the nodes agreed on in the handshake. Every call but ik_reset takes it first; it may
+ * differ from call to call. Any other bit is IK_STATE at place 0, the first check after IK_SIZE. */
+enum {
+    IK_UTF8 = 1,                /* the texts of headers are in UTF-8, else in Latin-1; nothing else goes by it */
+    IK_V4_NC = 2                /* tag 88 may use all 32 bits of ID and Serial, tag 90 up to 5 words */
+};
+
 /* Refusal numbers. */
 enum {
     IK_ACCEPTED = 0,
@@ -57,7 +64,7 @@ enum {
     IK_OUTPUT = 11,             /* output shorter than the canonical form */
     IK_LONG = 12,               /* term, payload or gathered bytes over 65,536 */
     IK_SIZE = 13,               /* a cache, list or gather buffer not of its stated size */
-    IK_STATE = 14,              /* lent state false */
+    IK_STATE = 14,              /* lent state false, or an unknown flag */
     IK_PACKET = 20,             /* second byte not 68, 69, 70 */
     IK_EMPTY_PLACE = 21,        /* cached place empty */
     IK_NAMED_AGAIN = 22,        /* place named again beside a new entry */
@@ -120,54 +127,56 @@ struct ik_word_reply   { uint64_t refusal, place, start, length; };
 /* Reads a standalone term (131, one term, end), or a payload (one or two terms, end), into rows.
  * Lent: the message, the atom list; the table, which is written: rows, then zeros; all zeros after any refusal.
  * Answers the number of terms and of rows.
- * Refusals in order: 13 (the list), 12, 1 (standalone alone), then in byte order 2 to 9 and 14, then 10. */
-struct ik_read_reply ik_read_standalone(const uint8_t *msg, size_t msg_len, uint8_t n, const uint8_t *places, size_t places_len,
-                                        const uint16_t *lengths, size_t lengths_len, uint64_t *table, size_t table_len);
-struct ik_read_reply ik_read_payload(const uint8_t *msg, size_t msg_len, uint8_t n, const uint8_t *places, size_t places_len,
-                                     const uint16_t *lengths, size_t lengths_len, uint64_t *table, size_t table_len);
+ * Refusals in order: 13 (the list), 14 (the flags), 12, 1 (standalone alone), then in byte order 2 to 9 and 14, then 10. */
+struct ik_read_reply ik_read_standalone(uint8_t flags, const uint8_t *msg, size_t msg_len, uint8_t n, const uint8_t *places,
+                                        size_t places_len, const uint16_t *lengths, size_t lengths_len, uint64_t *table,
+                                        size_t table_len);
+struct ik_read_reply ik_read_payload(uint8_t flags, const uint8_t *msg, size_t msg_len, uint8_t n, const uint8_t *places,
+                                     size_t places_len, const uint16_t *lengths, size_t lengths_len, uint64_t *table,
+                                     size_t table_len);
 
 /* Writes the canonical form of a standalone term, or of each term of a payload as a standalone term, one after the other.
  * Lent: the message, the atom list; the scratch table, all zero after every call; the output, of which the first `length` bytes are
  * written and the rest stays; nothing of it changes where refused.
  * Answers the number of terms and of bytes written.
  * Refusals in order: those of reading with the scratch table as the table, then 11. */
-struct ik_write_reply ik_write_standalone(const uint8_t *msg, size_t msg_len, uint8_t n, const uint8_t *places, size_t places_len,
-                                          const uint16_t *lengths, size_t lengths_len, uint64_t *scratch, size_t scratch_len,
-                                          uint8_t *output, size_t output_len);
-struct ik_write_reply ik_write_payload(const uint8_t *msg, size_t msg_len, uint8_t n, const uint8_t *places, size_t places_len,
-                                       const uint16_t *lengths, size_t lengths_len, uint64_t *scratch, size_t scratch_len,
-                                       uint8_t *output, size_t output_len);
+struct ik_write_reply ik_write_standalone(uint8_t flags, const uint8_t *msg, size_t msg_len, uint8_t n, const uint8_t *places,
+                                          size_t places_len, const uint16_t *lengths, size_t lengths_len, uint64_t *scratch,
+                                          size_t scratch_len, uint8_t *output, size_t output_len);
+struct ik_write_reply ik_write_payload(uint8_t flags, const uint8_t *msg, size_t msg_len, uint8_t n, const uint8_t *places,
+                                       size_t places_len, const uint16_t *lengths, size_t lengths_len, uint64_t *scratch,
+                                       size_t scratch_len, uint8_t *output, size_t output_len);
 
 /* The number of a row (they count from 0).
  * Lent: the message, the atom list; nothing is written.
  * Answers kind IK_NUMBER_WHOLE and `integer` for an integer in -2^63 .. 2^63-1, IK_NUMBER_FLOAT and `real` for a float, else
  * IK_NUMBER_NEITHER, also where there is no such row; `integer` and `real` are 0 where not answered.
  * Refusals: those of reading with 8,192 rows. */
-struct ik_number_reply ik_number_standalone(const uint8_t *msg, size_t msg_len, uint8_t n, const uint8_t *places, size_t places_len,
-                                            const uint16_t *lengths, size_t lengths_len, size_t row);
-struct ik_number_reply ik_number_payload(const uint8_t *msg, size_t msg_len, uint8_t n, const uint8_t *places, size_t places_len,
-                                         const uint16_t *lengths, size_t lengths_len, size_t row);
+struct ik_number_reply ik_number_standalone(uint8_t flags, const uint8_t *msg, size_t msg_len, uint8_t n, const uint8_t *places,
+                                            size_t places_len, const uint16_t *lengths, size_t lengths_len, size_t row);
+struct ik_number_reply ik_number_payload(uint8_t flags, const uint8_t *msg, size_t msg_len, uint8_t n, const uint8_t *places,
+                                         size_t places_len, const uint16_t *lengths, size_t lengths_len, size_t row);
 
 /* Where the text of the atom stands whose tag is at `offset`.
  * Lent: the message, the atom list; nothing is written.
  * Answers a stretch of the message (IK_FROM_MESSAGE) or of the list's places (IK_FROM_LIST): start and length in bytes; all 0
  * (IK_FROM_NOWHERE) where the mark call would refuse. */
-struct ik_text_reply ik_text_standalone(const uint8_t *msg, size_t msg_len, uint8_t n, const uint8_t *places, size_t places_len,
-                                        const uint16_t *lengths, size_t lengths_len, size_t offset);
-struct ik_text_reply ik_text_payload(const uint8_t *msg, size_t msg_len, uint8_t n, const uint8_t *places, size_t places_len,
-                                     const uint16_t *lengths, size_t lengths_len, size_t offset);
+struct ik_text_reply ik_text_standalone(uint8_t flags, const uint8_t *msg, size_t msg_len, uint8_t n, const uint8_t *places,
+                                        size_t places_len, const uint16_t *lengths, size_t lengths_len, size_t offset);
+struct ik_text_reply ik_text_payload(uint8_t flags, const uint8_t *msg, size_t msg_len, uint8_t n, const uint8_t *places,
+                                     size_t places_len, const uint16_t *lengths, size_t lengths_len, size_t offset);
 
 /* How the text of the atom is coded whose tag is at `offset`.
  * Lent: the message, the atom list; nothing is written.
  * Answers IK_MARK_LATIN1 or IK_MARK_UTF8.
  * Refusals in order: those of reading with 8,192 rows, then 4 at `offset` where none of the message's atoms' tags stands. */
-struct ik_mark_reply ik_mark_standalone(const uint8_t *msg, size_t msg_len, uint8_t n, const uint8_t *places, size_t places_len,
-                                        const uint16_t *lengths, size_t lengths_len, size_t offset);
-struct ik_mark_reply ik_mark_payload(const uint8_t *msg, size_t msg_len, uint8_t n, const uint8_t *places, size_t places_len,
-                                     const uint16_t *lengths, size_t lengths_len, size_t offset);
+struct ik_mark_reply ik_mark_standalone(uint8_t flags, const uint8_t *msg, size_t msg_len, uint8_t n, const uint8_t *places,
+                                        size_t places_len, const uint16_t *lengths, size_t lengths_len, size_t offset);
+struct ik_mark_reply ik_mark_payload(uint8_t flags, const uint8_t *msg, size_t msg_len, uint8_t n, const uint8_t *places,
+                                     size_t places_len, const uint16_t *lengths, size_t lengths_len, size_t offset);
 
 /* Takes a packet of the link, without the link's length prefix.
- * utf8: how new texts of this packet's header are coded: 0 Latin-1, anything else UTF-8.
+ * flags: by IK_UTF8 new texts of this packet's header are in UTF-8, else in Latin-1.
  * Lent: the packet; the cache (65,536 bytes, 2,048 lengths); the atom list for plain packets, the atom list for the pending sequence
  * (a count, 8,160 bytes, 255 lengths each); the pending record; the gather buffer (65,536 bytes). Written: for a plain packet its list
  * and the cache; for a first fragment the other list, the cache, the record and the gather buffer; for a later one the record and the
@@ -176,17 +185,18 @@ struct ik_mark_reply ik_mark_payload(const uint8_t *msg, size_t msg_len, uint8_t
  * Answers IK_PACKET_PLAIN with `offset` and `length` of the payload in the packet, to be read with the plain list;
  * IK_PACKET_PENDING with the id now `due` and the bytes `gathered`; IK_PACKET_COMPLETE with the bytes `gathered`: the payload stands
  * in the gather buffer, to be read with the pending list.
- * Refusals in order: 13, 14 on the record, 1, 2, 20, 2 and 24 on the ids, 26 or 25, 24 for the wrong one, 2 on the count and flags,
- * each reference in turn (2, 22, 5, 23, 21, 14), 12. After a refused fragment, 12 among them, the sequence stays pending as it was;
- * ik_drop or ik_reset ends it. */
-struct ik_packet_reply ik_packet(uint8_t utf8, const uint8_t *packet, size_t packet_len, uint8_t *cache, size_t cache_len,
+ * Refusals in order: 13, 14 on the connection's flags, 14 on the record, 1, 2, 20, 2 and 24 on the ids, 26 or 25, 24 for the wrong one,
+ * 2 on the header's count and flags, each reference in turn (2, 22, 5, 23, 21, 14), 12. After a refused fragment, 12 among them, the
+ * sequence stays pending as it was; ik_drop or ik_reset ends it. */
+struct ik_packet_reply ik_packet(uint8_t flags, const uint8_t *packet, size_t packet_len, uint8_t *cache, size_t cache_len,
                                  uint16_t *cache_lengths, size_t cache_lengths_len, uint8_t *plain_n, uint8_t *plain_places,
                                  size_t plain_places_len, uint16_t *plain_lengths, size_t plain_lengths_len, uint8_t *pending_n,
                                  uint8_t *pending_places, size_t pending_places_len, uint16_t *pending_lengths,
                                  size_t pending_lengths_len, struct ik_pending *pending, uint8_t *gather, size_t gather_len);
 
-/* Drops the pending sequence. Lent: the record, zero afterwards where accepted. Refusals in order: 14, 25. */
-struct ik_state_reply ik_drop(struct ik_pending *pending);
+/* Drops the pending sequence. Lent: the record, zero afterwards where accepted. Refusals in order: 14 on the flags,
+ * 14 on the record, 25. */
+struct ik_state_reply ik_drop(uint8_t flags, struct ik_pending *pending);
 
 /* Empties the cache and drops the pending sequence, if there is one. It also makes fresh memory ready.
  * Lent: the cache and the record; places and record are zero afterwards and the lengths 65,535. Refusal: 13. */
@@ -199,9 +209,10 @@ struct ik_state_reply ik_reset(uint8_t *cache, size_t cache_len, uint16_t *cache
  * Lent: the atom list; nothing is written. Answers a stretch of the list's places: start and length in bytes, UTF-8 whatever coding was
  * agreed, with no zero byte after it. The stretch is of the lent places themselves: use or copy the text before ik_packet writes that
  * list again. An empty text is accepted, with length 0.
- * Refusals in order: 13 (the list), 6 (index not below n), 14 (a length over 32, or a text that is not UTF-8); place 0. */
-struct ik_word_reply ik_word(uint8_t n, const uint8_t *places, size_t places_len, const uint16_t *lengths, size_t lengths_len,
-                             size_t index);
+ * Refusals in order: 13 (the list), 14 (the flags), 6 (index not below n), 14 (a length over 32, or a text that is not UTF-8);
+ * place 0. */
+struct ik_word_reply ik_word(uint8_t flags, uint8_t n, const uint8_t *places, size_t places_len, const uint16_t *lengths,
+                             size_t lengths_len, size_t index);
 
 #ifdef __cplusplus
 }
