@@ -157,12 +157,8 @@ static int form_named(struct word w, int *standalone)
     return *standalone || is(w, "payload");
 }
 
-static int flag_of(struct word w, uint8_t *utf8)
-{
-    *utf8 = is(w, "1");
-    why = "utf8";
-    return *utf8 || is(w, "0");
-}
+/* The connection byte, handed to every call but ik_reset. */
+static uint8_t flags = IK_UTF8;
 
 struct list { uint8_t n; const uint8_t *texts; size_t texts_len; const uint16_t *lengths; size_t lengths_len; };
 
@@ -314,7 +310,7 @@ static int do_read(void)
     if (!told(&q, words[3]))
         return 0;
     struct ik_read_reply a = (q.standalone ? ik_read_standalone : ik_read_payload)(
-        q.msg, q.size, q.l.n, q.l.texts, q.l.texts_len, q.l.lengths, q.l.lengths_len, rows(), parts[TABLE].count);
+        flags, q.msg, q.size, q.l.n, q.l.texts, q.l.texts_len, q.l.lengths, q.l.lengths_len, rows(), parts[TABLE].count);
     free(q.msg);
     if (!refused(a.refusal, a.place))
         printf("ok %llu %llu", wide(a.terms), wide(a.rows));
@@ -362,7 +358,7 @@ static int do_write(void)
     if (!told(&q, words[3]))
         return 0;
     struct ik_write_reply a = (q.standalone ? ik_write_standalone : ik_write_payload)(
-        q.msg, q.size, q.l.n, q.l.texts, q.l.texts_len, q.l.lengths, q.l.lengths_len, rows(), parts[TABLE].count, parts[OUTPUT].memory, parts[OUTPUT].count);
+        flags, q.msg, q.size, q.l.n, q.l.texts, q.l.texts_len, q.l.lengths, q.l.lengths_len, rows(), parts[TABLE].count, parts[OUTPUT].memory, parts[OUTPUT].count);
     free(q.msg);
     if (!refused(a.refusal, a.place))
         printf("ok %llu", wide(a.length));
@@ -376,7 +372,7 @@ static int do_number(void)
     if (!asked(&q))
         return 0;
     struct ik_number_reply a = (q.standalone ? ik_number_standalone : ik_number_payload)(
-        q.msg, q.size, q.l.n, q.l.texts, q.l.texts_len, q.l.lengths, q.l.lengths_len, q.at);
+        flags, q.msg, q.size, q.l.n, q.l.texts, q.l.texts_len, q.l.lengths, q.l.lengths_len, q.at);
     free(q.msg);
     memcpy(&bits, &a.real, sizeof bits);
     if (refused(a.refusal, a.place))
@@ -396,7 +392,7 @@ static int do_text(void)
     if (!asked(&q))
         return 0;
     struct ik_text_reply a = (q.standalone ? ik_text_standalone : ik_text_payload)(
-        q.msg, q.size, q.l.n, q.l.texts, q.l.texts_len, q.l.lengths, q.l.lengths_len, q.at);
+        flags, q.msg, q.size, q.l.n, q.l.texts, q.l.texts_len, q.l.lengths, q.l.lengths_len, q.at);
     free(q.msg);
     if (a.from == IK_FROM_NOWHERE || a.length == 0)
         printf("empty");
@@ -411,24 +407,34 @@ static int do_mark(void)
     if (!asked(&q))
         return 0;
     struct ik_mark_reply a = (q.standalone ? ik_mark_standalone : ik_mark_payload)(
-        q.msg, q.size, q.l.n, q.l.texts, q.l.texts_len, q.l.lengths, q.l.lengths_len, q.at);
+        flags, q.msg, q.size, q.l.n, q.l.texts, q.l.texts_len, q.l.lengths, q.l.lengths_len, q.at);
     free(q.msg);
     if (!refused(a.refusal, a.place))
         printf(a.mark == IK_MARK_LATIN1 ? "latin1" : "utf8");
     return 1;
 }
 
+static int do_flags(void)
+{
+    uint64_t n;
+    if (!number_of(words[1], &n))
+        return 0;
+    why = "flags";
+    if (n > UINT8_MAX)
+        return 0;
+    flags = (uint8_t)n;
+    printf("ok");
+    return 1;
+}
+
 static int do_packet(void)
 {
-    uint8_t utf8;
     size_t size;
-    if (!flag_of(words[1], &utf8))
-        return 0;
-    uint8_t *packet = bytes_of(words[2], &size);
+    uint8_t *packet = bytes_of(words[1], &size);
     if (!packet)
         return 0;
     struct ik_packet_reply a = ik_packet(
-        utf8, packet, size, parts[CACHE].memory, parts[CACHE].count, numbers(LENGTHS), parts[LENGTHS].count,
+        flags, packet, size, parts[CACHE].memory, parts[CACHE].count, numbers(LENGTHS), parts[LENGTHS].count,
         parts[PLAIN_COUNT].memory, parts[PLAIN_TEXTS].memory, parts[PLAIN_TEXTS].count, numbers(PLAIN_LENGTHS), parts[PLAIN_LENGTHS].count,
         parts[PENDING_COUNT].memory, parts[PENDING_TEXTS].memory, parts[PENDING_TEXTS].count, numbers(PENDING_LENGTHS), parts[PENDING_LENGTHS].count,
         record(), parts[GATHER].memory, parts[GATHER].count);
@@ -446,7 +452,7 @@ static int do_packet(void)
 
 static int do_drop(void)
 {
-    struct ik_state_reply a = ik_drop(record());
+    struct ik_state_reply a = ik_drop(flags, record());
     if (!refused(a.refusal, a.place))
         printf("ok");
     return 1;
@@ -466,7 +472,7 @@ static int do_word(void)
     uint64_t index;
     if (!list_named(words[1], &l) || !number_of(words[2], &index))
         return 0;
-    struct ik_word_reply a = ik_word(l.n, l.texts, l.texts_len, l.lengths, l.lengths_len, index);
+    struct ik_word_reply a = ik_word(flags, l.n, l.texts, l.texts_len, l.lengths, l.lengths_len, index);
     if (!refused(a.refusal, a.place)) {
         printf("text ");
         print_hex(l.texts + a.start, a.length);
@@ -477,7 +483,7 @@ static int do_word(void)
 static const struct { const char *name; size_t words; int (*call)(void); } commands[] = {
     {"set", 4, do_set}, {"fill", 3, do_fill}, {"lend", 3, do_lend}, {"get", 2, do_get}, {"same", 1, do_same}, {"changed", 1, do_changed},
     {"read", 4, do_read}, {"kind", 2, do_kind}, {"write", 4, do_write}, {"number", 5, do_number}, {"text", 5, do_text}, {"mark", 5, do_mark},
-    {"packet", 3, do_packet}, {"drop", 1, do_drop}, {"reset", 1, do_reset}, {"word", 3, do_word},
+    {"flags", 2, do_flags}, {"packet", 2, do_packet}, {"drop", 1, do_drop}, {"reset", 1, do_reset}, {"word", 3, do_word},
 };
 
 /* Parts the line at single spaces; words past the eighth are counted, not kept. */
