@@ -1,6 +1,6 @@
 // What reading hands down unchanged, in one word: the atom list's count, the connection's flags, the number of rows that may be taken.
 ghost use mathlib.Core.Path.{_≡_};
-ghost use Prim.Native.Nat.{_≤_};
+ghost use Prim.Native.Nat.{_≤_, _<_};
 ghost use lib.Dec.{ltb};
 ghost use Rattle.term_spec.specs.Connection.{v4-nc};
 ghost use Rattle.context.specs.Word.{Packed, count-in, flags-in, capacity-in};
@@ -21,7 +21,7 @@ pub fn pack(n: u8, flags: u8, capacity: usize) -> usize
 }
 
 pub fn count_in(context: usize) -> usize
-    ensures { λ r. ⌜ r ≡ count-in context ⌝ }
+    ensures { λ r. ⌜ (r ≡ count-in context) × (r < 256) ⌝ }
 {
     context % COUNTS
 }

@@ -10,7 +10,7 @@ use lib.ListN.{length, getD}
 use borrow.Author.Tests.{eqb-true}
 use Rattle.term_spec.specs.Text.{check}
 use Rattle.term_spec.specs.Answer.{Position, at-offset, after, rule, byte, bytes, number}
-use Rattle.term_spec.specs.Head.{Atoms, an-atom, an-arity, Form, small-integer-ext, integer-ext, new-float-ext, atom-cache-ref, nil-ext, string-ext, list-ext, binary-ext, bit-binary-ext, map-ext, reference-ext, export-ext, big-ext, tuple-ext, pid-ext, new-reference-ext, atom-ext, port-ext, text-or, finite, bits-rule, forms, form-in, form-or, form, fields, term-head, later, parts, characters, elements, pairs}
+use Rattle.term_spec.specs.Head.{Atoms, limits, an-atom, an-arity, Form, small-integer-ext, integer-ext, new-float-ext, atom-cache-ref, nil-ext, string-ext, list-ext, binary-ext, bit-binary-ext, map-ext, reference-ext, export-ext, big-ext, tuple-ext, pid-ext, new-reference-ext, atom-ext, port-ext, text-or, finite, bits-rule, forms, form-in, form-or, form, fields, term-head, later, parts, characters, elements, pairs}
 use Rattle.term_spec.specs.Head as head-spec
 use Rattle.term_spec.specs.Reading.{empty-108}
 use Rattle.term_spec.proofs.Bridge.{byte-at, byte-end}
@@ -131,7 +131,7 @@ module _ (atoms : Atoms) (p : ℕ) where
       done-holds _ t (full _ _ _ no-part)
   shape (tuple-ext w) s = skip (number p w s) λ n t. done-holds _ t (full _ _ _ no-part)
   shape (pid-ext w) s = done-holds _ s (full _ _ _ one-node)
-  shape (new-reference-ext w) s = skip (number p 2 s) λ n t. skip (rule (leb 1 n && leb n 3) 4 p t) λ _ t. done-holds _ t (full _ _ _ one-node)
+  shape (new-reference-ext w) s = skip (number p 2 s) λ n t. skip (rule (leb 1 n && leb n (limits (atoms .flags) w .word-count)) 4 p t) λ _ t. done-holds _ t (full _ _ _ one-node)
   shape (atom-ext c w) s = skip (number p w s) λ n t. skip (bytes p n t) λ bs t. skip (text-or (check c bs) 5 _ t) λ cs t. done-holds _ t (full _ _ _ no-part)
   shape (port-ext v w) s = done-holds _ s (full _ _ _ one-node)
 

@@ -10,7 +10,7 @@ use lib.ListN.{length, getD, take, drop}
 use borrow.Author.Tests.{lt-ltb, le-ltb, le-leb, lt-leb, eq-eqb, ne-eqb}
 use Rattle.term_spec.specs.Numbers.{big-endian}
 use Rattle.term_spec.specs.Answer.{good, refused, at-offset}
-use Rattle.term_spec.specs.Head.{known, pid-fields, port-fields, reference-fields, old-reference-fields, later, id-words, words-rule, creation-rule}
+use Rattle.term_spec.specs.Head.{limits, known, pid-fields, port-fields, reference-fields, old-reference-fields, later, id-words, words-rule, creation-rule}
 use Rattle.term_spec.specs.Head as head-spec
 use Rattle.term_spec.proofs.Bridge.{number-at, number-end}
 use Rattle.term_spec.proofs.Tests.{by-less}
@@ -98,14 +98,14 @@ and-not : (s t : Bool) → t ≡ false → (s && t) ≡ false
 and-not true t e = e
 and-not false t e = refl
 
-module _ (m : List ℕ) (at place rows : ℕ) (inside : at ≤ length m) where
-  pub pid-short : (w : ℕ) → length m - at < 8 → Refused 2 place ≡ later-fields m at place (pid-fields w) rows
+module _ (flags : ℕ) (m : List ℕ) (at place rows : ℕ) (inside : at ≤ length m) where
+  pub pid-short : (w : ℕ) → length m - at < 8 → Refused 2 place ≡ later-fields flags m at place (pid-fields w) rows
   unfolding later-fields later step-of
   pid-short w h =
       by-less (length m - at) 4 (λ less. rw (number-end m place 4 at rows inside (omega arith)))
       (λ over. rw (number-at m place 4 at rows (omega arith), number-end m place 4 (at + 4) rows (omega arith) (omega arith)))
 
-  pub pid-cut : (w : ℕ) → 8 ≤ length m - at → length m - at - 8 < w → Refused 2 place ≡ later-fields m at place (pid-fields w) rows
+  pub pid-cut : (w : ℕ) → 8 ≤ length m - at → length m - at - 8 < w → Refused 2 place ≡ later-fields flags m at place (pid-fields w) rows
   unfolding later-fields later step-of
   pid-cut w h g =
       rw (
@@ -114,133 +114,138 @@ module _ (m : List ℕ) (at place rows : ℕ) (inside : at ≤ length m) where
         number-end m place w (at + 4 + 4) rows (omega arith) (omega arith),
       )
 
-  module _ (w : ℕ) (some : 8 ≤ length m - at) (all-there : w ≤ length m - at - 8) where
+  module _ (w : ℕ) (some : 8 ≤ length m - at) (all-there : w ≤ length m - at - 8) (ids serials : ℕ) (ids-are : ids ≡ limits flags w .id)
+      (serials-are : serials ≡ limits flags w .serial) where
     abbrev pid-rule : Bool
     pid-rule =
-        ltb (big-endian (take 4 (drop at m))) 32768
-        && ltb (big-endian (take 4 (drop (at + 4) m))) 8192
+        ltb (big-endian (take 4 (drop at m))) ids
+        && ltb (big-endian (take 4 (drop (at + 4) m))) serials
         && creation-rule w (big-endian (take w (drop (at + 4 + 4) m)))
 
-    pid-broken : pid-rule ≡ false → Refused 4 place ≡ later-fields m at place (pid-fields w) rows
+    pid-broken : pid-rule ≡ false → Refused 4 place ≡ later-fields flags m at place (pid-fields w) rows
     unfolding later-fields later step-of
     pid-broken f =
         rw (
           number-at m place 4 at rows (omega arith),
           number-at m place 4 (at + 4) rows (omega arith),
           number-at m place w (at + 4 + 4) rows (omega arith),
+          ← ids-are,
+          ← serials-are,
           f,
         )
 
-    pub pid-id : ltb (big-endian (take 4 (drop at m))) 32768 ≡ false → Refused 4 place ≡ later-fields m at place (pid-fields w) rows
+    pub pid-id : ltb (big-endian (take 4 (drop at m))) ids ≡ false → Refused 4 place ≡ later-fields flags m at place (pid-fields w) rows
     pid-id f = pid-broken (rw f)
 
-    pub pid-serial : ltb (big-endian (take 4 (drop (at + 4) m))) 8192 ≡ false → Refused 4 place ≡ later-fields m at place (pid-fields w) rows
+    pub pid-serial : ltb (big-endian (take 4 (drop (at + 4) m))) serials ≡ false → Refused 4 place ≡ later-fields flags m at place (pid-fields w) rows
     pid-serial f =
-        let e = and-not (ltb (big-endian (take 4 (drop at m))) 32768) _ f in
+        let e = and-not (ltb (big-endian (take 4 (drop at m))) ids) _ f in
         pid-broken (rw e)
 
-    pub pid-creation : creation-rule w (big-endian (take w (drop (at + 4 + 4) m))) ≡ false → Refused 4 place ≡ later-fields m at place (pid-fields w) rows
+    pub pid-creation : creation-rule w (big-endian (take w (drop (at + 4 + 4) m))) ≡ false → Refused 4 place ≡ later-fields flags m at place (pid-fields w) rows
     pid-creation f =
-        let e = and-not (ltb (big-endian (take 4 (drop at m))) 32768 && ltb (big-endian (take 4 (drop (at + 4) m))) 8192) _ f in
+        let e = and-not (ltb (big-endian (take 4 (drop at m))) ids && ltb (big-endian (take 4 (drop (at + 4) m))) serials) _ f in
         pid-broken e
 
-    pub pid-there : ltb (big-endian (take 4 (drop at m))) 32768 ≡ true → ltb (big-endian (take 4 (drop (at + 4) m))) 8192 ≡ true
-        → creation-rule w (big-endian (take w (drop (at + 4 + 4) m))) ≡ true → Got (at + 4 + 4 + w) ≡ later-fields m at place (pid-fields w) rows
+    pub pid-there : ltb (big-endian (take 4 (drop at m))) ids ≡ true → ltb (big-endian (take 4 (drop (at + 4) m))) serials ≡ true
+        → creation-rule w (big-endian (take w (drop (at + 4 + 4) m))) ≡ true → Got (at + 4 + 4 + w) ≡ later-fields flags m at place (pid-fields w) rows
     unfolding later-fields later step-of
     pid-there e f g =
         rw (
           number-at m place 4 at rows (omega arith),
           number-at m place 4 (at + 4) rows (omega arith),
           number-at m place w (at + 4 + 4) rows (omega arith),
+          ← ids-are,
+          ← serials-are,
           e,
           f,
           g,
         )
 
-  pub port-short : (v w : ℕ) → length m - at < v → Refused 2 place ≡ later-fields m at place (port-fields v w) rows
+  pub port-short : (v w : ℕ) → length m - at < v → Refused 2 place ≡ later-fields flags m at place (port-fields v w) rows
   unfolding later-fields later step-of
   port-short v w h = rw (number-end m place v at rows inside (omega arith))
 
   module _ (v w : ℕ) (some : v ≤ length m - at) where
-    pub port-cut : length m - at - v < w → Refused 2 place ≡ later-fields m at place (port-fields v w) rows
+    pub port-cut : length m - at - v < w → Refused 2 place ≡ later-fields flags m at place (port-fields v w) rows
     unfolding later-fields later step-of
     port-cut h = rw (number-at m place v at rows (omega arith), number-end m place w (at + v) rows (omega arith) (omega arith))
 
     module _ (all-there : w ≤ length m - at - v) where
-      pub port-id : (eqb v 8 || ltb (big-endian (take v (drop at m))) 268435456) ≡ false → Refused 4 place ≡ later-fields m at place (port-fields v w) rows
+      pub port-id : (eqb v 8 || ltb (big-endian (take v (drop at m))) 268435456) ≡ false → Refused 4 place ≡ later-fields flags m at place (port-fields v w) rows
       unfolding later-fields later step-of
       port-id f = rw (number-at m place v at rows (omega arith), number-at m place w (at + v) rows (omega arith), f)
 
-      pub port-creation : creation-rule w (big-endian (take w (drop (at + v) m))) ≡ false → Refused 4 place ≡ later-fields m at place (port-fields v w) rows
+      pub port-creation : creation-rule w (big-endian (take w (drop (at + v) m))) ≡ false → Refused 4 place ≡ later-fields flags m at place (port-fields v w) rows
       unfolding later-fields later step-of
       port-creation f =
           let e = and-not (eqb v 8 || ltb (big-endian (take v (drop at m))) 268435456) _ f in
           rw (number-at m place v at rows (omega arith), number-at m place w (at + v) rows (omega arith), e)
 
       pub port-there : (eqb v 8 || ltb (big-endian (take v (drop at m))) 268435456) ≡ true → creation-rule w (big-endian (take w (drop (at + v) m))) ≡ true
-          → Got (at + v + w) ≡ later-fields m at place (port-fields v w) rows
+          → Got (at + v + w) ≡ later-fields flags m at place (port-fields v w) rows
       unfolding later-fields later step-of
       port-there e f = rw (number-at m place v at rows (omega arith), number-at m place w (at + v) rows (omega arith), e, f)
 
-  pub reference-short : (k w : ℕ) → length m - at < w → Refused 2 place ≡ later-fields m at place (reference-fields k w) rows
+  pub reference-short : (k w : ℕ) → length m - at < w → Refused 2 place ≡ later-fields flags m at place (reference-fields k w) rows
   unfolding later-fields later step-of
   reference-short k w h = rw (number-end m place w at rows inside (omega arith))
 
   module _ (k w : ℕ) (some : w ≤ length m - at) where
-    pub reference-cut : (length m - at - w) / 4 < k → Refused 2 place ≡ later-fields m at place (reference-fields k w) rows
+    pub reference-cut : (length m - at - w) / 4 < k → Refused 2 place ≡ later-fields flags m at place (reference-fields k w) rows
     unfolding later-fields later step-of
     reference-cut h = rw (number-at m place w at rows (omega arith), words-end m place k (at + w) rows (omega arith) (omega arith))
 
     module _ (all-there : k ≤ (length m - at - w) / 4) where
-      pub reference-creation : creation-rule w (big-endian (take w (drop at m))) ≡ false → Refused 4 place ≡ later-fields m at place (reference-fields k w) rows
+      pub reference-creation : creation-rule w (big-endian (take w (drop at m))) ≡ false → Refused 4 place ≡ later-fields flags m at place (reference-fields k w) rows
       unfolding later-fields later step-of
       reference-creation f = rw (number-at m place w at rows (omega arith), words-there m place k (at + w) rows (omega arith), f)
 
-      pub reference-words : words-rule w (words-at m (at + w) k) ≡ false → Refused 4 place ≡ later-fields m at place (reference-fields k w) rows
+      pub reference-words : words-rule w (words-at m (at + w) k) ≡ false → Refused 4 place ≡ later-fields flags m at place (reference-fields k w) rows
       unfolding later-fields later step-of
       reference-words f =
           let e = and-not (creation-rule w (big-endian (take w (drop at m)))) _ f in
           rw (number-at m place w at rows (omega arith), words-there m place k (at + w) rows (omega arith), e)
 
       pub reference-there : creation-rule w (big-endian (take w (drop at m))) ≡ true → words-rule w (words-at m (at + w) k) ≡ true
-          → Got (at + w + k * 4) ≡ later-fields m at place (reference-fields k w) rows
+          → Got (at + w + k * 4) ≡ later-fields flags m at place (reference-fields k w) rows
       unfolding later-fields later step-of
       reference-there e f = rw (number-at m place w at rows (omega arith), words-there m place k (at + w) rows (omega arith), e, f)
 
-  pub old-short : length m - at < 5 → Refused 2 place ≡ later-fields m at place old-reference-fields rows
+  pub old-short : length m - at < 5 → Refused 2 place ≡ later-fields flags m at place old-reference-fields rows
   unfolding later-fields later step-of
   old-short h =
       by-less (length m - at) 4 (λ less. rw (words-end m place 1 at rows inside (omega arith)))
       (λ over. rw (words-there m place 1 at rows (omega arith), number-end m place 1 (at + 4) rows (omega arith) (omega arith)))
 
   module _ (all-there : 5 ≤ length m - at) where
-    pub old-words : words-rule 1 (words-at m at 1) ≡ false → Refused 4 place ≡ later-fields m at place old-reference-fields rows
+    pub old-words : words-rule 1 (words-at m at 1) ≡ false → Refused 4 place ≡ later-fields flags m at place old-reference-fields rows
     unfolding later-fields later step-of
     old-words f = rw (words-there m place 1 at rows (omega arith), number-at m place 1 (at + 4) rows (omega arith), f)
 
-    pub old-creation : creation-rule 1 (big-endian (take 1 (drop (at + 4) m))) ≡ false → Refused 4 place ≡ later-fields m at place old-reference-fields rows
+    pub old-creation : creation-rule 1 (big-endian (take 1 (drop (at + 4) m))) ≡ false → Refused 4 place ≡ later-fields flags m at place old-reference-fields rows
     unfolding later-fields later step-of
     old-creation f =
         let e = and-not (words-rule 1 (words-at m at 1)) _ f in
         rw (words-there m place 1 at rows (omega arith), number-at m place 1 (at + 4) rows (omega arith), e)
 
     pub old-there : words-rule 1 (words-at m at 1) ≡ true → creation-rule 1 (big-endian (take 1 (drop (at + 4) m))) ≡ true
-        → Got (at + 4 + 1) ≡ later-fields m at place old-reference-fields rows
+        → Got (at + 4 + 1) ≡ later-fields flags m at place old-reference-fields rows
     unfolding later-fields later step-of
     old-there e f = rw (words-there m place 1 at rows (omega arith), number-at m place 1 (at + 4) rows (omega arith), e, f)
 
 -- later fields, from what the code has of them
-unfoldable pub by-later : List ℕ → ℕ → ℕ → ℕ → Later → Step
-by-later m at place rows Known = Got at
-by-later m at place rows (Pid w) = later-fields m at place (pid-fields w) rows
-by-later m at place rows (Port v w) = later-fields m at place (port-fields v w) rows
-by-later m at place rows (Reference k w) = later-fields m at place (reference-fields k w) rows
-by-later m at place rows OldReference = later-fields m at place old-reference-fields rows
+unfoldable pub by-later : ℕ → List ℕ → ℕ → ℕ → ℕ → Later → Step
+by-later flags m at place rows Known = Got at
+by-later flags m at place rows (Pid w) = later-fields flags m at place (pid-fields w) rows
+by-later flags m at place rows (Port v w) = later-fields flags m at place (port-fields v w) rows
+by-later flags m at place rows (Reference k w) = later-fields flags m at place (reference-fields k w) rows
+by-later flags m at place rows OldReference = later-fields flags m at place old-reference-fields rows
 
-pub settled : (m : List ℕ) (at place rows : ℕ) (l : head-spec.Later) → later-fields m at place l rows ≡ by-later m at place rows (later-of l)
+pub settled : (flags : ℕ) (m : List ℕ) (at place rows : ℕ) (l : head-spec.Later) → later-fields flags m at place l rows ≡ by-later flags m at place rows (later-of l)
 unfolding by-later later-of later-fields later step-of
-settled m at place rows (known x) = refl
-settled m at place rows (pid-fields w) = refl
-settled m at place rows (port-fields v w) = refl
-settled m at place rows (reference-fields k w) = refl
-settled m at place rows old-reference-fields = refl
+settled flags m at place rows (known x) = refl
+settled flags m at place rows (pid-fields w) = refl
+settled flags m at place rows (port-fields v w) = refl
+settled flags m at place rows (reference-fields k w) = refl
+settled flags m at place rows old-reference-fields = refl

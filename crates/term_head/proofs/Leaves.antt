@@ -11,7 +11,7 @@ use borrow.Author.Tests.{le-leb, lt-leb, eq-eqb, ne-eqb}
 use Rattle.term_spec.specs.Numbers.{big-endian, little-endian, with-sign}
 use Rattle.term_spec.specs.Term.{Label, integer, binary, bitstring}
 use Rattle.term_spec.specs.Answer.{_>>_, Reading, after, done, rule, number, at-offset}
-use Rattle.term_spec.specs.Head.{Atoms, Head, fields, characters, leaf, tuple-ext, list-ext, map-ext, string-ext, binary-ext, bit-binary-ext, big-ext, new-float-ext, new-reference-ext, finite, bits-rule, bits-meaning, clear-low}
+use Rattle.term_spec.specs.Head.{Atoms, limits, Head, fields, characters, leaf, tuple-ext, list-ext, map-ext, string-ext, binary-ext, bit-binary-ext, big-ext, new-float-ext, new-reference-ext, finite, bits-rule, bits-meaning, clear-low}
 use Rattle.term_spec.specs.Rows.{kind-of}
 use Rattle.term_spec.proofs.Bridge.{number-at, number-end}
 use Rattle.octets.proofs.Parts.{length-part}
@@ -136,13 +136,13 @@ module _ (atoms : Atoms) (m : List ℕ) (at rows : ℕ) (inside : at < length m)
     unfolding fields-of fields head-of
     reference-none h = rw (number-at m at 2 (at + 1) rows (omega arith), ← e, lt-leb 1 n h)
 
-    pub reference-many : 1 ≤ n → 3 < n → Refused 4 at ≡ fields-of atoms m at (new-reference-ext w) rows
+    pub reference-many : 1 ≤ n → (flags most : ℕ) → atoms .flags ≡ flags → most ≡ limits flags w .word-count → most < n → Refused 4 at ≡ fields-of atoms m at (new-reference-ext w) rows
     unfolding fields-of fields head-of
-    reference-many g h = rw (number-at m at 2 (at + 1) rows (omega arith), ← e, le-leb 1 n g, lt-leb n 3 h)
+    reference-many g flags most flags-are most-is h = rw (number-at m at 2 (at + 1) rows (omega arith), ← e, le-leb 1 n g, flags-are, ← most-is, lt-leb n most h)
 
-    pub reference-there : 1 ≤ n → n ≤ 3 → Parts 12 1 0 (Reference n w) (at + 1 + 2) ≡ fields-of atoms m at (new-reference-ext w) rows
+    pub reference-there : 1 ≤ n → (flags most : ℕ) → atoms .flags ≡ flags → most ≡ limits flags w .word-count → n ≤ most → Parts 12 1 0 (Reference n w) (at + 1 + 2) ≡ fields-of atoms m at (new-reference-ext w) rows
     unfolding fields-of fields head-of head-at kind-later later-of
-    reference-there g h = rw (number-at m at 2 (at + 1) rows (omega arith), ← e, le-leb 1 n g, le-leb n 3 h)
+    reference-there g flags most flags-are most-is h = rw (number-at m at 2 (at + 1) rows (omega arith), ← e, le-leb 1 n g, flags-are, ← most-is, le-leb n most h)
 
 -- the bits of the last byte
 part-kind : (bits : ℕ) (bs : List ℕ) → kind-of (bitstring bits bs) ≡ 8

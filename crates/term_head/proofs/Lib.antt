@@ -1,4 +1,5 @@
 mod Counted
+mod Limits
 mod Leaves
 mod Texts
 mod LaterFields

@@ -6,7 +6,7 @@ use Prim.Native.Nat.{ℕ, _+_, _^_, _≤_}
 use native.Mathlib.Omega.{arith}
 use lib.Dec.{eqb, ltb}
 use Rattle.term_spec.specs.Answer.{Answer, good, refused, Position, at-offset, Reading, done, rule, number}
-use Rattle.term_spec.specs.Head.{Atoms, any, later, id-words, creation-rule, words-rule, known, pid-fields, port-fields, reference-fields, old-reference-fields, parts, characters, elements, pairs}
+use Rattle.term_spec.specs.Head.{Atoms, limits, any, later, id-words, creation-rule, words-rule, known, pid-fields, port-fields, reference-fields, old-reference-fields, parts, characters, elements, pairs}
 use Rattle.term_spec.specs.Head as head-spec
 use Rattle.term_spec.specs.Reading.{empty-108, opening}
 use Rattle.term_spec.specs.Rows.{kind-of}
@@ -63,18 +63,18 @@ module _ (o : Answer ((ℕ × head-spec.Head) × Position)) (r : Opening) (e : r
           absurd (not-good (x .0 .1) (x .1 .at) (sym (ap (λ (y : Opening). y .head) g) ∙ f))
 
 -- the later fields of a term do not change its kind
-pub later-kind : (p : ℕ) (l : head-spec.Later) (s : Position) → Holds (later p l s) (λ label _. kind-of label ≡ kind-later l)
+pub later-kind : (flags p : ℕ) (l : head-spec.Later) (s : Position) → Holds (later flags p l s) (λ label _. kind-of label ≡ kind-later l)
 unfolding later kind-of kind-later
-later-kind p (known l) s = done-holds l s refl
-later-kind p (pid-fields w) s =
+later-kind flags p (known l) s = done-holds l s refl
+later-kind flags p (pid-fields w) s =
     skip (number p 4 s) λ id t. skip (number p 4 t) λ serial t. skip (number p w t) λ creation t.
-    skip (rule (ltb id (2 ^ 15) && ltb serial (2 ^ 13) && creation-rule w creation) 4 p t) λ _ t. done-holds _ t refl
-later-kind p (port-fields v w) s =
+    skip (rule (ltb id (limits flags w .id) && ltb serial (limits flags w .serial) && creation-rule w creation) 4 p t) λ _ t. done-holds _ t refl
+later-kind flags p (port-fields v w) s =
     skip (number p v s) λ id t. skip (number p w t) λ creation t.
     skip (rule ((eqb v 8 || ltb id (2 ^ 28)) && creation-rule w creation) 4 p t) λ _ t. done-holds _ t refl
-later-kind p (reference-fields k w) s =
+later-kind flags p (reference-fields k w) s =
     skip (number p w s) λ creation t. skip (id-words p k t) λ ws t.
     skip (rule (creation-rule w creation && words-rule w ws) 4 p t) λ _ t. done-holds _ t refl
-later-kind p old-reference-fields s =
+later-kind flags p old-reference-fields s =
     skip (id-words p 1 s) λ ws t. skip (number p 1 t) λ creation t.
     skip (rule (words-rule 1 ws && creation-rule 1 creation) 4 p t) λ _ t. done-holds _ t refl

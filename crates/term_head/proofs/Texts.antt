@@ -44,22 +44,22 @@ module _ (atoms : Atoms) (m : List ℕ) (at rows : ℕ) (inside : at < length m)
     unfolding fields-of fields head-of head-at kind-later kind-of later-of text-or
     atom-there e = rw (plain-there m at w rows inside atom-head c some, is-text (check (coding-of utf8) (take (end - (at + 1 + w)) (drop (at + 1 + w) m))) e .1)
 
-module _ (n : ℕ) (places lengths : List ℕ) (m : List ℕ) (at rows : ℕ) (inside : at < length m) where
-  pub cached-short : length m - at - 1 < 1 → Refused 2 at ≡ fields-of (atoms-of (lent-list n places lengths)) m at atom-cache-ref rows
+module _ (flags n : ℕ) (places lengths : List ℕ) (m : List ℕ) (at rows : ℕ) (inside : at < length m) where
+  pub cached-short : length m - at - 1 < 1 → Refused 2 at ≡ fields-of (atoms-of flags (lent-list n places lengths)) m at atom-cache-ref rows
   unfolding fields-of fields head-of
   cached-short h = rw (number-end m at 1 (at + 1) rows (omega arith) (omega arith))
 
   module _ (i : ℕ) (there : 1 ≤ length m - at - 1) (e : i ≡ big-endian (take 1 (drop (at + 1) m))) where
-    pub cached-past : n ≤ i → Refused 6 at ≡ fields-of (atoms-of (lent-list n places lengths)) m at atom-cache-ref rows
+    pub cached-past : n ≤ i → Refused 6 at ≡ fields-of (atoms-of flags (lent-list n places lengths)) m at atom-cache-ref rows
     unfolding fields-of fields head-of atoms-of
     cached-past h = rw (number-at m at 1 (at + 1) rows (omega arith), ← e, le-ltb i n h)
 
     module _ (below : i < n) where
-      pub cached-false : is-valid (place-text (lent-list n places lengths) i) ≡ false → Refused 14 0 ≡ fields-of (atoms-of (lent-list n places lengths)) m at atom-cache-ref rows
+      pub cached-false : is-valid (place-text (lent-list n places lengths) i) ≡ false → Refused 14 0 ≡ fields-of (atoms-of flags (lent-list n places lengths)) m at atom-cache-ref rows
       unfolding fields-of fields head-of atoms-of text-or
       cached-false f = rw (number-at m at 1 (at + 1) rows (omega arith), ← e, lt-ltb i n below, failed (place-text (lent-list n places lengths) i) f .1)
 
       pub cached-there : is-valid (place-text (lent-list n places lengths) i) ≡ true
-          → Parts 3 0 0 Known (at + 1 + 1) ≡ fields-of (atoms-of (lent-list n places lengths)) m at atom-cache-ref rows
+          → Parts 3 0 0 Known (at + 1 + 1) ≡ fields-of (atoms-of flags (lent-list n places lengths)) m at atom-cache-ref rows
       unfolding fields-of fields head-of head-at kind-later kind-of later-of atoms-of text-or
       cached-there f = rw (number-at m at 1 (at + 1) rows (omega arith), ← e, lt-ltb i n below, found (place-text (lent-list n places lengths) i) f .1)

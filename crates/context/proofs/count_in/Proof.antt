@@ -6,7 +6,7 @@ use Rattle.context.proofs.count_in.Tie as tie
 
 returns : tie.Need-returns
 unfolding count-in
-returns c = omega arith
+returns c = (omega arith, omega arith)
 
 pub count-in-spec : {M : Type 1} → statement M
 count-in-spec = tie.close (tie.spec returns)

@@ -10,13 +10,13 @@ sub-if1 : tie.Need-sub-if1
 sub-if1 c = search needs
 
 returns : tie.Need-returns
-returns c = λ rows. old-short _ _ _ _ (omega arith) (c .if1 .taken)
+returns c = λ flags rows. old-short _ _ _ _ _ (omega arith) (c .if1 .taken)
 
 words-fit-requires : tie.Need-words-fit-requires
 words-fit-requires c κs = search needs
 
 returns-2 : tie.Need-returns-2
-returns-2 c = λ rows. old-words _ _ _ _ (omega arith) (c .before .before .if1 .left) (refuted (c .before .words-fit .ensures) (c .if2 .taken))
+returns-2 c = λ flags rows. old-words _ _ _ _ _ (omega arith) (c .before .before .if1 .left) (refuted (c .before .words-fit .ensures) (c .if2 .taken))
 
 add-creation-fits : tie.Need-add-creation-fits
 add-creation-fits c = search needs
@@ -25,7 +25,7 @@ creation-fits-requires : tie.Need-creation-fits-requires
 creation-fits-requires c κs = search needs
 
 returns-3 : tie.Need-returns-3
-returns-3 c = λ rows. old-creation _ _ _ _ (omega arith) (c .before .before .before .before .if1 .left) (refuted (c .before .creation-fits .ensures) (c .if3 .taken))
+returns-3 c = λ flags rows. old-creation _ _ _ _ _ (omega arith) (c .before .before .before .before .if1 .left) (refuted (c .before .creation-fits .ensures) (c .if3 .taken))
 
 add-t5 : tie.Need-add-t5
 add-t5 c = search needs
@@ -34,7 +34,7 @@ add-t4 : tie.Need-add-t4
 add-t4 c = search needs
 
 returns-4 : tie.Need-returns-4
-returns-4 c = λ rows. old-there _ _ _ _ (omega arith) (c .before .before .before .before .if1 .left) (confirmed (c .before .before .before .words-fit .ensures) (c .before .before .if2 .left)) (confirmed (c .before .creation-fits .ensures) (c .if3 .left))
+returns-4 c = λ flags rows. old-there _ _ _ _ _ (omega arith) (c .before .before .before .before .if1 .left) (confirmed (c .before .before .before .words-fit .ensures) (c .before .before .if2 .left)) (confirmed (c .before .creation-fits .ensures) (c .if3 .left))
 
 pub old-reference-fields-spec : {M : Type 1} → statement M
 old-reference-fields-spec =

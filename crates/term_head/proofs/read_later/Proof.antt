@@ -35,23 +35,23 @@ old-reference-fields-requires c κs = search needs
 
 returns : tie.Need-returns
 unfolding by-later later-fields
-returns c = λ l e rows. sym (settled _ _ _ _ l ∙ ap (by-later _ _ _ _) (e ∙ c .enum-told .given .1))
+returns c = λ l e rows. sym (settled _ _ _ _ _ l ∙ ap (by-later _ _ _ _ _) (e ∙ c .enum-told .given .1))
 
 returns-2 : tie.Need-returns-2
 unfolding by-later later-fields
-returns-2 c = λ l e rows. c .pid-fields .ensures rows ∙ sym (settled _ _ _ _ l ∙ ap (by-later _ _ _ _) (e ∙ c .before .before .later .given .1))
+returns-2 c = λ l e rows. c .pid-fields .ensures rows ∙ sym (settled _ _ _ _ _ l ∙ ap (by-later _ _ _ _ _) (e ∙ c .before .before .later .given .1))
 
 returns-3 : tie.Need-returns-3
 unfolding by-later later-fields
-returns-3 c = λ l e rows. c .port-fields .ensures rows ∙ sym (settled _ _ _ _ l ∙ ap (by-later _ _ _ _) (e ∙ c .before .before .later2 .given .1))
+returns-3 c = λ l e rows. c .port-fields .ensures _ rows ∙ sym (settled _ _ _ _ _ l ∙ ap (by-later _ _ _ _ _) (e ∙ c .before .before .later2 .given .1))
 
 returns-4 : tie.Need-returns-4
 unfolding by-later later-fields
-returns-4 c = λ l e rows. c .reference-fields .ensures rows ∙ sym (settled _ _ _ _ l ∙ ap (by-later _ _ _ _) (e ∙ c .before .before .later3 .given .1))
+returns-4 c = λ l e rows. c .reference-fields .ensures _ rows ∙ sym (settled _ _ _ _ _ l ∙ ap (by-later _ _ _ _ _) (e ∙ c .before .before .later3 .given .1))
 
 returns-5 : tie.Need-returns-5
 unfolding by-later later-fields
-returns-5 c = λ l e rows. c .old-reference-fields .ensures rows ∙ sym (settled _ _ _ _ l ∙ ap (by-later _ _ _ _) (e ∙ c .before .enum-told2 .given .1))
+returns-5 c = λ l e rows. c .old-reference-fields .ensures _ rows ∙ sym (settled _ _ _ _ _ l ∙ ap (by-later _ _ _ _ _) (e ∙ c .before .enum-told2 .given .1))
 
 pub read-later-spec : {M : Type 1} → statement M
 read-later-spec =
