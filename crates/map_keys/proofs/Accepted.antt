@@ -32,13 +32,13 @@ module _ (message : List ℕ) (cap : ℕ) (atoms : Atoms) where
 
 -- ---- an accepted message
 
-pub held-rows : (list : AtomList) (lent : ℕ) (message : List ℕ) (ts : Terms) → Accepted-message list lent message ts
-    → Rows-in-table message (min 8192 lent) (atoms-of list) (table-after lent (good ts)) option.none 0 ts
+pub held-rows : (flags : ℕ) (list : AtomList) (lent : ℕ) (message : List ℕ) (ts : Terms) → Accepted-message flags list lent message ts
+    → Rows-in-table message (min 8192 lent) (atoms-of flags list) (table-after lent (good ts)) option.none 0 ts
 unfolding whole-code
-held-rows list lent message ts a =
+held-rows flags list lent message ts a =
     let few : sizes ts ≤ min 8192 lent = a .known .few in
     record {
       stand = table-rows lent ts;
-      all-small = small-rows option.none 0 ts (omega arith) (omega arith) (placed-trees message (min 8192 lent) (atoms-of list) 65536 (a .short) ts (a .known .all-backed));
+      all-small = small-rows option.none 0 ts (omega arith) (omega arith) (placed-trees message (min 8192 lent) (atoms-of flags list) 65536 (a .short) ts (a .known .all-backed));
       all-backed = a .known .all-backed;
     }

@@ -91,10 +91,10 @@ module _ (message : List ℕ) (cap : ℕ) (atoms : Atoms) where
         backed = h .all-backed .0;
       }
 
-module _ (list : AtomList) (message : List ℕ) (lent : Lent list message) (cap : ℕ) where
-  -- what reading asks of the list
+module _ (flags : ℕ) (list : AtomList) (message : List ℕ) (lent : Lent list message) (cap : ℕ) where
+  -- what reading asks of the flags and of the list
   abbrev pub atoms : Atoms
-  atoms = atoms-of list
+  atoms = atoms-of flags list
 
   abbrev pub Known : Row → Type 0
   Known r = Small-row r × Backed-row message cap atoms r
@@ -108,7 +108,7 @@ module _ (list : AtomList) (message : List ℕ) (lent : Lent list message) (cap 
       let y : term-kind (kind-at (q .label) (q .place)) ≡ kind-of (q .label) = term-kind-of message cap atoms (q .label) (q .place) (m .1) in
       rw (v .kind-is, w .kind-is, v .offset-is, w .offset-is, v .parts-is, w .parts-is, x, y)
       (one (kind-of (r .label)) (kind-of (q .label)) (r .parts) (q .parts) _ (ap kind-of)
-      (λ e. contents-agree list message lent cap (r .label) (q .label) (r .place) (q .place) (k .1) (m .1) (x ∙ e ∙ sym y)))
+      (λ e. contents-agree flags list message lent cap (r .label) (q .label) (r .place) (q .place) (k .1) (m .1) (x ∙ e ∙ sym y)))
     where
       one : (i j n n′ : ℕ) (c : Bool) → (r .label ≡ q .label → i ≡ j) → (i ≡ j → Agree c (r .label ≡ q .label))
           → Agree (cond (eqb i j) (cond (eqb n n′) c false) false) (_≡_ {A = Label × ℕ} (r .label, n) (q .label, n′))

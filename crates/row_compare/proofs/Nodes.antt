@@ -30,13 +30,13 @@ term-bare kind = go (eqb kind 14) refl
     go true e = ap bare (eqb-true kind 14 e) ∙ fourteen
     go false e = refl
 
-module _ (atoms : AtomList) (m : List ℕ) (l : Lent atoms m) (cap : ℕ) where
+module _ (flags : ℕ) (atoms : AtomList) (m : List ℕ) (l : Lent atoms m) (cap : ℕ) where
   -- what is found again of two nodes of one kind is the same exactly where their labels are equal
-  pub contents-agree : (x y : Label) (p q : Offset) → Label-at m cap (atoms-of atoms) p x → Label-at m cap (atoms-of atoms) q y → term-kind (kind-at x p) ≡ term-kind (kind-at y q)
+  pub contents-agree : (x y : Label) (p q : Offset) → Label-at m cap (atoms-of flags atoms) p x → Label-at m cap (atoms-of flags atoms) q y → term-kind (kind-at x p) ≡ term-kind (kind-at y q)
       → Agree (same-contents m (atoms .places) (content-of m (atoms .places) (atoms .lengths) (kind-at x p) (offset-of p)) (content-of m (atoms .places) (atoms .lengths) (kind-at y q) (offset-of q))) (x ≡ y)
   contents-agree x y p q a b e =
-      let s = content-says atoms m l cap x p a in
-      let t = content-says atoms m l cap y q b in
+      let s = content-says flags atoms m l cap x p a in
+      let t = content-says flags atoms m l cap y q b in
       let k : bare (kind-at x p) ≡ bare (kind-at y q) = term-bare (kind-at x p) ∙ ap bare e ∙ sym (term-bare (kind-at y q)) in
       through (λ f. sym (s .means) ∙ f ∙ t .means) (λ f. s .means ∙ f ∙ sym (t .means))
       (alike-contents atoms m (l .under) (kind-at x p) (kind-at y q) k _ _ (s .sound) (t .sound))
