@@ -1,11 +1,14 @@
 -- A term after its head: one law for each way through `read_term`, `read_body`, `read_inner` and `read_parts`.
 use mathlib.Core.Path.{_≡_, sym, ap, ap₂, _∙_}
+use mathlib.Core.Bool.{Bool, true, false, not}
 use mathlib.Core.List.{List, []}
 use mathlib.Core.Option.{some}
 use Prim.Native.Nat.{ℕ, suc, _+_, _-_, _≤_, _<_}
 use native.Mathlib.Omega.{arith}
 use native.Mathlib.Numerals.{add-one}
+use lib.Dec.{ltb}
 use lib.ListN.{length, set, drop}
+use borrow.Author.Tests.{ltb-true, ltb-false}
 use lib.Seq.{sets}
 use Rattle.term_spec.specs.Tree.{node, count, sizes, Each-node}
 use Rattle.term_spec.specs.Term.{Label}
@@ -15,6 +18,7 @@ use Rattle.term_spec.specs.AtomList.{AtomList}
 use Rattle.term_spec.specs.Reading.{tag-at, each, run, entries, string, list-tail, one-term, opening, row, contents, body, term}
 use Rattle.term_spec.specs.Message.{Terms}
 use Rattle.term_spec.specs.Rows.{tree-rows, rows, kind-of, kind-at, offset-of, whole-code, pack, Small-fields, word, row-words}
+use Rattle.term_spec.proofs.Tests.{refuted, confirmed}
 use Rattle.term_spec.proofs.Rows.{count-le-sizes}
 use Rattle.term_spec.proofs.Words.{Between, kind-of-range}
 use Rattle.octets.proofs.Stores.{set-before}
@@ -48,6 +52,14 @@ module _ (atoms : Atoms) (cap left : ℕ) (w : Wanted) (m : List ℕ) (at row wh
 
 -- ---- `read_body`
 
+-- what the test for a row says
+module _ {there : Bool} {row cap : ℕ} (e : there ≡ ltb row cap) where
+  pub no-row : not there ≡ true → cap ≤ row
+  no-row f = ltb-false row cap (refuted e f)
+
+  pub some-row : not there ≡ false → row < cap
+  some-row f = ltb-true row cap (confirmed e f)
+
 -- a term is made of its parts and its label
 whole-inner : (atoms : Atoms) (cap d p : ℕ) (h : Head) (s : Position)
     → contents atoms cap d (body atoms cap d) p h s ≡ after (inner atoms cap d p h s) (λ e. done (node (e .1, tag-at p) (e .0)))
@@ -55,7 +67,7 @@ unfolding contents inner
 whole-inner atoms cap d p (parts ws n l) s =
     sym (after-after (each (term atoms cap d) ws s) _ _
     ∙ after-same (each (term atoms cap d) ws s) _ _ (λ ts u. after-after (run (term atoms cap d) n u) _ _
-    ∙ after-same (run (term atoms cap d) n u) _ _ (λ us v. after-after (later p l v) _ _)))
+    ∙ after-same (run (term atoms cap d) n u) _ _ (λ us v. after-after (later (atoms .flags) p l v) _ _)))
 whole-inner atoms cap d p (characters cs) s = sym (after-after (string atoms cap d p (p + 3) cs s) _ _)
 whole-inner atoms cap d p (elements n) s =
     sym (after-after (run (term atoms cap d) n s) _ _
@@ -134,6 +146,10 @@ pub parts-past : (m : List ℕ) (before cap row whole : ℕ) (T : List ℕ) (o :
     → PartsDone m before cap row whole T o r T′ → row ≤ end
 parts-past m before cap row whole T o r T′ next end n kind e d =
     let f = parts-found m before cap row whole T o r T′ next end n kind e d in omega (arith, f .are .rows-are)
+
+-- the row that may be taken stands in the table
+pub own-row : (m : List ℕ) (list : AtomList) (T : List ℕ) (cap at row whole : ℕ) → Room m list T cap at row whole → row < cap → row < length T
+own-row m list T cap at row whole room less = let wide : cap ≤ length T = room .wide in omega arith
 
 -- the room for the parts of a term
 pub room-inside : (m : List ℕ) (list : AtomList) (T : List ℕ) (cap at row whole : ℕ) → Room m list T cap at row whole → row < cap → Room m list T cap at (row + 1) (row + 1)

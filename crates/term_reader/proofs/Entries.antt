@@ -42,10 +42,10 @@ Told m cap atoms places lengths first =
     (S : List ℕ) (us : Terms) (u : Located) (ks : List Term) → Keys-of us ks → Rows-in-table m cap atoms S (whole-of first) first (us ▹▹ (u ▹ empty))
     → among-rows m places lengths S first (first + sizes us) ≡ among (meaning u) ks
 
-pub keys-told : (n : ℕ) (places lengths m : List ℕ) (cap first : ℕ) → of-size (lent-list n places lengths) ≡ true → n < 256 → ((i : ℕ) → getD m i 0 < 256)
-    → Told m cap (atoms-of (lent-list n places lengths)) places lengths first
-keys-told n places lengths m cap first sized few under S us u ks k h =
-    last-among (lent-list n places lengths) m (record { sized = sized; few = omega arith; under = under-all m (λ i _. under i) }) cap S us u k h
+pub keys-told : (flags n : ℕ) (places lengths m : List ℕ) (cap first : ℕ) → of-size (lent-list n places lengths) ≡ true → n < 256 → ((i : ℕ) → getD m i 0 < 256)
+    → Told m cap (atoms-of flags (lent-list n places lengths)) places lengths first
+keys-told flags n places lengths m cap first sized few under S us u ks k h =
+    last-among flags (lent-list n places lengths) m (record { sized = sized; few = omega arith; under = under-all m (λ i _. under i) }) cap S us u k h
 
 -- a term that was read has a row
 pub term-inside : (m : List ℕ) (cap row whole : ℕ) (T : List ℕ) (o : Answer (Located × Position)) (r : Step) (T′ : List ℕ) (next end : ℕ) → r ≡ step.Got next end

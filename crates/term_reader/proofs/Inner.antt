@@ -135,34 +135,34 @@ module _ (atoms : Atoms) (cap deep : ℕ) (m : List ℕ) (place row : ℕ) (T : 
 -- ---- `read_parts`
 
 -- the later fields, where they are read
-record Later-read (m : List ℕ) (at place : ℕ) (l : Later) (r end : ℕ) : Type 0 where
+record Later-read (flags : ℕ) (m : List ℕ) (at place : ℕ) (l : Later) (r end : ℕ) : Type 0 where
   pub label : Label
-  pub is : later place l (at-offset m at r) ≡ good (label, at-offset m end r)
+  pub is : later flags place l (at-offset m at r) ≡ good (label, at-offset m end r)
   pub near : end ≤ length m
   pub kind-is : kind-of label ≡ kind-later l
 
-later-read : (m : List ℕ) (at place : ℕ) (l : Later) (r : ℕ) (R : later-step.Step) (end : ℕ) → at ≤ length m → R ≡ step-of (later place l (at-offset m at r)) → R ≡ fields.Got end → Later-read m at place l r end
+later-read : (flags : ℕ) (m : List ℕ) (at place : ℕ) (l : Later) (r : ℕ) (R : later-step.Step) (end : ℕ) → at ≤ length m → R ≡ step-of (later flags place l (at-offset m at r)) → R ≡ fields.Got end → Later-read flags m at place l r end
 unfolding step-of
-later-read m at place l r R end near e f = go (later place l (at-offset m at r)) refl (sym e ∙ f)
+later-read flags m at place l r R end near e f = go (later flags place l (at-offset m at r)) refl (sym e ∙ f)
   where
-    go : (o : Answer (Label × Position)) → later place l (at-offset m at r) ≡ o → step-of o ≡ fields.Got end → Later-read m at place l r end
+    go : (o : Answer (Label × Position)) → later flags place l (at-offset m at r) ≡ o → step-of o ≡ fields.Got end → Later-read flags m at place l r end
     go (refused n p) g h = let z : _≡_ {A = ℕ} 0 1 = cc in absurd (omega arith)
     go (good y) g h =
-        let i : Past m at r (y .1) = later-past m r place l at near .known (y .0) (y .1) g in
+        let i : Past m at r (y .1) = later-past flags m r place l at near .known (y .0) (y .1) g in
         let a : y .1 .at ≡ end = cc in
         record {
           label = y .0;
           is = g ∙ ap (λ (s : Position). good (y .0, s)) (past-is m at r (y .1) i ∙ ap (λ (k : ℕ). at-offset m k r) a);
           near = omega (arith, i .in-step .inside);
-          kind-is = later-kind place l (at-offset m at r) .known (y .0) (y .1) g;
+          kind-is = later-kind flags place l (at-offset m at r) .known (y .0) (y .1) g;
         }
 
-later-refused : (m : List ℕ) (at place : ℕ) (l : Later) (r : ℕ) (R : later-step.Step) (n p : ℕ) → R ≡ step-of (later place l (at-offset m at r)) → R ≡ fields.Refused n p
-    → later place l (at-offset m at r) ≡ refused n p
+later-refused : (flags : ℕ) (m : List ℕ) (at place : ℕ) (l : Later) (r : ℕ) (R : later-step.Step) (n p : ℕ) → R ≡ step-of (later flags place l (at-offset m at r)) → R ≡ fields.Refused n p
+    → later flags place l (at-offset m at r) ≡ refused n p
 unfolding step-of
-later-refused m at place l r R n p e f = go (later place l (at-offset m at r)) refl (sym e ∙ f)
+later-refused flags m at place l r R n p e f = go (later flags place l (at-offset m at r)) refl (sym e ∙ f)
   where
-    go : (o : Answer (Label × Position)) → later place l (at-offset m at r) ≡ o → step-of o ≡ fields.Refused n p → later place l (at-offset m at r) ≡ refused n p
+    go : (o : Answer (Label × Position)) → later flags place l (at-offset m at r) ≡ o → step-of o ≡ fields.Refused n p → later flags place l (at-offset m at r) ≡ refused n p
     go (refused k q) g h = let z : _≡_ {A = Answer (Label × Position)} (refused k q) (refused n p) = cc in g ∙ z
     go (good y) g h = let z : _≡_ {A = ℕ} 0 1 = cc in absurd (omega arith)
 
@@ -191,7 +191,7 @@ module _ (atoms : Atoms) (cap deep : ℕ) (m : List ℕ) (place at row : ℕ) (T
     parts-second k p U f =
         rw (ran .is, any-run (term atoms cap deep) n (at-offset m next end), step-refused _ _ _ m cap end T′ (each (term atoms cap deep) (replicate n (wanted-of Any)) (at-offset m next end)) r′ T″ k p f d′)
 
-    module _ (next′ end′ : ℕ) (e′ : r′ ≡ step.Got next′ end′) (R : later-step.Step) (g : R ≡ step-of (later place l (at-offset m next′ end′))) where
+    module _ (next′ end′ : ℕ) (e′ : r′ ≡ step.Got next′ end′) (R : later-step.Step) (g : R ≡ step-of (later (atoms .flags) place l (at-offset m next′ end′))) where
       abbrev ran′ : Found sizes (λ ts. row-words (rows (whole-of row) end ts)) (λ ts. (count ts ≡ n) × Each-nodes (Placed 65536) ts) m cap end T′
           (each (term atoms cap deep) (replicate n (wanted-of Any)) (at-offset m next end)) next′ end′ T″
       ran′ = step-found sizes _ _ m cap end T′ (each (term atoms cap deep) (replicate n (wanted-of Any)) (at-offset m next end)) r′ T″ next′ end′ e′ d′
@@ -199,12 +199,12 @@ module _ (atoms : Atoms) (cap deep : ℕ) (m : List ℕ) (place at row : ℕ) (T
       pub parts-later-refused : (k p : ℕ) (U : List ℕ) → R ≡ fields.Refused k p → Parts-done (parts-of.Refused k p) U
       unfolding inner Done
       parts-later-refused k p U f =
-          rw (ran .is, any-run (term atoms cap deep) n (at-offset m next end), ran′ .is, later-refused m next′ place l end′ R k p g f)
+          rw (ran .is, any-run (term atoms cap deep) n (at-offset m next end), ran′ .is, later-refused (atoms .flags) m next′ place l end′ R k p g f)
 
       pub parts-got : (kind after-fields : ℕ) → kind ≡ kind-later l → R ≡ fields.Got after-fields → Parts-done (parts-of.Got after-fields end′ (wanted + n) kind) T″
       unfolding inner Done
       parts-got kind after-fields f h =
-          let k : Later-read m next′ place l end′ after-fields = later-read m next′ place l end′ R after-fields (ran′ .near) g h in
+          let k : Later-read (atoms .flags) m next′ place l end′ after-fields = later-read (atoms .flags) m next′ place l end′ R after-fields (ran′ .near) g h in
           let ts : Terms = ran .x in
           let us : Terms = ran′ .x in
           let a : end′ ≡ row + sizes (ts ▹▹ us) = omega (arith, ran .rows-are, ran′ .rows-are, sizes-join ts us) in

@@ -24,9 +24,9 @@ use Rattle.term_head.proofs.OpeningFacts as facts
 use Rattle.term_reader.specs.Code.{asked, Head-fits, Sound-head, Head-read, Last-at}
 
 -- later fields end in the message too, with no row taken
-pub later-past : (m : List ℕ) (r p : ℕ) (l : Later) (from : ℕ) → from ≤ length m → Holds (later p l (at-offset m from r)) (λ x t. Past m from r t)
-later-past m r p l from h =
-    later-kept 0 (Past m from r) (past-byte m from r) (past-row m from r) p l (at-offset m from r)
+pub later-past : (flags : ℕ) (m : List ℕ) (r p : ℕ) (l : Later) (from : ℕ) → from ≤ length m → Holds (later flags p l (at-offset m from r)) (λ x t. Past m from r t)
+later-past flags m r p l from h =
+    later-kept 0 (Past m from r) (past-byte m from r) (past-row m from r) flags p l (at-offset m from r)
     (record { in-step = record { bytes-are = refl; inside = h; room = omega arith }; later = omega arith; rows-are = refl })
 
 wants-asked : (ws : List Wanted) → Wants ws → ws ≡ asked (length ws)

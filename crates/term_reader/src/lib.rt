@@ -339,7 +339,7 @@ fn read_inner(
             later,
         ),
         Head::Characters { count, next } => {
-            read_characters(context, table, place, count, next, row, row, deep, 0)
+            read_characters(table, place, count, next, row, row, deep, context, 0)
         }
         Head::Elements { count, next } => {
             read_list(
@@ -631,7 +631,6 @@ fn put_characters(table: &mut [u64], at: usize, count: usize, row: usize, whole:
 
 // The characters of the 107 at `place`, or no element where `count` is 0.
 fn read_characters(
-    context: usize,
     table: &mut [u64],
     place: usize,
     count: usize,
@@ -639,6 +638,7 @@ fn read_characters(
     row: usize,
     whole: usize,
     deep: usize,
+    context: usize,
     before: usize,
 ) -> Parts
     requires { ⌜ (capacity-in context ≤ 8192) × (capacity-in context ≤ length (now table)) × (row ≤ capacity-in context) × (whole ≤ row) × (before ≤ row) × ((count ≡ 0 → ⊥) → place + 3 + count ≤ 65536) ⌝ }
@@ -816,7 +816,7 @@ fn read_last(
     match head {
         Head::Refused { number, place } => Parts::Refused { number, place },
         Head::Characters { count, next } => {
-            read_characters(context, table, place, count, next, row, whole, deep, before)
+            read_characters(table, place, count, next, row, whole, deep, context, before)
         }
         _ => match read_body(
             msg,

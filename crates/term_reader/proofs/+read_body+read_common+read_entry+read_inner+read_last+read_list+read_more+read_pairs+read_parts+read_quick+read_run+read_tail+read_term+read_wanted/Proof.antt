@@ -1,7 +1,7 @@
 -- The functions of the reader that call each other meet their contracts: each level of depth counts 8, and a function that calls another at its own level counts more.
 use Rattle.term_reader.proofs.Entries.{Reached, reached-none, reached-few, reached-end, at-key, at-value, part-refused, value-entered, key-twice, key-entered, keys-told, term-inside}
 use Rattle.term_reader.proofs.Inner.{opens-near, opens-place, opens-span, inner-refused, inner-parts, inner-characters, inner-elements, inner-pairs, parts-first, parts-second, parts-later-refused, parts-got, run-many, list-first, list-then, Tailed, tailed-none, tailed-skipped, tailed-nil, tailed-last, tailed-run-refused, tailed-further, tailed-more, tail-characters, last-none, last-refused, last-got}
-use Rattle.term_reader.proofs.Bodies.{term-refused, term-opened, body-deep, body-full, body-refused, body-got, body-small, parts-past, room-inside, room-at}
+use Rattle.term_reader.proofs.Bodies.{term-refused, term-opened, body-deep, body-full, body-refused, body-got, body-small, parts-past, no-row, some-row, own-row, room-inside, room-at}
 use Rattle.term_reader.proofs.Quick.{told-next, common-leaf, common-list, common-pairs, common-refused, common-got, opened-quickly, quick-near, quick-inside, quick-term, quick-leaf, leaf-small}
 use Rattle.term_reader.proofs.Runs.{room-after, run-none, run-refused, run-more, run-one, wanted-node, wanted-refused, wanted-more}
 use Rattle.term_reader.proofs.Openings.{opened, opens, elements-opened, last-at}
@@ -13,7 +13,9 @@ use Rattle.map_keys.proofs.Slots.{keeps-refl, keeps-trans}
 use Rattle.term_head.specs.Code.{wanted-of}
 use Rattle.term_spec.specs.Answer.{at-offset}
 use Rattle.term_spec.specs.Reading.{each, list-tail, body, term}
-use Rattle.term_spec.specs.AtomList.{atoms-of, lent-list}
+use Rattle.term_spec.specs.AtomList.{atoms-of}
+use Rattle.context.specs.Word.{count-in, capacity-in, list-in, atoms-in}
+use Rattle.context.proofs.Words.{count-small}
 use types.Run.{miss}
 use lib.ListN.{length, drop, replicate, length-set}
 use mathlib.Core.List.{List, [], _∷_}
@@ -75,6 +77,7 @@ use Rattle.term_head.proofs.read_later.Reads as read-later-reads
 use Rattle.term_head.proofs.read_opening.Reads as read-opening-reads
 use Rattle.term_head.proofs.skip_empty.Reads as skip-empty-reads
 use Rattle.map_keys.proofs.contains_or_insert.Reads as insert-reads
+use Rattle.context.proofs.has_row.Reads as has-row-reads
 use Rattle.row.proofs.pack.Reads as pack-reads
 use Rattle.term_reader.proofs.at_most.Reads as at-most-reads
 use Rattle.term_reader.proofs.is_leaf.Reads as is-leaf-reads
@@ -231,7 +234,7 @@ read-wanted-below t =
     and 5 read-wanted-kinds.ps (falls 5 read-wanted-kinds.ps _<_ μ-read-wanted t) read-wanted.Pre
 
 abbrev read-body-calls : ℕ → read-body-lts.Claims
-read-body-calls t = (read-inner-below t, read-inner.Post, pack-reads.Asked, pack-reads.Learnt)
+read-body-calls t = (has-row-reads.Asked, has-row-reads.Learnt, read-inner-below t, read-inner.Post, pack-reads.Asked, pack-reads.Learnt)
 
 abbrev read-common-calls : ℕ → read-common-lts.Claims
 read-common-calls t = (read-list-below t, read-list.Post, read-pairs-below t, read-pairs.Post, read-run-below t, read-run.Post)
@@ -258,7 +261,7 @@ abbrev read-parts-calls : ℕ → read-parts-lts.Claims
 read-parts-calls t = (read-wanted-below t, read-wanted.Post, read-more-below t, read-more.Post, read-later-reads.Asked, read-later-reads.Learnt)
 
 abbrev read-quick-calls : ℕ → read-quick-lts.Claims
-read-quick-calls t = (read-common-below t, read-common.Post, pack-reads.Asked, pack-reads.Learnt)
+read-quick-calls t = (has-row-reads.Asked, has-row-reads.Learnt, read-common-below t, read-common.Post, pack-reads.Asked, pack-reads.Learnt)
 
 abbrev read-run-calls : ℕ → read-run-lts.Claims
 read-run-calls t = (leaf-at-reads.Asked, leaf-at-reads.Learnt, is-leaf-reads.Asked, is-leaf-reads.Learnt, pack-reads.Asked, pack-reads.Learnt, read-term-below t, read-term.Post)
@@ -275,8 +278,11 @@ read-wanted-calls t = (node-at-reads.Asked, node-at-reads.Learnt, is-leaf-reads.
 read-body-returns : (t : ℕ) → read-body-lts.Need-returns (read-body-calls t) (read-body-at t) read-body.Post
 read-body-returns t c = record { rows-stored = λ h next e s. body-deep _ _ _ _ _ h next _ _ _ _ (c .if1 .taken); keys-kept = keeps-refl _ }
 
+read-body-has-row-requires : (t : ℕ) → read-body-lts.Need-has-row-requires (read-body-calls t) (read-body-at t) read-body.Post
+read-body-has-row-requires t c κs = search needs
+
 read-body-returns-2 : (t : ℕ) → read-body-lts.Need-returns-2 (read-body-calls t) (read-body-at t) read-body.Post
-read-body-returns-2 t c = record { rows-stored = λ h next e s. body-full _ _ _ _ _ h next _ _ _ (c .before .if1 .left) _ (c .if2 .taken); keys-kept = keeps-refl _ }
+read-body-returns-2 t c = record { rows-stored = λ h next e s. body-full _ _ _ _ _ h next _ _ _ (c .before .before .if1 .left) _ (no-row (c .before .has-row .ensures) (c .if2 .taken)); keys-kept = keeps-refl _ }
 
 read-body-add-read-inner : (t : ℕ) → read-body-lts.Need-add-read-inner (read-body-calls t) (read-body-at t) read-body.Post
 read-body-add-read-inner t c = omega arith
@@ -285,7 +291,7 @@ read-body-sub-read-inner : (t : ℕ) → read-body-lts.Need-sub-read-inner (read
 read-body-sub-read-inner t c = omega arith
 
 read-body-read-inner-requires : (t : ℕ) → read-body-lts.Need-read-inner-requires (read-body-calls t) (read-body-at t) read-body.Post
-read-body-read-inner-requires t c κs = (omega (arith, c .before .before .before .before .before .before .before .before .before .pre .0, c .before .before .before .if1 .left), ((room-inside _ _ _ _ _ _ _ (c .before .before .before .before .before .before .before .before .before .pre .1 .0 .0) (c .before .before .if2 .left), c .before .before .before .before .before .before .before .before .before .pre .1 .0 .1), c .before .before .before .before .before .before .before .before .before .pre .1 .1))
+read-body-read-inner-requires t c κs = (omega (arith, c .before .before .before .before .before .before .before .before .before .before .pre .0, c .before .before .before .before .if1 .left), ((room-inside _ _ _ _ _ _ _ (c .before .before .before .before .before .before .before .before .before .before .pre .1 .0 .0) (some-row (c .before .before .before .has-row .ensures) (c .before .before .if2 .left)), c .before .before .before .before .before .before .before .before .before .before .pre .1 .0 .1), c .before .before .before .before .before .before .before .before .before .before .pre .1 .1))
 
 read-body-enum-known-number : (t : ℕ) → read-body-lts.Need-enum-known-number (read-body-calls t) (read-body-at t) read-body.Post
 read-body-enum-known-number t c = search needs
@@ -294,16 +300,16 @@ read-body-enum-known-next : (t : ℕ) → read-body-lts.Need-enum-known-next (re
 read-body-enum-known-next t c = search needs
 
 read-body-sub-pack : (t : ℕ) → read-body-lts.Need-sub-pack (read-body-calls t) (read-body-at t) read-body.Post
-read-body-sub-pack t c = let o = c .before .before .before .before .before .before .before .before .before .before .before .before .before .before .before .before .before .pre .1 .0 .1 in let g = parts-past _ _ _ _ _ _ _ _ _ _ _ _ _ (c .before .next .given .1) (c .before .before .before .before .before .before .before .read-inner .ensures .rows-stored (o .h) (o .next) (o .is) (o .sound)) in omega arith
+read-body-sub-pack t c = let o = c .before .before .before .before .before .before .before .before .before .before .before .before .before .before .before .before .before .before .pre .1 .0 .1 in let g = parts-past _ _ _ _ _ _ _ _ _ _ _ _ _ (c .before .next .given .1) (c .before .before .before .before .before .before .before .read-inner .ensures .rows-stored (o .h) (o .next) (o .is) (o .sound)) in omega arith
 
 read-body-pack-requires : (t : ℕ) → read-body-lts.Need-pack-requires (read-body-calls t) (read-body-at t) read-body.Post
-read-body-pack-requires t c κs = let o = c .before .before .before .before .before .before .before .before .before .before .before .before .before .before .before .before .before .pre .1 .0 .1 in body-small _ _ _ _ _ (o .h) (o .next) _ _ _ (c .before .before .before .before .before .before .before .before .before .before .before .if1 .left) (c .before .before .before .before .before .before .before .before .before .before .if2 .left) _ _ (c .before .before .before .before .before .before .before .read-inner .ensures .rows-stored (o .h) (o .next) (o .is) (o .sound)) _ _ _ _ _ _ (c .before .next .given .1) (c .before .before .before .before .before .before .before .before .before .before .before .before .before .before .before .before .before .pre .1 .0 .0) (omega (arith, opens-place _ _ _ (c .before .before .before .before .before .before .before .before .before .before .before .before .before .before .before .before .before .pre .1 .0 .1), c .before .before .before .before .before .before .before .before .before .before .before .before .before .before .before .before .before .pre .1 .0 .0 .short))
+read-body-pack-requires t c κs = let o = c .before .before .before .before .before .before .before .before .before .before .before .before .before .before .before .before .before .before .pre .1 .0 .1 in body-small _ _ _ _ _ (o .h) (o .next) _ _ _ (c .before .before .before .before .before .before .before .before .before .before .before .before .if1 .left) (some-row (c .before .before .before .before .before .before .before .before .before .before .before .has-row .ensures) (c .before .before .before .before .before .before .before .before .before .before .if2 .left)) _ _ (c .before .before .before .before .before .before .before .read-inner .ensures .rows-stored (o .h) (o .next) (o .is) (o .sound)) _ _ _ _ _ _ (c .before .next .given .1) (c .before .before .before .before .before .before .before .before .before .before .before .before .before .before .before .before .before .before .pre .1 .0 .0) (omega (arith, opens-place _ _ _ (c .before .before .before .before .before .before .before .before .before .before .before .before .before .before .before .before .before .before .pre .1 .0 .1), c .before .before .before .before .before .before .before .before .before .before .before .before .before .before .before .before .before .before .pre .1 .0 .0 .short))
 
 read-body-mul-table : (t : ℕ) → read-body-lts.Need-mul-table (read-body-calls t) (read-body-at t) read-body.Post
 read-body-mul-table t c = omega arith
 
 read-body-slice-write-table : (t : ℕ) → read-body-lts.Need-slice-write-table (read-body-calls t) (read-body-at t) read-body.Post
-read-body-slice-write-table t c = omega (arith, c .before .before .before .before .before .before .before .before .read-inner .kept .1 .1 .1 .1 .0)
+read-body-slice-write-table t c = omega (arith, c .before .before .before .before .before .before .before .before .read-inner .kept .1 .1 .1 .1 .0, own-row _ _ _ _ _ _ _ (c .before .before .before .before .before .before .before .before .before .before .before .before .before .before .before .before .before .before .before .pre .1 .0 .0) (some-row (c .before .before .before .before .before .before .before .before .before .before .before .before .has-row .ensures) (c .before .before .before .before .before .before .before .before .before .before .before .if2 .left)))
 
 read-body-same-length : (t : ℕ) → read-body-lts.Need-same-length (read-body-calls t) (read-body-at t) read-body.Post
 read-body-same-length t c = c .before .before .before .before .before .before .before .read-inner .kept .1 .1 .1 .1 .0
@@ -312,7 +318,7 @@ read-body-same-length-2 : (t : ℕ) → read-body-lts.Need-same-length-2 (read-b
 read-body-same-length-2 t c = c .before .before .before .before .before .before .before .read-inner .kept .1 .1 .1 .1 .1 .0
 
 read-body-returns-3 : (t : ℕ) → read-body-lts.Need-returns-3 (read-body-calls t) (read-body-at t) read-body.Post
-read-body-returns-3 t c = record { rows-stored = λ h next e s. body-refused _ _ _ _ _ h next _ _ _ (c .before .before .before .before .before .before .before .before .before .before .before .if1 .left) (c .before .before .before .before .before .before .before .before .before .before .if2 .left) _ _ (c .before .before .before .before .before .before .before .read-inner .ensures .rows-stored h next e s) _ _ _ (c .before .number .given .1); keys-kept = c .before .before .before .before .before .before .before .read-inner .ensures .keys-kept }
+read-body-returns-3 t c = record { rows-stored = λ h next e s. body-refused _ _ _ _ _ h next _ _ _ (c .before .before .before .before .before .before .before .before .before .before .before .before .if1 .left) (some-row (c .before .before .before .before .before .before .before .before .before .before .before .has-row .ensures) (c .before .before .before .before .before .before .before .before .before .before .if2 .left)) _ _ (c .before .before .before .before .before .before .before .read-inner .ensures .rows-stored h next e s) _ _ _ (c .before .number .given .1); keys-kept = c .before .before .before .before .before .before .before .read-inner .ensures .keys-kept }
 
 read-body-same-length-3 : (t : ℕ) → read-body-lts.Need-same-length-3 (read-body-calls t) (read-body-at t) read-body.Post
 read-body-same-length-3 t c = simp length-set (c .before .before .before .before .before .before .before .before .read-inner .kept .1 .1 .1 .1 .0)
@@ -321,7 +327,7 @@ read-body-same-length-4 : (t : ℕ) → read-body-lts.Need-same-length-4 (read-b
 read-body-same-length-4 t c = c .before .before .before .before .before .before .before .before .read-inner .kept .1 .1 .1 .1 .1 .0
 
 read-body-returns-4 : (t : ℕ) → read-body-lts.Need-returns-4 (read-body-calls t) (read-body-at t) read-body.Post
-read-body-returns-4 t c = record { rows-stored = λ h next e s. body-got _ _ _ _ _ h next _ _ _ (c .before .before .before .before .before .before .before .before .before .before .before .before .if1 .left) (c .before .before .before .before .before .before .before .before .before .before .before .if2 .left) _ _ (c .before .before .before .before .before .before .before .before .read-inner .ensures .rows-stored h next e s) _ _ _ _ _ (c .before .before .next .given .1) (omega (arith, opens-place _ _ _ (c .before .before .before .before .before .before .before .before .before .before .before .before .before .before .before .before .before .before .pre .1 .0 .1), c .before .before .before .before .before .before .before .before .before .before .before .before .before .before .before .before .before .before .pre .1 .0 .0 .short)) (c .pack .ensures); keys-kept = c .before .before .before .before .before .before .before .before .read-inner .ensures .keys-kept }
+read-body-returns-4 t c = record { rows-stored = λ h next e s. body-got _ _ _ _ _ h next _ _ _ (c .before .before .before .before .before .before .before .before .before .before .before .before .before .if1 .left) (some-row (c .before .before .before .before .before .before .before .before .before .before .before .before .has-row .ensures) (c .before .before .before .before .before .before .before .before .before .before .before .if2 .left)) _ _ (c .before .before .before .before .before .before .before .before .read-inner .ensures .rows-stored h next e s) _ _ _ _ _ (c .before .before .next .given .1) (omega (arith, opens-place _ _ _ (c .before .before .before .before .before .before .before .before .before .before .before .before .before .before .before .before .before .before .before .pre .1 .0 .1), c .before .before .before .before .before .before .before .before .before .before .before .before .before .before .before .before .before .before .before .pre .1 .0 .0 .short)) (c .pack .ensures); keys-kept = c .before .before .before .before .before .before .before .before .read-inner .ensures .keys-kept }
 
 read-inner-enum-known-head : (t : ℕ) → read-inner-lts.Need-enum-known-head (read-inner-calls t) (read-inner-at t) read-inner.Post
 read-inner-enum-known-head t c = search needs
@@ -409,8 +415,8 @@ read-last-enum-known-number t c = search needs
 read-last-enum-known-next : (t : ℕ) → read-last-lts.Need-enum-known-next (read-last-calls t) (read-last-at t) read-last.Post
 read-last-enum-known-next t c = search needs
 
-read-last-add-t34 : (t : ℕ) → read-last-lts.Need-add-t34 (read-last-calls t) (read-last-at t) read-last.Post
-read-last-add-t34 t c = omega (arith, c .before .before .before .before .before .before .before .before .before .before .before .before .before .before .before .before .before .pre .1 .0 .2, c .before .before .before .before .before .before .before .before .before .before .before .before .before .before .before .before .before .pre .1 .0 .0 .low, c .before .before .before .before .before .before .before .before .before .before .before .before .before .before .before .before .before .pre .1 .0 .0 .few)
+read-last-add-t33 : (t : ℕ) → read-last-lts.Need-add-t33 (read-last-calls t) (read-last-at t) read-last.Post
+read-last-add-t33 t c = omega (arith, c .before .before .before .before .before .before .before .before .before .before .before .before .before .before .before .before .before .pre .1 .0 .2, c .before .before .before .before .before .before .before .before .before .before .before .before .before .before .before .before .before .pre .1 .0 .0 .low, c .before .before .before .before .before .before .before .before .before .before .before .before .before .before .before .before .before .pre .1 .0 .0 .few)
 
 read-last-returns : (t : ℕ) → read-last-lts.Need-returns (read-last-calls t) (read-last-at t) read-last.Post
 read-last-returns t c = record { rows-stored = last-none _ _ _ _ _ _ _ _ _ _ _ _ _ (c .before .before .before .read-opening .ensures) (c .before .head .given .1); keys-kept = keeps-refl _ }
@@ -495,7 +501,7 @@ read-entry-is-leaf-requires : (t : ℕ) → read-entry-lts.Need-is-leaf-requires
 read-entry-is-leaf-requires t c κs = search needs
 
 read-entry-pack-requires : (t : ℕ) → read-entry-lts.Need-pack-requires (read-entry-calls t) (read-entry-at t) read-entry.Post
-read-entry-pack-requires t c κs = let f = c .before .is-leaf .ensures (c .if1 .taken) in let w = c .before .before .entry-at .ensures (f .0) in leaf-small _ _ _ _ _ _ _ _ (c .before .before .before .before .before .before .before .before .pre .1 .0) (quick-inside _ _ _ _ (c .before .before .before .before .before .before .before .before .args .row) _ (f .0) (w (atoms-of (lent-list 0 [] [])) (c .before .before .before .before .before .before .before .before .args .row)))
+read-entry-pack-requires t c κs = let f = c .before .is-leaf .ensures (c .if1 .taken) in let w = c .before .before .entry-at .ensures (f .0) in leaf-small _ _ _ _ _ _ _ _ (c .before .before .before .before .before .before .before .before .pre .1 .0) (quick-inside _ _ _ _ (c .before .before .before .before .before .before .before .before .args .row) _ (f .0) (w (atoms-in 0 [] []) (c .before .before .before .before .before .before .before .before .args .row)))
 
 read-entry-mul-table : (t : ℕ) → read-entry-lts.Need-mul-table (read-entry-calls t) (read-entry-at t) read-entry.Post
 read-entry-mul-table t c = omega arith
@@ -503,8 +509,8 @@ read-entry-mul-table t c = omega arith
 read-entry-slice-write-table : (t : ℕ) → read-entry-lts.Need-slice-write-table (read-entry-calls t) (read-entry-at t) read-entry.Post
 read-entry-slice-write-table t c = let f = c .before .before .is-leaf .ensures (c .before .if1 .taken) in omega (arith, f .3, c .before .before .before .before .before .before .before .before .before .pre .1 .0 .wide)
 
-read-entry-add-t16 : (t : ℕ) → read-entry-lts.Need-add-t16 (read-entry-calls t) (read-entry-at t) read-entry.Post
-read-entry-add-t16 t c = let f = c .before .before .is-leaf .ensures (c .before .if1 .taken) in omega (arith, f .3, c .before .before .before .before .before .before .before .before .before .pre .1 .0 .few)
+read-entry-add-t15 : (t : ℕ) → read-entry-lts.Need-add-t15 (read-entry-calls t) (read-entry-at t) read-entry.Post
+read-entry-add-t15 t c = let f = c .before .before .is-leaf .ensures (c .before .if1 .taken) in omega (arith, f .3, c .before .before .before .before .before .before .before .before .before .pre .1 .0 .few)
 
 read-entry-same-length : (t : ℕ) → read-entry-lts.Need-same-length (read-entry-calls t) (read-entry-at t) read-entry.Post
 read-entry-same-length t c = length-set {A = ℕ} (c .before .before .before .before .before .before .before .before .before .args .table .now) (c .before .before .before .before .before .before .before .before .before .args .row) (c .pack .result)
@@ -513,7 +519,7 @@ read-entry-returns : (t : ℕ) → read-entry-lts.Need-returns (read-entry-calls
 read-entry-returns t c =
     let f = c .before .before .is-leaf .ensures (c .before .if1 .taken) in
     let w = c .before .before .before .entry-at .ensures (f .0) in
-    record { rows-stored = quick-leaf _ _ _ _ (c .before .before .before .before .before .before .before .before .before .args .row) _ (f .0) (w _ (c .before .before .before .before .before .before .before .before .before .args .row)) _ _ _ _ (f .1) (f .2) (f .3) (omega (arith, quick-inside _ _ _ _ (c .before .before .before .before .before .before .before .before .before .args .row) _ (f .0) (w (atoms-of (lent-list 0 [] [])) (c .before .before .before .before .before .before .before .before .before .args .row)), c .before .before .before .before .before .before .before .before .before .pre .1 .0 .short)) _ (c .pack .ensures); keys-kept = keeps-refl _ }
+    record { rows-stored = quick-leaf _ _ _ _ (c .before .before .before .before .before .before .before .before .before .args .row) _ (f .0) (w _ (c .before .before .before .before .before .before .before .before .before .args .row)) _ _ _ _ (f .1) (f .2) (f .3) (omega (arith, quick-inside _ _ _ _ (c .before .before .before .before .before .before .before .before .before .args .row) _ (f .0) (w (atoms-in 0 [] []) (c .before .before .before .before .before .before .before .before .before .args .row)), c .before .before .before .before .before .before .before .before .before .pre .1 .0 .short)) _ (c .pack .ensures); keys-kept = keeps-refl _ }
 
 read-entry-read-run-requires : (t : ℕ) → read-entry-lts.Need-read-run-requires (read-entry-calls t) (read-entry-at t) read-entry.Post
 read-entry-read-run-requires t c κs = (omega (arith, c .before .before .before .before .before .before .before .before .before .before .pre .0), (c .before .before .before .before .before .before .before .before .before .before .pre .1 .0, c .before .before .before .before .before .before .before .before .before .before .pre .1 .1))
@@ -529,14 +535,14 @@ unfolding wanted-of
 read-entry-returns-2 t c = record { rows-stored = run-one _ _ _ _ _ _ _ _ _ _ (c .before .before .before .before .read-run .ensures .rows-stored); keys-kept = c .before .before .before .before .read-run .ensures .keys-kept }
 
 abbrev read-pairs-Inv-loop : read-pairs-lts.InvT-loop
-read-pairs-Inv-loop msg n places lengths table₀ seen₀ at row deep cap count at-now₀ row-now₀ parts₀ table seen at-now row-now parts =
-    Room msg (lent-list n places lengths) table cap at-now row-now row
+read-pairs-Inv-loop msg context places lengths table₀ seen₀ at row deep count at-now₀ row-now₀ parts₀ table seen at-now row-now parts =
+    Room msg (list-in context places lengths) table (capacity-in context) at-now row-now row
     × (length table ≡ length table₀)
-    × Reached (atoms-of (lent-list n places lengths)) cap deep msg places lengths at row count table₀ at-now row-now parts table seen
+    × Reached (atoms-in context places lengths) (capacity-in context) deep msg places lengths at row count table₀ at-now row-now parts table seen
     × Keeps seen₀ seen
 
 abbrev read-pairs-μ-loop : read-pairs-lts.MeasureT-loop
-read-pairs-μ-loop msg n places lengths table₀ seen₀ at row deep cap count at-now₀ row-now₀ parts₀ table seen at-now row-now parts =
+read-pairs-μ-loop msg context places lengths table₀ seen₀ at row deep count at-now₀ row-now₀ parts₀ table seen at-now row-now parts =
     count * 2 - parts
 
 read-pairs-loop-holds : (t : ℕ) → read-pairs-lts.Need-loop-holds (read-pairs-calls t) (read-pairs-at t) read-pairs.Post read-pairs-Inv-loop read-pairs-μ-loop
@@ -587,7 +593,7 @@ read-pairs-returns-2 : (t : ℕ) → read-pairs-lts.Need-returns-2 (read-pairs-c
 read-pairs-returns-2 t c =
     let i = c .before .before .before .before .before .before .before .before .before .before .before .before .before .before .before .before .before .before .loop in
     let e : i .parts / 2 < c .before .before .before .before .before .before .before .before .before .before .before .before .before .before .before .before .before .before .before .before .before .before .before .before .args .count = omega (arith, c .before .before .before .before .before .before .before .before .before .before .before .before .before .before .before .before .before .loop-test .taken) in
-    record { rows-stored = λ place. key-twice _ _ _ _ _ _ _ _ _ _ _ _ _ _ _ _ _ (c .before .before .before .before .before .before .before .before .before .before .before .before .before .before .read-entry .ensures .rows-stored) _ (i .inv .0) _ _ (c .before .before .before .before .before .before .before .before .next .given .1) (at-key _ _ _ _ _ _ _ _ _ _ _ _ _ _ _ (i .inv .2) (c .before .before .before .before .before .before .if1 .left)) e (keys-told _ _ _ _ _ _ (i .inv .0 .sized) (omega (arith, c .before .before .before .before .before .before .before .before .before .before .before .before .before .before .before .before .before .before .before .before .before .before .before .before .fits .n)) (λ j. omega (arith, c .before .before .before .before .before .before .before .before .before .before .before .before .before .before .before .before .before .before .before .before .before .before .before .shared-slice-known .given j))) _ _ _ (c .before .before .before .before .before .before .before .before .before .before .before .before .before .before .read-entry .ensures .keys-kept) (c .before .before .before .contains-or-insert .ensures) place _ (c .if2 .taken); keys-kept = keeps-trans (keeps-trans (i .inv .3) (c .before .before .before .before .before .before .before .before .before .before .before .before .before .before .read-entry .ensures .keys-kept)) (c .before .before .before .contains-or-insert .ensures .slots-kept) }
+    record { rows-stored = λ place. key-twice _ _ _ _ _ _ _ _ _ _ _ _ _ _ _ _ _ (c .before .before .before .before .before .before .before .before .before .before .before .before .before .before .read-entry .ensures .rows-stored) _ (i .inv .0) _ _ (c .before .before .before .before .before .before .before .before .next .given .1) (at-key _ _ _ _ _ _ _ _ _ _ _ _ _ _ _ (i .inv .2) (c .before .before .before .before .before .before .if1 .left)) e (keys-told _ _ _ _ _ _ _ (i .inv .0 .sized) (count-small _) (λ j. omega (arith, c .before .before .before .before .before .before .before .before .before .before .before .before .before .before .before .before .before .before .before .before .before .before .before .shared-slice-known .given j))) _ _ _ (c .before .before .before .before .before .before .before .before .before .before .before .before .before .before .read-entry .ensures .keys-kept) (c .before .before .before .contains-or-insert .ensures) place _ (c .if2 .taken); keys-kept = keeps-trans (keeps-trans (i .inv .3) (c .before .before .before .before .before .before .before .before .before .before .before .before .before .before .read-entry .ensures .keys-kept)) (c .before .before .before .contains-or-insert .ensures .slots-kept) }
 
 read-pairs-loop-less-2 : (t : ℕ) → read-pairs-lts.Need-loop-less-2 (read-pairs-calls t) (read-pairs-at t) read-pairs.Post read-pairs-Inv-loop read-pairs-μ-loop
 read-pairs-loop-less-2 t c = omega (arith, c .before .before .before .before .before .before .before .before .before .before .before .before .before .before .before .before .before .loop-test .taken)
@@ -596,7 +602,7 @@ read-pairs-loop-again-2 : (t : ℕ) → read-pairs-lts.Need-loop-again-2 (read-p
 read-pairs-loop-again-2 t c =
     let i = c .before .before .before .before .before .before .before .before .before .before .before .before .before .before .before .before .before .before .loop in
     let e : i .parts / 2 < c .before .before .before .before .before .before .before .before .before .before .before .before .before .before .before .before .before .before .before .before .before .before .before .before .args .count = omega (arith, c .before .before .before .before .before .before .before .before .before .before .before .before .before .before .before .before .before .loop-test .taken) in
-    (room-after _ _ _ _ _ _ _ _ _ _ _ _ _ _ _ (i .inv .0) (c .before .before .before .before .before .before .before .before .before .before .before .before .before .before .read-entry .ensures .rows-stored) (c .before .before .before .before .before .before .before .before .next .given .1) (c .before .before .before .before .before .before .before .before .before .before .before .before .before .before .read-entry .kept .1 .1 .1 .1 .0), c .before .before .before .before .before .before .before .before .before .before .before .before .before .before .read-entry .kept .1 .1 .1 .1 .0 ∙ i .inv .1, key-entered _ _ _ _ _ _ _ _ _ _ _ _ _ _ _ _ _ (c .before .before .before .before .before .before .before .before .before .before .before .before .before .before .read-entry .ensures .rows-stored) _ (i .inv .0) _ _ (c .before .before .before .before .before .before .before .before .next .given .1) (at-key _ _ _ _ _ _ _ _ _ _ _ _ _ _ _ (i .inv .2) (c .before .before .before .before .before .before .if1 .left)) e (keys-told _ _ _ _ _ _ (i .inv .0 .sized) (omega (arith, c .before .before .before .before .before .before .before .before .before .before .before .before .before .before .before .before .before .before .before .before .before .before .before .before .fits .n)) (λ j. omega (arith, c .before .before .before .before .before .before .before .before .before .before .before .before .before .before .before .before .before .before .before .before .before .before .before .shared-slice-known .given j))) _ _ _ (c .before .before .before .before .before .before .before .before .before .before .before .before .before .before .read-entry .ensures .keys-kept) (c .before .before .before .contains-or-insert .ensures) (c .if2 .left), keeps-trans (keeps-trans (i .inv .3) (c .before .before .before .before .before .before .before .before .before .before .before .before .before .before .read-entry .ensures .keys-kept)) (c .before .before .before .contains-or-insert .ensures .slots-kept))
+    (room-after _ _ _ _ _ _ _ _ _ _ _ _ _ _ _ (i .inv .0) (c .before .before .before .before .before .before .before .before .before .before .before .before .before .before .read-entry .ensures .rows-stored) (c .before .before .before .before .before .before .before .before .next .given .1) (c .before .before .before .before .before .before .before .before .before .before .before .before .before .before .read-entry .kept .1 .1 .1 .1 .0), c .before .before .before .before .before .before .before .before .before .before .before .before .before .before .read-entry .kept .1 .1 .1 .1 .0 ∙ i .inv .1, key-entered _ _ _ _ _ _ _ _ _ _ _ _ _ _ _ _ _ (c .before .before .before .before .before .before .before .before .before .before .before .before .before .before .read-entry .ensures .rows-stored) _ (i .inv .0) _ _ (c .before .before .before .before .before .before .before .before .next .given .1) (at-key _ _ _ _ _ _ _ _ _ _ _ _ _ _ _ (i .inv .2) (c .before .before .before .before .before .before .if1 .left)) e (keys-told _ _ _ _ _ _ _ (i .inv .0 .sized) (count-small _) (λ j. omega (arith, c .before .before .before .before .before .before .before .before .before .before .before .before .before .before .before .before .before .before .before .before .before .before .before .shared-slice-known .given j))) _ _ _ (c .before .before .before .before .before .before .before .before .before .before .before .before .before .before .read-entry .ensures .keys-kept) (c .before .before .before .contains-or-insert .ensures) (c .if2 .left), keeps-trans (keeps-trans (i .inv .3) (c .before .before .before .before .before .before .before .before .before .before .before .before .before .before .read-entry .ensures .keys-kept)) (c .before .before .before .contains-or-insert .ensures .slots-kept))
 
 read-pairs-same-length-5 : (t : ℕ) → read-pairs-lts.Need-same-length-5 (read-pairs-calls t) (read-pairs-at t) read-pairs.Post read-pairs-Inv-loop read-pairs-μ-loop
 read-pairs-same-length-5 t c = c .before .loop .inv .1
@@ -636,8 +642,8 @@ read-parts-enum-known-number-3 t c = search needs
 read-parts-enum-known-next-3 : (t : ℕ) → read-parts-lts.Need-enum-known-next-3 (read-parts-calls t) (read-parts-at t) read-parts.Post
 read-parts-enum-known-next-3 t c = search needs
 
-read-parts-add-t42 : (t : ℕ) → read-parts-lts.Need-add-t42 (read-parts-calls t) (read-parts-at t) read-parts.Post
-read-parts-add-t42 t c = let a = run-many _ _ _ _ _ _ _ _ _ _ _ (c .before .before .before .before .before .before .before .before .before .before .before .before .before .before .before .before .before .before .before .before .before .read-wanted .ensures .rows-stored) (c .before .before .before .before .before .before .before .before .before .before .before .before .before .before .before .next .given .1) in let b = run-many _ _ _ _ _ _ _ _ _ _ _ (c .before .before .before .before .before .before .before .before .before .before .before .read-more .ensures .rows-stored) (c .before .before .before .before .before .next2 .given .1) in omega arith
+read-parts-add-t41 : (t : ℕ) → read-parts-lts.Need-add-t41 (read-parts-calls t) (read-parts-at t) read-parts.Post
+read-parts-add-t41 t c = let a = run-many _ _ _ _ _ _ _ _ _ _ _ (c .before .before .before .before .before .before .before .before .before .before .before .before .before .before .before .before .before .before .before .before .before .read-wanted .ensures .rows-stored) (c .before .before .before .before .before .before .before .before .before .before .before .before .before .before .before .next .given .1) in let b = run-many _ _ _ _ _ _ _ _ _ _ _ (c .before .before .before .before .before .before .before .before .before .before .before .read-more .ensures .rows-stored) (c .before .before .before .before .before .next2 .given .1) in omega arith
 
 read-parts-same-length : (t : ℕ) → read-parts-lts.Need-same-length (read-parts-calls t) (read-parts-at t) read-parts.Post
 read-parts-same-length t c = c .before .before .before .before .before .before .before .read-wanted .kept .1 .1 .1 .1 .0
@@ -664,6 +670,7 @@ read-parts-same-length-6 : (t : ℕ) → read-parts-lts.Need-same-length-6 (read
 read-parts-same-length-6 t c = c .before .before .before .before .before .before .before .before .before .before .before .read-more .kept .1 .1 .1 .1 .1 .0 ∙ c .before .before .before .before .before .before .before .before .before .before .before .before .before .before .before .before .before .before .before .before .before .read-wanted .kept .1 .1 .1 .1 .1 .0
 
 read-parts-returns-3 : (t : ℕ) → read-parts-lts.Need-returns-3 (read-parts-calls t) (read-parts-at t) read-parts.Post
+unfolding atoms-of
 read-parts-returns-3 t c = record { rows-stored = λ l kind later. parts-later-refused _ _ _ _ _ _ _ _ _ _ l _ _ (c .before .before .before .before .before .before .before .before .before .before .before .before .before .before .before .before .before .before .before .before .before .read-wanted .ensures .rows-stored) _ _ (c .before .before .before .before .before .before .before .before .before .before .before .before .before .before .before .next .given .1) _ _ (c .before .before .before .before .before .before .before .before .before .before .before .read-more .ensures .rows-stored) _ _ (c .before .before .before .before .before .next2 .given .1) _ (c .before .before .before .read-later .ensures l later _) _ _ _ (c .before .number3 .given .1); keys-kept = keeps-trans (c .before .before .before .before .before .before .before .before .before .before .before .before .before .before .before .before .before .before .before .before .before .read-wanted .ensures .keys-kept) (c .before .before .before .before .before .before .before .before .before .before .before .read-more .ensures .keys-kept) }
 
 read-parts-same-length-7 : (t : ℕ) → read-parts-lts.Need-same-length-7 (read-parts-calls t) (read-parts-at t) read-parts.Post
@@ -673,19 +680,20 @@ read-parts-same-length-8 : (t : ℕ) → read-parts-lts.Need-same-length-8 (read
 read-parts-same-length-8 t c = c .before .before .before .before .before .before .before .before .before .before .before .read-more .kept .1 .1 .1 .1 .1 .0 ∙ c .before .before .before .before .before .before .before .before .before .before .before .before .before .before .before .before .before .before .before .before .before .read-wanted .kept .1 .1 .1 .1 .1 .0
 
 read-parts-returns-4 : (t : ℕ) → read-parts-lts.Need-returns-4 (read-parts-calls t) (read-parts-at t) read-parts.Post
+unfolding atoms-of
 read-parts-returns-4 t c = record { rows-stored = λ l kind later. parts-got _ _ _ _ _ _ _ _ _ _ l _ _ (c .before .before .before .before .before .before .before .before .before .before .before .before .before .before .before .before .before .before .before .before .before .read-wanted .ensures .rows-stored) _ _ (c .before .before .before .before .before .before .before .before .before .before .before .before .before .before .before .next .given .1) _ _ (c .before .before .before .before .before .before .before .before .before .before .before .read-more .ensures .rows-stored) _ _ (c .before .before .before .before .before .next2 .given .1) _ (c .before .before .before .read-later .ensures l later _) _ _ kind (c .before .next3 .given .1); keys-kept = keeps-trans (c .before .before .before .before .before .before .before .before .before .before .before .before .before .before .before .before .before .before .before .before .before .read-wanted .ensures .keys-kept) (c .before .before .before .before .before .before .before .before .before .before .before .read-more .ensures .keys-kept) }
 
 abbrev read-run-Inv-loop : read-run-lts.InvT-loop
-read-run-Inv-loop msg n places lengths table₀ seen₀ at row whole deep cap wanted count at-now₀ row-now₀ more₀ table seen at-now row-now more =
-    Room msg (lent-list n places lengths) table cap at-now row-now whole
+read-run-Inv-loop msg context places lengths table₀ seen₀ at row whole deep wanted count at-now₀ row-now₀ more₀ table seen at-now row-now more =
+    Room msg (list-in context places lengths) table (capacity-in context) at-now row-now whole
     × (length table ≡ length table₀)
     × ((s : Step) (U : List ℕ)
-    → RunDone msg more cap row-now whole table (each (term (atoms-of (lent-list n places lengths)) cap deep) (replicate more (wanted-of wanted)) (at-offset msg at-now row-now)) s U
-    → RunDone msg count cap row whole table₀ (each (term (atoms-of (lent-list n places lengths)) cap deep) (replicate count (wanted-of wanted)) (at-offset msg at row)) s U)
+    → RunDone msg more (capacity-in context) row-now whole table (each (term (atoms-in context places lengths) (capacity-in context) deep) (replicate more (wanted-of wanted)) (at-offset msg at-now row-now)) s U
+    → RunDone msg count (capacity-in context) row whole table₀ (each (term (atoms-in context places lengths) (capacity-in context) deep) (replicate count (wanted-of wanted)) (at-offset msg at row)) s U)
     × Keeps seen₀ seen
 
 abbrev read-run-μ-loop : read-run-lts.MeasureT-loop
-read-run-μ-loop msg n places lengths table₀ seen₀ at row whole deep cap wanted count at-now₀ row-now₀ more₀ table seen at-now row-now more =
+read-run-μ-loop msg context places lengths table₀ seen₀ at row whole deep wanted count at-now₀ row-now₀ more₀ table seen at-now row-now more =
     more
 
 read-run-loop-holds : (t : ℕ) → read-run-lts.Need-loop-holds (read-run-calls t) (read-run-at t) read-run.Post read-run-Inv-loop read-run-μ-loop
@@ -698,7 +706,7 @@ read-run-is-leaf-requires : (t : ℕ) → read-run-lts.Need-is-leaf-requires (re
 read-run-is-leaf-requires t c κs = search needs
 
 read-run-pack-requires : (t : ℕ) → read-run-lts.Need-pack-requires (read-run-calls t) (read-run-at t) read-run.Post read-run-Inv-loop read-run-μ-loop
-read-run-pack-requires t c κs = let f = c .before .is-leaf .ensures (c .if1 .taken) in let w = c .before .before .leaf-at .ensures (f .0) in leaf-small _ _ _ _ _ _ _ _ (c .before .before .before .before .loop .inv .0) (quick-inside _ _ _ _ (c .before .before .before .before .loop .row-now) _ (f .0) (w (atoms-of (lent-list 0 [] [])) (c .before .before .before .before .loop .row-now)))
+read-run-pack-requires t c κs = let f = c .before .is-leaf .ensures (c .if1 .taken) in let w = c .before .before .leaf-at .ensures (f .0) in leaf-small _ _ _ _ _ _ _ _ (c .before .before .before .before .loop .inv .0) (quick-inside _ _ _ _ (c .before .before .before .before .loop .row-now) _ (f .0) (w (atoms-in 0 [] []) (c .before .before .before .before .loop .row-now)))
 
 read-run-mul-table : (t : ℕ) → read-run-lts.Need-mul-table (read-run-calls t) (read-run-at t) read-run.Post read-run-Inv-loop read-run-μ-loop
 read-run-mul-table t c = omega arith
@@ -720,7 +728,7 @@ read-run-loop-again t c =
     let i = c .before .before .before .before .before .loop in
     let e : i .more ≡ 0 → ⊥ = omega arith in
     let f = c .before .before .is-leaf .ensures (c .before .if1 .taken) in let w = c .before .before .before .leaf-at .ensures (f .0) in
-    let d = (quick-leaf _ _ _ _ (i .row-now) _ (f .0) (w _ (i .row-now)) _ _ _ _ (f .1) (f .2) (f .3) (omega (arith, quick-inside _ _ _ _ (i .row-now) _ (f .0) (w (atoms-of (lent-list 0 [] [])) (i .row-now)), i .inv .0 .short)) _ (c .pack .ensures)) in
+    let d = (quick-leaf _ _ _ _ (i .row-now) _ (f .0) (w _ (i .row-now)) _ _ _ _ (f .1) (f .2) (f .3) (omega (arith, quick-inside _ _ _ _ (i .row-now) _ (f .0) (w (atoms-in 0 [] []) (i .row-now)), i .inv .0 .short)) _ (c .pack .ensures)) in
     (room-after _ _ _ _ _ _ _ _ _ _ _ _ _ _ _ (i .inv .0) d refl (length-set {A = ℕ} (i .table) (i .row-now) (c .pack .result)), length-set {A = ℕ} (i .table) (i .row-now) (c .pack .result) ∙ i .inv .1, (λ s U g. i .inv .2 s U (run-more _ _ _ _ _ _ _ _ _ e _ _ _ _ s U refl d g)), i .inv .3)
 
 read-run-read-term-requires : (t : ℕ) → read-run-lts.Need-read-term-requires (read-run-calls t) (read-run-at t) read-run.Post read-run-Inv-loop read-run-μ-loop
@@ -769,16 +777,16 @@ read-run-returns-2 t c =
     record { rows-stored = i .inv .2 _ _ (run-none _ _ _ _ _ _ _ _ _ e (i .inv .0 .low) (i .inv .0 .near)); keys-kept = i .inv .3 }
 
 abbrev read-tail-Inv-loop : read-tail-lts.InvT-loop
-read-tail-Inv-loop msg n places lengths table₀ seen₀ at row whole deep cap before at-now₀ row-now₀ sum₀ table seen at-now row-now sum =
-    Room msg (lent-list n places lengths) table cap at-now row-now whole
+read-tail-Inv-loop msg context places lengths table₀ seen₀ at row whole deep before at-now₀ row-now₀ sum₀ table seen at-now row-now sum =
+    Room msg (list-in context places lengths) table (capacity-in context) at-now row-now whole
     × (length table ≡ length table₀)
     × (sum ≤ row-now)
-    × Tailed (atoms-of (lent-list n places lengths)) cap deep msg at-now row-now whole table sum
-    (PartsDone msg before cap row whole table₀ (list-tail (atoms-of (lent-list n places lengths)) cap deep (body (atoms-of (lent-list n places lengths)) cap deep) (drop at msg) (at-offset msg at row)))
+    × Tailed (atoms-in context places lengths) (capacity-in context) deep msg at-now row-now whole table sum
+    (PartsDone msg before (capacity-in context) row whole table₀ (list-tail (atoms-in context places lengths) (capacity-in context) deep (body (atoms-in context places lengths) (capacity-in context) deep) (drop at msg) (at-offset msg at row)))
     × Keeps seen₀ seen
 
 abbrev read-tail-μ-loop : read-tail-lts.MeasureT-loop
-read-tail-μ-loop msg n places lengths table₀ seen₀ at row whole deep cap before at-now₀ row-now₀ sum₀ table seen at-now row-now sum =
+read-tail-μ-loop msg context places lengths table₀ seen₀ at row whole deep before at-now₀ row-now₀ sum₀ table seen at-now row-now sum =
     length msg - at-now
 
 read-tail-loop-holds : (t : ℕ) → read-tail-lts.Need-loop-holds (read-tail-calls t) (read-tail-at t) read-tail.Post read-tail-Inv-loop read-tail-μ-loop
@@ -790,8 +798,8 @@ read-tail-skip-empty-requires t c κs = c .loop .inv .0 .near
 read-tail-nil-at-requires : (t : ℕ) → read-tail-lts.Need-nil-at-requires (read-tail-calls t) (read-tail-at t) read-tail.Post read-tail-Inv-loop read-tail-μ-loop
 read-tail-nil-at-requires t c κs = c .skip-empty .ensures .inside
 
-read-tail-add-t23 : (t : ℕ) → read-tail-lts.Need-add-t23 (read-tail-calls t) (read-tail-at t) read-tail.Post read-tail-Inv-loop read-tail-μ-loop
-read-tail-add-t23 t c = omega (arith, c .before .before .skip-empty .ensures .inside, c .before .before .before .loop .inv .0 .short)
+read-tail-add-t22 : (t : ℕ) → read-tail-lts.Need-add-t22 (read-tail-calls t) (read-tail-at t) read-tail.Post read-tail-Inv-loop read-tail-μ-loop
+read-tail-add-t22 t c = omega (arith, c .before .before .skip-empty .ensures .inside, c .before .before .before .loop .inv .0 .short)
 
 read-tail-same-length : (t : ℕ) → read-tail-lts.Need-same-length (read-tail-calls t) (read-tail-at t) read-tail.Post read-tail-Inv-loop read-tail-μ-loop
 read-tail-same-length t c = c .before .before .before .loop .inv .1
@@ -865,7 +873,7 @@ read-wanted-is-leaf-requires : (t : ℕ) → read-wanted-lts.Need-is-leaf-requir
 read-wanted-is-leaf-requires t c κs = search needs
 
 read-wanted-pack-requires : (t : ℕ) → read-wanted-lts.Need-pack-requires (read-wanted-calls t) (read-wanted-at t) read-wanted.Post
-read-wanted-pack-requires t c κs = let f = c .before .is-leaf .ensures (c .if2 .taken) in leaf-small _ _ _ _ _ _ _ _ (c .before .before .before .before .before .before .before .before .before .pre .1 .0) (quick-inside _ _ _ _ (c .before .before .before .before .before .before .before .before .before .args .row) _ (f .0) (c .before .before .node-at .ensures (f .0) (atoms-of (lent-list 0 [] [])) (c .before .before .before .before .before .before .before .before .before .args .row)))
+read-wanted-pack-requires t c κs = let f = c .before .is-leaf .ensures (c .if2 .taken) in leaf-small _ _ _ _ _ _ _ _ (c .before .before .before .before .before .before .before .before .before .pre .1 .0) (quick-inside _ _ _ _ (c .before .before .before .before .before .before .before .before .before .args .row) _ (f .0) (c .before .before .node-at .ensures (f .0) (atoms-in 0 [] []) (c .before .before .before .before .before .before .before .before .before .args .row)))
 
 read-wanted-mul-table : (t : ℕ) → read-wanted-lts.Need-mul-table (read-wanted-calls t) (read-wanted-at t) read-wanted.Post
 read-wanted-mul-table t c = omega arith
@@ -873,8 +881,8 @@ read-wanted-mul-table t c = omega arith
 read-wanted-slice-write-table : (t : ℕ) → read-wanted-lts.Need-slice-write-table (read-wanted-calls t) (read-wanted-at t) read-wanted.Post
 read-wanted-slice-write-table t c = let f = c .before .before .is-leaf .ensures (c .before .if2 .taken) in omega (arith, f .3, c .before .before .before .before .before .before .before .before .before .before .pre .1 .0 .wide)
 
-read-wanted-add-t23 : (t : ℕ) → read-wanted-lts.Need-add-t23 (read-wanted-calls t) (read-wanted-at t) read-wanted.Post
-read-wanted-add-t23 t c = let f = c .before .before .is-leaf .ensures (c .before .if2 .taken) in omega (arith, f .3, c .before .before .before .before .before .before .before .before .before .before .pre .1 .0 .few)
+read-wanted-add-t22 : (t : ℕ) → read-wanted-lts.Need-add-t22 (read-wanted-calls t) (read-wanted-at t) read-wanted.Post
+read-wanted-add-t22 t c = let f = c .before .before .is-leaf .ensures (c .before .if2 .taken) in omega (arith, f .3, c .before .before .before .before .before .before .before .before .before .before .pre .1 .0 .few)
 
 read-wanted-same-length : (t : ℕ) → read-wanted-lts.Need-same-length (read-wanted-calls t) (read-wanted-at t) read-wanted.Post
 read-wanted-same-length t c = simp length-set refl
@@ -882,7 +890,7 @@ read-wanted-same-length t c = simp length-set refl
 read-wanted-returns : (t : ℕ) → read-wanted-lts.Need-returns (read-wanted-calls t) (read-wanted-at t) read-wanted.Post
 read-wanted-returns t c =
     let f = c .before .before .is-leaf .ensures (c .before .if2 .taken) in
-    let d = (quick-leaf _ _ _ _ (c .before .before .before .before .before .before .before .before .before .before .args .row) _ (f .0) (c .before .before .before .node-at .ensures (f .0) _ (c .before .before .before .before .before .before .before .before .before .before .args .row)) _ _ _ _ (f .1) (f .2) (f .3) (omega (arith, quick-inside _ _ _ _ (c .before .before .before .before .before .before .before .before .before .before .args .row) _ (f .0) (c .before .before .before .node-at .ensures (f .0) (atoms-of (lent-list 0 [] [])) (c .before .before .before .before .before .before .before .before .before .before .args .row)), c .before .before .before .before .before .before .before .before .before .before .pre .1 .0 .short)) _ (c .pack .ensures)) in
+    let d = (quick-leaf _ _ _ _ (c .before .before .before .before .before .before .before .before .before .before .args .row) _ (f .0) (c .before .before .before .node-at .ensures (f .0) _ (c .before .before .before .before .before .before .before .before .before .before .args .row)) _ _ _ _ (f .1) (f .2) (f .3) (omega (arith, quick-inside _ _ _ _ (c .before .before .before .before .before .before .before .before .before .before .args .row) _ (f .0) (c .before .before .before .node-at .ensures (f .0) (atoms-in 0 [] []) (c .before .before .before .before .before .before .before .before .before .before .args .row)), c .before .before .before .before .before .before .before .before .before .before .pre .1 .0 .short)) _ (c .pack .ensures)) in
     record { rows-stored = wanted-node _ _ _ _ _ _ _ _ _ _ _ (c .before .before .before .before .if1 .taken) d; keys-kept = keeps-refl _ }
 
 read-wanted-at-most-requires : (t : ℕ) → read-wanted-lts.Need-at-most-requires (read-wanted-calls t) (read-wanted-at t) read-wanted.Post
@@ -978,8 +986,11 @@ read-common-returns-5 t c = record { rows-stored = λ place h next told. common-
 read-quick-returns : (t : ℕ) → read-quick-lts.Need-returns (read-quick-calls t) (read-quick-at t) read-quick.Post
 read-quick-returns t c = record { rows-stored = quick-term _ _ _ _ (c .before .before .before .before .before .before .args .row) _ (c .before .before .before .before .before .before .pre .1 .0 .1) (c .before .before .before .before .before .before .pre .1 .0 .2 (c .before .before .before .before .before .before .args .row)) _ _ _ _ _ _ (body-deep _ _ _ _ _ _ _ _ _ _ _ (c .if1 .taken)); keys-kept = keeps-refl _ }
 
+read-quick-has-row-requires : (t : ℕ) → read-quick-lts.Need-has-row-requires (read-quick-calls t) (read-quick-at t) read-quick.Post
+read-quick-has-row-requires t c κs = search needs
+
 read-quick-returns-2 : (t : ℕ) → read-quick-lts.Need-returns-2 (read-quick-calls t) (read-quick-at t) read-quick.Post
-read-quick-returns-2 t c = record { rows-stored = quick-term _ _ _ _ (c .before .before .before .before .before .before .before .args .row) _ (c .before .before .before .before .before .before .before .pre .1 .0 .1) (c .before .before .before .before .before .before .before .pre .1 .0 .2 (c .before .before .before .before .before .before .before .args .row)) _ _ _ _ _ _ (body-full _ _ _ _ _ _ _ _ _ _ (c .before .if1 .left) _ (c .if2 .taken)); keys-kept = keeps-refl _ }
+read-quick-returns-2 t c = record { rows-stored = quick-term _ _ _ _ (c .before .before .before .before .before .before .before .before .args .row) _ (c .before .before .before .before .before .before .before .before .pre .1 .0 .1) (c .before .before .before .before .before .before .before .before .pre .1 .0 .2 (c .before .before .before .before .before .before .before .before .args .row)) _ _ _ _ _ _ (body-full _ _ _ _ _ _ _ _ _ _ (c .before .before .if1 .left) _ (no-row (c .before .has-row .ensures) (c .if2 .taken))); keys-kept = keeps-refl _ }
 
 read-quick-add-read-common : (t : ℕ) → read-quick-lts.Need-add-read-common (read-quick-calls t) (read-quick-at t) read-quick.Post
 read-quick-add-read-common t c = omega arith
@@ -988,7 +999,7 @@ read-quick-sub-read-common : (t : ℕ) → read-quick-lts.Need-sub-read-common (
 read-quick-sub-read-common t c = omega arith
 
 read-quick-read-common-requires : (t : ℕ) → read-quick-lts.Need-read-common-requires (read-quick-calls t) (read-quick-at t) read-quick.Post
-read-quick-read-common-requires t c κs = (omega (arith, c .before .before .before .before .before .before .before .before .before .pre .0, c .before .before .before .if1 .left), (room-at _ _ _ _ _ _ _ _ (room-inside _ _ _ _ _ _ _ (c .before .before .before .before .before .before .before .before .before .pre .1 .0 .0) (c .before .before .if2 .left)) (quick-near _ _ _ _ (c .before .before .before .before .before .before .before .before .before .args .row) _ (c .before .before .before .before .before .before .before .before .before .pre .1 .0 .1) (c .before .before .before .before .before .before .before .before .before .pre .1 .0 .2 (c .before .before .before .before .before .before .before .before .before .args .row))), c .before .before .before .before .before .before .before .before .before .pre .1 .1))
+read-quick-read-common-requires t c κs = (omega (arith, c .before .before .before .before .before .before .before .before .before .before .pre .0, c .before .before .before .before .if1 .left), (room-at _ _ _ _ _ _ _ _ (room-inside _ _ _ _ _ _ _ (c .before .before .before .before .before .before .before .before .before .before .pre .1 .0 .0) (some-row (c .before .before .before .has-row .ensures) (c .before .before .if2 .left))) (quick-near _ _ _ _ (c .before .before .before .before .before .before .before .before .before .before .args .row) _ (c .before .before .before .before .before .before .before .before .before .before .pre .1 .0 .1) (c .before .before .before .before .before .before .before .before .before .before .pre .1 .0 .2 (c .before .before .before .before .before .before .before .before .before .before .args .row))), c .before .before .before .before .before .before .before .before .before .before .pre .1 .1))
 
 read-quick-enum-known-number : (t : ℕ) → read-quick-lts.Need-enum-known-number (read-quick-calls t) (read-quick-at t) read-quick.Post
 read-quick-enum-known-number t c = search needs
@@ -997,16 +1008,16 @@ read-quick-enum-known-next : (t : ℕ) → read-quick-lts.Need-enum-known-next (
 read-quick-enum-known-next t c = search needs
 
 read-quick-sub-pack : (t : ℕ) → read-quick-lts.Need-sub-pack (read-quick-calls t) (read-quick-at t) read-quick.Post
-read-quick-sub-pack t c = let q = opened-quickly _ _ _ _ (c .before .before .before .before .before .before .before .before .before .before .before .before .before .before .before .before .before .args .row) _ (c .before .before .before .before .before .before .before .before .before .before .before .before .before .before .before .before .before .pre .1 .0 .1) (c .before .before .before .before .before .before .before .before .before .before .before .before .before .before .before .before .before .pre .1 .0 .2 (c .before .before .before .before .before .before .before .before .before .before .before .before .before .before .before .before .before .args .row)) in let g = parts-past _ _ _ _ _ _ _ _ _ _ _ _ _ (c .before .next .given .1) (c .before .before .before .before .before .before .before .read-common .ensures .rows-stored (c .before .before .before .before .before .before .before .before .before .before .before .before .before .before .before .before .before .args .at) (q .h) (q .next) (q .told-by)) in omega arith
+read-quick-sub-pack t c = let q = opened-quickly _ _ _ _ (c .before .before .before .before .before .before .before .before .before .before .before .before .before .before .before .before .before .before .args .row) _ (c .before .before .before .before .before .before .before .before .before .before .before .before .before .before .before .before .before .before .pre .1 .0 .1) (c .before .before .before .before .before .before .before .before .before .before .before .before .before .before .before .before .before .before .pre .1 .0 .2 (c .before .before .before .before .before .before .before .before .before .before .before .before .before .before .before .before .before .before .args .row)) in let g = parts-past _ _ _ _ _ _ _ _ _ _ _ _ _ (c .before .next .given .1) (c .before .before .before .before .before .before .before .read-common .ensures .rows-stored (c .before .before .before .before .before .before .before .before .before .before .before .before .before .before .before .before .before .before .args .at) (q .h) (q .next) (q .told-by)) in omega arith
 
 read-quick-pack-requires : (t : ℕ) → read-quick-lts.Need-pack-requires (read-quick-calls t) (read-quick-at t) read-quick.Post
-read-quick-pack-requires t c κs = let q = opened-quickly _ _ _ _ (c .before .before .before .before .before .before .before .before .before .before .before .before .before .before .before .before .before .args .row) _ (c .before .before .before .before .before .before .before .before .before .before .before .before .before .before .before .before .before .pre .1 .0 .1) (c .before .before .before .before .before .before .before .before .before .before .before .before .before .before .before .before .before .pre .1 .0 .2 (c .before .before .before .before .before .before .before .before .before .before .before .before .before .before .before .before .before .args .row)) in body-small _ _ _ _ _ (q .h) (q .next) _ _ _ (c .before .before .before .before .before .before .before .before .before .before .before .if1 .left) (c .before .before .before .before .before .before .before .before .before .before .if2 .left) _ _ (c .before .before .before .before .before .before .before .read-common .ensures .rows-stored (c .before .before .before .before .before .before .before .before .before .before .before .before .before .before .before .before .before .args .at) (q .h) (q .next) (q .told-by)) _ _ _ _ _ _ (c .before .next .given .1) (c .before .before .before .before .before .before .before .before .before .before .before .before .before .before .before .before .before .pre .1 .0 .0) (omega (arith, quick-inside _ _ _ _ (c .before .before .before .before .before .before .before .before .before .before .before .before .before .before .before .before .before .args .row) _ (c .before .before .before .before .before .before .before .before .before .before .before .before .before .before .before .before .before .pre .1 .0 .1) (c .before .before .before .before .before .before .before .before .before .before .before .before .before .before .before .before .before .pre .1 .0 .2 (c .before .before .before .before .before .before .before .before .before .before .before .before .before .before .before .before .before .args .row)), c .before .before .before .before .before .before .before .before .before .before .before .before .before .before .before .before .before .pre .1 .0 .0 .short))
+read-quick-pack-requires t c κs = let q = opened-quickly _ _ _ _ (c .before .before .before .before .before .before .before .before .before .before .before .before .before .before .before .before .before .before .args .row) _ (c .before .before .before .before .before .before .before .before .before .before .before .before .before .before .before .before .before .before .pre .1 .0 .1) (c .before .before .before .before .before .before .before .before .before .before .before .before .before .before .before .before .before .before .pre .1 .0 .2 (c .before .before .before .before .before .before .before .before .before .before .before .before .before .before .before .before .before .before .args .row)) in body-small _ _ _ _ _ (q .h) (q .next) _ _ _ (c .before .before .before .before .before .before .before .before .before .before .before .before .if1 .left) (some-row (c .before .before .before .before .before .before .before .before .before .before .before .has-row .ensures) (c .before .before .before .before .before .before .before .before .before .before .if2 .left)) _ _ (c .before .before .before .before .before .before .before .read-common .ensures .rows-stored (c .before .before .before .before .before .before .before .before .before .before .before .before .before .before .before .before .before .before .args .at) (q .h) (q .next) (q .told-by)) _ _ _ _ _ _ (c .before .next .given .1) (c .before .before .before .before .before .before .before .before .before .before .before .before .before .before .before .before .before .before .pre .1 .0 .0) (omega (arith, quick-inside _ _ _ _ (c .before .before .before .before .before .before .before .before .before .before .before .before .before .before .before .before .before .before .args .row) _ (c .before .before .before .before .before .before .before .before .before .before .before .before .before .before .before .before .before .before .pre .1 .0 .1) (c .before .before .before .before .before .before .before .before .before .before .before .before .before .before .before .before .before .before .pre .1 .0 .2 (c .before .before .before .before .before .before .before .before .before .before .before .before .before .before .before .before .before .before .args .row)), c .before .before .before .before .before .before .before .before .before .before .before .before .before .before .before .before .before .before .pre .1 .0 .0 .short))
 
 read-quick-mul-table : (t : ℕ) → read-quick-lts.Need-mul-table (read-quick-calls t) (read-quick-at t) read-quick.Post
 read-quick-mul-table t c = omega arith
 
 read-quick-slice-write-table : (t : ℕ) → read-quick-lts.Need-slice-write-table (read-quick-calls t) (read-quick-at t) read-quick.Post
-read-quick-slice-write-table t c = omega (arith, c .before .before .before .before .before .before .before .before .read-common .kept .1 .1 .1 .1 .0)
+read-quick-slice-write-table t c = omega (arith, c .before .before .before .before .before .before .before .before .read-common .kept .1 .1 .1 .1 .0, own-row _ _ _ _ _ _ _ (c .before .before .before .before .before .before .before .before .before .before .before .before .before .before .before .before .before .before .before .pre .1 .0 .0) (some-row (c .before .before .before .before .before .before .before .before .before .before .before .before .has-row .ensures) (c .before .before .before .before .before .before .before .before .before .before .before .if2 .left)))
 
 read-quick-same-length : (t : ℕ) → read-quick-lts.Need-same-length (read-quick-calls t) (read-quick-at t) read-quick.Post
 read-quick-same-length t c = c .before .before .before .before .before .before .before .read-common .kept .1 .1 .1 .1 .0
@@ -1015,7 +1026,7 @@ read-quick-same-length-2 : (t : ℕ) → read-quick-lts.Need-same-length-2 (read
 read-quick-same-length-2 t c = c .before .before .before .before .before .before .before .read-common .kept .1 .1 .1 .1 .1 .0
 
 read-quick-returns-3 : (t : ℕ) → read-quick-lts.Need-returns-3 (read-quick-calls t) (read-quick-at t) read-quick.Post
-read-quick-returns-3 t c = let q = opened-quickly _ _ _ _ (c .before .before .before .before .before .before .before .before .before .before .before .before .before .before .before .before .before .args .row) _ (c .before .before .before .before .before .before .before .before .before .before .before .before .before .before .before .before .before .pre .1 .0 .1) (c .before .before .before .before .before .before .before .before .before .before .before .before .before .before .before .before .before .pre .1 .0 .2 (c .before .before .before .before .before .before .before .before .before .before .before .before .before .before .before .before .before .args .row)) in record { rows-stored = quick-term _ _ _ _ (c .before .before .before .before .before .before .before .before .before .before .before .before .before .before .before .before .before .args .row) _ (c .before .before .before .before .before .before .before .before .before .before .before .before .before .before .before .before .before .pre .1 .0 .1) (c .before .before .before .before .before .before .before .before .before .before .before .before .before .before .before .before .before .pre .1 .0 .2 (c .before .before .before .before .before .before .before .before .before .before .before .before .before .before .before .before .before .args .row)) _ _ _ _ _ _ (body-refused _ _ _ _ _ (q .h) (q .next) _ _ _ (c .before .before .before .before .before .before .before .before .before .before .before .if1 .left) (c .before .before .before .before .before .before .before .before .before .before .if2 .left) _ _ (c .before .before .before .before .before .before .before .read-common .ensures .rows-stored (c .before .before .before .before .before .before .before .before .before .before .before .before .before .before .before .before .before .args .at) (q .h) (q .next) (q .told-by)) _ _ _ (c .before .number .given .1)); keys-kept = c .before .before .before .before .before .before .before .read-common .ensures .keys-kept }
+read-quick-returns-3 t c = let q = opened-quickly _ _ _ _ (c .before .before .before .before .before .before .before .before .before .before .before .before .before .before .before .before .before .before .args .row) _ (c .before .before .before .before .before .before .before .before .before .before .before .before .before .before .before .before .before .before .pre .1 .0 .1) (c .before .before .before .before .before .before .before .before .before .before .before .before .before .before .before .before .before .before .pre .1 .0 .2 (c .before .before .before .before .before .before .before .before .before .before .before .before .before .before .before .before .before .before .args .row)) in record { rows-stored = quick-term _ _ _ _ (c .before .before .before .before .before .before .before .before .before .before .before .before .before .before .before .before .before .before .args .row) _ (c .before .before .before .before .before .before .before .before .before .before .before .before .before .before .before .before .before .before .pre .1 .0 .1) (c .before .before .before .before .before .before .before .before .before .before .before .before .before .before .before .before .before .before .pre .1 .0 .2 (c .before .before .before .before .before .before .before .before .before .before .before .before .before .before .before .before .before .before .args .row)) _ _ _ _ _ _ (body-refused _ _ _ _ _ (q .h) (q .next) _ _ _ (c .before .before .before .before .before .before .before .before .before .before .before .before .if1 .left) (some-row (c .before .before .before .before .before .before .before .before .before .before .before .has-row .ensures) (c .before .before .before .before .before .before .before .before .before .before .if2 .left)) _ _ (c .before .before .before .before .before .before .before .read-common .ensures .rows-stored (c .before .before .before .before .before .before .before .before .before .before .before .before .before .before .before .before .before .before .args .at) (q .h) (q .next) (q .told-by)) _ _ _ (c .before .number .given .1)); keys-kept = c .before .before .before .before .before .before .before .read-common .ensures .keys-kept }
 
 read-quick-same-length-3 : (t : ℕ) → read-quick-lts.Need-same-length-3 (read-quick-calls t) (read-quick-at t) read-quick.Post
 read-quick-same-length-3 t c = simp length-set (c .before .before .before .before .before .before .before .before .read-common .kept .1 .1 .1 .1 .0)
@@ -1024,7 +1035,7 @@ read-quick-same-length-4 : (t : ℕ) → read-quick-lts.Need-same-length-4 (read
 read-quick-same-length-4 t c = c .before .before .before .before .before .before .before .before .read-common .kept .1 .1 .1 .1 .1 .0
 
 read-quick-returns-4 : (t : ℕ) → read-quick-lts.Need-returns-4 (read-quick-calls t) (read-quick-at t) read-quick.Post
-read-quick-returns-4 t c = let q = opened-quickly _ _ _ _ (c .before .before .before .before .before .before .before .before .before .before .before .before .before .before .before .before .before .before .args .row) _ (c .before .before .before .before .before .before .before .before .before .before .before .before .before .before .before .before .before .before .pre .1 .0 .1) (c .before .before .before .before .before .before .before .before .before .before .before .before .before .before .before .before .before .before .pre .1 .0 .2 (c .before .before .before .before .before .before .before .before .before .before .before .before .before .before .before .before .before .before .args .row)) in record { rows-stored = quick-term _ _ _ _ (c .before .before .before .before .before .before .before .before .before .before .before .before .before .before .before .before .before .before .args .row) _ (c .before .before .before .before .before .before .before .before .before .before .before .before .before .before .before .before .before .before .pre .1 .0 .1) (c .before .before .before .before .before .before .before .before .before .before .before .before .before .before .before .before .before .before .pre .1 .0 .2 (c .before .before .before .before .before .before .before .before .before .before .before .before .before .before .before .before .before .before .args .row)) _ _ _ _ _ _ (body-got _ _ _ _ _ (q .h) (q .next) _ _ _ (c .before .before .before .before .before .before .before .before .before .before .before .before .if1 .left) (c .before .before .before .before .before .before .before .before .before .before .before .if2 .left) _ _ (c .before .before .before .before .before .before .before .before .read-common .ensures .rows-stored (c .before .before .before .before .before .before .before .before .before .before .before .before .before .before .before .before .before .before .args .at) (q .h) (q .next) (q .told-by)) _ _ _ _ _ (c .before .before .next .given .1) (omega (arith, quick-inside _ _ _ _ (c .before .before .before .before .before .before .before .before .before .before .before .before .before .before .before .before .before .before .args .row) _ (c .before .before .before .before .before .before .before .before .before .before .before .before .before .before .before .before .before .before .pre .1 .0 .1) (c .before .before .before .before .before .before .before .before .before .before .before .before .before .before .before .before .before .before .pre .1 .0 .2 (c .before .before .before .before .before .before .before .before .before .before .before .before .before .before .before .before .before .before .args .row)), c .before .before .before .before .before .before .before .before .before .before .before .before .before .before .before .before .before .before .pre .1 .0 .0 .short)) (c .pack .ensures)); keys-kept = c .before .before .before .before .before .before .before .before .read-common .ensures .keys-kept }
+read-quick-returns-4 t c = let q = opened-quickly _ _ _ _ (c .before .before .before .before .before .before .before .before .before .before .before .before .before .before .before .before .before .before .before .args .row) _ (c .before .before .before .before .before .before .before .before .before .before .before .before .before .before .before .before .before .before .before .pre .1 .0 .1) (c .before .before .before .before .before .before .before .before .before .before .before .before .before .before .before .before .before .before .before .pre .1 .0 .2 (c .before .before .before .before .before .before .before .before .before .before .before .before .before .before .before .before .before .before .before .args .row)) in record { rows-stored = quick-term _ _ _ _ (c .before .before .before .before .before .before .before .before .before .before .before .before .before .before .before .before .before .before .before .args .row) _ (c .before .before .before .before .before .before .before .before .before .before .before .before .before .before .before .before .before .before .before .pre .1 .0 .1) (c .before .before .before .before .before .before .before .before .before .before .before .before .before .before .before .before .before .before .before .pre .1 .0 .2 (c .before .before .before .before .before .before .before .before .before .before .before .before .before .before .before .before .before .before .before .args .row)) _ _ _ _ _ _ (body-got _ _ _ _ _ (q .h) (q .next) _ _ _ (c .before .before .before .before .before .before .before .before .before .before .before .before .before .if1 .left) (some-row (c .before .before .before .before .before .before .before .before .before .before .before .before .has-row .ensures) (c .before .before .before .before .before .before .before .before .before .before .before .if2 .left)) _ _ (c .before .before .before .before .before .before .before .before .read-common .ensures .rows-stored (c .before .before .before .before .before .before .before .before .before .before .before .before .before .before .before .before .before .before .before .args .at) (q .h) (q .next) (q .told-by)) _ _ _ _ _ (c .before .before .next .given .1) (omega (arith, quick-inside _ _ _ _ (c .before .before .before .before .before .before .before .before .before .before .before .before .before .before .before .before .before .before .before .args .row) _ (c .before .before .before .before .before .before .before .before .before .before .before .before .before .before .before .before .before .before .before .pre .1 .0 .1) (c .before .before .before .before .before .before .before .before .before .before .before .before .before .before .before .before .before .before .before .pre .1 .0 .2 (c .before .before .before .before .before .before .before .before .before .before .before .before .before .before .before .before .before .before .before .args .row)), c .before .before .before .before .before .before .before .before .before .before .before .before .before .before .before .before .before .before .before .pre .1 .0 .0 .short)) (c .pack .ensures)); keys-kept = c .before .before .before .before .before .before .before .before .read-common .ensures .keys-kept }
 
 read-term-quick-at-requires : (t : ℕ) → read-term-lts.Need-quick-at-requires (read-term-calls t) (read-term-at t) read-term.Post
 read-term-quick-at-requires t c κs = (c .before .before .before .before .before .pre .1 .0 .near, c .before .before .before .before .before .pre .1 .0 .short, c .before .before .before .before .before .pre .1 .0 .sized)
@@ -1085,6 +1096,7 @@ pub +read-body+read-common+read-entry+read-inner+read-last+read-list+read-more+r
     (λ t. read-body-lts.spec (read-body-calls t) (read-body-at t)
     read-body.Post
     (read-body-returns t)
+    (read-body-has-row-requires t)
     (read-body-returns-2 t)
     (read-body-add-read-inner t)
     (read-body-sub-read-inner t)
@@ -1128,7 +1140,7 @@ pub +read-body+read-common+read-entry+read-inner+read-last+read-list+read-more+r
     (read-entry-pack-requires t)
     (read-entry-mul-table t)
     (read-entry-slice-write-table t)
-    (read-entry-add-t16 t)
+    (read-entry-add-t15 t)
     (read-entry-same-length t)
     (read-entry-returns t)
     (read-entry-read-run-requires t)
@@ -1167,7 +1179,7 @@ pub +read-body+read-common+read-entry+read-inner+read-last+read-list+read-more+r
     (read-last-read-body-requires t)
     (read-last-enum-known-number t)
     (read-last-enum-known-next t)
-    (read-last-add-t34 t)
+    (read-last-add-t33 t)
     (read-last-returns t)
     (read-last-same-length t)
     (read-last-returns-2 t)
@@ -1230,7 +1242,7 @@ pub +read-body+read-common+read-entry+read-inner+read-last+read-list+read-more+r
     (read-parts-read-later-requires t)
     (read-parts-enum-known-number-3 t)
     (read-parts-enum-known-next-3 t)
-    (read-parts-add-t42 t)
+    (read-parts-add-t41 t)
     (read-parts-same-length t)
     (read-parts-same-length-2 t)
     (read-parts-returns t)
@@ -1246,6 +1258,7 @@ pub +read-body+read-common+read-entry+read-inner+read-last+read-list+read-more+r
     (λ t. read-quick-lts.spec (read-quick-calls t) (read-quick-at t)
     read-quick.Post
     (read-quick-returns t)
+    (read-quick-has-row-requires t)
     (read-quick-returns-2 t)
     (read-quick-add-read-common t)
     (read-quick-sub-read-common t)
@@ -1295,7 +1308,7 @@ pub +read-body+read-common+read-entry+read-inner+read-last+read-list+read-more+r
     (read-tail-loop-holds t)
     (read-tail-skip-empty-requires t)
     (read-tail-nil-at-requires t)
-    (read-tail-add-t23 t)
+    (read-tail-add-t22 t)
     (read-tail-same-length t)
     (read-tail-same-length-2 t)
     (read-tail-returns t)
@@ -1335,7 +1348,7 @@ pub +read-body+read-common+read-entry+read-inner+read-last+read-list+read-more+r
     (read-wanted-pack-requires t)
     (read-wanted-mul-table t)
     (read-wanted-slice-write-table t)
-    (read-wanted-add-t23 t)
+    (read-wanted-add-t22 t)
     (read-wanted-same-length t)
     (read-wanted-returns t)
     (read-wanted-at-most-requires t)
