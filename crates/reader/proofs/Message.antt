@@ -10,10 +10,11 @@ use lib.ListN.{length, getD, drop, replicate, drop-of-length-le}
 use lib.Seq.{sets, drop-cons}
 use borrow.Author.Tests.{eq-eqb, ne-eqb, le-leb, lt-leb, leb-true}
 use Rattle.term_spec.specs.Tree.{empty, _▹_, count, size, sizes, Each-node}
+use Rattle.term_spec.specs.Connection.{flags-known}
 use Rattle.term_spec.specs.Answer.{Answer, good, refused, Position, at-offset, Reading, after, done}
 use Rattle.term_spec.specs.Answers.{read-answer}
 use Rattle.term_spec.specs.Promises.{Read-call}
-use Rattle.term_spec.specs.AtomList.{AtomList, of-size, atoms-of}
+use Rattle.term_spec.specs.AtomList.{AtomList, of-size, atoms-of, lent-list}
 use Rattle.term_spec.specs.Head.{Atoms, any}
 use Rattle.term_spec.specs.Message as message
 use Rattle.term_spec.specs.Message.{Terms, version, ending, standalone-term, payload-terms, terms-framed, result-of, first-check, read}
@@ -26,6 +27,7 @@ use Rattle.term_spec.proofs.Rows.{length-rows}
 use Rattle.term_spec.proofs.Words.{length-words-of}
 use Rattle.octets.specs.Cleared.{cleared}
 use Rattle.octets.proofs.Cleared.{cleared-all, cleared-sets}
+use Rattle.context.specs.Word.{Packed, capacity-in, list-in, atoms-in}
 use Rattle.term_reader.specs.declared.Step.{Step}
 use Rattle.term_reader.specs.declared.Step.the-variants.{Got, Refused}
 use Rattle.reader.specs.declared.Framing.{Framing}
@@ -205,44 +207,51 @@ module _ (atoms : Atoms) (cap : ℕ) (m T : List ℕ) (framing : Framing) (r : R
 
 -- ---- `first_refusal`
 
-module _ (list : AtomList) (m : List ℕ) where
-  pub first-size : of-size list ≡ false → 13 ≡ first-refusal list m
+module _ (flags : ℕ) (list : AtomList) (m : List ℕ) where
+  pub first-size : of-size list ≡ false → 13 ≡ first-refusal flags list m
   unfolding first-refusal first-number
   first-size h = rw h
 
-  pub first-long : of-size list ≡ true → 65536 < length m → 12 ≡ first-refusal list m
+  pub first-unknown : of-size list ≡ true → flags-known flags ≡ false → 14 ≡ first-refusal flags list m
   unfolding first-refusal first-number
-  first-long e h = rw (e, lt-leb (length m) 65536 h)
+  first-unknown e h = rw (e, h)
 
-  pub first-none : of-size list ≡ true → length m ≤ 65536 → 0 ≡ first-refusal list m
+  pub first-long : of-size list ≡ true → flags-known flags ≡ true → 65536 < length m → 12 ≡ first-refusal flags list m
   unfolding first-refusal first-number
-  first-none e h = rw (e, le-leb (length m) 65536 h)
+  first-long e g h = rw (e, g, lt-leb (length m) 65536 h)
+
+  pub first-none : of-size list ≡ true → flags-known flags ≡ true → length m ≤ 65536 → 0 ≡ first-refusal flags list m
+  unfolding first-refusal first-number
+  first-none e g h = rw (e, g, le-leb (length m) 65536 h)
 
   -- what reading answers after it
-  pub read-refused : (framing : message.Framing) (lent k : ℕ) → k ≡ first-refusal list m → (k ≡ 0 → ⊥) → read framing list lent m ≡ refused k 0
+  pub read-refused : (framing : message.Framing) (lent k : ℕ) → k ≡ first-refusal flags list m → (k ≡ 0 → ⊥) → read flags framing list lent m ≡ refused k 0
   unfolding first-refusal first-number read
-  read-refused framing lent k e h = go (of-size list) (leb (length m) 65536) e
+  read-refused framing lent k e h = go (of-size list) (flags-known flags) (leb (length m) 65536) e
     where
-      go : (a b : Bool) → k ≡ first-number a b
-          → first-check a 13 (first-check b 12 (result-of (terms-framed (atoms-of list) (min 8192 lent) framing (record { at = 0; left = m; rows-taken = 0 })))) ≡ refused k 0
-      go false b e = ap (λ (n : ℕ). refused n 0) (sym e)
-      go true false e = ap (λ (n : ℕ). refused n 0) (sym e)
-      go true true e = absurd (h e)
+      go : (a b c : Bool) → k ≡ first-number a b c
+          → first-check a 13 (first-check b 14 (first-check c 12
+          (result-of (terms-framed (atoms-of flags list) (min 8192 lent) framing (record { at = 0; left = m; rows-taken = 0 }))))) ≡ refused k 0
+      go false b c e = ap (λ (n : ℕ). refused n 0) (sym e)
+      go true false c e = ap (λ (n : ℕ). refused n 0) (sym e)
+      go true true false e = ap (λ (n : ℕ). refused n 0) (sym e)
+      go true true true e = absurd (h e)
 
-  pub read-first : 0 ≡ first-refusal list m → (of-size list ≡ true) × (length m ≤ 65536)
+  pub read-first : 0 ≡ first-refusal flags list m → (of-size list ≡ true) × (flags-known flags ≡ true) × (length m ≤ 65536)
   unfolding first-refusal first-number
-  read-first e = go (of-size list) (leb (length m) 65536) refl refl e
+  read-first e = go (of-size list) (flags-known flags) (leb (length m) 65536) refl refl refl e
     where
-      go : (a b : Bool) → of-size list ≡ a → leb (length m) 65536 ≡ b → 0 ≡ first-number a b
-          → (of-size list ≡ true) × (length m ≤ 65536)
-      go false b x y e = absurd (omega arith)
-      go true false x y e = absurd (omega arith)
-      go true true x y e = (x, leb-true (length m) 65536 y)
+      go : (a b c : Bool) → of-size list ≡ a → flags-known flags ≡ b → leb (length m) 65536 ≡ c → 0 ≡ first-number a b c
+          → (of-size list ≡ true) × (flags-known flags ≡ true) × (length m ≤ 65536)
+      go false b c x y z e = absurd (omega arith)
+      go true false c x y z e = absurd (omega arith)
+      go true true false x y z e = absurd (omega arith)
+      go true true true x y z e = (x, y, leb-true (length m) 65536 z)
 
-  pub read-goes : (framing : message.Framing) (lent : ℕ) → 0 ≡ first-refusal list m
-      → read framing list lent m ≡ result-of (terms-framed (atoms-of list) (min 8192 lent) framing (at-offset m 0 0))
+  pub read-goes : (framing : message.Framing) (lent : ℕ) → 0 ≡ first-refusal flags list m
+      → read flags framing list lent m ≡ result-of (terms-framed (atoms-of flags list) (min 8192 lent) framing (at-offset m 0 0))
   unfolding read
-  read-goes framing lent e = let h = read-first e in rw (h .0, le-leb (length m) 65536 (h .1))
+  read-goes framing lent e = let h = read-first e in rw (h .0, h .1, le-leb (length m) 65536 (h .2))
 
 -- ---- `settle`
 
@@ -272,24 +281,30 @@ settled m cap T (good y) a T′ U wide long d e =
       e ∙ ap₂ cleared f (d .1 .table-is) ∙ cleared-sets T ws (sizes ts) n (omega (arith, d .1 .room)) ∙ ap (λ (k : ℕ). ws ++ replicate (length T - k) 0) (sym n),
     )
 
-pub refused-first : (framing : message.Framing) (list : AtomList) (m T : List ℕ) (k : ℕ) (a : ReadAnswer) (U : List ℕ) → k ≡ first-refusal list m → (k ≡ 0 → ⊥)
-    → (a ≡ refusal k 0) × (U ≡ cleared (rows-in (refusal k 0)) T) → Read-call framing list m T a U
+pub refused-first : (flags : ℕ) (framing : message.Framing) (list : AtomList) (m T : List ℕ) (k : ℕ) (a : ReadAnswer) (U : List ℕ) → k ≡ first-refusal flags list m → (k ≡ 0 → ⊥)
+    → (a ≡ refusal k 0) × (U ≡ cleared (rows-in (refusal k 0)) T) → Read-call flags framing list m T a U
 unfolding rows-in read-answer table-after
-refused-first framing list m T k a U e h d =
-    let w : read framing list (length T) m ≡ refused k 0 = read-refused list m framing (length T) k e h in
+refused-first flags framing list m T k a U e h d =
+    let w : read flags framing list (length T) m ≡ refused k 0 = read-refused flags list m framing (length T) k e h in
     record { read-answered = rw w (d .0); table-left = rw w (d .1 ∙ cleared-all T) }
 
-pub read-settled : (framing : message.Framing) (list : AtomList) (m T : List ℕ) (k cap : ℕ) (r a : ReadAnswer) (T′ U : List ℕ) → k ≡ first-refusal list m → k ≡ 0 → cap ≡ min (length T) 8192 → length T′ ≡ length T
-    → MessageDone m cap T (terms-framed (atoms-of list) cap framing (at-offset m 0 0)) r T′ → (a ≡ r) × (U ≡ cleared (rows-in r) T′)
-    → Read-call framing list m T a U
-read-settled framing list m T k cap r a T′ U e z c long d f =
-    let g : cap ≡ min 8192 (length T) = omega arith in
-    let h = settled m cap T (terms-framed (atoms-of list) cap framing (at-offset m 0 0)) r T′ U (omega arith) long d (f .1) in
-    let w : read framing list (length T) m ≡ result-of (terms-framed (atoms-of list) cap framing (at-offset m 0 0))
-    = read-goes list m framing (length T) (sym z ∙ e) ∙ ap (λ (n : ℕ). result-of (terms-framed (atoms-of list) n framing (at-offset m 0 0))) (sym g) in
-    record { read-answered = rw w (f .0 ∙ h .0); table-left = rw w (h .1) }
+-- with the word of the list's count, the flags and the number of rows
+module _ (flags n : ℕ) (places lengths m T : List ℕ) (k cap context : ℕ) (e : k ≡ first-refusal flags (lent-list n places lengths) m) (z : k ≡ 0)
+    (c : cap ≡ min (length T) 8192) (packed : Packed n flags cap context) where
+  pub read-settled : (framing : message.Framing) (r a : ReadAnswer) (T′ U : List ℕ) → length T′ ≡ length T
+      → MessageDone m (capacity-in context) T (terms-framed (atoms-in context places lengths) (capacity-in context) framing (at-offset m 0 0)) r T′
+      → (a ≡ r) × (U ≡ cleared (rows-in r) T′) → Read-call flags framing (lent-list n places lengths) m T a U
+  read-settled framing r a T′ U long d f =
+      let list : AtomList = lent-list n places lengths in
+      let g : cap ≡ min 8192 (length T) = omega arith in
+      let d′ = rw (packed .count-is, packed .flags-are, packed .capacity-is) at d in
+      let h = settled m cap T (terms-framed (atoms-of flags list) cap framing (at-offset m 0 0)) r T′ U (omega arith) long d′ (f .1) in
+      let w : read flags framing list (length T) m ≡ result-of (terms-framed (atoms-of flags list) cap framing (at-offset m 0 0))
+      = read-goes flags list m framing (length T) (sym z ∙ e) ∙ ap (λ (j : ℕ). result-of (terms-framed (atoms-of flags list) j framing (at-offset m 0 0))) (sym g) in
+      record { read-answered = rw w (f .0 ∙ h .0); table-left = rw w (h .1) }
 
-pub room-first : (list : AtomList) (m T : List ℕ) (k cap : ℕ) → k ≡ first-refusal list m → k ≡ 0 → cap ≡ min (length T) 8192 → Room m list T cap 0 0 0
-room-first list m T k cap e z c =
-    let h = read-first list m (sym z ∙ e) in
-    record { sized = h .0; short = h .1; near = omega arith; few = omega arith; wide = omega arith; low = omega arith; inside = omega arith }
+  pub room-first : Room m (list-in context places lengths) T (capacity-in context) 0 0 0
+  room-first =
+      let h = read-first flags (lent-list n places lengths) m (sym z ∙ e) in
+      let same : capacity-in context ≡ cap = packed .capacity-is in
+      record { sized = rw (packed .count-is) (h .0); short = h .2; near = omega arith; few = omega arith; wide = omega arith; low = omega arith; inside = omega arith }
