@@ -49,22 +49,22 @@ port-shape id creation parts = go (ltb id (2 ^ 28))
     go true = refl
     go false = refl
 
-pub canonical-parts : (l : Label) (ts : Forest Label) → Fits l ts → (l ≡ list → some-small (count ts) (all-small ts) ≡ none)
+pub canonical-parts : (flags : ℕ) (l : Label) (ts : Forest Label) → Fits flags l ts → (l ≡ list → some-small (count ts) (all-small ts) ≡ none)
     → canonical (node l ts) ≡ before l (count ts) ++ (canonicals ts ++ after l (count ts))
 unfolding canonical term-bytes before after
-canonical-parts (integer z) ts f s = alone (integer-bytes z) ts (f .0)
-canonical-parts (float bits) ts f s = alone (70 ∷ in-bytes 8 bits) ts (f .0)
-canonical-parts (atom cs) ts f s = alone (atom-bytes (encodes cs)) ts (f .0)
-canonical-parts tuple ts f s = tuple-shape (count ts) (canonicals ts)
-canonical-parts list ts f s = list-shape (count ts) (all-small ts) (canonicals ts) (s refl) (no-parts ts)
-canonical-parts improper-list ts f s = simp (append-assoc, append-nil)
-canonical-parts (binary bs) ts f s = alone (109 ∷ (in-bytes 4 (length bs) ++ bs)) ts (f .0)
-canonical-parts (bitstring bits bs) ts f s = alone (77 ∷ (in-bytes 4 (length bs) ++ (in-bytes 1 bits ++ bs))) ts (f .0)
-canonical-parts map ts f s = simp (append-assoc, append-nil)
-canonical-parts (pid id serial creation) ts f s = refl
-canonical-parts (port id creation) ts f s = port-shape id creation (canonicals ts)
-canonical-parts (reference creation ws) ts f s = refl
-canonical-parts export ts f s = simp (append-assoc, append-nil)
+canonical-parts flags (integer z) ts f s = alone (integer-bytes z) ts (f .0)
+canonical-parts flags (float bits) ts f s = alone (70 ∷ in-bytes 8 bits) ts (f .0)
+canonical-parts flags (atom cs) ts f s = alone (atom-bytes (encodes cs)) ts (f .0)
+canonical-parts flags tuple ts f s = tuple-shape (count ts) (canonicals ts)
+canonical-parts flags list ts f s = list-shape (count ts) (all-small ts) (canonicals ts) (s refl) (no-parts ts)
+canonical-parts flags improper-list ts f s = simp (append-assoc, append-nil)
+canonical-parts flags (binary bs) ts f s = alone (109 ∷ (in-bytes 4 (length bs) ++ bs)) ts (f .0)
+canonical-parts flags (bitstring bits bs) ts f s = alone (77 ∷ (in-bytes 4 (length bs) ++ (in-bytes 1 bits ++ bs))) ts (f .0)
+canonical-parts flags map ts f s = simp (append-assoc, append-nil)
+canonical-parts flags (pid id serial creation) ts f s = refl
+canonical-parts flags (port id creation) ts f s = port-shape id creation (canonicals ts)
+canonical-parts flags (reference creation ws) ts f s = refl
+canonical-parts flags export ts f s = simp (append-assoc, append-nil)
 
 pub canonical-string : (ts : Forest Label) (cs : List ℕ) → some-small (count ts) (all-small ts) ≡ some cs
     → canonical (node list ts) ≡ 107 ∷ (in-bytes 2 (count ts) ++ cs)

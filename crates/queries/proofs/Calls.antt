@@ -12,7 +12,7 @@ use Rattle.term_spec.specs.Numbers.{big-endian, Under}
 use Rattle.term_spec.specs.Text.{Coding, latin-1, utf-8}
 use Rattle.term_spec.specs.Answer.{Answer, good, refused}
 use Rattle.term_spec.specs.Answers.{read-answer, number-answer, mark-case, mark-answer}
-use Rattle.term_spec.specs.AtomList.{AtomList, place-length}
+use Rattle.term_spec.specs.AtomList.{AtomList, place-length, atoms-of}
 use Rattle.term_spec.specs.Message.{Framing, Terms, meanings, read}
 use Rattle.term_spec.specs.Rows.{rows, table-after}
 use Rattle.term_spec.specs.Look.{float-bits, number-at, row-number, number-in, atom-at, Stretch, of-message, of-list, text-of, atom-text, text-in, text-bytes, stretch-bytes}
@@ -28,29 +28,29 @@ use Rattle.queries.proofs.Numbers.{float-exact}
 use Rattle.queries.proofs.Rows.{bits-answered, numbers-are, texts-are}
 
 -- with a table that reads the message as one of 8,192 rows does
-module _ (framing : Framing) (list : AtomList) (m : List ℕ) (few : list .n ≤ 255) (under : Under 256 m) (lent : ℕ) (T : List ℕ) (r : ReadAnswer)
-    (same : read framing list lent m ≡ read framing list 8192 m) (call : r ≡ read-answer (read framing list lent m)) (table : T ≡ table-after lent (read framing list lent m)) where
+module _ (flags : ℕ) (framing : Framing) (list : AtomList) (m : List ℕ) (few : list .n ≤ 255) (under : Under 256 m) (lent : ℕ) (T : List ℕ) (r : ReadAnswer)
+    (same : read flags framing list lent m ≡ read flags framing list 8192 m) (call : r ≡ read-answer (read flags framing list lent m)) (table : T ≡ table-after lent (read flags framing list lent m)) where
   -- a row's number
-  pub number-told : (row : ℕ) (x : NumberAnswer) → x ≡ numbered m (list .places) (list .lengths) T r row → x ≡ number-answer (number-in framing list m row)
+  pub number-told : (row : ℕ) (x : NumberAnswer) → x ≡ numbered m (list .places) (list .lengths) T r row → x ≡ number-answer (number-in flags framing list m row)
   unfolding number-in number-answer row-number numbered read-answer
   number-told row x e =
       e
       ∙ ap₂ (λ (t : List ℕ) (q : ReadAnswer). numbered m (list .places) (list .lengths) t q row) table call
-      ∙ go (read framing list lent m) refl
+      ∙ go (read flags framing list lent m) refl
       ∙ ap (λ (o : Answer Terms). number-answer (row-number row o)) same
     where
-      go : (o : Answer Terms) → read framing list lent m ≡ o
+      go : (o : Answer Terms) → read flags framing list lent m ≡ o
           → numbered m (list .places) (list .lengths) (table-after lent o) (read-answer o) row ≡ number-answer (row-number row o)
-      go (good ts) f = numbers-are list m ts few under lent (accepted-message framing list lent m under ts f) row
+      go (good ts) f = numbers-are flags list m ts few under lent (accepted-message flags framing list lent m under ts f) row
       go (refused n p) f = refl
 
   -- where an atom's text stands
-  pub text-told : (at : ℕ) (x : TextAt) → x ≡ located m (list .places) (list .lengths) T r at → Locate-call framing list m at x
+  pub text-told : (at : ℕ) (x : TextAt) → x ≡ located m (list .places) (list .lengths) T r at → Locate-call flags framing list m at x
   unfolding text-in atom-text text-at located read-answer Text-inside
   text-told at x e =
-      let f : x ≡ found (read framing list lent m)
+      let f : x ≡ found (read flags framing list lent m)
       = e ∙ ap₂ (λ (t : List ℕ) (q : ReadAnswer). located m (list .places) (list .lengths) t q at) table call in
-      let k = go (read framing list lent m) refl in
+      let k = go (read flags framing list lent m) refl in
       record {
         text-located = f ∙ k .0 ∙ ap (λ (o : Answer Terms). text-at (atom-text m list at o)) same;
         text-inside = subst (Text-inside m (list .places)) (sym f) (k .1);
@@ -59,20 +59,20 @@ module _ (framing : Framing) (list : AtomList) (m : List ℕ) (few : list .n ≤
       found : Answer Terms → TextAt
       found o = located m (list .places) (list .lengths) (table-after lent o) (read-answer o) at
 
-      go : (o : Answer Terms) → read framing list lent m ≡ o → (found o ≡ text-at (atom-text m list at o)) × Text-inside m (list .places) (found o)
-      go (good ts) f = texts-are list m ts few under lent (accepted-message framing list lent m under ts f) at
+      go : (o : Answer Terms) → read flags framing list lent m ≡ o → (found o ≡ text-at (atom-text m list at o)) × Text-inside m (list .places) (found o)
+      go (good ts) f = texts-are flags list m ts few under lent (accepted-message flags framing list lent m under ts f) at
       go (refused n p) f = (refl, tt)
 
 -- for the reader of the promise, used by no proof: the float that a row's number answers has exactly the 64 bits of its term, as encoded back
-pub exact : (framing : Framing) (list : AtomList) (m : List ℕ) → Under 256 m → (row bits : ℕ) → number-in framing list m row ≡ good (float-bits bits)
+pub exact : (flags : ℕ) (framing : Framing) (list : AtomList) (m : List ℕ) → Under 256 m → (row bits : ℕ) → number-in flags framing list m row ≡ good (float-bits bits)
     → (bits < 2 ^ 64) × (toBits binary64 (ofBits binary64 bits) ≡ bits)
-unfolding number-in row-number
-exact framing list m under row bits e = go (read framing list 8192 m) refl e
+unfolding number-in row-number atoms-of
+exact flags framing list m under row bits e = go (read flags framing list 8192 m) refl e
   where
-    go : (o : Answer Terms) → read framing list 8192 m ≡ o → row-number row o ≡ good (float-bits bits) → (bits < 2 ^ 64) × (toBits binary64 (ofBits binary64 bits) ≡ bits)
+    go : (o : Answer Terms) → read flags framing list 8192 m ≡ o → row-number row o ≡ good (float-bits bits) → (bits < 2 ^ 64) × (toBits binary64 (ofBits binary64 bits) ≡ bits)
     go (good ts) f g =
         let is : number-at row (rows option.none 0 ts) ≡ float-bits bits = cc in
-        let k = bits-answered ts (allowed-valid (meanings ts) (accepted-message framing list 8192 m under ts f .known .all-allowed)) row bits is in
+        let k = bits-answered flags ts (allowed-valid flags (meanings ts) (accepted-message flags framing list 8192 m under ts f .known .all-allowed)) row bits is in
         (k .0, float-exact bits (k .0) (k .1))
     go (refused n p) f g = let no-way : _≡_ {A = ℕ} 0 1 = cc in absurd (omega arith)
 
@@ -95,10 +95,10 @@ mark-of m list at =
     go g h i j k l false false false true = refl
     go g h i j k l false false false false = refl
 
-pub mark-told : (framing : Framing) (list : AtomList) (m : List ℕ) (at : ℕ) (x : TextAt) (r : MarkAnswer) → x ≡ text-at (text-in framing list m at) → r ≡ mark-at x
-    → r ≡ mark-answer (text-in framing list m at)
+pub mark-told : (flags : ℕ) (framing : Framing) (list : AtomList) (m : List ℕ) (at : ℕ) (x : TextAt) (r : MarkAnswer) → x ≡ text-at (text-in flags framing list m at) → r ≡ mark-at x
+    → r ≡ mark-answer (text-in flags framing list m at)
 unfolding text-in atom-text text-at mark-answer mark-at
-mark-told framing list m at x r e f = f ∙ ap mark-at e ∙ go (read framing list 8192 m)
+mark-told flags framing list m at x r e f = f ∙ ap mark-at e ∙ go (read flags framing list 8192 m)
   where
     test : (t : Bool) → mark-at (text-at (cond t (good (text-of m list at)) (refused 4 at))) ≡ mark-answer (cond t (good (text-of m list at)) (refused 4 at))
     test true = mark-of m list at

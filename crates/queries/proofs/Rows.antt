@@ -45,19 +45,19 @@ use Rattle.queries.proofs.Texts.{atom-tag, content-stands, said-inside}
 abbrev Bits-fit : Label → Type 0
 Bits-fit l = (bits : ℕ) → l ≡ float bits → (bits < 2 ^ 64) × (finite bits ≡ true)
 
-bits-fit : (l : Label) (ts : Forest Label) → Fits l ts → Bits-fit l
-bits-fit l ts h bits e = let g : Fits (float bits) ts = subst (λ (x : Label). Fits x ts) e h in (g .1, g .2)
+bits-fit : (flags : ℕ) (l : Label) (ts : Forest Label) → Fits flags l ts → Bits-fit l
+bits-fit flags l ts h bits e = let g : Fits flags (float bits) ts = subst (λ (x : Label). Fits flags x ts) e h in (g .1, g .2)
 
 mutual
   unfolding tree-rows Each-row
 
-  fit-tree-rows : (whole : Option ℕ) (n : ℕ) (t : Located) → Valid (meaning t) → Each-row (λ r. Bits-fit (r .label)) (tree-rows whole n t)
-  fit-tree-rows whole n (node l ts) v = (bits-fit (l .0) (meanings ts) (v .0), fit-rows (some n) (n + 1) ts (v .1))
+  fit-tree-rows : (flags : ℕ) (whole : Option ℕ) (n : ℕ) (t : Located) → Valid flags (meaning t) → Each-row (λ r. Bits-fit (r .label)) (tree-rows whole n t)
+  fit-tree-rows flags whole n (node l ts) v = (bits-fit flags (l .0) (meanings ts) (v .0), fit-rows flags (some n) (n + 1) ts (v .1))
 
-  fit-rows : (whole : Option ℕ) (n : ℕ) (ts : Terms) → Valids (meanings ts) → Each-row (λ r. Bits-fit (r .label)) (rows whole n ts)
-  fit-rows whole n empty v = tt
-  fit-rows whole n (t ▹ ts) v =
-      each-row-join (λ r. Bits-fit (r .label)) (tree-rows whole n t) (rows whole (n + size t) ts) (fit-tree-rows whole n t (v .0)) (fit-rows whole (n + size t) ts (v .1))
+  fit-rows : (flags : ℕ) (whole : Option ℕ) (n : ℕ) (ts : Terms) → Valids flags (meanings ts) → Each-row (λ r. Bits-fit (r .label)) (rows whole n ts)
+  fit-rows flags whole n empty v = tt
+  fit-rows flags whole n (t ▹ ts) v =
+      each-row-join (λ r. Bits-fit (r .label)) (tree-rows whole n t) (rows whole (n + size t) ts) (fit-tree-rows flags whole n t (v .0)) (fit-rows flags whole (n + size t) ts (v .1))
 
 -- ---- a row's number
 
@@ -77,8 +77,8 @@ no-row : Row
 no-row = record { label = tuple; place = tag-at 0; whole = option.none; parts = 0; size = 0 }
 
 -- the bits of a float that a row of valid terms answers
-pub bits-answered : (ts : Terms) → Valids (meanings ts) → (i bits : ℕ) → number-at i (rows option.none 0 ts) ≡ float-bits bits → (bits < 2 ^ 64) × (finite bits ≡ true)
-bits-answered ts v i bits e = go (leb (sizes ts) i) refl
+pub bits-answered : (flags : ℕ) (ts : Terms) → Valids flags (meanings ts) → (i bits : ℕ) → number-at i (rows option.none 0 ts) ≡ float-bits bits → (bits < 2 ^ 64) × (finite bits ≡ true)
+bits-answered flags ts v i bits e = go (leb (sizes ts) i) refl
   where
     go : (t : Bool) → leb (sizes ts) i ≡ t → (bits < 2 ^ 64) × (finite bits ≡ true)
     go true f =
@@ -88,7 +88,7 @@ bits-answered ts v i bits e = go (leb (sizes ts) i) refl
     go false f =
         let all : List Row = rows option.none 0 ts in
         let k : i < length all = rw (length-rows option.none 0 ts) (leb-false (sizes ts) i f) in
-        let fit : Bits-fit (getD all i no-row .label) = each-row-at (λ q. Bits-fit (q .label)) all i no-row k (fit-rows option.none 0 ts v) in
+        let fit : Bits-fit (getD all i no-row .label) = each-row-at (λ q. Bits-fit (q .label)) all i no-row k (fit-rows flags option.none 0 ts v) in
         fit bits (float-label (getD all i no-row .label) bits (sym (number-within i all no-row k) ∙ e))
 
 -- ---- rows of atoms
@@ -178,7 +178,7 @@ module _ (at : ℕ) where
 
 -- ---- over a message that is accepted with `most` rows lent
 
-module _ (list : AtomList) (m : List ℕ) (ts : Terms) (few : list .n ≤ 255) (under : Under 256 m) (most : ℕ) (a : Accepted-message list most m ts) where
+module _ (flags : ℕ) (list : AtomList) (m : List ℕ) (ts : Terms) (few : list .n ≤ 255) (under : Under 256 m) (most : ℕ) (a : Accepted-message flags list most m ts) where
   lent : Lent list m
   lent = record { sized = a .sized; few = few; under = under }
 
@@ -188,28 +188,29 @@ module _ (list : AtomList) (m : List ℕ) (ts : Terms) (few : list .n ≤ 255) (
   abbrev T : List ℕ
   T = table-after most (good ts)
 
-  held : Rows-in-table m (min 8192 most) (atoms-of list) T option.none 0 ts
-  held = held-rows list most m ts a
+  held : Rows-in-table m (min 8192 most) (atoms-of flags list) T option.none 0 ts
+  held = held-rows flags list most m ts a
 
-  all-backed : Each-row (Backed-row m (min 8192 most) (atoms-of list)) all
-  all-backed = backed-rows m (min 8192 most) (atoms-of list) option.none 0 ts (held .all-backed)
+  all-backed : Each-row (Backed-row m (min 8192 most) (atoms-of flags list)) all
+  all-backed = backed-rows m (min 8192 most) (atoms-of flags list) option.none 0 ts (held .all-backed)
 
   abbrev found-at : ℕ → Content
   found-at w = content-of m (list .places) (list .lengths) (kind-in w) (offset-in w)
 
   -- the number of a row
   row-says : (i : ℕ) → i < sizes ts → number-at i all ≡ content-number (found-at (getD T i 0))
+  unfolding atoms-of
   row-says i h =
       let d : Row = no-row in
       let r : Row = getD all i d in
       let k : i < length all = rw (length-rows option.none 0 ts) h in
       let small : Small-row r = each-row-at Small-row all i d k (held .all-small) in
-      let backed : Backed-row m (min 8192 most) (atoms-of list) r = each-row-at (Backed-row m (min 8192 most) (atoms-of list)) all i d k all-backed in
-      let fit : Bits-fit (r .label) = each-row-at (λ q. Bits-fit (q .label)) all i d k (fit-rows option.none 0 ts (allowed-valid (meanings ts) (a .known .all-allowed))) in
+      let backed : Backed-row m (min 8192 most) (atoms-of flags list) r = each-row-at (Backed-row m (min 8192 most) (atoms-of flags list)) all i d k all-backed in
+      let fit : Bits-fit (r .label) = each-row-at (λ q. Bits-fit (q .label)) all i d k (fit-rows flags option.none 0 ts (allowed-valid flags (meanings ts) (a .known .all-allowed))) in
       let w : Word-of r (word r) = word-packed r small in
       let kind : ℕ = kind-at (r .label) (r .place) in
       let c : Content = content-of m (list .places) (list .lengths) kind (offset-of (r .place)) in
-      let says : Says list m kind (offset-of (r .place)) (r .label) = content-says list m lent (min 8192 most) (r .label) (r .place) backed in
+      let says : Says list m kind (offset-of (r .place)) (r .label) = content-says flags list m lent (min 8192 most) (r .label) (r .place) backed in
       let same : found-at (getD T i 0) ≡ c = ap found-at (table-row most ts i d h) ∙ ap₂ (content-of m (list .places) (list .lengths)) (w .kind-is) (w .offset-is) in
       number-within i all d k
       ∙ ap number-of (sym (says .means))
@@ -233,9 +234,9 @@ module _ (list : AtomList) (m : List ℕ) (ts : Terms) (few : list .n ≤ 255) (
   atom-says : (at : ℕ) → atom-at at all ≡ true → (said at ≡ text-at (good (text-of m list at))) × Text-inside m (list .places) (said at)
   unfolding text-at kind-at offset-of kind-of
   atom-says at e =
-      let b = atom-backed at (λ p l. Label-at m (min 8192 most) (atoms-of list) p l) all all-backed e in
-      let s : Says list m 3 at (atom (b .0)) = content-says list m lent (min 8192 most) (atom (b .0)) (tag-at at) (b .1) in
-      let t = atom-tag list m (min 8192 most) (atom (b .0)) at (b .1) refl in
+      let b = atom-backed at (λ p l. Label-at m (min 8192 most) (atoms-of flags list) p l) all all-backed e in
+      let s : Says list m 3 at (atom (b .0)) = content-says flags list m lent (min 8192 most) (atom (b .0)) (tag-at at) (b .1) in
+      let t = atom-tag flags list m (min 8192 most) (atom (b .0)) at (b .1) refl in
       (content-stands list m (b .0) at (t .0) (t .1) (s .means), said-inside m (list .places) at _ (s .sound))
 
   pub texts-are : (at : ℕ) → (located m (list .places) (list .lengths) T (read-answer (good ts)) at ≡ text-at (atom-text m list at (good ts)))

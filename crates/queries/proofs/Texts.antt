@@ -66,17 +66,17 @@ Fixed (port-fields v w) = Unit {0}
 Fixed (reference-fields k w) = Unit {0}
 Fixed old-reference-fields = Unit {0}
 
-later-other : (p : ℕ) (l : Later) → Fixed l → (s : Position) → Holds (later p l s) (λ x _. kind-of x ≡ 3 → ⊥)
+later-other : (flags p : ℕ) (l : Later) → Fixed l → (s : Position) → Holds (later flags p l s) (λ x _. kind-of x ≡ 3 → ⊥)
 unfolding later kind-of
-later-other p (known l) f s = done-holds l s f
-later-other p (pid-fields w) f s =
+later-other flags p (known l) f s = done-holds l s f
+later-other flags p (pid-fields w) f s =
     skip (number p 4 s) λ id t. skip (number p 4 t) λ serial t. skip (number p w t) λ creation t.
-    skip (rule (ltb id (limits .id) && ltb serial (limits .serial) && creation-rule w creation) 4 p t) λ _ t. done-holds _ t (λ e. omega arith)
-later-other p (port-fields v w) f s =
+    skip (rule (ltb id (limits flags w .id) && ltb serial (limits flags w .serial) && creation-rule w creation) 4 p t) λ _ t. done-holds _ t (λ e. omega arith)
+later-other flags p (port-fields v w) f s =
     skip (number p v s) λ id t. skip (number p w t) λ creation t. skip (rule ((eqb v 8 || ltb id (2 ^ 28)) && creation-rule w creation) 4 p t) λ _ t. done-holds _ t (λ e. omega arith)
-later-other p (reference-fields k w) f s =
+later-other flags p (reference-fields k w) f s =
     skip (number p w s) λ creation t. skip (id-words p k t) λ ws t. skip (rule (creation-rule w creation && words-rule w ws) 4 p t) λ _ t. done-holds _ t (λ e. omega arith)
-later-other p old-reference-fields f s =
+later-other flags p old-reference-fields f s =
     skip (id-words p 1 s) λ ws t. skip (number p 1 t) λ creation t. skip (rule (words-rule 1 ws && creation-rule 1 creation) 4 p t) λ _ t. done-holds _ t (λ e. omega arith)
 
 module _ (m : List ℕ) (cap : ℕ) (atoms : Atoms) (p : ℕ) where
@@ -85,7 +85,7 @@ module _ (m : List ℕ) (cap : ℕ) (atoms : Atoms) (p : ℕ) where
   Only f h _ = (b : Position) (x : Label) → Agrees m cap atoms p h b x → kind-of x ≡ 3 → atomic f ≡ true
 
   other : {A : Type 0} (ws : List Wanted) (n : ℕ) (l : Later) → Fixed l → (b : Position) (x : Label) → Agrees m cap atoms p (parts ws n l) b x → kind-of x ≡ 3 → A
-  other ws n l g b x (s, u, i, a, e) k = absurd (later-other p l g s .known x u e k)
+  other ws n l g b x (s, u, i, a, e) k = absurd (later-other (atoms .flags) p l g s .known x u e k)
 
   bits-other : (bits : ℕ) (bs : List ℕ) → kind-of (bits-meaning bits bs) ≡ 3 → ⊥
   unfolding bits-meaning kind-of
@@ -116,7 +116,7 @@ module _ (m : List ℕ) (cap : ℕ) (atoms : Atoms) (p : ℕ) where
   only map-ext s = skip (number p 4 s) λ n t. done-holds _ t (λ b x a k. absurd (omega (arith, sym (ap kind-of a) ∙ k)))
   only (pid-ext w) s = done-holds _ s (other (an-atom ∷ []) 0 (pid-fields w) tt)
   only (port-ext v w) s = done-holds _ s (other (an-atom ∷ []) 0 (port-fields v w) tt)
-  only (new-reference-ext w) s = skip (number p 2 s) λ n t. skip (rule (leb 1 n && leb n (limits .word-count)) 4 p t) λ _ t. done-holds _ t (other (an-atom ∷ []) 0 (reference-fields n w) tt)
+  only (new-reference-ext w) s = skip (number p 2 s) λ n t. skip (rule (leb 1 n && leb n (limits (atoms .flags) w .word-count)) 4 p t) λ _ t. done-holds _ t (other (an-atom ∷ []) 0 (reference-fields n w) tt)
   only reference-ext s = done-holds _ s (other (an-atom ∷ []) 0 old-reference-fields tt)
   only export-ext s = done-holds _ s (other (an-atom ∷ an-atom ∷ an-arity ∷ []) 0 (known export) (λ e. omega arith))
 
@@ -131,11 +131,11 @@ atomic-tags tag f e a = sym (row-of (λ n g. atomic g ≡ one-of n (82 ∷ 100 �
         (also refl (also refl (also refl (also refl (also refl (also refl (also refl (also refl (also refl
         (also refl (also refl (also refl (also refl (also refl (also refl (also refl (also refl (also refl tt))))))))))))))))))))))))))
 
-module _ (atoms : AtomList) (m : List ℕ) (cap : ℕ) where
+module _ (flags : ℕ) (atoms : AtomList) (m : List ℕ) (cap : ℕ) where
   -- the layout at an atom's place is an atom's
-  pub atom-tag : (x : Label) (p : ℕ) → Label-at m cap (atoms-of atoms) (tag-at p) x → kind-of x ≡ 3 → (f : Form) × Atom-form (getD m p 0) f
+  pub atom-tag : (x : Label) (p : ℕ) → Label-at m cap (atoms-of flags atoms) (tag-at p) x → kind-of x ≡ 3 → (f : Form) × Atom-form (getD m p 0) f
   atom-tag x p (h, a, b, i, e, agrees) k =
-      let A : Atoms = atoms-of atoms in
+      let A : Atoms = atoms-of flags atoms in
       let s : Position = a .start in
       let r : ℕ = s .rows-taken in
       let inside : p ≤ length m = omega (arith, a .in-step .inside, a .is-at) in

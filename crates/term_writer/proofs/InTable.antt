@@ -56,8 +56,8 @@ unfolding kind-at
 tag-kind l (tag-at p) k h e = e
 tag-kind l (character-at p) k h e = absurd (omega arith)
 
-improper-parts : (l : Label) (ts : Forest Label) → l ≡ improper-list → Fits l ts → 0 < count ts
-improper-parts l ts e f = go ts ((rw e at f) .1)
+improper-parts : (flags : ℕ) (l : Label) (ts : Forest Label) → l ≡ improper-list → Fits flags l ts → 0 < count ts
+improper-parts flags l ts e f = go ts ((rw e at f) .1)
   where
     go : (ts : Forest Label) → Improper ts → 0 < count ts
     go Forest.empty h = absurd h
@@ -125,7 +125,7 @@ module _ {m places lengths T : List ℕ} where
         some-of : kind-at (l .0) (l .1) ≡ 6 → 0 < parts-in (getD T row 0)
         some-of e =
             let i : l .0 ≡ improper-list = kind-improper (l .0) (tag-kind (l .0) (l .1) 6 (omega arith) e) in
-            let n : 0 < count (meanings ts) = improper-parts (l .0) (meanings ts) i (held-writable .fits) in
+            let n : 0 < count (meanings ts) = improper-parts (held-writable .flags) (l .0) (meanings ts) i (held-writable .fits) in
             let c = count-relabels (λ (x : Label × Offset). x .0) ts in
             let d = held-count in
             omega arith

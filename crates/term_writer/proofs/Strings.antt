@@ -31,21 +31,21 @@ use Rattle.term_writer.proofs.InTable.{run-first, run-others, held-part
 
 -- ---- small labels
 
-small-leaf : (l : Label) (ts : Forest Label) (x : ℕ) → small l ≡ some x → Fits l ts → ts ≡ Forest.empty
+small-leaf : (flags : ℕ) (l : Label) (ts : Forest Label) (x : ℕ) → small l ≡ some x → Fits flags l ts → ts ≡ Forest.empty
 unfolding small
-small-leaf (integer z) ts x e f = f .0
-small-leaf (float b) ts x e f = let no-way : _≡_ {A = ℕ} 0 1 = cc in absurd (omega arith)
-small-leaf (atom cs) ts x e f = let no-way : _≡_ {A = ℕ} 0 1 = cc in absurd (omega arith)
-small-leaf tuple ts x e f = let no-way : _≡_ {A = ℕ} 0 1 = cc in absurd (omega arith)
-small-leaf list ts x e f = let no-way : _≡_ {A = ℕ} 0 1 = cc in absurd (omega arith)
-small-leaf improper-list ts x e f = let no-way : _≡_ {A = ℕ} 0 1 = cc in absurd (omega arith)
-small-leaf (binary bs) ts x e f = let no-way : _≡_ {A = ℕ} 0 1 = cc in absurd (omega arith)
-small-leaf (bitstring n bs) ts x e f = let no-way : _≡_ {A = ℕ} 0 1 = cc in absurd (omega arith)
-small-leaf map ts x e f = let no-way : _≡_ {A = ℕ} 0 1 = cc in absurd (omega arith)
-small-leaf (pid i s c) ts x e f = let no-way : _≡_ {A = ℕ} 0 1 = cc in absurd (omega arith)
-small-leaf (port i c) ts x e f = let no-way : _≡_ {A = ℕ} 0 1 = cc in absurd (omega arith)
-small-leaf (reference c ws) ts x e f = let no-way : _≡_ {A = ℕ} 0 1 = cc in absurd (omega arith)
-small-leaf export ts x e f = let no-way : _≡_ {A = ℕ} 0 1 = cc in absurd (omega arith)
+small-leaf flags (integer z) ts x e f = f .0
+small-leaf flags (float b) ts x e f = let no-way : _≡_ {A = ℕ} 0 1 = cc in absurd (omega arith)
+small-leaf flags (atom cs) ts x e f = let no-way : _≡_ {A = ℕ} 0 1 = cc in absurd (omega arith)
+small-leaf flags tuple ts x e f = let no-way : _≡_ {A = ℕ} 0 1 = cc in absurd (omega arith)
+small-leaf flags list ts x e f = let no-way : _≡_ {A = ℕ} 0 1 = cc in absurd (omega arith)
+small-leaf flags improper-list ts x e f = let no-way : _≡_ {A = ℕ} 0 1 = cc in absurd (omega arith)
+small-leaf flags (binary bs) ts x e f = let no-way : _≡_ {A = ℕ} 0 1 = cc in absurd (omega arith)
+small-leaf flags (bitstring n bs) ts x e f = let no-way : _≡_ {A = ℕ} 0 1 = cc in absurd (omega arith)
+small-leaf flags map ts x e f = let no-way : _≡_ {A = ℕ} 0 1 = cc in absurd (omega arith)
+small-leaf flags (pid i s c) ts x e f = let no-way : _≡_ {A = ℕ} 0 1 = cc in absurd (omega arith)
+small-leaf flags (port i c) ts x e f = let no-way : _≡_ {A = ℕ} 0 1 = cc in absurd (omega arith)
+small-leaf flags (reference c ws) ts x e f = let no-way : _≡_ {A = ℕ} 0 1 = cc in absurd (omega arith)
+small-leaf flags export ts x e f = let no-way : _≡_ {A = ℕ} 0 1 = cc in absurd (omega arith)
 
 small-below : (l : Label) (x : ℕ) → small l ≡ some x → x < 256
 unfolding small
@@ -154,7 +154,7 @@ module _ {m places lengths T : List ℕ} where
   -- a small integer has one row
   next-held : (row i : ℕ) {ts : Terms} (f : Front m places lengths T (row + i) ts) (x : ℕ) → small (f .label .0) ≡ some x → Run-in-table m places lengths T (row + (i + 1)) (f .others)
   next-held row i f x e =
-      let leaf : f .parts ≡ Forest.empty = no-forest (f .parts) (small-leaf (f .label .0) (meanings (f .parts)) x e (held-writable (f .held) .fits)) in
+      let leaf : f .parts ≡ Forest.empty = no-forest (f .parts) (small-leaf (held-writable (f .held) .flags) (f .label .0) (meanings (f .parts)) x e (held-writable (f .held) .fits)) in
       let z : sizes (f .parts) ≡ 0 = ap sizes leaf in
       let r : row + i + suc (sizes (f .parts)) ≡ row + (i + 1) = omega arith in
       rw r at (f .held-others)

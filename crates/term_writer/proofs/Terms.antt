@@ -86,7 +86,7 @@ module _ {m places lengths T : List ℕ} {row : ℕ} where
       let no : as-string (l .0) (meanings ts) ≡ none = none-told (as-string (l .0) (meanings ts)) e in
       let n : count (meanings ts) ≡ parts-in w = count-meanings ts ∙ sym (held-count h) in
       let x : l .0 ≡ label-in m places lengths w = sym (held-label h) in
-      canonical-parts (l .0) (meanings ts) (held-writable h .fits) (λ f. sym (as-list (l .0) (meanings ts) (ap kind-of f)) ∙ no)
+      canonical-parts (held-writable h .flags) (l .0) (meanings ts) (held-writable h .fits) (λ f. sym (as-list (l .0) (meanings ts) (ap kind-of f)) ∙ no)
       ∙ ap₂ (λ (y : Label) (k : ℕ). before y k ++ (canonicals (meanings ts) ++ after y k)) x n
 
   unstrung-length : {l : Label × Offset} {ts : Terms} → Term-in-table m places lengths T row (node l ts) → string-term (node l ts) ≡ false

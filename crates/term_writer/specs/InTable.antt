@@ -19,12 +19,13 @@ use Rattle.canonical_fields.specs.Shape.{some-small}
 use Rattle.canonical_fields.specs.Sound.{Sound-content, listed-in}
 
 module _ (m places lengths : List ℕ) where
-  -- a node whose fields are found again, and that has a canonical form
+  -- a node whose fields are found again, and that has a canonical form: with some flags it fits
   pub record Writable (l : Label × Offset) (ts : Terms) : Type 0 where
     pub near : offset-of (l .1) < 65536
     pub says : label-of m (listed-in places) (kind-at (l .0) (l .1)) (content-of m places lengths (kind-at (l .0) (l .1)) (offset-of (l .1))) ≡ l .0
     pub sound : Sound-content m places (content-of m places lengths (kind-at (l .0) (l .1)) (offset-of (l .1)))
-    pub fits : Fits (l .0) (meanings ts)
+    pub flags : ℕ
+    pub fits : Fits flags (l .0) (meanings ts)
     pub at-tag : l .0 ≡ list → kind-at (l .0) (l .1) ≡ 5
 
   module _ (T : List ℕ) (row : ℕ) where

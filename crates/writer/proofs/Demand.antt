@@ -1,5 +1,6 @@
 -- Demand 3 over the calls `write_standalone`, `write_payload`, `read_standalone` and `read_payload`: their promises are the relations `Write-call` and `Read-call`, and
 -- what any calls by these relations come to is `Demand-3` (term_spec/specs/Demands). `No-long-list` and `Bad-texts` (term_spec/specs/Lists, BadTexts) are said of the same relations.
+use Prim.Native.Nat.{ℕ}
 use contract.Lifetimes.{Lfts}
 use Rattle.term_spec.specs.Term.{Term}
 use Rattle.term_spec.specs.AtomList.{lent-list}
@@ -18,25 +19,25 @@ use Rattle.writer.proofs.write_payload.Reads as write-payload
 
 -- These are the promises of the calls: what holds after any call, with any arguments a, result r and lent slices s after it
 pub promised-write-standalone : (κs : Lfts 5) (a : _) (r : _) (s : _) → write-standalone.Post κs a r s
-    → Write-call standalone (lent-list (a .1 .0) (a .1 .1 .0 .now) (a .1 .1 .1 .0 .now)) (a .0 .now) (a .1 .1 .1 .1 .0 .now) (a .1 .1 .1 .1 .1 .0 .now) r
-    (s .1 .1 .1 .1 .0 .now) (s .1 .1 .1 .1 .1 .0 .now)
+    → Write-call (a .0 .flags) standalone (lent-list (a .1 .1 .0) (a .1 .1 .1 .0 .now) (a .1 .1 .1 .1 .0 .now)) (a .1 .0 .now) (a .1 .1 .1 .1 .1 .0 .now) (a .1 .1 .1 .1 .1 .1 .0 .now) r
+    (s .1 .1 .1 .1 .1 .0 .now) (s .1 .1 .1 .1 .1 .1 .0 .now)
 promised-write-standalone κs a r s p = p
 
 pub promised-write-payload : (κs : Lfts 5) (a : _) (r : _) (s : _) → write-payload.Post κs a r s
-    → Write-call payload (lent-list (a .1 .0) (a .1 .1 .0 .now) (a .1 .1 .1 .0 .now)) (a .0 .now) (a .1 .1 .1 .1 .0 .now) (a .1 .1 .1 .1 .1 .0 .now) r
-    (s .1 .1 .1 .1 .0 .now) (s .1 .1 .1 .1 .1 .0 .now)
+    → Write-call (a .0 .flags) payload (lent-list (a .1 .1 .0) (a .1 .1 .1 .0 .now) (a .1 .1 .1 .1 .0 .now)) (a .1 .0 .now) (a .1 .1 .1 .1 .1 .0 .now) (a .1 .1 .1 .1 .1 .1 .0 .now) r
+    (s .1 .1 .1 .1 .1 .0 .now) (s .1 .1 .1 .1 .1 .1 .0 .now)
 promised-write-payload κs a r s p = p
 
 pub promised-read-standalone : (κs : Lfts 4) (a : _) (r : _) (s : _) → read-standalone.Post κs a r s
-    → Read-call standalone (lent-list (a .1 .0) (a .1 .1 .0 .now) (a .1 .1 .1 .0 .now)) (a .0 .now) (a .1 .1 .1 .1 .0 .now) r (s .1 .1 .1 .1 .0 .now)
+    → Read-call (a .0 .flags) standalone (lent-list (a .1 .1 .0) (a .1 .1 .1 .0 .now) (a .1 .1 .1 .1 .0 .now)) (a .1 .0 .now) (a .1 .1 .1 .1 .1 .0 .now) r (s .1 .1 .1 .1 .1 .0 .now)
 promised-read-standalone κs a r s p = p
 
 pub promised-read-payload : (κs : Lfts 4) (a : _) (r : _) (s : _) → read-payload.Post κs a r s
-    → Read-call payload (lent-list (a .1 .0) (a .1 .1 .0 .now) (a .1 .1 .1 .0 .now)) (a .0 .now) (a .1 .1 .1 .1 .0 .now) r (s .1 .1 .1 .1 .0 .now)
+    → Read-call (a .0 .flags) payload (lent-list (a .1 .1 .0) (a .1 .1 .1 .0 .now) (a .1 .1 .1 .1 .0 .now)) (a .1 .0 .now) (a .1 .1 .1 .1 .1 .0 .now) r (s .1 .1 .1 .1 .1 .0 .now)
 promised-read-payload κs a r s p = p
 
--- For any two accepted terms, of one message or of two
-pub demand-3 : (t u : Term) (a : Accepted-term t) (b : Accepted-term u) → Demand-3 t u a b
+-- For every flags and any two terms accepted with them, of one message or of two
+pub demand-3 : (flags : ℕ) (t u : Term) (a : Accepted-term flags t) (b : Accepted-term flags u) → Demand-3 flags t u a b
 demand-3 = definitions.demand-3
 
 -- Of the same calls: no list that they read or write has more than 8,191 elements

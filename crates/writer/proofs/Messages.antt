@@ -138,9 +138,9 @@ refusal-read (refused n p) r q e f =
     let s : q ≡ record { number = n; place = p } = cc in
     sym (ap₂ (λ (a b : ℕ). refused a b) (ap (λ (x : Refusal). x .number) s) (ap (λ (x : Refusal). x .place) s))
 
-module _ (framing : Framing) (atoms : AtomList) (S m : List ℕ) (few : atoms .n ≤ 255) (u : Under 256 m) where
+module _ (flags : ℕ) (framing : Framing) (atoms : AtomList) (S m : List ℕ) (few : atoms .n ≤ 255) (u : Under 256 m) where
   abbrev answer : Answer Terms
-  answer = read framing atoms (length S) m
+  answer = read flags framing atoms (length S) m
 
   module _ {r : ReadAnswer} {k rows : ℕ} {T : List ℕ} (e : r ≡ read-answer answer) (f : r ≡ reads.Terms k rows) (t : T ≡ table-after (length S) answer) where
     terms-are : (ts : Terms) × (answer ≡ good ts) × (count ts ≡ k)
@@ -150,13 +150,13 @@ module _ (framing : Framing) (atoms : AtomList) (S m : List ℕ) (few : atoms .n
     terms-held =
         let x : T ≡ table-after (length S) (good (terms-are .0)) = t ∙ ap (λ (o : Answer Terms). table-after (length S) o) (terms-are .1) in
         subst (λ (X : List ℕ). Run-in-table m (atoms .places) (atoms .lengths) X 0 (terms-are .0)) (sym x)
-        (read-held framing atoms (length S) m few u (terms-are .0) (terms-are .1))
+        (read-held flags framing atoms (length S) m few u (terms-are .0) (terms-are .1))
 
     pub message-run : Some-run m (atoms .places) (atoms .lengths) T 0 k
     message-run = record { terms = terms-are .0; held = terms-held; counted = terms-are .2 }
 
     pub message-written : {O P Z : List ℕ} {w : WriteAnswer} → Rows-written m (atoms .places) (atoms .lengths) T k O w P → Z ≡ scratch-after (length T) → length T ≡ length S
-        → Write-call framing atoms m S O w Z P
+        → Write-call flags framing atoms m S O w Z P
     unfolding write
     message-written {O} g z l =
         let i = g (terms-are .0) terms-held (terms-are .2) in
@@ -168,7 +168,7 @@ module _ (framing : Framing) (atoms : AtomList) (S m : List ℕ) (few : atoms .n
         }
 
   module _ {r : ReadAnswer} {q : Refusal} {T : List ℕ} (e : r ≡ read-answer answer) (f : r ≡ reads.Refused q) (t : T ≡ table-after (length S) answer) where
-    pub message-refused : (O : List ℕ) → Write-call framing atoms m S O (writes.Refused q) T O
+    pub message-refused : (O : List ℕ) → Write-call flags framing atoms m S O (writes.Refused q) T O
     unfolding write written write-answer output-after scratch-after table-after
     message-refused O =
         let is : answer ≡ refused (q .number) (q .place) = refusal-read answer r q e f in

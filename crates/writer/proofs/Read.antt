@@ -47,14 +47,14 @@ module _ (m : List ℕ) (cap : ℕ) (atoms : Atoms) where
   label-tag (character-at p) x h e = let no-way : _≡_ {A = ℕ} 0 1 = cc in absurd (omega arith)
 
 -- what is found keeps to what writing asks
-bits-some : (bits : ℕ) (bs : List ℕ) (ts : Forest Label) → Fits (bitstring bits bs) ts → 1 ≤ length bs
+bits-some : (flags bits : ℕ) (bs : List ℕ) (ts : Forest Label) → Fits flags (bitstring bits bs) ts → 1 ≤ length bs
 unfolding bits-rule bits-meaning
-bits-some bits [] ts f =
+bits-some flags bits [] ts f =
     let z : bits ≡ 0 = eqb-true bits 0 (f .3) in
     let e : bits-meaning 0 [] ≡ bitstring 0 [] = rw z at (f .4) in
     let no-way : _≡_ {A = ℕ} 0 1 = cc in
     absurd (omega arith)
-bits-some bits (b ∷ bs) ts f = omega arith
+bits-some flags bits (b ∷ bs) ts f = omega arith
 
 spelt-by : (bs : List ℕ) → Readable false bs → Spelt bs
 unfolding characters-of
@@ -70,22 +70,22 @@ module _ (m : List ℕ) (atoms : AtomList) (short : length m ≤ 65536) (fits : 
   text-sound latin1 true start n (h, r) = (record { there = h; few = omega arith }, λ e. spelt-by _ (subst (λ (z : Bool). Readable z (stretch (atoms .places) start n)) e r))
   text-sound latin1 false start n (h, r) = (record { there = h; few = omega arith }, λ e. spelt-by _ (subst (λ (z : Bool). Readable z (stretch m start n)) e r))
 
-  pub sound-by : (kind : ℕ) (c : Content) (ts : Forest Label) → contents.Sound m (atoms .places) c → Fits (label-of m atoms kind c) ts → Sound-content m (atoms .places) c
+  pub sound-by : (flags kind : ℕ) (c : Content) (ts : Forest Label) → contents.Sound m (atoms .places) c → Fits flags (label-of m atoms kind c) ts → Sound-content m (atoms .places) c
   unfolding Sound-content label-of
-  sound-by kind Nothing ts h f = tt
-  sound-by kind (Whole negative n) ts (_, h) f = not-zero negative n h
-  sound-by kind (Big negative start n) ts (many, there, high) f = record { there = record { there = there; few = omega arith }; many = many; high = omega arith }
-  sound-by kind (Float bits) ts h f = tt
-  sound-by kind (Text latin1 listed start n) ts h f = text-sound latin1 listed start n h
-  sound-by kind (Bytes start n) ts h f = record { there = h; few = omega arith }
-  sound-by kind (Bits bits start n) ts h f =
+  sound-by flags kind Nothing ts h f = tt
+  sound-by flags kind (Whole negative n) ts (_, h) f = not-zero negative n h
+  sound-by flags kind (Big negative start n) ts (many, there, high) f = record { there = record { there = there; few = omega arith }; many = many; high = omega arith }
+  sound-by flags kind (Float bits) ts h f = tt
+  sound-by flags kind (Text latin1 listed start n) ts h f = text-sound latin1 listed start n h
+  sound-by flags kind (Bytes start n) ts h f = record { there = h; few = omega arith }
+  sound-by flags kind (Bits bits start n) ts h f =
       let i : Inside m start n = record { there = h; few = omega arith } in
       let k : length (clear-low bits (stretch m start n)) ≡ n = length-bits bits m start n i in
-      let s : 1 ≤ length (clear-low bits (stretch m start n)) = bits-some bits (clear-low bits (stretch m start n)) ts f in
+      let s : 1 ≤ length (clear-low bits (stretch m start n)) = bits-some flags bits (clear-low bits (stretch m start n)) ts f in
       (i, omega arith)
-  sound-by kind (Pid i s c) ts h f = tt
-  sound-by kind (Port i c) ts h f = tt
-  sound-by kind (Reference c start n) ts h f = record { there = h; few = omega arith }
+  sound-by flags kind (Pid i s c) ts h f = tt
+  sound-by flags kind (Port i c) ts h f = tt
+  sound-by flags kind (Reference c start n) ts h f = record { there = h; few = omega arith }
 
   listed-alone : (kind : ℕ) (c : Content) → label-of m (listed-in (atoms .places)) kind c ≡ label-of m atoms kind c
   unfolding label-of
@@ -100,29 +100,30 @@ module _ (m : List ℕ) (atoms : AtomList) (short : length m ≤ 65536) (fits : 
   listed-alone kind (Port i c) = refl
   listed-alone kind (Reference c start n) = refl
 
-  module _ (lent : Lent atoms m) (cap : ℕ) where
-    node-writable : (l : Label × Offset) (ts : Terms) → Label-at m cap (atoms-of atoms) (l .1) (l .0) → Fits (l .0) (meanings ts) → Writable m (atoms .places) (atoms .lengths) l ts
+  module _ (flags : ℕ) (lent : Lent atoms m) (cap : ℕ) where
+    node-writable : (l : Label × Offset) (ts : Terms) → Label-at m cap (atoms-of flags atoms) (l .1) (l .0) → Fits flags (l .0) (meanings ts) → Writable m (atoms .places) (atoms .lengths) l ts
     node-writable l ts h f =
         let k : ℕ = kind-at (l .0) (l .1) in
         let p : ℕ = offset-of (l .1) in
         let c : Content = content-of m (atoms .places) (atoms .lengths) k p in
-        let s : Says atoms m k p (l .0) = content-says atoms m lent cap (l .0) (l .1) h in
-        let near : p < length m = label-inside m cap (atoms-of atoms) (l .1) (l .0) h in
+        let s : Says atoms m k p (l .0) = content-says flags atoms m lent cap (l .0) (l .1) h in
+        let near : p < length m = label-inside m cap (atoms-of flags atoms) (l .1) (l .0) h in
         record {
           near = omega arith;
           says = listed-alone k c ∙ s .means;
-          sound = sound-by k c (meanings ts) (s .sound) (rw (s .means) f);
+          sound = sound-by flags k c (meanings ts) (s .sound) (rw (s .means) f);
+          flags = flags;
           fits = f;
-          at-tag = label-tag m cap (atoms-of atoms) (l .1) (l .0) h;
+          at-tag = label-tag m cap (atoms-of flags atoms) (l .1) (l .0) h;
         }
 
     mutual
       unfolding Each-node
 
-      tree-writable : (t : Located) → Backed m cap (atoms-of atoms) t → Valid (meaning t) → Each-node (Writable m (atoms .places) (atoms .lengths)) t
+      tree-writable : (t : Located) → Backed m cap (atoms-of flags atoms) t → Valid flags (meaning t) → Each-node (Writable m (atoms .places) (atoms .lengths)) t
       tree-writable (node l ts) b v = (node-writable l ts (b .0) (v .0), run-writable ts (b .1) (v .1))
 
-      run-writable : (ts : Terms) → Backeds m cap (atoms-of atoms) ts → Valids (meanings ts) → Each-nodes (Writable m (atoms .places) (atoms .lengths)) ts
+      run-writable : (ts : Terms) → Backeds m cap (atoms-of flags atoms) ts → Valids flags (meanings ts) → Each-nodes (Writable m (atoms .places) (atoms .lengths)) ts
       run-writable Forest.empty b v = tt
       run-writable (t ▹ ts) b v = (tree-writable t (b .0) (v .0), run-writable ts (b .1) (v .1))
 
@@ -137,17 +138,17 @@ places-few atoms e = go (eqb (length (atoms .places)) 8160) refl e
     go false f e = let no-way : _≡_ {A = ℕ} 0 1 = cc in absurd (omega arith)
 
 -- the rows of an accepted message's terms stand in the table, and each can be written
-pub read-held : (framing : Framing) (atoms : AtomList) (lent : ℕ) (m : List ℕ) → atoms .n ≤ 255 → Under 256 m → (ts : Terms) → read framing atoms lent m ≡ good ts
+pub read-held : (flags : ℕ) (framing : Framing) (atoms : AtomList) (lent : ℕ) (m : List ℕ) → atoms .n ≤ 255 → Under 256 m → (ts : Terms) → read flags framing atoms lent m ≡ good ts
     → Run-in-table m (atoms .places) (atoms .lengths) (table-after lent (good ts)) 0 ts
-unfolding whole-code
-read-held framing atoms lent m n u ts e =
-    let a : Accepted-message atoms lent m ts = accepted-message framing atoms lent m u ts e in
+unfolding whole-code atoms-of
+read-held flags framing atoms lent m n u ts e =
+    let a : Accepted-message flags atoms lent m ts = accepted-message flags framing atoms lent m u ts e in
     let f : sizes ts ≤ min 8192 lent = a .known .few in
     record {
       run-whole = none;
       run-above = omega arith;
       run-stands = table-rows lent ts;
       run-few = omega arith;
-      run-nodes = run-writable m atoms (a .short) (places-few atoms (a .sized)) (record { sized = a .sized; few = n; under = u }) (min 8192 lent) ts (a .known .all-backed)
-          (allowed-valid (meanings ts) (a .known .all-allowed));
+      run-nodes = run-writable m atoms (a .short) (places-few atoms (a .sized)) flags (record { sized = a .sized; few = n; under = u }) (min 8192 lent) ts (a .known .all-backed)
+          (allowed-valid flags (meanings ts) (a .known .all-allowed));
     }

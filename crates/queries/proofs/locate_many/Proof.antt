@@ -25,7 +25,7 @@ returns : tie.Need-returns
 returns c =
     let a = c .before .before .before .before .before .before .before .before .args in
     let list = lent-list (a .n) (a .places .now) (a .lengths .now) in
-    text-told (framing-of (a .framing)) list (a .msg .now) (omega arith)
+    text-told (a .flags) (framing-of (a .framing)) list (a .msg .now) (omega arith)
     (under-all (a .msg .now) (λ i _. omega (arith, c .before .before .before .before .before .before .before .shared-slice-known .given i))) _ _ _
     refl
     (c .before .before .before .read-larger .ensures .read-answered) (c .before .before .before .read-larger .ensures .table-left) _ _ (c .located .ensures)

@@ -15,7 +15,7 @@ mark-at-requires c κs = search needs
 returns : tie.Need-returns
 returns c =
     let a = c .before .before .before .before .before .args in
-    mark-told payload (lent-list (a .n) (a .places .now) (a .lengths .now)) (a .msg .now) (a .at) _ _ (c .before .locate-payload .ensures .text-located) (c .mark-at .ensures)
+    mark-told (a .connection .flags) payload (lent-list (a .n) (a .places .now) (a .lengths .now)) (a .msg .now) (a .at) _ _ (c .before .locate-payload .ensures .text-located) (c .mark-at .ensures)
 
 pub mark-payload-spec : {M : Type 1} → statement M
 mark-payload-spec = tie.close (tie.spec locate-payload-requires mark-at-requires returns)

@@ -15,7 +15,7 @@ mark-at-requires c κs = search needs
 returns : tie.Need-returns
 returns c =
     let a = c .before .before .before .before .before .args in
-    mark-told standalone (lent-list (a .n) (a .places .now) (a .lengths .now)) (a .msg .now) (a .at) _ _ (c .before .locate-standalone .ensures .text-located) (c .mark-at .ensures)
+    mark-told (a .connection .flags) standalone (lent-list (a .n) (a .places .now) (a .lengths .now)) (a .msg .now) (a .at) _ _ (c .before .locate-standalone .ensures .text-located) (c .mark-at .ensures)
 
 pub mark-standalone-spec : {M : Type 1} → statement M
 mark-standalone-spec = tie.close (tie.spec locate-standalone-requires mark-at-requires returns)
