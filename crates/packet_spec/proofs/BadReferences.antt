@@ -7,12 +7,13 @@ use native.Mathlib.Numerals.{add-one}
 use native.Mathlib.Omega.{arith}
 use lib.Dec.{eqb, leb}
 use lib.ListN.{length, getD, take, drop}
-use borrow.Author.Tests.{eqb-true}
+use borrow.Author.Tests.{eqb-true, eqb-false}
 use Rattle.term_spec.specs.Numbers.{big-endian}
+use Rattle.term_spec.specs.Connection.{coding-agreed, flags-known}
 use Rattle.term_spec.specs.Text.{Coding, Checked, valid, invalid-at, check, encodes}
 use Rattle.term_spec.specs.Answer.{Answer, good, refused, Position, Reading, at-offset, after, byte, bytes, number}
 use Rattle.term_spec.specs.Head.{text-or}
-use Rattle.term_spec.specs.Message.{result-of}
+use Rattle.term_spec.specs.Message.{first-check}
 use Rattle.term_spec.proofs.Tests.{by-less}
 use Rattle.term_spec.proofs.Bridge.{byte-at, byte-end, bytes-at, bytes-end, number-at, number-end}
 use Rattle.term_spec.proofs.Holds.{refused-holds}
@@ -55,9 +56,12 @@ held-keeps i nothing s q = no 21 i refl
 held-keeps i no-text s q = no 14 i refl
 held-keeps i (text bs) s q = end bs s (q bs)
 
-module _ (agreed : Coding) (holding : ℕ → Held) (bs : List ℕ) where
+module _ (flags : ℕ) (holding : ℕ → Held) (bs : List ℕ) where
+  abbrev agreed : Coding
+  agreed = coding-agreed flags
+
   abbrev Told : {A : Type 0} → (A → Position → Type 0) → Answer (A × Position) → Type 0
-  Told Q o = Keeps Q (Bad-reference agreed bs) o
+  Told Q o = Keeps Q (Bad-reference flags bs) o
 
   -- The references of a header whose count stands at `c`
   module _ (c : ℕ) (there : Count-at bs c) where
@@ -185,21 +189,22 @@ module _ (agreed : Coding) (holding : ℕ → Held) (bs : List ℕ) where
     unfolding packet
     packet-told = and-then (rule-keeps (record-true r) 14 0 refl _ λ _. next-step preamble-told λ kind t _ begun. rest-told kind t begun)
 
-module _ (agreed : Coding) (m : Memory) (bs : List ℕ) (p : ℕ) where
-  rules-bad : judged agreed m bs ≡ refused 5 p → Bad-reference agreed bs p
-  unfolding judged
-  rules-bad e = go (memory-of-size m) e
-    where
-      go : (b : Bool) → _≡_ {A = Answer Packet} (elim b [
-        | true ↦ result-of (packet agreed (held (m .cache)) (m .pending) (record { at = 0; left = bs; rows-taken = 0 }))
-        | false ↦ refused 13 0
-      ]) (refused 5 p) → Bad-reference agreed bs p
-      go true e = packet-told agreed (held (m .cache)) bs (m .pending) .refuses p (found-refused _ 5 p e)
-      go false e = let no-way : _≡_ {A = ℕ} 13 5 = cc in absurd (omega arith)
+module _ {A : Type 0} where
+  -- a refusal with 5 is no first check's
+  past-check : (t : Bool) (n p : ℕ) (o : Answer A) → eqb n 5 ≡ false → first-check t n o ≡ refused 5 p → o ≡ refused 5 p
+  past-check true n p o other e = e
+  past-check false n p o other e = absurd (eqb-false n 5 other cc)
 
-  taking-bad : packet-answer (take-packet agreed m bs) ≡ packets.Refused (record { number = 5; place = p }) → Bad-reference agreed bs p
+module _ (flags : ℕ) (m : Memory) (bs : List ℕ) (p : ℕ) where
+  rules-bad : judged flags m bs ≡ refused 5 p → Bad-reference flags bs p
+  unfolding judged
+  rules-bad e =
+      packet-told flags (held (m .cache)) bs (m .pending) .refuses p
+      (found-refused _ 5 p (past-check (flags-known flags) 14 p _ refl (past-check (memory-of-size m) 13 p _ refl e)))
+
+  taking-bad : packet-answer (take-packet flags m bs) ≡ packets.Refused (record { number = 5; place = p }) → Bad-reference flags bs p
   unfolding packet-answer outcome-case take-packet
-  taking-bad e = rules-bad (go (judged agreed m bs) e)
+  taking-bad e = rules-bad (go (judged flags m bs) e)
     where
       told-case : (o : Outcome) → ¬ (outcome-case o ≡ packets.Refused (record { number = 5; place = p }))
       told-case (payload-at a b) e = let no-way : _≡_ {A = ℕ} 0 1 = cc in omega arith
@@ -214,5 +219,5 @@ pub bad-references : Bad-references
 bad-references =
     record {
       by-the-rules = rules-bad;
-      by-taking = λ agreed packet m r m′ c p e. taking-bad agreed m packet p (sym (answer-is c) ∙ e);
+      by-taking = λ flags packet m r m′ c p e. taking-bad flags m packet p (sym (answer-is c) ∙ e);
     }

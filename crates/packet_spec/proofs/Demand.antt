@@ -5,7 +5,6 @@ use mathlib.Core.List.{List}
 use Prim.Native.Nat.{ℕ}
 use native.Mathlib.Omega.{arith}
 use lib.ListN.{take}
-use Rattle.term_spec.specs.Text.{Coding}
 use Rattle.term_spec.specs.Numbers.{Under}
 use Rattle.term_spec.specs.Answer.{Answer, good, refused}
 use Rattle.packet_spec.specs.declared.Pending.{Pending}
@@ -27,9 +26,9 @@ use Rattle.packet_spec.proofs.Gathered.{call-gathers, run-gathers, none
 use Rattle.packet_spec.proofs.Gathered as gathering
 
 -- what a drop and a reset leave, by their promises
-drop-state : (m : Memory) (r : Settled) → Drop-call (m .pending) r → with-state m (m .cache, r .pending) ≡ after-call m dropping
+drop-state : (flags : ℕ) (m : Memory) (r : Settled) → Drop-call flags (m .pending) r → with-state m (m .cache, r .pending) ≡ after-call m (dropping flags)
 unfolding after-call drop-answer
-drop-state m r w = ap (λ (p : Settled). with-state m (m .cache, p .pending)) (w .drop-answered)
+drop-state flags m r w = ap (λ (p : Settled). with-state m (m .cache, p .pending)) (w .drop-answered)
 
 reset-state : (m : Memory) (r : Settled) (c′ : Cache) → Reset-call (m .cache) (m .pending) r c′ → with-state m (c′, r .pending) ≡ after-call m resetting
 unfolding after-call reset-answer cache-after-reset reset
@@ -49,8 +48,8 @@ reset-state m r c′ w =
 pub ran-is : {m n : Memory} {cs : List Call} → Ran m cs n → n ≡ after-calls m cs
 unfolding after-calls after-call
 ran-is ended = refl
-ran-is (packet-then {cs = cs} agreed packet r m′ w rest) = ran-is rest ∙ ap (λ (x : Memory). after-calls x cs) (w .memory-left)
-ran-is (drop-then {m} {cs = cs} r w rest) = ran-is rest ∙ ap (λ (x : Memory). after-calls x cs) (drop-state m r w)
+ran-is (packet-then {cs = cs} flags packet r m′ w rest) = ran-is rest ∙ ap (λ (x : Memory). after-calls x cs) (w .memory-left)
+ran-is (drop-then {m} {cs = cs} flags r w rest) = ran-is rest ∙ ap (λ (x : Memory). after-calls x cs) (drop-state flags m r w)
 ran-is (reset-then {m} {cs = cs} r c′ w rest) = ran-is rest ∙ ap (λ (x : Memory). after-calls x cs) (reset-state m r c′ w)
 
 -- the answer Complete is that case of the enum alone
@@ -62,22 +61,22 @@ is-complete (good (complete n)) k e = let is : n ≡ k = cc in ap (λ (x : ℕ).
 is-complete (refused n p) k e = let no-way : _≡_ {A = ℕ} 0 1 = cc in absurd (omega arith)
 
 -- what a packet answers, by the promise
-pub answer-is : {agreed : Coding} {packet : List ℕ} {m : Memory} {r : Taken} {m′ : Memory} → Packet-call agreed packet m r m′
-    → r .answer ≡ packet-answer (take-packet agreed m packet)
+pub answer-is : {flags : ℕ} {packet : List ℕ} {m : Memory} {r : Taken} {m′ : Memory} → Packet-call flags packet m r m′
+    → r .answer ≡ packet-answer (take-packet flags m packet)
 unfolding taken-answer
 answer-is w = ap (λ (x : Taken). x .answer) (w .packet-answered)
 
 -- the packet taken next, with what is gathered before it
-module _ (n : Memory) (g : So-far) (h : Has n g) (agreed : Coding) (packet : List ℕ) (r : Taken) (m′ : Memory) (u : Under 256 packet) (w : Packet-call agreed packet n r m′) where
-  next-completed : (k : ℕ) → r .answer ≡ packets.Complete k → Completed k (gathered-after n (taking agreed packet) g) m′
+module _ (n : Memory) (g : So-far) (h : Has n g) (flags : ℕ) (packet : List ℕ) (r : Taken) (m′ : Memory) (u : Under 256 packet) (w : Packet-call flags packet n r m′) where
+  next-completed : (k : ℕ) → r .answer ≡ packets.Complete k → Completed k (gathered-after n (taking flags packet) g) m′
   unfolding after-call gathered-after
   next-completed k e =
-      let done = gathering.completes agreed n packet g k u h (is-complete _ k (sym (answer-is w) ∙ e)) in
-      let has : Has (after-packet agreed n packet) (gathered-by (judged agreed n packet) g) = call-gathers n (taking agreed packet) g u h in
-      subst (Completed k (gathered-by (judged agreed n packet) g)) (sym (w .memory-left))
+      let done = gathering.completes flags n packet g k u h (is-complete _ k (sym (answer-is w) ∙ e)) in
+      let has : Has (after-packet flags n packet) (gathered-by (judged flags n packet) g) = call-gathers n (taking flags packet) g u h in
+      subst (Completed k (gathered-by (judged flags n packet) g)) (sym (w .memory-left))
       (record {
         all-counted = done .0;
-        first-bytes = ap (λ (x : ℕ). take x (after-packet agreed n packet .gather)) (done .0) ∙ has .first-bytes;
+        first-bytes = ap (λ (x : ℕ). take x (after-packet flags n packet .gather)) (done .0) ∙ has .first-bytes;
         its-list = has .its-list;
         none-due = done .1;
         record-zero = done .2;
@@ -90,9 +89,9 @@ run-gathered {m} {n} {cs} u r e =
     let has : Has n g = subst (λ (x : Memory). Has x g) (sym (ran-is r)) (run-gathers cs m (none-begun m) u (none-yet m e)) in
     record {
       so-far = has;
-      next-continuation = λ agreed packet q f bs v j. own-continuation agreed n packet g has q f bs v j;
-      next-answer = λ agreed packet r m′ v w. answer-is w ∙ ap packet-answer (told-gathered agreed n packet g v has);
-      completes = λ agreed packet r m′ v w k c. next-completed n g has agreed packet r m′ v w k c;
+      next-continuation = λ flags packet q f bs v j. own-continuation flags n packet g has q f bs v j;
+      next-answer = λ flags packet r m′ v w. answer-is w ∙ ap packet-answer (told-gathered flags n packet g v has);
+      completes = λ flags packet r m′ v w k c. next-completed n g has flags packet r m′ v w k c;
     }
 
 pub demand-2 : {m n : Memory} {cs : List Call} → All-bytes cs → Ran m cs n → Demand-2 m cs n
@@ -100,7 +99,7 @@ demand-2 {m} {n} {cs} u r =
     record {
       others-stay = λ q a. subst (λ (x : Memory). Same (m .cache) (x .cache) q) (sym (ran-is r)) (run-frame cs m q u a);
       places-hold = ap (λ (x : Memory). held (x .cache)) (ran-is r) ∙ run-holds cs m u;
-      next-new = λ agreed packet r m′ v w p j. subst (λ (x : Memory). Held-new (x .cache) (brought p)) (sym (w .memory-left)) (packet-new agreed n packet p v j);
+      next-new = λ flags packet r m′ v w p j. subst (λ (x : Memory). Held-new (x .cache) (brought p)) (sym (w .memory-left)) (packet-new flags n packet p v j);
       plain-listed = ap (λ (x : Memory). x .plain-list) (ran-is r) ∙ run-listed cs m;
       gathered = λ e. run-gathered u r e;
     }

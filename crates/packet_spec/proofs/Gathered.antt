@@ -1,6 +1,6 @@
 -- Over a run of calls: what the gather buffer begins with, the pending list and the id due are what the accepted packets give, in turn.
 use mathlib.Core.Path.{_≡_, refl, sym, _∙_, ap, ap₂}
-use mathlib.Core.Bool.{Bool, true, false, cond}
+use mathlib.Core.Bool.{Bool, true, false, not, cond}
 use mathlib.Core.List.{List, [], _∷_, _++_}
 use Prim.Native.Nat.{ℕ, _+_, _-_, _≤_}
 use native.Mathlib.Nat.{zero-add}
@@ -9,8 +9,9 @@ use lib.Dec.{eqb}
 use lib.ListN.{length, take, length-append}
 use lib.Seq.{sets}
 use borrow.Author.Tests.{eqb-true, eqb-false, eq-eqb, ne-eqb}
-use Rattle.term_spec.specs.Text.{Coding}
+use Rattle.term_spec.specs.Connection.{flags-known}
 use Rattle.term_spec.specs.Answer.{Answer, good, refused}
+use Rattle.term_spec.specs.Message.{first-check}
 use Rattle.packet_spec.specs.declared.Pending.{Pending}
 use Rattle.packet_spec.specs.Memory.{Cache, Memory, cache-of-size, record-true, none-pending, empty-cache}
 use Rattle.packet_spec.specs.Packet.{Packet, plain, start, continuation, judged}
@@ -64,26 +65,31 @@ has-left m (continuation q f bs) g s a h =
           ap (λ (r : Pending). r .sequence) (record-more q f (m .pending .gathered + length bs) (λ e. n (sym down ∙ e))) ∙ own .0;
     }
 
+-- what a drop answers, by its three tests
+abbrev told-by : (x y z : Bool) → Answer Pending
+told-by x y z = first-check x 14 (first-check y 14 (first-check z 25 (good none-pending)))
+
 pub call-gathers : (m : Memory) (c : Call) (g : So-far) → Bytes c → Has m g → Has (after-call m c) (gathered-after m c g)
 unfolding after-call gathered-after after-packet gathered-by drop-sequence reset ended-by
-call-gathers m (taking agreed bs) g u h = go (judged agreed m bs) refl
+call-gathers m (taking flags bs) g u h = go (judged flags m bs) refl
   where
-    go : (o : Answer Packet) → judged agreed m bs ≡ o → Has (left-after m o) (gathered-by o g)
-    go (good p) e = let a : Accepted m p = accepted agreed m bs p u e in has-left m p g (all-sized m (a .of-its-size)) (a .sound) h
+    go : (o : Answer Packet) → judged flags m bs ≡ o → Has (left-after m o) (gathered-by o g)
+    go (good p) e = let a : Accepted m p = accepted flags m bs p u e in has-left m p g (all-sized m (a .of-its-size)) (a .sound) h
     go (refused n q) e = h
-call-gathers m dropping g u h = go (record-true (m .pending)) (eqb (m .pending .due) 0)
+call-gathers m (dropping flags) g u h = go (flags-known flags) (record-true (m .pending)) (not (eqb (m .pending .due) 0))
   where
-    go : (x y : Bool) → Has (record {
+    go : (x y z : Bool) → Has (record {
       cache = m .cache;
       plain-list = m .plain-list;
       pending-list = m .pending-list;
-      pending = unless-refused (m .pending) (cond x (cond y (refused 25 0) (good none-pending)) (refused 14 0));
+      pending = unless-refused (m .pending) (told-by x y z);
       gather = m .gather;
     })
-        (ended-by (cond x (cond y (refused 25 0) (good none-pending)) (refused 14 0)) g)
-    go false y = record { first-bytes = h .first-bytes; its-list = h .its-list; its-due = h .its-due; counted = h .counted; its-sequence = h .its-sequence }
-    go true true = record { first-bytes = h .first-bytes; its-list = h .its-list; its-due = h .its-due; counted = h .counted; its-sequence = h .its-sequence }
-    go true false = record { first-bytes = h .first-bytes; its-list = h .its-list; its-due = refl; counted = λ n. absurd (n refl); its-sequence = λ n. absurd (n refl) }
+        (ended-by (told-by x y z) g)
+    go false y z = record { first-bytes = h .first-bytes; its-list = h .its-list; its-due = h .its-due; counted = h .counted; its-sequence = h .its-sequence }
+    go true false z = record { first-bytes = h .first-bytes; its-list = h .its-list; its-due = h .its-due; counted = h .counted; its-sequence = h .its-sequence }
+    go true true false = record { first-bytes = h .first-bytes; its-list = h .its-list; its-due = h .its-due; counted = h .counted; its-sequence = h .its-sequence }
+    go true true true = record { first-bytes = h .first-bytes; its-list = h .its-list; its-due = refl; counted = λ n. absurd (n refl); its-sequence = λ n. absurd (n refl) }
 call-gathers m resetting g u h = go (cache-of-size (m .cache))
   where
     go : (b : Bool) → Has (record {
@@ -116,23 +122,23 @@ last-due f n = go (eqb f 1) refl
     go false e = let more : f ≡ 1 → ⊥ = eqb-false f 1 e in sym (ne-eqb (f - 1) 0 (λ z. more (omega arith)))
 
 -- the same of a packet that is judged so
-pub own-continuation : (agreed : Coding) (m : Memory) (packet : List ℕ) (g : So-far) → Has m g
-    → (q f : ℕ) (bs : List ℕ) → Bytes (taking agreed packet) → judged agreed m packet ≡ good (continuation q f bs) → (q ≡ g .sequence) × (f ≡ g .due)
-own-continuation agreed m packet g h q f bs u e = own-fragment m q f bs g (accepted agreed m packet (continuation q f bs) u e .sound) h
+pub own-continuation : (flags : ℕ) (m : Memory) (packet : List ℕ) (g : So-far) → Has m g
+    → (q f : ℕ) (bs : List ℕ) → Bytes (taking flags packet) → judged flags m packet ≡ good (continuation q f bs) → (q ≡ g .sequence) × (f ≡ g .due)
+own-continuation flags m packet g h q f bs u e = own-fragment m q f bs g (accepted flags m packet (continuation q f bs) u e .sound) h
 
 -- What a packet answers, from the sequence with it
-pub told-gathered : (agreed : Coding) (m : Memory) (bs : List ℕ) (g : So-far) → Bytes (taking agreed bs) → Has m g
-    → take-packet agreed m bs ≡ packet-told (judged agreed m bs) (gathered-by (judged agreed m bs) g)
+pub told-gathered : (flags : ℕ) (m : Memory) (bs : List ℕ) (g : So-far) → Bytes (taking flags bs) → Has m g
+    → take-packet flags m bs ≡ packet-told (judged flags m bs) (gathered-by (judged flags m bs) g)
 unfolding take-packet told told-after gathered-by packet-told fragment-told
-told-gathered agreed m bs g u h = go (judged agreed m bs) refl
+told-gathered flags m bs g u h = go (judged flags m bs) refl
   where
-    go : (o : Answer Packet) → judged agreed m bs ≡ o → taken m o ≡ packet-told o (gathered-by o g)
+    go : (o : Answer Packet) → judged flags m bs ≡ o → taken m o ≡ packet-told o (gathered-by o g)
     go (good (plain rs at p)) e = refl
     go (good (start q f rs p)) e =
-        let a : Accepted m (start q f rs p) = accepted agreed m bs (start q f rs p) u e in
+        let a : Accepted m (start q f rs p) = accepted flags m bs (start q f rs p) u e in
         ap (λ (b : Bool). good (cond b (complete (length p)) (pending-still (f - 1) (length p)))) (last-due f (a .sound .3))
     go (good (continuation q f p)) e =
-        let a : Accepted m (continuation q f p) = accepted agreed m bs (continuation q f p) u e in
+        let a : Accepted m (continuation q f p) = accepted flags m bs (continuation q f p) u e in
         let is-due : f ≡ g .due = a .sound .2 ∙ h .its-due in
         let so-far : m .pending .gathered ≡ length (g .bytes) = h .counted (λ z. a .sound .3 (is-due ∙ z)) in
         let total : m .pending .gathered + length p ≡ length (g .bytes ++ p) = rw (length-append (g .bytes) p) (omega arith) in
@@ -141,16 +147,16 @@ told-gathered agreed m bs g u h = go (judged agreed m bs) refl
     go (refused n q) e = refl
 
 -- A packet that is answered complete: the bytes gathered are those of the sequence, none is due then, and the record is zero
-pub completes : (agreed : Coding) (m : Memory) (bs : List ℕ) (g : So-far) (k : ℕ) → Bytes (taking agreed bs) → Has m g → take-packet agreed m bs ≡ good (complete k)
-    → (k ≡ length (gathered-by (judged agreed m bs) g .bytes)) × (gathered-by (judged agreed m bs) g .due ≡ 0) × (after-packet agreed m bs .pending ≡ none-pending)
+pub completes : (flags : ℕ) (m : Memory) (bs : List ℕ) (g : So-far) (k : ℕ) → Bytes (taking flags bs) → Has m g → take-packet flags m bs ≡ good (complete k)
+    → (k ≡ length (gathered-by (judged flags m bs) g .bytes)) × (gathered-by (judged flags m bs) g .due ≡ 0) × (after-packet flags m bs .pending ≡ none-pending)
 unfolding take-packet after-packet left-by told told-after gathered-by record-after
-completes agreed m bs g k u h t = go (judged agreed m bs) refl t
+completes flags m bs g k u h t = go (judged flags m bs) refl t
   where
     one : (f n : ℕ) (x : Bool) → eqb f 1 ≡ x → _≡_ {A = Answer Outcome} (good (cond x (complete n) (pending-still (f - 1) n))) (good (complete k)) → (k ≡ n) × (eqb f 1 ≡ true)
     one f n true e c = (cc, e)
     one f n false e c = let no-way : _≡_ {A = ℕ} 0 1 = cc in absurd (omega arith)
 
-    go : (o : Answer Packet) → judged agreed m bs ≡ o → taken m o ≡ good (complete k)
+    go : (o : Answer Packet) → judged flags m bs ≡ o → taken m o ≡ good (complete k)
         → (k ≡ length (gathered-by o g .bytes)) × (gathered-by o g .due ≡ 0) × (left-after m o .pending ≡ none-pending)
     go (good (plain rs at p)) e c = let no-way : _≡_ {A = ℕ} 0 1 = cc in absurd (omega arith)
     go (good (start q f rs p)) e c =
@@ -158,7 +164,7 @@ completes agreed m bs g k u h t = go (judged agreed m bs) refl t
         let is : f ≡ 1 = eqb-true f 1 (w .1) in
         (w .0, omega arith, rw (w .1))
     go (good (continuation q f p)) e c =
-        let a : Accepted m (continuation q f p) = accepted agreed m bs (continuation q f p) u e in
+        let a : Accepted m (continuation q f p) = accepted flags m bs (continuation q f p) u e in
         let w : (k ≡ m .pending .gathered + length p) × (eqb f 1 ≡ true) = one f (m .pending .gathered + length p) (eqb f 1) refl c in
         let is : f ≡ 1 = eqb-true f 1 (w .1) in
         let is-due : f ≡ g .due = a .sound .2 ∙ h .its-due in

@@ -7,11 +7,13 @@ use native.Mathlib.Omega.{arith}
 use lib.Dec.{eqb, leb}
 use lib.ListN.{length, take, length-take}
 use borrow.Author.Tests.{eqb-true, eqb-false, leb-true, not-true}
+use Rattle.term_spec.specs.Connection.{coding-agreed, flags-known}
 use Rattle.term_spec.specs.Text.{Coding, utf-8, Checked, valid, invalid-at, check, Characters}
 use Rattle.term_spec.specs.Answer.{Answer, good, refused, Position, Reading, after, bytes, number}
 use Rattle.term_spec.specs.Message.{version, result-of}
 use Rattle.term_spec.specs.Numbers.{Under}
 use Rattle.term_spec.proofs.Text.{utf8-encodes, check-characters}
+use Rattle.term_spec.proofs.Message.{passed, found-good}
 use Rattle.term_spec.proofs.Holds.{Holds, Fine, bind, done-holds, refused-holds, rule-holds, text-holds, byte-holds, bytes-holds, number-holds, next, weaken}
 use Rattle.packet_spec.specs.declared.Pending.{Pending}
 use Rattle.packet_spec.specs.Memory.{Cache, Memory, Held, nothing, no-text, text, text-if, held-as, held, memory-of-size, record-true}
@@ -218,23 +220,15 @@ pub record Accepted (m : Memory) (p : Packet) : Type 0 where
   pub of-its-size : memory-of-size m ≡ true
   pub sound : Sound-packet (m .pending) p
 
-pub accepted : (agreed : Coding) (m : Memory) (bs : List ℕ) (p : Packet) → Under 256 bs → judged agreed m bs ≡ good p → Accepted m p
+pub accepted : (flags : ℕ) (m : Memory) (bs : List ℕ) (p : Packet) → Under 256 bs → judged flags m bs ≡ good p → Accepted m p
 unfolding judged
-accepted agreed m bs p u e = go (memory-of-size m) refl e
-  where
-    begin : Position
-    begin = record { at = 0; left = bs; rows-taken = 0 }
-
-    inner : (o : Answer (Packet × Position)) → packet agreed (held (m .cache)) (m .pending) begin ≡ o → result-of o ≡ good p → Sound-packet (m .pending) p
-    inner (good a) o-is f =
-        let is : a .0 ≡ p = cc in
-        subst (Sound-packet (m .pending)) is
-        (packet-holds agreed (held (m .cache)) (held-texts (m .cache)) (m .pending) begin (record { bytes-under = u; rows-are = refl }) .known (a .0) (a .1) o-is)
-    inner (refused n q) o-is f = let no-way : _≡_ {A = ℕ} 0 1 = cc in absurd (omega arith)
-
-    go : (b : Bool) → memory-of-size m ≡ b → _≡_ {A = Answer Packet} (elim b [
-      | true ↦ result-of (packet agreed (held (m .cache)) (m .pending) (record { at = 0; left = bs; rows-taken = 0 }))
-      | false ↦ refused 13 0
-    ]) (good p) → Accepted m p
-    go true s f = record { of-its-size = s; sound = inner _ refl f }
-    go false s f = let no-way : _≡_ {A = ℕ} 0 1 = cc in absurd (omega arith)
+accepted flags m bs p u e =
+    let begin : Position = record { at = 0; left = bs; rows-taken = 0 } in
+    let o : Answer (Packet × Position) = packet (coding-agreed flags) (held (m .cache)) (m .pending) begin in
+    let a = passed (memory-of-size m) 13 _ p e in
+    let k = passed (flags-known flags) 14 (result-of o) p (a .1) in
+    let g = found-good o p (k .1) in
+    record {
+      of-its-size = a .0;
+      sound = packet-holds (coding-agreed flags) (held (m .cache)) (held-texts (m .cache)) (m .pending) begin (record { bytes-under = u; rows-are = refl }) .known p (g .0) (g .1);
+    }

@@ -6,8 +6,8 @@ use Prim.Native.Nat.{ℕ, zero, suc, _+_, _-_, _*_, _<_, _≤_}
 use native.Mathlib.Omega.{arith}
 use lib.Dec.{eqb}
 use lib.ListN.{length, take, drop}
-use Rattle.term_spec.specs.Text.{Coding}
 use Rattle.term_spec.specs.Numbers.{Under}
+use Rattle.term_spec.specs.Connection.{flags-known}
 use Rattle.term_spec.specs.Answer.{Answer, good, refused}
 use Rattle.term_spec.specs.AtomList.{AtomList, place-bytes}
 use Rattle.term_spec.specs.declared.Refusal.{Refusal}
@@ -46,14 +46,14 @@ unfolding list-of
 count-is rs = refl
 
 module _ (rs : List Reference) (ok : All-sound [] rs) (few : length rs < 256) where
-  listed-own : (i : ℕ) → listed-word (list-of rs) i ≡ own-word rs i
-  listed-own i =
+  listed-own : (flags i : ℕ) → flags-known flags ≡ true → listed-word flags (list-of rs) i ≡ own-word rs i
+  listed-own flags i known =
       let n : list-of rs .n ≡ length rs = count-is rs in
       by-index rs i
       (λ r a l e.
       let w : Listed (list-of rs) i (r .text) = sound-listed a ok in
-      word-good (list-of rs) i (list-sized rs ok few) (omega arith) (w .characters) (w .is-text) ∙ ap good (w .bytes-are) ∙ sym e)
-      (λ h e. word-past (list-of rs) i (list-sized rs ok few) (omega arith) ∙ sym e)
+      word-good flags (list-of rs) i (list-sized rs ok few) known (omega arith) (w .characters) (w .is-text) ∙ ap good (w .bytes-are) ∙ sym e)
+      (λ h e. word-past flags (list-of rs) i (list-sized rs ok few) known (omega arith) ∙ sym e)
 
   own-stands : (i : ℕ) (t : List ℕ) → own-word rs i ≡ good t → take (length t) (drop (32 * i) (list-of rs .places)) ≡ t
   unfolding place-bytes
@@ -70,8 +70,8 @@ module _ (rs : List Reference) (ok : All-sound [] rs) (few : length rs < 256) wh
   list-says =
       record {
         counted = count-is rs;
-        word-said = λ i bytes w. w ∙ ap word-bytes (listed-own i);
-        stretch-said = λ i answer w. w .word-located ∙ ap (word-answer i) (listed-own i);
+        word-said = λ flags i bytes known w. w ∙ ap word-bytes (listed-own flags i known);
+        stretch-said = λ flags i answer known w. w .word-located ∙ ap (word-answer i) (listed-own flags i known);
         stands-there = own-stands;
       }
 
@@ -82,12 +82,12 @@ module _ (kind : Packet → Bool) (list : Memory → AtomList) (left : (m : Memo
     (kept : (m : Memory) (s : Cache × Pending) → list (with-state m s) ≡ list m) where
   call-keeps : (m : Memory) (c : Call) → Accepts-none kind m c → list (after-call m c) ≡ list m
   unfolding after-call after-packet
-  call-keeps m (taking agreed bs) a = go (judged agreed m bs) refl
+  call-keeps m (taking flags bs) a = go (judged flags m bs) refl
     where
-      go : (o : Answer Packet) → judged agreed m bs ≡ o → list (left-after m o) ≡ list m
+      go : (o : Answer Packet) → judged flags m bs ≡ o → list (left-after m o) ≡ list m
       go (good p) e = left m p (a p e)
       go (refused n q) e = refl
-  call-keeps m dropping a = kept m _
+  call-keeps m (dropping flags) a = kept m _
   call-keeps m resetting a = kept m _
 
   run-keeps : (cs : List Call) (m : Memory) → All-accept-none kind m cs → list (after-calls m cs) ≡ list m
@@ -119,8 +119,8 @@ none-while-pending [] m u a = tt
 none-while-pending (c ∷ cs) m u a = (one c (u .0), none-while-pending cs (after-call m c) (u .1) (a .1))
   where
     one : (c : Call) → Bytes c → Accepts-none is-start m c
-    one (taking agreed bs) v = λ p j. no-start m p (a .0) (accepted agreed m bs p v j .sound)
-    one dropping v = tt
+    one (taking flags bs) v = λ p j. no-start m p (a .0) (accepted flags m bs p v j .sound)
+    one (dropping flags) v = tt
     one resetting v = tt
 
 -- no fragment is answered Plain
@@ -134,57 +134,57 @@ no-plain fragment gathered offset size e = go (eqb fragment 1) e
 
 -- ---- the statement
 
-module _ {agreed : Coding} {packet : List ℕ} {m m′ n : Memory} {cs : List Call} (v : Under 256 packet) (u : All-bytes cs) {r : Taken}
-    (w : Packet-call agreed packet m r m′) (ran : Ran m′ cs n) where
-  left-is : (p : Packet) → judged agreed m packet ≡ good p → m′ ≡ left-by m p
+module _ {flags : ℕ} {packet : List ℕ} {m m′ n : Memory} {cs : List Call} (v : Under 256 packet) (u : All-bytes cs) {r : Taken}
+    (w : Packet-call flags packet m r m′) (ran : Ran m′ cs n) where
+  left-is : (p : Packet) → judged flags m packet ≡ good p → m′ ≡ left-by m p
   unfolding after-packet
   left-is p j = w .memory-left ∙ ap (left-after m) j
 
   -- a list that a packet of this kind fixes still says what its references say
   module _ (kind : Packet → Bool) (list : Memory → AtomList) (left : (x : Memory) (p : Packet) → kind p ≡ false → list (left-by x p) ≡ list x)
       (kept : (x : Memory) (s : Cache × Pending) → list (with-state x s) ≡ list x) where
-    still-says : (p : Packet) (rs : List Reference) → judged agreed m packet ≡ good p → list (left-by m p) ≡ list-of rs → All-sound [] rs → length rs < 256
+    still-says : (p : Packet) (rs : List Reference) → judged flags m packet ≡ good p → list (left-by m p) ≡ list-of rs → All-sound [] rs → length rs < 256
         → All-accept-none kind m′ cs → Says (list n) rs
     still-says p rs j fixed ok few a =
         subst (λ (x : AtomList). Says x rs)
         (sym (ap list (ran-is ran) ∙ run-keeps kind list left kept cs m′ a ∙ ap list (left-is p j) ∙ fixed))
         (list-says rs ok few)
 
-  plain-says : (rs : List Reference) (at : ℕ) (bs : List ℕ) → judged agreed m packet ≡ good (plain rs at bs)
+  plain-says : (rs : List Reference) (at : ℕ) (bs : List ℕ) → judged flags m packet ≡ good (plain rs at bs)
       → All-accept-none is-plain m′ cs → Says (n .plain-list) rs
   unfolding left-by
   plain-says rs at bs j a =
-      let s : Sound-packet (m .pending) (plain rs at bs) = accepted agreed m packet (plain rs at bs) v j .sound in
+      let s : Sound-packet (m .pending) (plain rs at bs) = accepted flags m packet (plain rs at bs) v j .sound in
       still-says is-plain (λ x. x .plain-list) plain-left (λ x y. refl) (plain rs at bs) rs j refl (s .0) (s .1) a
 
-  start-says : (sequence fragment : ℕ) (rs : List Reference) (bs : List ℕ) → judged agreed m packet ≡ good (start sequence fragment rs bs)
+  start-says : (sequence fragment : ℕ) (rs : List Reference) (bs : List ℕ) → judged flags m packet ≡ good (start sequence fragment rs bs)
       → All-accept-none is-start m′ cs → Says (n .pending-list) rs
   unfolding left-by
   start-says sequence fragment rs bs j a =
-      let s : Sound-packet (m .pending) (start sequence fragment rs bs) = accepted agreed m packet (start sequence fragment rs bs) v j .sound in
+      let s : Sound-packet (m .pending) (start sequence fragment rs bs) = accepted flags m packet (start sequence fragment rs bs) v j .sound in
       still-says is-start (λ x. x .pending-list) pending-left (λ x y. refl) (start sequence fragment rs bs) rs j refl (s .0) (s .1) a
 
-  good-told : ((f : Refusal) → r .answer ≡ packets.Refused f → ⊥) → (p : Packet) × (judged agreed m packet ≡ good p)
+  good-told : ((f : Refusal) → r .answer ≡ packets.Refused f → ⊥) → (p : Packet) × (judged flags m packet ≡ good p)
   unfolding packet-answer take-packet
-  good-told not-refused = go (judged agreed m packet) refl (answer-is w)
+  good-told not-refused = go (judged flags m packet) refl (answer-is w)
     where
-      go : (o : Answer Packet) → judged agreed m packet ≡ o → r .answer ≡ packet-answer (taken m o) → (p : Packet) × (judged agreed m packet ≡ good p)
+      go : (o : Answer Packet) → judged flags m packet ≡ o → r .answer ≡ packet-answer (taken m o) → (p : Packet) × (judged flags m packet ≡ good p)
       go (good p) e f = (p, e)
       go (refused k q) e f = absurd (not-refused (record { number = k; place = q }) f)
 
   plain-good : (offset size : ℕ) → r .answer ≡ packets.Plain offset size
-      → (rs : List Reference) × ((bs : List ℕ) × (judged agreed m packet ≡ good (plain rs offset bs)))
+      → (rs : List Reference) × ((bs : List ℕ) × (judged flags m packet ≡ good (plain rs offset bs)))
   unfolding packet-answer outcome-case told take-packet
-  plain-good offset size h = go (judged agreed m packet) refl (sym (answer-is w) ∙ h)
+  plain-good offset size h = go (judged flags m packet) refl (sym (answer-is w) ∙ h)
     where
-      go : (o : Answer Packet) → judged agreed m packet ≡ o → packet-answer (taken m o) ≡ packets.Plain offset size
-          → (rs : List Reference) × ((bs : List ℕ) × (judged agreed m packet ≡ good (plain rs offset bs)))
+      go : (o : Answer Packet) → judged flags m packet ≡ o → packet-answer (taken m o) ≡ packets.Plain offset size
+          → (rs : List Reference) × ((bs : List ℕ) × (judged flags m packet ≡ good (plain rs offset bs)))
       go (good (plain rs at bs)) e f = let same : at ≡ offset = cc in (rs, (bs, e ∙ ap (λ (x : ℕ). good (plain rs x bs)) same))
       go (good (start sequence fragment rs bs)) e f = no-plain fragment (length bs) offset size f
       go (good (continuation sequence fragment bs)) e f = no-plain fragment (m .pending .gathered + length bs) offset size f
       go (refused k q) e f = let no-way : _≡_ {A = ℕ} 0 1 = cc in absurd (omega arith)
 
-  pub own-words : Own-words agreed packet m r m′ cs n
+  pub own-words : Own-words flags packet m r m′ cs n
   own-words =
       record {
         accepted-told = good-told;

@@ -31,12 +31,12 @@ left-holds m (continuation sequence fragment bs) s a = refl
 
 pub call-holds : (m : Memory) (c : Call) → Bytes c → held (after-call m c .cache) ≡ holding-after m c (held (m .cache))
 unfolding after-call holding-after after-packet holding-of reset emptied
-call-holds m (taking agreed bs) u = go (judged agreed m bs) refl
+call-holds m (taking flags bs) u = go (judged flags m bs) refl
   where
-    go : (o : Answer Packet) → judged agreed m bs ≡ o → held (left-after m o .cache) ≡ holding-of o (held (m .cache))
-    go (good p) e = let a : Accepted m p = accepted agreed m bs p u e in left-holds m p (all-sized m (a .of-its-size)) (a .sound)
+    go : (o : Answer Packet) → judged flags m bs ≡ o → held (left-after m o .cache) ≡ holding-of o (held (m .cache))
+    go (good p) e = let a : Accepted m p = accepted flags m bs p u e in left-holds m p (all-sized m (a .of-its-size)) (a .sound)
     go (refused n q) e = refl
-call-holds m dropping u = refl
+call-holds m (dropping flags) u = refl
 call-holds m resetting u = go (cache-of-size (m .cache))
   where
     go : (b : Bool) → held (unless-refused {A = Cache × Pending} (m .cache, m .pending) (cond b (good (empty-cache, none-pending)) (refused 13 0)) .0)
@@ -54,12 +54,12 @@ run-holds (c ∷ cs) m u =
 
 pub call-frame : (m : Memory) (c : Call) (q : ℕ) → Bytes c → Alone m c q → Same (m .cache) (after-call m c .cache) q
 unfolding after-call after-packet reset
-call-frame m (taking agreed bs) q u a = go (judged agreed m bs) refl
+call-frame m (taking flags bs) q u a = go (judged flags m bs) refl
   where
-    go : (o : Answer Packet) → judged agreed m bs ≡ o → Same (m .cache) (left-after m o .cache) q
-    go (good p) e = subst (λ (n : Answer Packet). Same (m .cache) (left-after m n .cache) q) e (packet-frame agreed m bs p u e q (a p e))
+    go : (o : Answer Packet) → judged flags m bs ≡ o → Same (m .cache) (left-after m o .cache) q
+    go (good p) e = subst (λ (n : Answer Packet). Same (m .cache) (left-after m n .cache) q) e (packet-frame flags m bs p u e q (a p e))
     go (refused n r) e = same-refl (m .cache) q
-call-frame m dropping q u a = same-refl (m .cache) q
+call-frame m (dropping flags) q u a = same-refl (m .cache) q
 call-frame m resetting q u a = rw (after-call, a) (same-refl (m .cache) q)
 
 -- over a run, a place that each call leaves alone has the same bytes and the same length
@@ -76,12 +76,12 @@ left-listed m (continuation sequence fragment bs) = refl
 
 call-listed : (m : Memory) (c : Call) → after-call m c .plain-list ≡ plain-list-after m c (m .plain-list)
 unfolding after-call plain-list-after after-packet plain-list-of
-call-listed m (taking agreed bs) = go (judged agreed m bs)
+call-listed m (taking flags bs) = go (judged flags m bs)
   where
     go : (o : Answer Packet) → left-after m o .plain-list ≡ plain-list-of o (m .plain-list)
     go (good p) = left-listed m p
     go (refused n q) = refl
-call-listed m dropping = refl
+call-listed m (dropping flags) = refl
 call-listed m resetting = refl
 
 -- over a run, the list for plain packets is the last accepted plain packet's

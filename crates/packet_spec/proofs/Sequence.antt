@@ -9,7 +9,6 @@ use lib.Dec.{eqb}
 use lib.ListN.{length, take, length-append}
 use lib.Seq.{sets}
 use borrow.Author.Tests.{eqb-true, eq-eqb, ne-eqb}
-use Rattle.term_spec.specs.Text.{Coding}
 use Rattle.term_spec.specs.Answer.{Answer, good, refused}
 use Rattle.term_spec.specs.AtomList.{AtomList}
 use Rattle.term_spec.specs.Numbers.{Under}
@@ -41,9 +40,9 @@ unfolding record-after
 record-done s f g n e = rw (eq-eqb f 1 (omega arith))
 
 -- the memory after a packet that was judged so
-after-is : (agreed : Coding) (m : Memory) (bs : List ℕ) (o : Answer Packet) → judged agreed m bs ≡ o → after-packet agreed m bs ≡ left-after m o
+after-is : (flags : ℕ) (m : Memory) (bs : List ℕ) (o : Answer Packet) → judged flags m bs ≡ o → after-packet flags m bs ≡ left-after m o
 unfolding after-packet
-after-is agreed m bs o e = ap (left-after m) e
+after-is flags m bs o e = ap (left-after m) e
 
 -- a start fixes the list, and its payload is gathered
 pub started : (m : Memory) (s f : ℕ) (rs : List Reference) (p : List ℕ) → All-sized m → Sound-packet (m .pending) (start s f rs p)
@@ -103,58 +102,58 @@ pub gathers : {m n : Memory} {ps : List (List ℕ)} → Fragments m ps n → (s 
 gathers {m} none-more s d left bytes list e g =
     subst (λ (bs : List ℕ). Gathering m s left bs list) (sym (append-nil bytes))
     (subst (λ (k : ℕ). Gathering m s k bytes list) (e ∙ zero-add left) g)
-gathers {m} (refused-between agreed bs number place j rest) s d left bytes list e g =
+gathers {m} (refused-between flags bs number place j rest) s d left bytes list e g =
     gathers rest s d left bytes list e
-    (subst (λ (x : Memory). Gathering x s d bytes list) (sym (after-is agreed m bs (refused number place) j)) g)
-gathers {m} (plain-between agreed bs rs at p u j rest) s d left bytes list e g =
+    (subst (λ (x : Memory). Gathering x s d bytes list) (sym (after-is flags m bs (refused number place) j)) g)
+gathers {m} (plain-between flags bs rs at p u j rest) s d left bytes list e g =
     gathers rest s d left bytes list e
-    (subst (λ (x : Memory). Gathering x s d bytes list) (sym (after-is agreed m bs (good (plain rs at p)) j)) (plain-keeps m rs at p g))
-gathers {m} {n} (next-fragment {ps = ps} agreed bs s′ id p u j rest) s d left bytes list e g =
-    let a : Accepted m (continuation s′ id p) = accepted agreed m bs (continuation s′ id p) u j in
+    (subst (λ (x : Memory). Gathering x s d bytes list) (sym (after-is flags m bs (good (plain rs at p)) j)) (plain-keeps m rs at p g))
+gathers {m} {n} (next-fragment {ps = ps} flags bs s′ id p u j rest) s d left bytes list e g =
+    let a : Accepted m (continuation s′ id p) = accepted flags m bs (continuation s′ id p) u j in
     subst (λ (b : List ℕ). Gathering n s left b list) (append-assoc bytes p (join ps))
     (gathers rest s (d - 1) left (bytes ++ p) list (omega arith)
-    (subst (λ (x : Memory). Gathering x s (d - 1) (bytes ++ p) list) (sym (after-is agreed m bs (good (continuation s′ id p)) j))
+    (subst (λ (x : Memory). Gathering x s (d - 1) (bytes ++ p) list) (sym (after-is flags m bs (good (continuation s′ id p)) j))
     (joined m s′ id p (all-sized m (a .of-its-size)) (a .sound) g)))
 
 -- no more fragments are accepted than the id due
 pub no-more : {m n : Memory} {ps : List (List ℕ)} → Fragments m ps n → (s d : ℕ) (bytes : List ℕ) (list : AtomList)
     → Gathering m s d bytes list → length ps ≤ d
 no-more none-more s d bytes list g = omega arith
-no-more {m} (refused-between agreed bs number place j rest) s d bytes list g =
-    no-more rest s d bytes list (subst (λ (x : Memory). Gathering x s d bytes list) (sym (after-is agreed m bs (refused number place) j)) g)
-no-more {m} (plain-between agreed bs rs at p u j rest) s d bytes list g =
+no-more {m} (refused-between flags bs number place j rest) s d bytes list g =
+    no-more rest s d bytes list (subst (λ (x : Memory). Gathering x s d bytes list) (sym (after-is flags m bs (refused number place) j)) g)
+no-more {m} (plain-between flags bs rs at p u j rest) s d bytes list g =
     no-more rest s d bytes list
-    (subst (λ (x : Memory). Gathering x s d bytes list) (sym (after-is agreed m bs (good (plain rs at p)) j)) (plain-keeps m rs at p g))
-no-more {m} (next-fragment {ps = ps} agreed bs s′ id p u j rest) s d bytes list g =
-    let a : Accepted m (continuation s′ id p) = accepted agreed m bs (continuation s′ id p) u j in
+    (subst (λ (x : Memory). Gathering x s d bytes list) (sym (after-is flags m bs (good (plain rs at p)) j)) (plain-keeps m rs at p g))
+no-more {m} (next-fragment {ps = ps} flags bs s′ id p u j rest) s d bytes list g =
+    let a : Accepted m (continuation s′ id p) = accepted flags m bs (continuation s′ id p) u j in
     let is-due : id ≡ d = a .sound .2 ∙ g .due-is in
     let some-due : d ≡ 0 → ⊥ = λ e. a .sound .3 (is-due ∙ e) in
     let fewer : length ps ≤ d - 1 =
     no-more rest s (d - 1) (bytes ++ p) list
-    (subst (λ (x : Memory). Gathering x s (d - 1) (bytes ++ p) list) (sym (after-is agreed m bs (good (continuation s′ id p)) j))
+    (subst (λ (x : Memory). Gathering x s (d - 1) (bytes ++ p) list) (sym (after-is flags m bs (good (continuation s′ id p)) j))
     (joined m s′ id p (all-sized m (a .of-its-size)) (a .sound) g)) in
     omega arith
 
 -- A finished sequence: a start with FragmentId f, and then f - 1 continuations. The gather buffer begins with their payloads joined in
 -- order, the pending list is the one fixed at the start, and the record is zero
-pub finished : (agreed : Coding) (m : Memory) (bs : List ℕ) (s f : ℕ) (rs : List Reference) (p : List ℕ) (ps : List (List ℕ)) (n : Memory)
-    → Under 256 bs → judged agreed m bs ≡ good (start s f rs p) → Fragments (after-packet agreed m bs) ps n → f ≡ suc (length ps)
+pub finished : (flags : ℕ) (m : Memory) (bs : List ℕ) (s f : ℕ) (rs : List Reference) (p : List ℕ) (ps : List (List ℕ)) (n : Memory)
+    → Under 256 bs → judged flags m bs ≡ good (start s f rs p) → Fragments (after-packet flags m bs) ps n → f ≡ suc (length ps)
     → (take (length (p ++ join ps)) (n .gather) ≡ p ++ join ps) × (n .pending-list ≡ list-of rs) × (n .pending ≡ none-pending)
-finished agreed m bs s f rs p ps n u j run e =
-    let a : Accepted m (start s f rs p) = accepted agreed m bs (start s f rs p) u j in
-    let begun : Gathering (after-packet agreed m bs) s (f - 1) p (list-of rs) =
-    subst (λ (x : Memory). Gathering x s (f - 1) p (list-of rs)) (sym (after-is agreed m bs (good (start s f rs p)) j))
+finished flags m bs s f rs p ps n u j run e =
+    let a : Accepted m (start s f rs p) = accepted flags m bs (start s f rs p) u j in
+    let begun : Gathering (after-packet flags m bs) s (f - 1) p (list-of rs) =
+    subst (λ (x : Memory). Gathering x s (f - 1) p (list-of rs)) (sym (after-is flags m bs (good (start s f rs p)) j))
     (started m s f rs p (all-sized m (a .of-its-size)) (a .sound)) in
     let end : Gathering n s 0 (p ++ join ps) (list-of rs) = gathers run s (f - 1) 0 p (list-of rs) (omega arith) begun in
     (end .first-bytes, end .its-list, end .when-done refl)
 
 -- what the last fragment answers, and any before it
-pub told-last : (agreed : Coding) (m : Memory) (bs : List ℕ) (s′ id : ℕ) (p : List ℕ) (s d : ℕ) (bytes : List ℕ) (list : AtomList)
-    → Under 256 bs → judged agreed m bs ≡ good (continuation s′ id p) → Gathering m s d bytes list
-    → take-packet agreed m bs ≡ good (cond (eqb d 1) (complete (length (bytes ++ p))) (pending-still (d - 1) (length (bytes ++ p))))
+pub told-last : (flags : ℕ) (m : Memory) (bs : List ℕ) (s′ id : ℕ) (p : List ℕ) (s d : ℕ) (bytes : List ℕ) (list : AtomList)
+    → Under 256 bs → judged flags m bs ≡ good (continuation s′ id p) → Gathering m s d bytes list
+    → take-packet flags m bs ≡ good (cond (eqb d 1) (complete (length (bytes ++ p))) (pending-still (d - 1) (length (bytes ++ p))))
 unfolding take-packet told told-after
-told-last agreed m bs s′ id p s d bytes list u j g =
-    let a : Accepted m (continuation s′ id p) = accepted agreed m bs (continuation s′ id p) u j in
+told-last flags m bs s′ id p s d bytes list u j g =
+    let a : Accepted m (continuation s′ id p) = accepted flags m bs (continuation s′ id p) u j in
     let is-due : id ≡ d = a .sound .2 ∙ g .due-is in
     let so-far : m .pending .gathered ≡ length bytes = g .while-pending (λ e. a .sound .3 (is-due ∙ e)) .0 in
     let total : m .pending .gathered + length p ≡ length (bytes ++ p) = rw (length-append bytes p) (omega arith) in

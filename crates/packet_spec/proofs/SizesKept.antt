@@ -8,7 +8,6 @@ use lib.Dec.{eqb}
 use lib.ListN.{length, length-append}
 use lib.Seq.{length-sets}
 use borrow.Author.Tests.{eqb-true, eq-eqb}
-use Rattle.term_spec.specs.Text.{Coding}
 use Rattle.term_spec.specs.Answer.{Answer, good, refused}
 use Rattle.term_spec.specs.AtomList.{of-size}
 use Rattle.term_spec.specs.Numbers.{Under}
@@ -90,10 +89,10 @@ left-sized m (continuation sequence fragment bs) s a =
     }
 
 -- after any packet, accepted or refused
-pub packet-sized : (agreed : Coding) (m : Memory) (bs : List ℕ) → Under 256 bs → All-sized m → All-sized (after-packet agreed m bs)
+pub packet-sized : (flags : ℕ) (m : Memory) (bs : List ℕ) → Under 256 bs → All-sized m → All-sized (after-packet flags m bs)
 unfolding after-packet
-packet-sized agreed m bs u s = go (judged agreed m bs) refl
+packet-sized flags m bs u s = go (judged flags m bs) refl
   where
-    go : (o : Answer Packet) → judged agreed m bs ≡ o → All-sized (left-after m o)
-    go (good p) e = left-sized m p s (accepted agreed m bs p u e .sound)
+    go : (o : Answer Packet) → judged flags m bs ≡ o → All-sized (left-after m o)
+    go (good p) e = left-sized m p s (accepted flags m bs p u e .sound)
     go (refused n q) e = s

@@ -35,7 +35,7 @@ fresh =
 -- what a packet answers with a memory, in UTF-8, and what it leaves
 -- (the definitions after `unfolding` are those that computing it goes through)
 unfoldable pub answer : Memory → List ℕ → Answer Outcome
-unfolding big-endian holds lines marker first emit decode check encode encodes bytes number text-or version coding-agreed flags-known of-size cache-of-size memory-of-size record-true empty-cache text-if held-as held flag-bytes half is-new place-at length-width named filled held-or new-reference cached-reference reference references header ids packet-kind preamble payload-after rest packet judged zeros-to enter entered texts-in-places lengths-of list-of record-after told-after told left-by take-packet after-packet
+unfolding big-endian coding-of holds lines marker first emit decode check encode encodes bytes number text-or version coding-agreed flags-known of-size cache-of-size memory-of-size record-true empty-cache text-if held-as held flag-bytes half is-new place-at length-width named filled held-or new-reference cached-reference reference references header ids packet-kind preamble payload-after rest packet judged zeros-to enter entered texts-in-places lengths-of list-of record-after told-after told left-by take-packet after-packet
 answer m bs = take-packet 1 m bs
 
 unfoldable pub then : Memory → List ℕ → Memory
