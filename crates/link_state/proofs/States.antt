@@ -7,6 +7,7 @@ use native.Mathlib.Omega.{arith}
 use lib.ListN.{length, replicate}
 use borrow.Author.Tests.{eq-eqb, ne-eqb, le-leb, lt-leb}
 use Rattle.octets.specs.Cleared.{cleared}
+use Rattle.term_spec.specs.Connection.{flags-known}
 use Rattle.term_spec.proofs.Tests.{refuted, confirmed}
 use Rattle.packet_spec.specs.declared.Pending.{Pending}
 use Rattle.packet_spec.specs.Memory.{Cache, cache-of, cache-of-size, record-true, empty-cache}
@@ -18,18 +19,23 @@ use Rattle.link_state.specs.Code.{state-refused, state-zero}
 
 -- ---- drop
 
-module _ (r : Pending) where
-  pub drop-false : 65536 < r .gathered → Drop-call r (state-refused 14 r)
-  unfolding drop-answer state-answer drop-sequence record-true
-  drop-false h = record { drop-answered = rw (lt-leb (r .gathered) 65536 h) }
+module _ (flags : ℕ) (r : Pending) where
+  pub drop-unknown : {b : Bool} → b ≡ flags-known flags → not b ≡ true → Drop-call flags r (state-refused 14 r)
+  unfolding drop-answer state-answer drop-sequence
+  drop-unknown told failed = record { drop-answered = rw (refuted told failed) }
 
-  pub drop-none : r .gathered ≤ 65536 → r .due ≡ 0 → Drop-call r (state-refused 25 r)
-  unfolding drop-answer state-answer drop-sequence record-true
-  drop-none h e = record { drop-answered = rw (le-leb (r .gathered) 65536 h, eq-eqb (r .due) 0 e) }
+  module _ {b : Bool} (told : b ≡ flags-known flags) (met : not b ≡ false) where
+    pub drop-false : 65536 < r .gathered → Drop-call flags r (state-refused 14 r)
+    unfolding drop-answer state-answer drop-sequence record-true
+    drop-false h = record { drop-answered = rw (confirmed told met, lt-leb (r .gathered) 65536 h) }
 
-  pub drop-done : r .gathered ≤ 65536 → (r .due ≡ 0 → ⊥) → Drop-call r state-zero
-  unfolding drop-answer state-answer drop-sequence record-true
-  drop-done h e = record { drop-answered = rw (le-leb (r .gathered) 65536 h, ne-eqb (r .due) 0 e) }
+    pub drop-none : r .gathered ≤ 65536 → r .due ≡ 0 → Drop-call flags r (state-refused 25 r)
+    unfolding drop-answer state-answer drop-sequence record-true
+    drop-none h e = record { drop-answered = rw (confirmed told met, le-leb (r .gathered) 65536 h, eq-eqb (r .due) 0 e) }
+
+    pub drop-done : r .gathered ≤ 65536 → (r .due ≡ 0 → ⊥) → Drop-call flags r state-zero
+    unfolding drop-answer state-answer drop-sequence record-true
+    drop-done h e = record { drop-answered = rw (confirmed told met, le-leb (r .gathered) 65536 h, ne-eqb (r .due) 0 e) }
 
 -- ---- reset
 

@@ -3,7 +3,6 @@
 use mathlib.Core.List.{List}
 use Prim.Native.Nat.{ℕ}
 use contract.Lifetimes.{Lfts}
-use Rattle.term_spec.specs.Text.{Coding}
 use Rattle.term_spec.specs.Numbers.{Under}
 use Rattle.term_spec.specs.AtomList.{lent-list}
 use Rattle.packet_spec.specs.declared.Taken.{Taken}
@@ -18,14 +17,14 @@ use Rattle.word_lookup.proofs.word.Reads as word-call
 
 -- These are the promises of the calls
 pub promised-locate-word : (κs : Lfts 2) (a : _) (r : _) (s : _) → locate-call.Post κs a r s
-    → Locate-word-call (lent-list (a .0) (a .1 .0 .now) (a .1 .1 .0 .now)) (a .1 .1 .1 .0 .0) r
+    → Locate-word-call (a .0 .flags) (lent-list (a .1 .0) (a .1 .1 .0 .now) (a .1 .1 .1 .0 .now)) (a .1 .1 .1 .1 .0 .0) r
 promised-locate-word κs a r s p = p
 
 pub promised-word : (κs : Lfts 2) (a : _) (r : _) (s : _) → word-call.Post κs a r s
-    → Word-call (lent-list (a .0) (a .1 .0 .now) (a .1 .1 .0 .now)) (a .1 .1 .1 .0 .0) (r .now)
+    → Word-call (a .0 .flags) (lent-list (a .1 .0) (a .1 .1 .0 .now) (a .1 .1 .1 .0 .now)) (a .1 .1 .1 .1 .0 .0) (r .now)
 promised-word κs a r s p = p
 
 -- For any packet taken with any memory, and any calls after it
-pub own-words : {agreed : Coding} {packet : List ℕ} {m m′ n : Memory} {cs : List Call} → Under 256 packet → All-bytes cs → {r : Taken}
-    → Packet-call agreed packet m r m′ → Ran m′ cs n → Own-words agreed packet m r m′ cs n
+pub own-words : {flags : ℕ} {packet : List ℕ} {m m′ n : Memory} {cs : List Call} → Under 256 packet → All-bytes cs → {r : Taken}
+    → Packet-call flags packet m r m′ → Ran m′ cs n → Own-words flags packet m r m′ cs n
 own-words = definitions.own-words

@@ -12,7 +12,7 @@ enum-known-start : tie.Need-enum-known-start
 enum-known-start c = search needs
 
 add-end : tie.Need-add-end
-add-end c = let h = part-inside _ _ _ (c .before .before .before .locate-word .ensures) _ _ (c .before .start .given .1) in omega arith
+add-end c = let h = part-inside _ _ _ _ (c .before .before .before .locate-word .ensures) _ _ (c .before .start .given .1) in omega arith
 
 sub-result : tie.Need-sub-result
 sub-result c = search needs
@@ -21,7 +21,7 @@ part-result-start : tie.Need-part-result-start
 part-result-start c = search needs
 
 part-result-end : tie.Need-part-result-end
-part-result-end c = let h = part-inside _ _ _ (c .before .before .before .locate-word .ensures) _ _ (c .before .start .given .1) in omega arith
+part-result-end c = let h = part-inside _ _ _ _ (c .before .before .before .locate-word .ensures) _ _ (c .before .start .given .1) in omega arith
 
 enum-known-refusal : tie.Need-enum-known-refusal
 enum-known-refusal c = search needs
@@ -36,10 +36,10 @@ part-result-end-2 : tie.Need-part-result-end-2
 part-result-end-2 c = search needs
 
 returns : tie.Need-returns
-returns c = word-part _ _ _ (c .before .before .before .before .locate-word .ensures) _ _ (c .before .before .start .given .1)
+returns c = word-part _ _ _ _ (c .before .before .before .before .locate-word .ensures) _ _ (c .before .before .start .given .1)
 
 returns-2 : tie.Need-returns-2
-returns-2 c = no-part _ _ _ (c .before .before .before .before .locate-word .ensures) _ (c .before .before .refusal .given .1)
+returns-2 c = no-part _ _ _ _ (c .before .before .before .before .locate-word .ensures) _ (c .before .before .refusal .given .1)
 
 pub word-spec : {M : Type 1} → statement M
 word-spec =
