@@ -2,7 +2,6 @@
 -- calls by these relations comes to is `Demand-2` (packet_spec/specs/Demands).
 use mathlib.Core.List.{List}
 use contract.Lifetimes.{Lfts}
-use Rattle.term_spec.specs.Text.{coding-of}
 use Rattle.term_spec.specs.AtomList.{lent-list}
 use Rattle.packet_spec.specs.Memory.{Memory, cache-of, memory-of}
 use Rattle.packet_spec.specs.Promises.{Packet-call, Drop-call, Reset-call}
@@ -17,7 +16,7 @@ use Rattle.link_state.proofs.reset.Reads as resetting-call
 
 -- These are the promises of the calls
 pub promised-take-packet : (κs : Lfts 10) (a : _) (r : _) (s : _) → taking-call.Post κs a r s
-    → Packet-call (coding-of (a .0)) (a .1 .0 .now)
+    → Packet-call (a .0 .flags) (a .1 .0 .now)
     (memory-of (cache-of (a .1 .1 .0 .now) (a .1 .1 .1 .0 .now))
     (lent-list (a .1 .1 .1 .1 .0 .now) (a .1 .1 .1 .1 .1 .0 .now) (a .1 .1 .1 .1 .1 .1 .0 .now))
     (lent-list (a .1 .1 .1 .1 .1 .1 .1 .0 .now) (a .1 .1 .1 .1 .1 .1 .1 .1 .0 .now) (a .1 .1 .1 .1 .1 .1 .1 .1 .1 .0 .now))
@@ -29,7 +28,7 @@ pub promised-take-packet : (κs : Lfts 10) (a : _) (r : _) (s : _) → taking-ca
     (r .pending) (s .1 .1 .1 .1 .1 .1 .1 .1 .1 .1 .1 .0 .now))
 promised-take-packet κs a r s p = p
 
-pub promised-drop : (κs : Lfts 0) (a : _) (r : _) (s : _) → dropping-call.Post κs a r s → Drop-call (a .0) r
+pub promised-drop : (κs : Lfts 0) (a : _) (r : _) (s : _) → dropping-call.Post κs a r s → Drop-call (a .0 .flags) (a .1 .0) r
 promised-drop κs a r s p = p
 
 pub promised-reset : (κs : Lfts 2) (a : _) (r : _) (s : _) → resetting-call.Post κs a r s
