@@ -7,6 +7,9 @@
 #include <string.h>
 #include "ikparumo.h"
 
+/* The flags of the calls that choose none: all that there are. */
+enum { BOTH = IK_UTF8 | IK_V4_NC };
+
 static unsigned long passed, failed;
 
 #define CHECK(holds) check((holds) != 0, #holds, __FILE__, __LINE__)

@@ -48,13 +48,13 @@ static void answered(enum form form, const uint8_t *bytes, size_t size, struct a
         uint8_t *output = lend(ROOM, 0x5a);
         const uint8_t *lent = lend_copy(bytes, size);
         struct list list = empty_list();
-        struct ik_read_reply r = (form == STANDALONE ? ik_read_standalone : ik_read_payload)(lent, size, LIST(list), table, rows);
+        struct ik_read_reply r = (form == STANDALONE ? ik_read_standalone : ik_read_payload)(BOTH, lent, size, LIST(list), table, rows);
         SAME(r.refusal, expected.refusal);
         SAME(r.place, expected.place);
         SAME(r.terms, expected.terms);
         SAME(r.rows, expected.rows);
         CHECK(all(table + expected.rows, 8 * (rows - expected.rows), 0));
-        struct ik_write_reply w = (form == STANDALONE ? ik_write_standalone : ik_write_payload)(lent, size, LIST(list), table, rows, output, ROOM);
+        struct ik_write_reply w = (form == STANDALONE ? ik_write_standalone : ik_write_payload)(BOTH, lent, size, LIST(list), table, rows, output, ROOM);
         SAME(w.refusal, expected.refusal);
         SAME(w.place, expected.place);
         SAME(w.terms, expected.terms);

@@ -57,9 +57,9 @@ static inline unsigned differing(struct memory a, struct memory b)
     return bits;
 }
 
-static inline struct ik_packet_reply take(struct memory m, uint8_t utf8, const uint8_t *packet, size_t size)
+static inline struct ik_packet_reply take(struct memory m, uint8_t flags, const uint8_t *packet, size_t size)
 {
-    struct ik_packet_reply a = ik_packet(utf8, packet, size, m.at[CACHE], m.count[CACHE], m.at[CACHE_LENGTHS], m.count[CACHE_LENGTHS],
+    struct ik_packet_reply a = ik_packet(flags, packet, size, m.at[CACHE], m.count[CACHE], m.at[CACHE_LENGTHS], m.count[CACHE_LENGTHS],
                                    m.at[PLAIN_N], m.at[PLAIN_PLACES], m.count[PLAIN_PLACES], m.at[PLAIN_LENGTHS], m.count[PLAIN_LENGTHS],
                                    m.at[PENDING_N], m.at[PENDING_PLACES], m.count[PENDING_PLACES], m.at[PENDING_LENGTHS], m.count[PENDING_LENGTHS],
                                    m.at[RECORD], m.at[GATHER], m.count[GATHER]);

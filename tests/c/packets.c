@@ -5,7 +5,7 @@ static uint64_t drop_met; /* as packet_met */
 
 static struct ik_state_reply drop(struct memory m)
 {
-    struct ik_state_reply a = ik_drop(m.at[RECORD]);
+    struct ik_state_reply a = ik_drop(BOTH, m.at[RECORD]);
     drop_met |= bit(a.refusal);
     return a;
 }
@@ -49,10 +49,10 @@ static void list_is(struct memory m, int n, size_t count, const char *const *tex
     CHECK(all(lengths(m, n + 2) + count, 2 * (IK_LIST_PLACES - count), 0));
 }
 
-static void refused(struct memory m, uint8_t utf8, const uint8_t *packet, size_t size, unsigned refusal, unsigned place)
+static void refused(struct memory m, uint8_t flags, const uint8_t *packet, size_t size, unsigned refusal, unsigned place)
 {
     struct memory before = copy_of(m);
-    struct ik_packet_reply a = take(m, utf8, lend_copy(packet, size), size);
+    struct ik_packet_reply a = take(m, flags, lend_copy(packet, size), size);
     SAME(a.refusal, refusal);
     SAME(a.place, place);
     SAME(a.kind, 0);
@@ -63,9 +63,9 @@ static void refused(struct memory m, uint8_t utf8, const uint8_t *packet, size_t
     SAME(differing(m, before), 0);
 }
 
-static void fresh_refused(uint8_t utf8, const uint8_t *packet, size_t size, unsigned refusal, unsigned place)
+static void fresh_refused(uint8_t flags, const uint8_t *packet, size_t size, unsigned refusal, unsigned place)
 {
-    refused(ready_memory(), utf8, packet, size, refusal, place);
+    refused(ready_memory(), flags, packet, size, refusal, place);
     CHECK(guards_stand());
 }
 
@@ -102,7 +102,7 @@ static void plain_packets(void)
     place_is(m, CACHE, 7, "\xc3\xa9");
     plain_is(take(m, 1, BYTES(131, 68, 1, 0x18, 7, 0, 2, 'a', 'b', 106)), 9, 1);
     place_is(m, CACHE, 7, "ab");
-    plain_is(take(m, 200, BYTES(131, 68, 2, 0x88, 0xf1, 7, 0, 1, 'c', 8, 0, 0, 106)), 12, 1);
+    plain_is(take(m, BOTH, BYTES(131, 68, 2, 0x88, 0xf1, 7, 0, 1, 'c', 8, 0, 0, 106)), 12, 1);
     list_is(m, PLAIN_N, TEXTS("c", ""));
     place_is(m, CACHE, 7, "c");
     CHECK(guards_stand());
@@ -226,7 +226,7 @@ static void fragments(void)
     list_is(m, PLAIN_N, TEXTS("no"));
     uint8_t output[16];
     uint64_t scratch[3];
-    struct ik_write_reply w = ik_write_payload(m.at[GATHER], 6, *bytes(m, PENDING_N), m.at[PENDING_PLACES], IK_LIST_BYTES, m.at[PENDING_LENGTHS], IK_LIST_PLACES, scratch, 3, output, 16);
+    struct ik_write_reply w = ik_write_payload(BOTH, m.at[GATHER], 6, *bytes(m, PENDING_N), m.at[PENDING_PLACES], IK_LIST_BYTES, m.at[PENDING_LENGTHS], IK_LIST_PLACES, scratch, 3, output, 16);
     SAME(w.length, 9);
     CHECK(memcmp(output, (const uint8_t[]){131, 104, 2, 119, 2, 'o', 'k', 97, 9}, 9) == 0);
     refused(m, 1, BYTES(131, 70, IDS(7, 1), 97, 9), 25, 0);

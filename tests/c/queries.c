@@ -3,7 +3,7 @@
 
 static struct ik_number_reply number_of(enum form form, const uint8_t *bytes, size_t size, size_t row)
 {
-    struct ik_number_reply a = (form == STANDALONE ? ik_number_standalone : ik_number_payload)(lend_copy(bytes, size), size, LIST(three_texts()), row);
+    struct ik_number_reply a = (form == STANDALONE ? ik_number_standalone : ik_number_payload)(BOTH, lend_copy(bytes, size), size, LIST(three_texts()), row);
     met[form] |= bit(a.refusal);
     return a;
 }
@@ -66,12 +66,12 @@ static void numbers(void)
 
 static void text_is(enum form form, const uint8_t *bytes, size_t size, size_t offset, unsigned from, unsigned start, unsigned length, unsigned mark)
 {
-    struct ik_text_reply a = (form == STANDALONE ? ik_text_standalone : ik_text_payload)(lend_copy(bytes, size), size, LIST(three_texts()), offset);
+    struct ik_text_reply a = (form == STANDALONE ? ik_text_standalone : ik_text_payload)(BOTH, lend_copy(bytes, size), size, LIST(three_texts()), offset);
     SAME(a.from, from);
     SAME(a.start, start);
     SAME(a.length, length);
     CHECK(guards_stand());
-    struct ik_mark_reply b = (form == STANDALONE ? ik_mark_standalone : ik_mark_payload)(lend_copy(bytes, size), size, LIST(three_texts()), offset);
+    struct ik_mark_reply b = (form == STANDALONE ? ik_mark_standalone : ik_mark_payload)(BOTH, lend_copy(bytes, size), size, LIST(three_texts()), offset);
     SAME(b.refusal, 0);
     SAME(b.place, 0);
     SAME(b.mark, mark);
@@ -92,29 +92,29 @@ static void texts(void)
 /* An empty text: nothing to take, and the mark tells it from a refusal. */
 static void empty_texts(void)
 {
-    struct ik_text_reply a = ik_text_standalone(BYTES(131, 119, 0), LIST(three_texts()), 1);
+    struct ik_text_reply a = ik_text_standalone(BOTH, BYTES(131, 119, 0), LIST(three_texts()), 1);
     SAME(a.length, 0);
-    SAME(ik_mark_standalone(BYTES(131, 119, 0), LIST(three_texts()), 1).mark, IK_MARK_UTF8);
-    a = ik_text_standalone(BYTES(131, 82, 2), LIST(three_texts()), 1);
+    SAME(ik_mark_standalone(BOTH, BYTES(131, 119, 0), LIST(three_texts()), 1).mark, IK_MARK_UTF8);
+    a = ik_text_standalone(BOTH, BYTES(131, 82, 2), LIST(three_texts()), 1);
     SAME(a.length, 0);
-    SAME(ik_mark_standalone(BYTES(131, 82, 2), LIST(three_texts()), 1).mark, IK_MARK_UTF8);
+    SAME(ik_mark_standalone(BOTH, BYTES(131, 82, 2), LIST(three_texts()), 1).mark, IK_MARK_UTF8);
     CHECK(guards_stand());
 }
 
 static void refused_at(enum form form, const uint8_t *bytes, size_t size, struct list l, size_t at, unsigned refusal, unsigned place)
 {
-    struct ik_number_reply n = (form == STANDALONE ? ik_number_standalone : ik_number_payload)(bytes, size, LIST(l), at);
+    struct ik_number_reply n = (form == STANDALONE ? ik_number_standalone : ik_number_payload)(BOTH, bytes, size, LIST(l), at);
     met[form] |= bit(n.refusal);
     SAME(n.refusal, refusal);
     SAME(n.place, place);
     SAME(n.kind, 0);
     SAME(n.integer, 0);
     CHECK(all(&n.real, 8, 0));
-    struct ik_text_reply t = (form == STANDALONE ? ik_text_standalone : ik_text_payload)(bytes, size, LIST(l), at);
+    struct ik_text_reply t = (form == STANDALONE ? ik_text_standalone : ik_text_payload)(BOTH, bytes, size, LIST(l), at);
     SAME(t.from, IK_FROM_NOWHERE);
     SAME(t.start, 0);
     SAME(t.length, 0);
-    struct ik_mark_reply m = (form == STANDALONE ? ik_mark_standalone : ik_mark_payload)(bytes, size, LIST(l), at);
+    struct ik_mark_reply m = (form == STANDALONE ? ik_mark_standalone : ik_mark_payload)(BOTH, bytes, size, LIST(l), at);
     SAME(m.refusal, refusal);
     SAME(m.place, place);
     SAME(m.mark, 0);
@@ -124,11 +124,11 @@ static void refused_at(enum form form, const uint8_t *bytes, size_t size, struct
 /* An accepted message, and an offset where none of its atoms' tags stands. */
 static void no_atom(enum form form, const uint8_t *bytes, size_t size, size_t offset)
 {
-    struct ik_text_reply t = (form == STANDALONE ? ik_text_standalone : ik_text_payload)(lend_copy(bytes, size), size, LIST(three_texts()), offset);
+    struct ik_text_reply t = (form == STANDALONE ? ik_text_standalone : ik_text_payload)(BOTH, lend_copy(bytes, size), size, LIST(three_texts()), offset);
     SAME(t.from, IK_FROM_NOWHERE);
     SAME(t.start, 0);
     SAME(t.length, 0);
-    struct ik_mark_reply m = (form == STANDALONE ? ik_mark_standalone : ik_mark_payload)(lend_copy(bytes, size), size, LIST(three_texts()), offset);
+    struct ik_mark_reply m = (form == STANDALONE ? ik_mark_standalone : ik_mark_payload)(BOTH, lend_copy(bytes, size), size, LIST(three_texts()), offset);
     SAME(m.refusal, 4);
     SAME(m.place, offset);
     SAME(m.mark, 0);

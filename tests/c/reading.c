@@ -3,7 +3,7 @@
 
 static struct ik_read_reply read_into(enum form form, const uint8_t *bytes, size_t size, struct list l, uint64_t *table, size_t rows)
 {
-    struct ik_read_reply a = (form == STANDALONE ? ik_read_standalone : ik_read_payload)(bytes, size, LIST(l), table, rows);
+    struct ik_read_reply a = (form == STANDALONE ? ik_read_standalone : ik_read_payload)(BOTH, bytes, size, LIST(l), table, rows);
     met[form] |= bit(a.refusal);
     return a;
 }

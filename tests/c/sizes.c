@@ -16,19 +16,19 @@ static struct asked in_form(enum form form, size_t size)
 
 static struct ik_read_reply read_it(struct asked a)
 {
-    return (a.form == STANDALONE ? ik_read_standalone : ik_read_payload)(a.bytes, a.size, LIST(three_texts()), table, IK_ROWS_MOST);
+    return (a.form == STANDALONE ? ik_read_standalone : ik_read_payload)(BOTH, a.bytes, a.size, LIST(three_texts()), table, IK_ROWS_MOST);
 }
 static struct ik_number_reply number_it(struct asked a, size_t row)
 {
-    return (a.form == STANDALONE ? ik_number_standalone : ik_number_payload)(a.bytes, a.size, LIST(three_texts()), row);
+    return (a.form == STANDALONE ? ik_number_standalone : ik_number_payload)(BOTH, a.bytes, a.size, LIST(three_texts()), row);
 }
 static struct ik_text_reply text_it(struct asked a, size_t offset)
 {
-    return (a.form == STANDALONE ? ik_text_standalone : ik_text_payload)(a.bytes, a.size, LIST(three_texts()), offset - a.earlier);
+    return (a.form == STANDALONE ? ik_text_standalone : ik_text_payload)(BOTH, a.bytes, a.size, LIST(three_texts()), offset - a.earlier);
 }
 static struct ik_mark_reply mark_it(struct asked a, size_t offset)
 {
-    return (a.form == STANDALONE ? ik_mark_standalone : ik_mark_payload)(a.bytes, a.size, LIST(three_texts()), offset - a.earlier);
+    return (a.form == STANDALONE ? ik_mark_standalone : ik_mark_payload)(BOTH, a.bytes, a.size, LIST(three_texts()), offset - a.earlier);
 }
 
 static size_t put(uint8_t *to, const uint8_t *from, size_t count) { return memcpy(to, from, count), count; }

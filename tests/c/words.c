@@ -10,7 +10,7 @@ static struct ik_word_reply ask(struct list l, size_t index)
     static uint16_t lengths[IK_LIST_PLACES + 1];
     memcpy(places, l.places, l.places_len);
     memcpy(lengths, l.lengths, 2 * l.lengths_len);
-    struct ik_word_reply a = ik_word(LIST(l), index);
+    struct ik_word_reply a = ik_word(BOTH, LIST(l), index);
     word_met |= bit(a.refusal);
     CHECK(memcmp(places, l.places, l.places_len) == 0);
     CHECK(memcmp(lengths, l.lengths, 2 * l.lengths_len) == 0);
@@ -214,9 +214,9 @@ static void words_are(struct list l, size_t count, const char *const *texts)
     refused(l, 255, 6);
 }
 
-static void takes_in(struct memory m, uint8_t utf8, const uint8_t *packet, size_t size, unsigned kind)
+static void takes_in(struct memory m, uint8_t flags, const uint8_t *packet, size_t size, unsigned kind)
 {
-    struct ik_packet_reply a = take(m, utf8, lend_copy(packet, size), size);
+    struct ik_packet_reply a = take(m, flags, lend_copy(packet, size), size);
     SAME(a.refusal, 0);
     SAME(a.kind, kind);
 }
@@ -232,14 +232,14 @@ static void refuses(struct memory m, const uint8_t *packet, size_t size, unsigne
 static void payload_words(struct list l, const uint8_t *payload, size_t size, size_t count, const char *const *texts)
 {
     uint64_t table[16];
-    struct ik_read_reply r = ik_read_payload(payload, size, LIST(l), table, 16);
+    struct ik_read_reply r = ik_read_payload(BOTH, payload, size, LIST(l), table, 16);
     size_t met = 0;
     SAME(r.refusal, 0);
     for (size_t row = 0; row < r.rows; row++) {
         size_t offset = ik_row_offset(table[row]);
         if (payload[offset] != 82)
             continue;
-        struct ik_text_reply text = ik_text_payload(payload, size, LIST(l), offset);
+        struct ik_text_reply text = ik_text_payload(BOTH, payload, size, LIST(l), offset);
         CHECK(met < count);
         word_is(l, payload[offset + 1], texts[met++]);
         SAME(text.from, IK_FROM_LIST);
@@ -321,7 +321,7 @@ static void ends_and_refusals(void)
     refuses(m, BYTES(131, 70, IDS(9, 1)), 25);
     refuses(m, BYTES(131, 70, IDS(8, 2)), 24);
     words_are(list_in(m, PENDING_N), TEXTS("b", "c"));
-    SAME(ik_drop(record(m)).refusal, 0);
+    SAME(ik_drop(BOTH, record(m)).refusal, 0);
     words_are(list_in(m, PENDING_N), TEXTS("b", "c"));
     takes_in(m, 0, BYTES(131, 69, IDS(9, 2), 2, 0x08, 0, 7, 1, 0xe9, 8), IK_PACKET_PENDING); /* Latin-1 */
     words_are(list_in(m, PENDING_N), TEXTS("\xc3\xa9", "c"));

@@ -3,7 +3,7 @@
 
 static struct ik_write_reply write_to(enum form form, const uint8_t *bytes, size_t size, struct list l, uint64_t *scratch, size_t rows, uint8_t *output, size_t room)
 {
-    struct ik_write_reply a = (form == STANDALONE ? ik_write_standalone : ik_write_payload)(bytes, size, LIST(l), scratch, rows, output, room);
+    struct ik_write_reply a = (form == STANDALONE ? ik_write_standalone : ik_write_payload)(BOTH, bytes, size, LIST(l), scratch, rows, output, room);
     met[form] |= bit(a.refusal);
     return a;
 }

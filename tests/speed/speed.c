@@ -10,7 +10,7 @@
 #include "ikparumo.h"
 #include "libei.h"
 
-enum { MESSAGES_MOST = 1024, ROUNDS = 15, ROUNDS_SLOW = 2, WORKS_MOST = 9, OUTPUT_BYTES = 4 * BYTES_MOST };
+enum { BOTH = IK_UTF8 | IK_V4_NC, MESSAGES_MOST = 1024, ROUNDS = 15, ROUNDS_SLOW = 2, WORKS_MOST = 9, OUTPUT_BYTES = 4 * BYTES_MOST };
 static const double LEAST_NS = 3e5, SLOW_NS = 2e7; /* a round lasts at least the one; rounds beyond the other are few */
 
 struct message {
@@ -40,12 +40,12 @@ static _Noreturn void fail(const char *name, size_t i, const char *why, unsigned
 
 static struct ik_read_reply read_with(const struct message *m, uint64_t *table, size_t rows)
 {
-    return ik_read_standalone(m->bytes, m->size, 0, places, sizeof places, lengths, IK_LIST_PLACES, table, rows);
+    return ik_read_standalone(BOTH, m->bytes, m->size, 0, places, sizeof places, lengths, IK_LIST_PLACES, table, rows);
 }
 
 static struct ik_write_reply write_with(const struct message *m, uint64_t *table, size_t rows)
 {
-    return ik_write_standalone(m->bytes, m->size, 0, places, sizeof places, lengths, IK_LIST_PLACES, table, rows, output, sizeof output);
+    return ik_write_standalone(BOTH, m->bytes, m->size, 0, places, sizeof places, lengths, IK_LIST_PLACES, table, rows, output, sizeof output);
 }
 
 static void read_exact(const struct message *m) { sink = read_with(m, m->table, m->rows).rows; }
@@ -53,15 +53,15 @@ static void read_full(const struct message *m) { sink = read_with(m, full_table,
 static void read_libei(const struct message *m) { sink = (uint64_t)libei_decode(&reading, m->bytes, m->size); }
 static void number_last(const struct message *m)
 {
-    sink = ik_number_standalone(m->bytes, m->size, 0, places, sizeof places, lengths, IK_LIST_PLACES, m->rows - 1).kind;
+    sink = ik_number_standalone(BOTH, m->bytes, m->size, 0, places, sizeof places, lengths, IK_LIST_PLACES, m->rows - 1).kind;
 }
 static void text_last(const struct message *m)
 {
-    sink = ik_text_standalone(m->bytes, m->size, 0, places, sizeof places, lengths, IK_LIST_PLACES, m->atom).length;
+    sink = ik_text_standalone(BOTH, m->bytes, m->size, 0, places, sizeof places, lengths, IK_LIST_PLACES, m->atom).length;
 }
 static void mark_last(const struct message *m)
 {
-    sink = ik_mark_standalone(m->bytes, m->size, 0, places, sizeof places, lengths, IK_LIST_PLACES, m->atom).mark;
+    sink = ik_mark_standalone(BOTH, m->bytes, m->size, 0, places, sizeof places, lengths, IK_LIST_PLACES, m->atom).mark;
 }
 static void write_exact(const struct message *m) { sink = write_with(m, m->table, m->rows).length; }
 static void write_full(const struct message *m) { sink = write_with(m, full_table, IK_ROWS_MOST).length; }
@@ -76,7 +76,7 @@ static struct ik_pending record;
 
 static struct ik_packet_reply take_packet(const struct message *m)
 {
-    return ik_packet(1, m->bytes, m->size, cache, sizeof cache, cache_lengths, IK_CACHE_PLACES, &plain_n, plain_places,
+    return ik_packet(BOTH, m->bytes, m->size, cache, sizeof cache, cache_lengths, IK_CACHE_PLACES, &plain_n, plain_places,
                      sizeof plain_places, plain_lengths, IK_LIST_PLACES, &pending_n, pending_places, sizeof pending_places,
                      pending_lengths, IK_LIST_PLACES, &record, gather, sizeof gather);
 }
@@ -86,10 +86,10 @@ static struct ik_read_reply read_packet(const struct message *m, uint64_t *table
 {
     struct ik_packet_reply p = take_packet(m);
     if (p.kind == IK_PACKET_PLAIN)
-        return ik_read_payload(m->bytes + p.offset, p.length, plain_n, plain_places, sizeof plain_places, plain_lengths, IK_LIST_PLACES,
+        return ik_read_payload(BOTH, m->bytes + p.offset, p.length, plain_n, plain_places, sizeof plain_places, plain_lengths, IK_LIST_PLACES,
                                table, rows);
     if (p.kind == IK_PACKET_COMPLETE)
-        return ik_read_payload(gather, p.gathered, pending_n, pending_places, sizeof pending_places, pending_lengths, IK_LIST_PLACES,
+        return ik_read_payload(BOTH, gather, p.gathered, pending_n, pending_places, sizeof pending_places, pending_lengths, IK_LIST_PLACES,
                                table, rows);
     return (struct ik_read_reply){p.refusal, p.place, 0, 0};
 }
@@ -101,14 +101,14 @@ static void packet_word(const struct message *m)
 {
     int plain = m->bytes[1] == 68;
     uint8_t n = plain ? plain_n : pending_n;
-    sink = ik_word(n, plain ? plain_places : pending_places, IK_LIST_BYTES, plain ? plain_lengths : pending_lengths, IK_LIST_PLACES,
+    sink = ik_word(BOTH, n, plain ? plain_places : pending_places, IK_LIST_BYTES, plain ? plain_lengths : pending_lengths, IK_LIST_PLACES,
                    (size_t)n - 1).length;
 }
 static void packet_drop(const struct message *m)
 {
     (void)m;
     record = (struct ik_pending){1, 2, 0};
-    sink = ik_drop(&record).refusal;
+    sink = ik_drop(BOTH, &record).refusal;
 }
 static void packet_reset(const struct message *m)
 {

@@ -6,7 +6,7 @@
 #include <ucontext.h>
 #include "ikparumo.h"
 
-enum { STACK = 4 << 20, FILL = 0xa5 };
+enum { BOTH = IK_UTF8 | IK_V4_NC, STACK = 4 << 20, FILL = 0xa5 };
 static uint8_t stack[STACK];
 static ucontext_t back, there;
 static void (*call)(void);
@@ -20,21 +20,21 @@ static struct ik_pending record;
 static uint64_t refusal;
 
 static void nothing(void) {}
-static void read_it(void) { refusal = ik_read_standalone(msg, size, 0, places, sizeof places, lengths, 255, table, IK_ROWS_MOST).refusal; }
-static void write_it(void) { refusal = ik_write_standalone(msg, size, 0, places, sizeof places, lengths, 255, table, IK_ROWS_MOST, output, sizeof output).refusal; }
-static void number_it(void) { refusal = ik_number_standalone(msg, size, 0, places, sizeof places, lengths, 255, 0).refusal; }
-static void text_it(void) { ik_text_standalone(msg, size, 0, places, sizeof places, lengths, 255, 1); }
-static void mark_it(void) { refusal = ik_mark_standalone(msg, size, 0, places, sizeof places, lengths, 255, 1).refusal; }
+static void read_it(void) { refusal = ik_read_standalone(BOTH, msg, size, 0, places, sizeof places, lengths, 255, table, IK_ROWS_MOST).refusal; }
+static void write_it(void) { refusal = ik_write_standalone(BOTH, msg, size, 0, places, sizeof places, lengths, 255, table, IK_ROWS_MOST, output, sizeof output).refusal; }
+static void number_it(void) { refusal = ik_number_standalone(BOTH, msg, size, 0, places, sizeof places, lengths, 255, 0).refusal; }
+static void text_it(void) { ik_text_standalone(BOTH, msg, size, 0, places, sizeof places, lengths, 255, 1); }
+static void mark_it(void) { refusal = ik_mark_standalone(BOTH, msg, size, 0, places, sizeof places, lengths, 255, 1).refusal; }
 static void packet_it(void)
 {
     static uint8_t m, more[IK_LIST_BYTES];
     static uint16_t more_lengths[IK_LIST_PLACES];
-    refusal = ik_packet(1, msg, size, cache, sizeof cache, cache_lengths, IK_CACHE_PLACES, &n, places, sizeof places, lengths, 255,
+    refusal = ik_packet(BOTH, msg, size, cache, sizeof cache, cache_lengths, IK_CACHE_PLACES, &n, places, sizeof places, lengths, 255,
                         &m, more, sizeof more, more_lengths, 255, &record, gather, sizeof gather).refusal;
 }
-static void drop_it(void) { ik_drop(&record); }
+static void drop_it(void) { ik_drop(BOTH, &record); }
 static void reset_it(void) { ik_reset(cache, sizeof cache, cache_lengths, IK_CACHE_PLACES, &record); }
-static void word_it(void) { refusal = ik_word(n, places, sizeof places, lengths, 255, 254).refusal; }
+static void word_it(void) { refusal = ik_word(BOTH, n, places, sizeof places, lengths, 255, 254).refusal; }
 
 static void run_call(void) { call(); }
 
