@@ -89,11 +89,11 @@ impl Coding {
         }
     }
 
-    /// What the packet call is told.
+    /// The flags that the packet call is told; V4_NC is not about texts.
     fn agreed(self) -> u8 {
         match self {
-            Coding::Utf8 => 1,
-            Coding::Latin1 => 0,
+            Coding::Utf8 => BOTH,
+            Coding::Latin1 => V4_NC,
         }
     }
 
@@ -325,23 +325,23 @@ impl Tester {
         let of = |call: &str| format!("{form:?}, {what}, {call}");
 
         words.fill(u64::MAX);
-        let reading = border::read(*form, message, list, words);
+        let reading = border::read(BOTH, *form, message, list, words);
         tally.same(case, &of("read"), &[reading], &[ReadReply { refusal, place, terms, rows: due.rows }]);
         tally.check(words[due.rows as usize..].iter().all(|word| *word == 0), || format!("{case}: {}", of("table not zero")));
 
         words.fill(u64::MAX);
         output.fill(FILL);
-        let writing = border::write(*form, message, list, words, output);
+        let writing = border::write(BOTH, *form, message, list, words, output);
         tally.same(case, &of("write"), &[writing], &[WriteReply { refusal, place, terms, length: due.output.len() as u64 }]);
         tally.same(case, &of("output"), &output[..due.output.len()], &due.output);
         tally.check(output[due.output.len()..].iter().all(|byte| *byte == FILL), || format!("{case}: {}", of("output past it")));
         tally.check(words.iter().all(|word| *word == 0), || format!("{case}: {}", of("scratch not zero")));
 
-        let number = border::number(*form, message, list, 0);
+        let number = border::number(BOTH, *form, message, list, 0);
         tally.same(case, &of("number"), &[number], &[NumberReply { refusal, place, ..NumberReply::default() }]);
-        let mark = border::mark(*form, message, list, *offset);
+        let mark = border::mark(BOTH, *form, message, list, *offset);
         tally.same(case, &of("mark"), &[mark], &[MarkReply { refusal, place, mark: due.mark }]);
-        tally.same(case, &of("text"), &[border::text(*form, message, list, *offset)], &[due.text]);
+        tally.same(case, &of("text"), &[border::text(BOTH, *form, message, list, *offset)], &[due.text]);
     }
 
     /// A packet that is refused and leaves all lent memory as it was.
@@ -435,7 +435,7 @@ fn false_lists(tester: &mut Tester, faults: &[Fault]) {
             tester.ask(&case, "in a tuple", &asked, &Due::refused(STATE, 0));
         }
         let word = WordReply { refusal: STATE, ..WordReply::default() };
-        tester.tally.same(&case, "word", &[border::word(&list, index)], &[word]);
+        tester.tally.same(&case, "word", &[border::word(BOTH, &list, index)], &[word]);
     }
 }
 
@@ -456,7 +456,7 @@ fn false_caches(tester: &mut Tester, faults: &[Fault]) {
         for (opening, (references, state)) in [PLAIN, START].into_iter().flat_map(|opening| tries.map(|tried| (opening, tried))) {
             let (packet, starts) = header(opening, &references, false);
             let (refusal, place) = state.map_or((TEXT, starts[0] + BAD_AT), |number| (STATE, number));
-            tester.refused_packet(&case, &format!("131, {}", opening[1]), 1, &packet, refusal, place);
+            tester.refused_packet(&case, &format!("131, {}", opening[1]), BOTH, &packet, refusal, place);
         }
     }
     tester.before = Memory::filled(NONE_PENDING);
@@ -509,7 +509,7 @@ fn order_in_headers(tester: &mut Tester) {
             let bad = starts[number] + references[number].text.unwrap_or_default().len() - 1;
             packet.truncate(packet.len() - less);
             packet.resize(packet.len() + more, NIL_EXT);
-            tester.refused_packet(&case, &what, 1, &packet, refusal, if refusal == TEXT { bad } else { number });
+            tester.refused_packet(&case, &what, BOTH, &packet, refusal, if refusal == TEXT { bad } else { number });
         };
         try_order("2 before 22 and 5", [new(0, GOOD_TEXT), new(0, BAD_TEXT)], 1, 0, (CUT, 1));
         try_order("22 before 5", [new(0, GOOD_TEXT), new(0, BAD_TEXT)], 0, 0, (NAMED_AGAIN, 1));
@@ -530,7 +530,7 @@ fn last_of_many(tester: &mut Tester) {
     for (opening, long_atoms) in openings_and_widths() {
         let (packet, starts) = header(opening, &references, long_atoms);
         let what = format!("131, {}, LongAtoms {long_atoms}", opening[1]);
-        tester.refused_packet(&"the last of 255", &what, 1, &packet, TEXT, starts[LIST_PLACES - 1] + BAD_AT);
+        tester.refused_packet(&"the last of 255", &what, BOTH, &packet, TEXT, starts[LIST_PLACES - 1] + BAD_AT);
     }
 }
 
@@ -568,7 +568,7 @@ fn gathered_payload(tester: &mut Tester) {
     let (first, second) = payload.split_at(payload.len() - 2);
     let mut memory = tester.before.clone();
     for packet in [[START, &[0], first].concat(), [CONTINUATION, second].concat()] {
-        let reply = border::packet(1, &packet, &mut memory.lent());
+        let reply = border::packet(BOTH, &packet, &mut memory.lent());
         tester.tally.check(reply.refusal == ACCEPTED, || format!("a fragment: {reply:?}"));
     }
     let bytes = memory.gather[..payload.len()].to_vec();

@@ -1,4 +1,5 @@
-//! The exports of include/ikparumo.h, their structs, and one safe call for each.
+//! The exports of include/ikparumo.h, their structs, and one safe call for each. Flags: the connection's, bits `UTF8` and `V4_NC` of
+//! `format`.
 
 /// How a message stands: 131 and one term, or one or two terms.
 #[derive(Clone, Copy, Debug, PartialEq, Eq)]
@@ -120,11 +121,11 @@ pub struct Lent<'a> {
     pub gather: &'a mut [u8],
 }
 
-/// A message with an atom list, then `$more`, as the ten calls on terms take them.
+/// The flags, a message with an atom list, then `$more`, as the ten calls on terms take them.
 macro_rules! on_a_message {
     ($($name:ident($($more:ident: $kind:ty),*) -> $answer:ty;)*) => {
         extern "C" {
-            $(fn $name(msg: *const u8, msg_len: usize, n: u8, places: *const u8, places_len: usize, lengths: *const u16,
+            $(fn $name(flags: u8, msg: *const u8, msg_len: usize, n: u8, places: *const u8, places_len: usize, lengths: *const u16,
                        lengths_len: usize, $($more: $kind),*) -> $answer;)*
         }
     };
@@ -145,7 +146,7 @@ on_a_message! {
 
 extern "C" {
     fn ik_packet(
-        utf8: u8,
+        flags: u8,
         packet: *const u8,
         packet_len: usize,
         cache: *mut u8,
@@ -166,14 +167,14 @@ extern "C" {
         gather: *mut u8,
         gather_len: usize,
     ) -> PacketReply;
-    fn ik_drop(pending: *mut Pending) -> StateReply;
+    fn ik_drop(flags: u8, pending: *mut Pending) -> StateReply;
     fn ik_reset(cache: *mut u8, cache_len: usize, cache_lengths: *mut u16, cache_lengths_len: usize, pending: *mut Pending) -> StateReply;
-    fn ik_word(n: u8, places: *const u8, places_len: usize, lengths: *const u16, lengths_len: usize, index: usize) -> WordReply;
+    fn ik_word(flags: u8, n: u8, places: *const u8, places_len: usize, lengths: *const u16, lengths_len: usize, index: usize) -> WordReply;
 }
 
-/// One of two calls on terms, with the message, the list and `$more`.
+/// One of two calls on terms, with the flags, the message, the list and `$more`.
 macro_rules! call {
-    ($form:expr, $standalone:ident, $payload:ident, $msg:expr, $list:expr, $($more:expr),*) => {{
+    ($form:expr, $standalone:ident, $payload:ident, $flags:expr, $msg:expr, $list:expr, $($more:expr),*) => {{
         let call = match $form {
             Form::Standalone => $standalone,
             Form::Payload => $payload,
@@ -181,39 +182,39 @@ macro_rules! call {
         let (msg, list): (&[u8], &AtomList) = ($msg, $list);
         // SAFETY: each pointer goes with its slice's length, and what is written is lent by `&mut`.
         unsafe {
-            call(msg.as_ptr(), msg.len(), list.n, list.places.as_ptr(), list.places.len(), list.lengths.as_ptr(),
+            call($flags, msg.as_ptr(), msg.len(), list.n, list.places.as_ptr(), list.places.len(), list.lengths.as_ptr(),
                  list.lengths.len(), $($more),*)
         }
     }};
 }
 
-pub fn read(form: Form, msg: &[u8], list: &AtomList, table: &mut [u64]) -> ReadReply {
-    call!(form, ik_read_standalone, ik_read_payload, msg, list, table.as_mut_ptr(), table.len())
+pub fn read(flags: u8, form: Form, msg: &[u8], list: &AtomList, table: &mut [u64]) -> ReadReply {
+    call!(form, ik_read_standalone, ik_read_payload, flags, msg, list, table.as_mut_ptr(), table.len())
 }
 
-pub fn write(form: Form, msg: &[u8], list: &AtomList, scratch: &mut [u64], output: &mut [u8]) -> WriteReply {
+pub fn write(flags: u8, form: Form, msg: &[u8], list: &AtomList, scratch: &mut [u64], output: &mut [u8]) -> WriteReply {
     let (table, rows, bytes, room) = (scratch.as_mut_ptr(), scratch.len(), output.as_mut_ptr(), output.len());
-    call!(form, ik_write_standalone, ik_write_payload, msg, list, table, rows, bytes, room)
+    call!(form, ik_write_standalone, ik_write_payload, flags, msg, list, table, rows, bytes, room)
 }
 
-pub fn number(form: Form, msg: &[u8], list: &AtomList, row: usize) -> NumberReply {
-    call!(form, ik_number_standalone, ik_number_payload, msg, list, row)
+pub fn number(flags: u8, form: Form, msg: &[u8], list: &AtomList, row: usize) -> NumberReply {
+    call!(form, ik_number_standalone, ik_number_payload, flags, msg, list, row)
 }
 
-pub fn text(form: Form, msg: &[u8], list: &AtomList, offset: usize) -> TextReply {
-    call!(form, ik_text_standalone, ik_text_payload, msg, list, offset)
+pub fn text(flags: u8, form: Form, msg: &[u8], list: &AtomList, offset: usize) -> TextReply {
+    call!(form, ik_text_standalone, ik_text_payload, flags, msg, list, offset)
 }
 
-pub fn mark(form: Form, msg: &[u8], list: &AtomList, offset: usize) -> MarkReply {
-    call!(form, ik_mark_standalone, ik_mark_payload, msg, list, offset)
+pub fn mark(flags: u8, form: Form, msg: &[u8], list: &AtomList, offset: usize) -> MarkReply {
+    call!(form, ik_mark_standalone, ik_mark_payload, flags, msg, list, offset)
 }
 
-pub fn packet(utf8: u8, packet: &[u8], lent: &mut Lent) -> PacketReply {
+pub fn packet(flags: u8, packet: &[u8], lent: &mut Lent) -> PacketReply {
     let Lent { cache, cache_lengths, plain, pending, record, gather } = lent;
     // SAFETY: each pointer goes with its slice's length, and what is written is lent by `&mut`.
     unsafe {
         ik_packet(
-            utf8,
+            flags,
             packet.as_ptr(),
             packet.len(),
             cache.as_mut_ptr(),
@@ -237,9 +238,9 @@ pub fn packet(utf8: u8, packet: &[u8], lent: &mut Lent) -> PacketReply {
     }
 }
 
-pub fn drop_pending(record: &mut Pending) -> StateReply {
+pub fn drop_pending(flags: u8, record: &mut Pending) -> StateReply {
     // SAFETY: a record lent by `&mut`.
-    unsafe { ik_drop(record) }
+    unsafe { ik_drop(flags, record) }
 }
 
 pub fn reset(cache: &mut [u8], lengths: &mut [u16], record: &mut Pending) -> StateReply {
@@ -247,7 +248,7 @@ pub fn reset(cache: &mut [u8], lengths: &mut [u16], record: &mut Pending) -> Sta
     unsafe { ik_reset(cache.as_mut_ptr(), cache.len(), lengths.as_mut_ptr(), lengths.len(), record) }
 }
 
-pub fn word(list: &AtomList, index: usize) -> WordReply {
+pub fn word(flags: u8, list: &AtomList, index: usize) -> WordReply {
     // SAFETY: each pointer goes with its slice's length.
-    unsafe { ik_word(list.n, list.places.as_ptr(), list.places.len(), list.lengths.as_ptr(), list.lengths.len(), index) }
+    unsafe { ik_word(flags, list.n, list.places.as_ptr(), list.places.len(), list.lengths.as_ptr(), list.lengths.len(), index) }
 }

@@ -21,6 +21,11 @@ pub const MAP_EXT: u8 = 116;
 pub const ATOM_UTF8_EXT: u8 = 118;
 pub const SMALL_ATOM_UTF8_EXT: u8 = 119;
 
+/// The connection's flags.
+pub const UTF8: u8 = 1;
+pub const V4_NC: u8 = 2;
+pub const BOTH: u8 = UTF8 | V4_NC;
+
 pub const ACCEPTED: u64 = 0;
 pub const CUT: u64 = 2;
 pub const TEXT: u64 = 5;

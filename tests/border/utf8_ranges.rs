@@ -121,9 +121,9 @@ fn try_atom(case: &Case, form: Form, tag: u8, tally: &mut Tally) {
     let message = Guarded::holding(&bytes);
     let list = AtomList { n: 0, places: &[0; LIST_PLACES * PLACE_BYTES], lengths: &[0; LIST_PLACES] };
     let mut table = Guarded::holding(&[u64::MAX; TABLE_WORDS]);
-    let reading = border::read(form, &message, &list, &mut table);
-    let text = border::text(form, &message, &list, offset);
-    let mark = border::mark(form, &message, &list, offset);
+    let reading = border::read(BOTH, form, &message, &list, &mut table);
+    let text = border::text(BOTH, form, &message, &list, offset);
+    let mark = border::mark(BOTH, form, &message, &list, offset);
 
     let (refusal, place) = case.verdict(start);
     let mut due_reading = ReadReply { refusal, place, ..ReadReply::default() };
@@ -146,20 +146,20 @@ fn try_atom(case: &Case, form: Form, tag: u8, tally: &mut Tally) {
 }
 
 /// The text as that of a header's second reference.
-fn try_header(case: &Case, long_atoms: bool, before: &Memory, tally: &mut Tally) {
+fn try_header(case: &Case, flags: u8, long_atoms: bool, before: &Memory, tally: &mut Tally) {
     let texts = [(PLACES[0], FIRST_TEXT), (PLACES[TRIED], &case.text)];
     let references = texts.map(|(place, text)| Reference { place, text: Some(text) });
     let (header, starts) = header(&[VERSION, DISTRIBUTION_HEADER], &references, long_atoms);
     let packet = Guarded::holding(&[&header[..], &PAYLOAD].concat());
     let mut memory = before.clone();
-    let reply = border::packet(1, &packet, &mut memory.lent());
+    let reply = border::packet(flags, &packet, &mut memory.lent());
 
     let (refusal, place) = case.verdict(starts[TRIED]);
     let refused = PacketReply { refusal, place, ..PacketReply::default() };
     let (offset, length) = (header.len() as u64, PAYLOAD.len() as u64);
     let plain = PacketReply { kind: PACKET_PLAIN, offset, length, ..PacketReply::default() };
     let (due_reply, due) = if case.is_good() { (plain, before.clone().taking(&references)) } else { (refused, before.clone()) };
-    let what = |of: &str| format!("header, LongAtoms {long_atoms}, {of}");
+    let what = |of: &str| format!("header, flags {flags}, LongAtoms {long_atoms}, {of}");
     tally.same(case, &what("reply"), &[reply], &[due_reply]);
     memory.compare(&due, case, &what, tally);
 }
@@ -169,7 +169,7 @@ fn try_word(case: &Case, index: usize, tally: &mut Tally) {
     let mut list = Places::filled(LIST_PLACES, u16::from(FILL));
     list.put(index, &case.text);
     let (places, lengths) = (Guarded::holding(&list.bytes), Guarded::holding(&list.lengths));
-    let reply = border::word(&AtomList { n: LIST_PLACES as u8, places: &places, lengths: &lengths }, index);
+    let reply = border::word(BOTH, &AtomList { n: LIST_PLACES as u8, places: &places, lengths: &lengths }, index);
 
     let refused = WordReply { refusal: STATE, ..WordReply::default() };
     let (start, length) = ((index * PLACE_BYTES) as u64, case.text.len() as u64);
@@ -191,8 +191,8 @@ fn main() {
                 try_atom(case, form, tag, &mut tally);
             }
         }
-        for long_atoms in [false, true] {
-            try_header(case, long_atoms, &before, &mut tally);
+        for (flags, long_atoms) in [(UTF8, false), (UTF8, true), (BOTH, false), (BOTH, true)] {
+            try_header(case, flags, long_atoms, &before, &mut tally);
         }
         for index in [0, LIST_PLACES - 1] {
             try_word(case, index, &mut tally);
