@@ -1,5 +1,6 @@
-"""Cases at the ends of document 01's rules, and of #101's for 5's place, built so that the answer follows from how they are built; the comment beside each says by which rule."""
-from lines import Case, big
+"""Cases at the ends of document 01's rules, of #101's for 5's place and of #109's for the flags, built so that the answer follows from how they are built; the comment
+beside each says by which rule. Both flags are on where none are said."""
+from lines import V4_NC, Case, big
 from rows import rows_of, shown
 
 ATOM_TAGS = (82, 100, 115, 118, 119)
@@ -82,7 +83,7 @@ class Book:
 
 def boundaries():
     book = Book()
-    for add in (depth, row_limits, texts, tags, field_rules, lists, keys, atom_lists, messages):
+    for add in (depth, row_limits, texts, tags, field_rules, identifier_fields, lists, keys, atom_lists, messages, unknown_flags):
         add(book)
     return book.cases
 
@@ -275,6 +276,102 @@ def tags(book):
     book.refused(2, 1 + 5 + 4, b'\x74\xff\xff\xff\xff' + small(1) * 2)
 
 
+def judged(book, term, good, **lent):
+    """Good, or 4 at its tag, also as a part; cut short it is 2."""
+    if good:
+        book.accepted(term, **lent)
+    else:
+        book.refused(4, 1, term, **lent)
+        book.refused(4, 3, b'\x68\1' + term, **lent)
+        book.refused(2, 1, term[:-1], **lent)
+
+
+def limits(book, flags, opener, fields, good):
+    """All later fields are there before one is judged, so the cut one is 2."""
+    judged(book, opener + NODE + b''.join(big(width, value) for width, value in fields), good, flags=flags)
+
+
+def identifier_fields(book):
+    # V4_NC widens ID and Serial of 88 and the number of words of 90, and nothing else.
+    for flags in range(4):
+        newer = bool(flags & V4_NC)
+        pids(book, flags, b'\x58', 4, newer)
+        pids(book, flags, b'\x67', 1, False)
+        ports(book, flags)
+        references(book, flags, b'\x5a', 4, 5 if newer else 3)
+        references(book, flags, b'\x72', 1, 3)
+        for word in (0, 2 ** 18 - 1, 2 ** 18, 2 ** 32 - 1):
+            for creation in (0, 3, 4, 255):
+                limits(book, flags, b'\x65', ((4, word), (1, creation)), word < 2 ** 18 and creation < 4)
+
+
+def pids(book, flags, tag, width, newer):
+    # ID under 2^15 and Serial under 2^13, or any; Creation under 4 in one byte.
+    for ident in (0, 2 ** 15 - 1, 2 ** 15, 2 ** 32 - 1):
+        for serial in (0, 2 ** 13 - 1, 2 ** 13, 2 ** 32 - 1):
+            for creation in (0, 3, 4, 255):
+                good = (newer or ident < 2 ** 15 and serial < 2 ** 13) and (width == 4 or creation < 4)
+                limits(book, flags, tag, ((4, ident), (4, serial), (width, creation)), good)
+
+
+def ports(book, flags):
+    # ID under 2^28, by 120 any.
+    for tag, width in ((b'\x59', 4), (b'\x66', 1)):
+        for ident in (0, 2 ** 28 - 1, 2 ** 28, 2 ** 32 - 1):
+            for creation in (0, 3, 4, 255):
+                limits(book, flags, tag, ((4, ident), (width, creation)), ident < 2 ** 28 and (width == 4 or creation < 4))
+    for ident in (0, 2 ** 28, 2 ** 64 - 1):
+        limits(book, flags, b'\x78', ((8, ident), (4, 2 ** 32 - 1)), True)
+
+
+def references(book, flags, tag, width, most):
+    # One word to the most; with a Creation of one byte the first under 2^18.
+    for first in (0, 2 ** 18 - 1, 2 ** 18, 2 ** 32 - 1):
+        for creation in (0, 3, 4, 255):
+            for count in range(1, most + 1):
+                fields = [(width, creation), (4, first)] + [(4, 2 ** 32 - 1)] * (count - 1)
+                limits(book, flags, tag + big(2, count), fields, width == 4 or (first < 2 ** 18 and creation < 4))
+    # The word count is a field before the node: 4 before the node is looked at, and before 8 and 9.
+    for count in (0, 4, 5, 6, 255, 256, 257, 1280, 65535):
+        if not 1 <= count <= most:
+            book.refused(4, 1, tag + big(2, count) + NODE + bytes(40), flags=flags)
+            book.refused(4, 1, tag + big(2, count), flags=flags)
+            book.refused(4, 1, tag + big(2, count) + b'\x63', rows=0, flags=flags)
+            book.refused(4, 1 + 2 * 64, b'\x68\1' * 64 + tag + big(2, count), flags=flags)
+    # Of a count that is taken: 9 and 8 at the tag, 9 at the node; a node is 2 or 4 where it stands; a word that is missing is 2 at the tag.
+    for count in range(1, most + 1):
+        term = tag + big(2, count) + NODE + bytes(width + 4 * count)
+        book.refused(9, 1, term, rows=0, flags=flags)
+        book.refused(9, 4, term, rows=1, flags=flags)
+        book.refused(8, 1 + 2 * 64, b'\x68\1' * 64 + term, flags=flags)
+        book.refused(2, 4, term[:3], flags=flags)
+        book.refused(4, 4, term[:3] + small(1), flags=flags)
+        book.refused(2, 1, term[:-4], flags=flags)
+        book.refused(10, 1 + len(term), term + bytes(4), flags=flags)
+
+
+def unknown_flags(book):
+    # An unknown flag is 14 at 0: after 13, before 12, 1, all that is in the message, and 11.
+    for flags in (4, 128, 255):
+        for form, message in (('s', b'\x83\x6a'), ('p', b'\x6a')):
+            book.raw(14, 0, message, form=form, flags=flags)
+            book.raw(14, 0, message, form=form, room=0, flags=flags)
+            book.raw(14, 0, message, form=form, rows=0, flags=flags)
+            for wrong in (b'', b'\x82', b'\x83', b'\x83\x63', b'\x83\x52\0', message + b'\0', bytes(65537)):
+                book.raw(14, 0, wrong, form=form, flags=flags)
+        for form in 'SPtq':
+            for message in (b'', b'\x83\x6a', b'\x6a', bytes(65537)):
+                book.raw(13, 0, message, form=form, flags=flags)
+    # Each unknown bit alone, and beside both known ones.
+    for bit in range(2, 8):
+        for flags in (1 << bit, 1 << bit | 3):
+            book.raw(14, 0, b'\x83\x6a', flags=flags)
+            book.raw(14, 0, b'\x6a', form='p', flags=flags)
+    for flags in range(4):
+        book.accepted(tuple_of(NODE, small(1)), flags=flags, count=3)
+        book.accepted(NODE + small(1), form='p', flags=flags, count=2)
+
+
 def field_rules(book):
     # 110, 111: Sign is 0 or 1, judged after the digits are there; n = 0 and high zero digits are allowed.
     for opener in (b'\x6e', b'\x6f\0\0\0'):
@@ -289,18 +386,9 @@ def field_rules(book):
     book.accepted(b'\x6f' + big(4, 65529) + b'\0' + b'\1' * 65529)
     for number_ in (0, 1, 0x7fffffff, 0x80000000, 0xffffffff):
         book.accepted(b'\x62' + big(4, number_))
-    # Good, or 4 at its tag, also as a part; cut short it is 2.
-    def judged(term, good):
-        if good:
-            book.accepted(term)
-        else:
-            book.refused(4, 1, term)
-            book.refused(4, 3, b'\x68\1' + term)
-            book.refused(2, 1, term[:-1])
     # 70: an exponent of all ones is 4.
     for high, good in ((0x7fef, 1), (0x7ff0, 0), (0x7ff8, 0), (0x7fff, 0), (0x8000, 1), (0, 1), (0xffef, 1), (0xfff0, 0), (0xffff, 0), (0x3ff0, 1)):
-        term = b'\x46' + big(2, high) + b'\0\0\0\0\0\1'
-        judged(term, good)
+        judged(book, b'\x46' + big(2, high) + b'\0\0\0\0\0\1', good)
     # 77: at length 0 Bits is 0, else 1..8; judged after all bytes are there.
     for count in range(10):
         if 1 <= count <= 8:
@@ -311,35 +399,6 @@ def field_rules(book):
         if count:
             book.refused(4, 1, bits(count, b''))
     book.refused(4, 1, bits(255, b'\xff\xff'))
-    # ID, Serial, Creation and first word under their limits. All later fields are there before one is judged, so the cut one is 2.
-    def limits(opener, fields, good):
-        term = opener + NODE + b''.join(big(width, value) for width, value in fields)
-        judged(term, good)
-    for tag, width in ((b'\x58', 4), (b'\x67', 1)):
-        for ident in (0, 2 ** 15 - 1, 2 ** 15, 2 ** 32 - 1):
-            for serial in (0, 2 ** 13 - 1, 2 ** 13, 2 ** 32 - 1):
-                for creation in (0, 3, 4, 255):
-                    limits(tag, ((4, ident), (4, serial), (width, creation)), ident < 2 ** 15 and serial < 2 ** 13 and (width == 4 or creation < 4))
-    for tag, width in ((b'\x59', 4), (b'\x66', 1)):
-        for ident in (0, 2 ** 28 - 1, 2 ** 28, 2 ** 32 - 1):
-            for creation in (0, 3, 4, 255):
-                limits(tag, ((4, ident), (width, creation)), ident < 2 ** 28 and (width == 4 or creation < 4))
-    for ident in (0, 2 ** 28, 2 ** 64 - 1):
-        limits(b'\x78', ((8, ident), (4, 2 ** 32 - 1)), True)
-    for tag, width in ((b'\x5a', 4), (b'\x72', 1)):
-        for first in (0, 2 ** 18 - 1, 2 ** 18, 2 ** 32 - 1):
-            for creation in (0, 3, 4, 255):
-                for count in (1, 2, 3):
-                    fields = [(width, creation), (4, first)] + [(4, 2 ** 32 - 1)] * (count - 1)
-                    limits(tag + big(2, count), fields, width == 4 or (first < 2 ** 18 and creation < 4))
-        # The word count is a field before the node: 4 before the node is looked at.
-        for count in (0, 4, 255, 256, 65535):
-            book.refused(4, 1, tag + big(2, count) + NODE + bytes(40))
-            book.refused(4, 1, tag + big(2, count))
-            book.refused(4, 1, tag + big(2, count) + b'\x63', rows=0)
-    for word in (0, 2 ** 18 - 1, 2 ** 18, 2 ** 32 - 1):
-        for creation in (0, 3, 4, 255):
-            limits(b'\x65', ((4, word), (1, creation)), word < 2 ** 18 and creation < 4)
     # A 108 of length 0 where an atom or an arity is wanted is another tag: 4 there.
     book.refused(4, 2, b'\x58' + EMPTY + NODE + bytes(12))
     book.refused(4, 8, b'\x71' + NODE + NODE + EMPTY + small(1))
@@ -424,6 +483,9 @@ def keys(book):
         [map_of(), map_of()],
         [map_of(small(1), NIL, small(2), NODE), map_of(b'\x62\0\0\0\1', text_list(b''), b'\x6e\1\0\2', b'\x52\0')],
         [b'\x46\x3f\xf0' + bytes(6), b'\x46\x3f\xf0' + bytes(6)],
+        # with V4_NC
+        [b'\x58' + NODE + big(4, 2 ** 31 + 7) + big(4, 8) + big(4, 3), b'\x58\x52\0' + big(4, 2 ** 31 + 7) + big(4, 8) + big(4, 3)],
+        [b'\x5a\0\5' + NODE + big(4, 3) + big(4, 7) + bytes(12) + big(4, 1), b'\x5a\0\5' + atom(b'a', 100) + big(4, 3) + big(4, 7) + bytes(12) + big(4, 1)],
     ]
     for group in groups:
         for i, first in enumerate(group):
@@ -441,7 +503,10 @@ def keys(book):
         b'\x62\0\0\1\0', b'\x6e\2\1\0\1', b'\x5a\0\1' + NODE + big(4, 2) + big(4, 7), b'\x5a\0\2' + NODE + big(4, 3) + big(4, 7) + bytes(4),
         b'\x5a\0\2' + NODE + big(4, 3) + bytes(4) + big(4, 7), b'\x59' + NODE + big(4, 8) + big(4, 3), b'\x58' + NODE + big(4, 8) + big(4, 7) + big(4, 3),
         b'\x71' + NODE + NODE + small(2), b'\x71' + NODE + atom(b'\xe9', 115) + small(3), tuple_of(NIL), map_of(NIL, NIL), tuple_of(tuple_of()),
-        tuple_of(text_list(b'\1'), small(2)), tuple_of(text_list(b'\1\2')), tuple_of(small(1), list_of(small(2))), list_of(tuple_of(small(1)), small(2))]
+        tuple_of(text_list(b'\1'), small(2)), tuple_of(text_list(b'\1\2')), tuple_of(small(1), list_of(small(2))), list_of(tuple_of(small(1)), small(2)),
+        b'\x58' + NODE + big(4, 2 ** 30 + 7) + big(4, 8) + big(4, 3), b'\x58' + NODE + big(4, 7) + big(4, 2 ** 31 + 8) + big(4, 3),
+        b'\x5a\0\5' + NODE + big(4, 3) + big(4, 7) + bytes(12) + big(4, 2), b'\x5a\0\4' + NODE + big(4, 3) + big(4, 7) + bytes(12),
+        b'\x5a\0\5' + NODE + big(4, 3) + big(4, 7) + bytes(16)]
     book.accepted(map_of(*[part for key in different for part in (key, NIL)]), **lent)
     for i in range(len(different)):
         first, second = different[i], different[(i + 7) % len(different)]

@@ -1,9 +1,9 @@
 """Both ends of every rule of the canonical form, each written in several layouts.
 
 The answers follow from document 01's paragraph "Canonical form" by construction: a case is a value, the bytes that say it in one layout, and the canonical
-bytes, put down here by the rule for that value. None comes from the code of this repository.
+bytes, put down here by the rule for that value. None comes from the code of this repository. Both flags are on where none are said; the form is the same by all (#109).
 """
-from lines import Case, big
+from lines import BOTH, V4_NC, Case, big
 
 
 def digits(n):
@@ -151,6 +151,18 @@ def identifiers():
         yield b'\x71' + old + atom('f') + big(1, 97) + big(1, arity), b'\x71' + node + atom('f') + big(1, 97) + big(1, arity)
 
 
+def newer():
+    """88 with all bits of ID and Serial, 90 of 4 and 5 words: read and written with V4_NC alone."""
+    node, old = atom('n\xe9'), b'\x64\x00\x02n\xe9'
+    for number, serial in ((2**15, 0), (0, 2**13), (2**32 - 1, 0), (0, 2**32 - 1), (2**32 - 1, 2**32 - 1)):
+        fields = big(4, number) + big(4, serial) + big(4, 2**32 - 1)
+        yield b'\x58' + old + fields, b'\x58' + node + fields
+    for count in (4, 5):
+        for word in (0, 2**32 - 1):
+            fields = big(4, 3) + big(4, word) * (count - 1) + big(4, count)
+            yield b'\x5a' + big(2, count) + old + fields, b'\x5a' + big(2, count) + node + fields
+
+
 def listed():
     """82: the atom at that index, in UTF-8; what is written reads with no list."""
     places = ((0, b''), (32, b'a' * 32), (2, 'é'.encode()))
@@ -164,11 +176,27 @@ def canonical():
             yield from one(message, out, ())
     for message, out, places in listed():
         yield from one(message, out, places)
+    for flags in (0, 1, V4_NC):
+        for message, out in identifiers():
+            yield from one(message, out, (), flags)
+    for flags in (V4_NC, BOTH):
+        for message, out in newer():
+            yield from one(message, out, (), flags)
+            yield from again(out, flags)
 
 
-def one(message, out, places):
+def again(out, flags):
+    """What was written is its own form by the same flags; without V4_NC it is 4 at its tag, also where there is no room."""
+    whole = b'\x83' + out
+    yield Case('s', whole, 'ok ' + whole.hex(), room=len(whole), flags=flags)
+    yield Case('s', whole, 'refused 4 1', flags=flags & ~V4_NC)
+    yield Case('s', whole, 'refused 4 1', room=0, flags=flags & ~V4_NC)
+    yield Case('p', out + out, 'refused 4 0', flags=flags & ~V4_NC)
+
+
+def one(message, out, places, flags=BOTH):
     """Standalone, alone in a payload, and before and after another term; with as much room as it takes, and a byte less (11 at 0)."""
-    lent = {'n': len(places), 'places': places}
+    lent = {'n': len(places), 'flags': flags, 'places': places}
     whole = b'\x83' + out
     yield Case('s', b'\x83' + message, 'ok ' + whole.hex(), room=len(whole), **lent)
     yield Case('s', b'\x83' + message, 'refused 11 0', room=len(whole) - 1, **lent)

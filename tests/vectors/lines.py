@@ -37,13 +37,20 @@ def words(data):
     return ' '.join(out)
 
 
+# The connection's flags.
+UTF8, V4_NC = 1, 2
+BOTH = UTF8 | V4_NC
+
+
 class Case:
-    def __init__(self, form, message, answer, rows=8192, room=65536, n=0, places=()):
+    """A case; both flags are on where none are said, as in the bench."""
+
+    def __init__(self, form, message, answer, rows=8192, room=65536, n=0, flags=BOTH, places=()):
         self.form, self.message, self.answer = form, message, answer
-        self.rows, self.room, self.n, self.places = rows, room, n, places
+        self.rows, self.room, self.n, self.flags, self.places = rows, room, n, flags, places
 
     def line(self, verb):
-        head = self.form.encode() + big(2, self.rows) + big(3, self.room) + big(1, self.n) + big(1, len(self.places))
+        head = self.form.encode() + big(2, self.rows) + big(3, self.room) + big(1, self.n) + big(1, self.flags) + big(1, len(self.places))
         for length, text in self.places:
             head += big(2, length) + big(1, len(text)) + text
         return verb + ' ' + words(head + self.message)

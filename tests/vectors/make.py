@@ -6,14 +6,15 @@
 VECTORS holds standalone.jsonl, payload.jsonl and rows.jsonl. FOLDER/stdin and FOLDER/stdout are written. The same input gives the same files.
 
 Where the answers come from (never from the code of this repository):
-- The vectors have their own answers, worked out from document 01 by an implementation of other hands.
+- The vectors have their own answers, worked out from the papers by an implementation of other hands. standalone.jsonl is the bench: both flags on.
 - standalone.jsonl says of an accepted term its canonical form and not its rows. `rows_of` (rows.py) finds the rows of bytes that are known to be
   accepted: it only walks over them by the tag table. It is held to every table of payload.jsonl, and for standalone.jsonl to the
   kinds and wholes of the canonical form that the vector gives.
-- The cases of boundaries.py are built so that the answer follows from how they are built; the comment beside each says by which rule of
-  document 01. A refusal is stated with its number and its place. Of an accepted case the rows are those of `rows_of`, and the number of
-  rows is stated where it is the point.
-- Words: by the rule of #107 (words.py), for lists of payload.jsonl and rows.jsonl and for made ones. It is held to every text of rows.jsonl that stands in a list.
+- The cases of boundaries.py are built so that the answer follows from how they are built; the comment beside each says by which rule. A
+  refusal is stated with its number and its place. Of an accepted case the rows are those of `rows_of`, and the number of rows is stated where
+  it is the point.
+- Questions by each of the flags: asks.py.
+- Words: by the rules of #107 and #109 (words.py), for lists of payload.jsonl and rows.jsonl and for made ones. It is held to every text of rows.jsonl that stands in a list.
 
 A line of stdin: src/lib.rt of crate vector_lines. Asking lends no rows and no output: these two fields say how many rows and how many offsets are
 asked for. Nor do words, whose message is empty: the second says how many indices are asked for. A line of stdout, by the verb:
@@ -28,9 +29,10 @@ import os
 import sys
 
 sys.dont_write_bytecode = True
+from asks import asks
 from boundaries import boundaries
 from canonical import canonical
-from lines import Case
+from lines import BOTH, Case
 from rows import rows_of, shown
 from words import answer, words
 
@@ -63,7 +65,7 @@ def reading(folder):
             answer = shown(form, message)
             terms, rows = rows_of(form, message)
             assert (terms, len(rows), rows) == (vector['terms'], vector['rows_used'], vector.get('table', rows)), vector
-        yield Case(form, message, answer, rows=vector['rows'], room=vector['out_size'], n=n, places=places)
+        yield Case(form, message, answer, rows=vector['rows'], room=vector['out_size'], n=n, flags=vector['flags'], places=places)
     yield from boundaries()
 
 
@@ -71,7 +73,7 @@ def writing(folder):
     for vector in vectors(folder, 'standalone') + vectors(folder, 'payload'):
         form, message, out = vector.get('form', 's')[0], bytes.fromhex(vector['in']), vector['out'].replace('\t', ' ')
         n, places = places_of(vector)
-        lent = {'rows': vector.get('rows', 8192), 'n': n, 'places': places}
+        lent = {'rows': vector.get('rows', 8192), 'n': n, 'flags': vector.get('flags', BOTH), 'places': places}
         yield Case(form, message, out, room=vector.get('out_size', 65536), **lent)
         # Room is enough where it is as long as the canonical form; a byte less is 11 at 0.
         if out.startswith('ok'):
@@ -89,7 +91,8 @@ def asking(folder):
         n, places = places_of(vector)
         assert len(vector['texts']) == len(vector['marks'])
         answer = ' '.join(word.replace('\t', ',') for word in vector['numbers'] + vector['texts'] + vector['marks'])
-        yield Case(vector['form'][0], bytes.fromhex(vector['in']), answer, rows=len(vector['numbers']), room=len(vector['texts']), n=n, places=places)
+        yield Case(vector['form'][0], bytes.fromhex(vector['in']), answer, rows=len(vector['numbers']), room=len(vector['texts']), n=n, flags=vector['flags'], places=places)
+    yield from asks()
 
 
 def wording(folder):

@@ -1,10 +1,10 @@
 """The words of atom lists, for the verb `word`.
 
-The answers follow from the rule of #107, put down here as `answer`: 13 where the list is not of its size, 6 for an index not below n, 14 for a length over 32 or bytes
-that are no UTF-8, all at place 0; else the word stands at 32 for each place before it. What is UTF-8, Python's own decoder says. None comes from the code of this
-repository.
+The answers follow from the rules of #107 and #109, put down here as `answer`: 13 where the list is not of its size, 14 for an unknown flag, 6 for an index not below n,
+14 for a length over 32 or bytes that are no UTF-8, all at place 0; else the word stands at 32 for each place before it. What is UTF-8, Python's own decoder says. None
+comes from the code of this repository. Both flags are on where none are said.
 """
-from lines import Case
+from lines import BOTH, Case
 
 WRONG_SIZES = 'SPtq'
 
@@ -17,10 +17,12 @@ def is_utf8(data):
     return True
 
 
-def answer(form, n, places, index):
+def answer(form, n, places, index, flags=BOTH):
     """What is asked of a list whose places, past those given, are zero."""
     if form in WRONG_SIZES:
         return 'refused,13,0'
+    if flags > BOTH:
+        return 'refused,14,0'
     if index >= n:
         return 'refused,6,0'
     length, text = places[index] if index < len(places) else (0, b'')
@@ -29,11 +31,12 @@ def answer(form, n, places, index):
     return 'word,%d,%d' % (32 * index, length)
 
 
-def case(n, places, count=None, form='s'):
+def case(n, places, count=None, form='s', flags=BOTH):
     """A list asked for its first `count` words: n and two more where none is said."""
     assert all(len(text) <= 32 for length, text in places)
     count = n + 2 if count is None else count
-    return Case(form, b'', ' '.join(answer(form, n, places, i) for i in range(count)), rows=0, room=count, n=n, places=tuple(places))
+    answers = ' '.join(answer(form, n, places, i, flags) for i in range(count))
+    return Case(form, b'', answers, rows=0, room=count, n=n, flags=flags, places=tuple(places))
 
 
 def whole(text):
@@ -92,9 +95,20 @@ def order():
         yield case(4, false, count=6, form=form)
 
 
+def flagged():
+    """A word goes by no known flag; an unknown one comes after 13 and before 6 and the place's own 14."""
+    mixed = [whole(b'a'), whole('\xe9'.encode()), (33, b'a'), whole(b'\xff'), whole(b'')]
+    for flags in (0, 1, 2, 3, 4, 5, 6, 7, 8, 16, 32, 64, 128, 131, 252, 255):
+        yield case(0, mixed, flags=flags)
+        yield case(5, mixed, flags=flags)
+    for flags in (4, 128, 255):
+        for form in WRONG_SIZES:
+            yield case(5, mixed, form=form, flags=flags)
+
+
 def words(lists):
     """The lists given, each once, and those made here."""
     for n, places in dict.fromkeys(lists):
         yield case(n, places)
-    for made in (counts, lengths, characters, bad_bytes, order):
+    for made in (counts, lengths, characters, bad_bytes, order, flagged):
         yield from made()
