@@ -372,6 +372,17 @@ static struct term old_reference(uint64_t word, uint64_t creation)
     return t;
 }
 
+/* The same identifier with its node by tag 100: it is not its own canonical form. */
+static struct term by_old_node(struct term t)
+{
+    static const uint8_t old[] = {100, 0, 1, 'n'};
+    size_t at = t.bytes[0] == 90 || t.bytes[0] == 114 ? 3 : 1;
+    memmove(t.bytes + at + sizeof old, t.bytes + at + sizeof node, t.size - at - sizeof node);
+    memcpy(t.bytes + at, old, sizeof old);
+    t.size++;
+    return t;
+}
+
 /* A message: 131 where the form has it, these bytes, the term. */
 static size_t message_of(uint8_t *to, enum form form, const uint8_t *before, size_t count, struct term t)
 {
@@ -412,6 +423,7 @@ static void judged(uint8_t flags, struct term t, unsigned refusal, size_t place,
 static void fields(uint8_t flags, struct term t, int good, struct term canonical)
 {
     judged(flags, t, good ? 0 : 4, 0, canonical);
+    judged(flags, by_old_node(t), good ? 0 : 4, 0, canonical);
     t.size--;
     judged(flags, t, 2, 0, canonical);
 }
@@ -587,7 +599,7 @@ static void sizes(uint8_t utf8)
 
 /* ---- keys */
 
-/* A map of two keys, their values a binary of so many bytes; the second is refused by 7, or not. */
+/* A map of two keys, their values a binary of so many bytes; the second is refused by 7, also if its node has another tag, or it is not. */
 static void two_keys(uint8_t utf8, struct term a, struct term b, unsigned value, int equal)
 {
     uint8_t bytes[4096] = {131, 116, 0, 0, 0, 2};
@@ -617,7 +629,7 @@ static void keys(uint8_t utf8, unsigned value)
     enum { TRIED = sizeof tried / sizeof *tried };
     for (int i = 0; i < TRIED; i++)
         for (int k = 0; k < TRIED; k++)
-            two_keys(utf8, tried[i], tried[k], value, i == k);
+            two_keys(utf8, tried[i], i == k && value ? by_old_node(tried[k]) : tried[k], value, i == k);
 }
 
 /* A map of many pids that differ in high bits alone; the last is another, or that of pair `as` again. */
