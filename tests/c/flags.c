@@ -632,21 +632,28 @@ static void keys(uint8_t utf8, unsigned value)
             two_keys(utf8, tried[i], i == k && value ? by_old_node(tried[k]) : tried[k], value, i == k);
 }
 
-/* A map of many pids that differ in high bits alone; the last is another, or that of pair `as` again. */
-static void many_keys(unsigned count, unsigned shift, unsigned as)
+/* Key i of many: pids that differ in ID or Serial alone, references in their last word. */
+enum many { PIDS, FOUR_WORDS, FIVE_WORDS, MANY };
+static struct term key_of(enum many kind, unsigned i, uint32_t step)
+{
+    uint32_t number = i * step;
+    if (kind != PIDS)
+        return kind == FOUR_WORDS ? reference(90, 4, 4, 1, MOST, number) : reference(90, 5, 5, 1, MOST, number);
+    return i % 2 ? pid(88, 5, number, 1) : pid(88, number, 5, 1);
+}
+
+/* A map of many keys; the last is another one, or that of pair `as` again. */
+static void many_keys(enum many kind, unsigned count, uint32_t step, unsigned as)
 {
     static uint8_t bytes[70000];
     size_t size = 6, last = 0;
     memcpy(bytes, (const uint8_t[]){131, 116, 0, 0, (uint8_t)(count >> 8), (uint8_t)count}, 6);
     for (unsigned i = 0; i < count; i++) {
-        uint64_t high = (uint64_t)(i + 1 < count ? i : as) << shift;
-        struct term p = i % 2 ? pid(88, 5, high, 1) : pid(88, high, 5, 1);
-        if (i + 1 == count)
-            p = as % 2 ? pid(88, 5, high, 1) : pid(88, high, 5, 1);
+        struct term key = key_of(kind, i + 1 < count ? i : as, step);
         last = size;
-        memcpy(bytes + size, p.bytes, p.size);
-        bytes[size + p.size] = 106;
-        size += p.size + 1;
+        memcpy(bytes + size, key.bytes, key.size);
+        bytes[size + key.size] = 106;
+        size += key.size + 1;
     }
     struct due due = {0, 0, 1, 1 + 3 * count, NULL, 0};
     if (as + 1 != count)
@@ -655,15 +662,18 @@ static void many_keys(unsigned count, unsigned shift, unsigned as)
     CHECK(guards_stand());
 }
 
+/* On each side of the sizes at which the set of keys grows, and as many as there is room for. */
 static void many(void)
 {
-    static const unsigned counts[] = {2, 50, 70, 2000}, shifts[] = {15, 16, 20};
-    for (int i = 0; i < 4; i++)
-        for (int k = 0; k < 3; k++) {
-            many_keys(counts[i], shifts[k], counts[i] - 1);
-            many_keys(counts[i], shifts[k], 0);
-            many_keys(counts[i], shifts[k], counts[i] / 2 - (counts[i] == 2));
-        }
+    static const unsigned counts[] = {3, 30, 70, 2000};
+    static const uint32_t steps[] = {1, 1 << 15, 65521, 1 << 16, 1 << 20};
+    for (enum many kind = PIDS; kind < MANY; kind++)
+        for (size_t i = 0; i < sizeof counts / sizeof *counts; i++)
+            for (size_t k = 0; k < sizeof steps / sizeof *steps; k++) {
+                many_keys(kind, counts[i], steps[k], counts[i] - 1);
+                many_keys(kind, counts[i], steps[k], 0);
+                many_keys(kind, counts[i], steps[k], counts[i] / 2);
+            }
 }
 
 int main(void)

@@ -523,6 +523,12 @@ def keys(book):
     many = b''.join(small(k) + NIL for k in range(256))
     book.accepted(b'\x74' + big(4, 256) + many, count=513)
     book.refused(7, 1 + 5 + len(many), b'\x74' + big(4, 257) + many + b'\x6e\1\0\0' + NIL)
+    # Many that differ in the last of five words alone, or in Serial.
+    for head, end in ((b'\x5a\0\5' + NODE + big(4, 3) + big(4, 7) + bytes(12), b''), (b'\x58' + NODE + big(4, 7), big(4, 3))):
+        for step in (1, 2 ** 13, 65521):
+            many = b''.join(head + big(4, step * k) + end + NIL for k in range(70))
+            book.accepted(b'\x74' + big(4, 70) + many, count=211)
+            book.refused(7, 1 + 5 + len(many), b'\x74' + big(4, 71) + many + head + big(4, step * 69) + end + NIL)
 
 
 def atom_lists(book):
