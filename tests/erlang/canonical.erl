@@ -1,6 +1,6 @@
 %% Canonical bytes as a value (see encodings), and values made alike where the node sees no difference.
 -module(canonical).
--export([value/1, why_same/2, find/2]).
+-export([value/1, why_same/2, find/2, all/2, after_atom/1]).
 
 %% The value of one canonical standalone term.
 value(<<131, Bytes/binary>>) -> {Value, <<>>} = term(Bytes), Value.
@@ -64,6 +64,11 @@ reference(Count, Bytes) ->
     <<Words:Size/binary, After/binary>> = Rest,
     {{ref, Node, [Word || <<Word:32>> <= Words], Creation}, After}.
 
+%% The bytes after an atom with any of its tags.
+after_atom(<<Tag, Size:16, _:Size/binary, Rest/binary>>) when Tag =:= 100; Tag =:= 118 -> Rest;
+after_atom(<<Tag, Size, _:Size/binary, Rest/binary>>) when Tag =:= 115; Tag =:= 119 -> Rest;
+after_atom(<<82, _, Rest/binary>>) -> Rest.
+
 %% The value with what the reasons name taken away: the sign of the float zero, zero words at a reference's end, the order of pairs.
 alike(Reasons, Value) -> here(Reasons, parts(fun(Part) -> alike(Reasons, Part) end, Value)).
 
@@ -108,6 +113,9 @@ first(Fun, [Part | Rest]) ->
         none -> first(Fun, Rest);
         Found -> Found
     end.
+
+%% All answers other than none, of the value and of its parts.
+all(Fun, Value) -> [Found || Found <- [Fun(Value)], Found =/= none] ++ lists:append([all(Fun, Part) || Part <- below(Value)]).
 
 below({tuple, Values}) -> Values;
 below({list, Values, nil}) -> Values;

@@ -1,30 +1,35 @@
 %% Joins an Erlang node over TCP as a hidden node of our own: port look-up at epmd, handshake of version 6, packets.
 %% Only what the distribution protocol itself says; no rule of the library stands here.
 -module(dist_link).
--export([connect/3, send/2, next/2, close/1, register_send/3]).
+-export([connect/4, creation/1, send/2, next/2, close/1, register_send/3]).
 -include_lib("kernel/include/dist.hrl").
 
--record(link, {socket, name}).
+-record(link, {socket, name, creation}).
 
-%% What we agree to: the atom cache in headers and fragments, and no V4_NC, so that identifiers keep the older limits.
-flags() ->
+%% What we agree to: the atom cache in headers and fragments; V4_NC, which lets identifiers use more bits, only where the caller wants it.
+flags(v4_nc) -> flags(no_v4_nc) bor ?DFLAG_V4_NC;
+flags(no_v4_nc) ->
     ?MANDATORY_DFLAGS_25 bor ?DFLAG_HANDSHAKE_23 bor ?DFLAG_DIST_HDR_ATOM_CACHE bor ?DFLAG_FRAGMENTS
         bor ?DFLAG_SMALL_ATOM_TAGS bor ?DFLAG_UNLINK_ID.
 
-%% Joins Node (as text, name@host) under the name OurName; epmd's port is the one of the environment.
-connect(OurName, Node, Cookie) ->
+%% Joins Node (as text, name@host) under the name OurName, with or without V4_NC; epmd's port is the one of the environment.
+connect(OurName, Node, Cookie, V4Nc) ->
     [Name, Host] = string:split(Node, "@"),
     {ok, Socket} = gen_tcp:connect(Host, node_port(Name, Host), [binary, {active, false}, {packet, 2}, {nodelay, true}]),
-    ok = gen_tcp:send(Socket, <<$N, (flags()):64, 1:32, (length(OurName)):16, (list_to_binary(OurName))/binary>>),
+    ok = gen_tcp:send(Socket, <<$N, (flags(V4Nc)):64, 1:32, (length(OurName)):16, (list_to_binary(OurName))/binary>>),
     {ok, <<"sok">>} = gen_tcp:recv(Socket, 0, 10000),
-    {ok, <<$N, Theirs:64, Challenge:32, _Creation:32, Size:16, _Name:Size/binary, _/binary>>} = gen_tcp:recv(Socket, 0, 10000),
-    true = Theirs band ?DFLAG_FRAGMENTS =/= 0 andalso Theirs band ?DFLAG_DIST_HDR_ATOM_CACHE =/= 0,
+    {ok, <<$N, Theirs:64, Challenge:32, Creation:32, Size:16, _Name:Size/binary, _/binary>>} = gen_tcp:recv(Socket, 0, 10000),
+    Offered = ?DFLAG_FRAGMENTS bor ?DFLAG_DIST_HDR_ATOM_CACHE bor ?DFLAG_V4_NC,
+    Offered = Theirs band Offered,
     Ours = rand:uniform(1 bsl 32) - 1,
     ok = gen_tcp:send(Socket, <<$r, Ours:32, (digest(Cookie, Challenge))/binary>>),
     {ok, <<$a, Answer/binary>>} = gen_tcp:recv(Socket, 0, 10000),
     Answer = digest(Cookie, Ours),
     ok = inet:setopts(Socket, [{packet, 4}]),
-    #link{socket = Socket, name = OurName}.
+    #link{socket = Socket, name = OurName, creation = Creation}.
+
+%% The node's own Creation, by its challenge.
+creation(#link{creation = Creation}) -> Creation.
 
 digest(Cookie, Challenge) -> erlang:md5([Cookie, integer_to_list(Challenge)]).
 

@@ -4,14 +4,14 @@
 %% {bits, BitString}, {map, Pairs}, {pid, Node, Id, Serial, Creation}, {port, Node, Id, Creation}, {ref, Node, Words, Creation},
 %% {export, Module, Function, Arity}; {raw, Bytes} stands for bytes that need not be a term.
 -module(encodings).
--export([value/1, identifier/0, standalone/1, encode/1]).
+-export([value/1, identifier/0, wide_identifier/0, standalone/1, encode/1]).
 
 value(Depth) when Depth =< 0 -> leaf();
 value(Depth) -> pick:weighted([{3, fun leaf/0}, {2, fun() -> inner(Depth - 1) end}]).
 
 leaf() ->
     pick:weighted([{4, fun integer/0}, {2, fun float/0}, {3, fun() -> {atom, text()} end}, {2, fun bit_string/0}, {1, fun() -> {list, [], nil} end},
-                   {1, fun string/0}, {1, fun pid/0}, {1, fun port/0}, {1, fun reference/0}, {1, fun export/0}]).
+                   {1, fun string/0}, {1, fun pid/0}, {1, fun port/0}, {1, fun reference/0}, {1, fun wide_identifier/0}, {1, fun export/0}]).
 
 inner(Depth) ->
     pick:weighted([{2, fun() -> {tuple, values(Depth, length_for(Depth))} end},
@@ -52,6 +52,12 @@ port() -> {port, node_name(), pick:bits(pick:one_of([8, 28, 28, 29, 64])), creat
 reference() ->
     More = pick:some(pick:range(0, 2), fun() -> pick:one_of([0, pick:bits(32)]) end),
     {ref, node_name(), [pick:bits(pick:one_of([18, 18, 19, 32])) | More], creation()}.
+%% Pids with a number at an end of its range, or of any size; references of up to five words. Most of them need V4_NC.
+wide_identifier() ->
+    pick:one_of([{pid, node_name(), wide_number(15), wide_number(13), creation()},
+                 {ref, node_name(), pick:some(pick:range(1, 5), fun word/0), creation()}]).
+wide_number(Bits) -> pick:one_of([pick:bits(Bits), (1 bsl Bits) - 1, 1 bsl Bits, (1 bsl 28) - 1, 1 bsl 28, (1 bsl 32) - 1, pick:bits(32)]).
+word() -> pick:one_of([0, (1 bsl 18) - 1, 1 bsl 18, (1 bsl 32) - 1, pick:bits(32)]).
 export() -> {export, text(), text(), pick:range(0, 255)}.
 
 standalone(Value) -> iolist_to_binary([131, encode(Value)]).
@@ -71,7 +77,7 @@ plain({tuple, Values}) -> [counted([{104, 8}, {105, 32}], length(Values)), [enco
 plain({list, Values, Tail}) -> list(Values, Tail);
 plain({bits, Bits}) -> plain_bits(Bits, bit_size(Bits) rem 8);
 plain({map, Pairs}) -> [<<116, (length(Pairs)):32>>, [[encode(Key), encode(Value)] || {Key, Value} <- Pairs]];
-plain({pid, Node, Id, Serial, Creation}) -> {Tag, Width} = layout(88, 103, Creation), [Tag, atom(Node), <<Id:32, Serial:32, Creation:Width>>];
+plain({pid, Node, Id, Serial, Creation}) -> plain_pid(Node, Id, Serial, Creation);
 plain({port, Node, Id, Creation}) -> plain_port(Node, Id, Creation);
 plain({ref, Node, Words, Creation}) -> plain_reference(Node, Words, Creation);
 plain({export, Module, Function, Arity}) -> [113, atom(Module), atom(Function), 97, Arity].
@@ -119,12 +125,16 @@ plain_bits(Bits, Rest) -> <<77, (byte_size(Bits)):32, Rest, Bits/bitstring, (pic
 %% The layout with a Creation of four bytes, or the old one where it fits.
 layout(New, Old, Creation) -> pick:one_of([{New, 32}] ++ [{Old, 8} || Creation < 4]).
 
+plain_pid(Node, Id, Serial, Creation) ->
+    {Tag, Width} = case Id < 1 bsl 15 andalso Serial < 1 bsl 13 of true -> layout(88, 103, Creation); false -> {88, 32} end,
+    [Tag, atom(Node), <<Id:32, Serial:32, Creation:Width>>].
+
 plain_port(Node, Id, Creation) ->
     {Tag, Width} = layout(89, 102, Creation),
     pick:one_of([[120, atom(Node), <<Id:64, Creation:32>>]] ++ [[Tag, atom(Node), <<Id:32, Creation:Width>>] || Id < 1 bsl 28]).
 
 plain_reference(Node, Words = [First | _], Creation) ->
-    {Tag, Width} = case First < 1 bsl 18 of true -> layout(90, 114, Creation); false -> {90, 32} end,
+    {Tag, Width} = case First < 1 bsl 18 andalso length(Words) =< 3 of true -> layout(90, 114, Creation); false -> {90, 32} end,
     Counted = [Tag, <<(length(Words)):16>>, atom(Node), <<Creation:Width>>, [<<Word:32>> || Word <- Words]],
     Single = [[101, atom(Node), <<First:32, Creation>>] || length(Words) =:= 1, First < 1 bsl 18, Creation < 4],
     pick:one_of([Counted | Single]).

@@ -66,6 +66,8 @@ numbers() ->
 
 identifiers() ->
     [fun() -> [88, node_atom(), <<(over(15)):32, 7:32, 1:32>>] end,
+     fun() -> [88, node_atom(), <<7:32, (over(13)):32, 1:32>>] end,
+     fun() -> [103, node_atom(), <<(over(15)):32, 7:32, 1>>] end,
      fun() -> [103, node_atom(), <<7:32, (over(13)):32, 1>>] end,
      fun() -> [103, node_atom(), <<7:32, 7:32, (pick:range(4, 255))>>] end,
      fun() -> [89, node_atom(), <<(over(28)):32, 1:32>>] end,

@@ -1,5 +1,5 @@
 %% A live connection: real packets of a node through the packet call, their payloads through reader and writer, against what the node sent.
-%% Each part has a connection of its own and resets the driver's cache before it.
+%% Each part has a connection of its own, with or without V4_NC, and resets the driver's cache before it.
 -module(live_tests).
 -export([run/4, parts/0]).
 
@@ -10,28 +10,43 @@
 -define(KEPT, "real fragments, a refused sequence kept").
 -define(TEXTS, "real packets, texts over 32 bytes").
 -define(FUNS, "real packets with funs").
--define(BACK, "our output sent to the node").
+-define(LATIN1, "real packets, headers taken as Latin-1").
+-define(UNKNOWN, "real packets, unknown flags").
+-define(WIDE, "wide identifiers, V4_NC agreed").
+-define(UNAGREED, "wide identifiers, V4_NC not agreed").
+-define(BACK, "our output sent to the node and back").
+-define(WIDE_BACK, "our output sent to the node and back, V4_NC agreed").
+-define(OWN, "wide identifiers of the node itself").
 
-parts() -> [?MANY, ?RECUT, ?NEAR, ?LONG, ?KEPT, ?TEXTS, ?FUNS, ?BACK].
+parts() -> [?MANY, ?RECUT, ?LATIN1, ?UNKNOWN, ?NEAR, ?LONG, ?KEPT, ?TEXTS, ?FUNS, ?WIDE, ?UNAGREED, ?BACK, ?WIDE_BACK, ?OWN].
 
 %% Room for the canonical form of any payload here: texts take the place of references.
 -define(ROOM, 262144).
 
--record(run, {drive, node, cookie, folder}).
+%% The driver's flags are those that the connection agreed on.
+-record(run, {drive, node, cookie, folder, v4_nc}).
 
 %% The driver program, the node's name, the cookie, the folder for logs.
 run(Program, Node, Cookie, Folder) ->
     pick:seed(4),
-    Run = #run{drive = drive_port:open(Program), node = Node, cookie = Cookie, folder = Folder},
+    Drive = drive_port:open(Program),
+    Run = #run{drive = drive_port:with_flags(Drive, 1), node = Node, cookie = Cookie, folder = Folder, v4_nc = no_v4_nc},
+    WideRun = Run#run{drive = drive_port:with_flags(Drive, 3), v4_nc = v4_nc},
     {Packets, Log, Outputs} = many(Run),
-    recut(Run, Packets, Log),
+    recut(WideRun, Packets, Log),
+    latin1(Run, lists:sublist(Packets, 900)),
+    unknown(Run, hd(Packets)),
     near(Run),
     long(Run),
     kept(Run),
     texts(Run),
     funs(Run),
+    wide(WideRun),
+    unagreed(Run),
     back(Run, Outputs),
-    drive_port:close(Run#run.drive).
+    wide_back(WideRun),
+    own(WideRun),
+    drive_port:close(Drive).
 
 %% Parts.
 
@@ -40,7 +55,7 @@ many(Run) ->
     {Outputs, Model} = feed(Run, ?MANY, Packets, Log, keep),
     all_met(?MANY, Outputs, Log),
     in_order(?MANY, Outputs),
-    same_cache(Run, ?MANY, Model),
+    same_cache(Run#run.drive, ?MANY, Model),
     {Entered, Replaced, Cached} = cache_use(Packets),
     tally:check(?MANY, Entered > 2048 andalso Replaced > 0 andalso Cached > 0, {cache_use, Entered, Replaced, Cached}),
     tally:say(?MANY, io_lib:format("~b packets, ~b texts entered, ~b of them over another text, ~b cached references, ~b words",
@@ -52,7 +67,7 @@ recut(Run, Packets, Log) ->
     {Outputs, Model} = feed(Run, ?RECUT, Cut, Log, keep),
     all_met(?RECUT, Outputs, Log),
     [met(?RECUT, What) || What <- [plain, plain_between, pending, complete, words_replaced_in_cache]],
-    same_cache(Run, ?RECUT, Model),
+    same_cache(Run#run.drive, ?RECUT, Model),
     say(?RECUT, Cut).
 
 near(Run) ->
@@ -78,7 +93,7 @@ kept(Run = #run{drive = Drive}) ->
     [met(?KEPT, What) || What <- [plain, pending, {refused, 12}, {refused, 26}]],
     {Sequence, Due, Gathered} = packet_model:pending(Model),
     tally:check(?KEPT, record(Drive) =:= <<Sequence:64, Due:64, Gathered:64>>, {record, record(Drive), Sequence, Due, Gathered}),
-    Answers = drive_port:ask(Drive, ["drop", "drop", ["packet 1 ", drive_port:hex(<<131, 70, Sequence:64, Due:64>>)]]),
+    Answers = drive_port:ask(Drive, ["drop", "drop", ["packet ", drive_port:hex(<<131, 70, Sequence:64, Due:64>>)]]),
     tally:check(?KEPT, Answers =:= [<<"ok">>, <<"refused 25 0">>, <<"refused 25 0">>], {drops, Answers}),
     tally:check(?KEPT, record(Drive) =:= <<0:192>>, {record_after_drop, record(Drive)}),
     say(?KEPT, Packets).
@@ -86,7 +101,7 @@ kept(Run = #run{drive = Drive}) ->
 texts(Run) ->
     {Packets, Log} = sent(Run, long_texts, 2, 150),
     {_, Model} = feed(Run, ?TEXTS, Packets, Log, keep),
-    same_cache(Run, ?TEXTS, Model),
+    same_cache(Run#run.drive, ?TEXTS, Model),
     [met(?TEXTS, What) || What <- [plain, {refused, 23}, {refused, 21}]],
     Wide = [Text || <<131, 68, Rest/binary>> <- Packets, {new, _, Text} <- element(1, packet_model:header(Rest)), byte_size(Text) > 255],
     tally:check(?TEXTS, Wide =/= [], {never_met, long_atoms}),
@@ -98,24 +113,136 @@ funs(Run) ->
     met(?FUNS, fun_refused),
     say(?FUNS, Packets).
 
-%% Canonical messages, of the node's own and of generated values, reach a process of the node as they are.
+%% Without the UTF-8 flag the bytes of the same texts are characters of Latin-1.
+latin1(#run{drive = Drive}, Packets) ->
+    Latin1 = drive_port:with_flags(Drive, 2),
+    drive_port:reset(Latin1),
+    Model = lists:foldl(fun(Packet, Model) -> element(4, taken(Latin1, ?LATIN1, Packet, Model)) end, packet_model:new(latin1), Packets),
+    same_cache(Latin1, ?LATIN1, Model),
+    [met(?LATIN1, What) || What <- [plain, {refused, 23}, {refused, 21}]],
+    say(?LATIN1, Packets).
+
+%% Each call but the reset refuses an unknown flag with 14 and writes nothing.
+unknown(#run{drive = Drive}, Packet) ->
+    drive_port:reset(Drive),
+    {{plain, Offset, Length}, _, _, _} = taken(Drive, ?UNKNOWN, Packet, packet_model:new(utf8)),
+    Payload = drive_port:hex(binary:part(Packet, Offset, Length)),
+    Calls = [["read payload plain ", Payload], ["write payload plain ", Payload], ["number payload plain 0 ", Payload], ["mark payload plain 0 ", Payload],
+             ["packet ", drive_port:hex(Packet)], "drop", "word plain 0"],
+    [<<"ok 2 ", _/binary>>, _] = drive_port:ask(Drive, [hd(Calls), "fill table 00"]),
+    Commands = ["same" | Calls] ++ [["text payload plain 0 ", Payload], "changed"],
+    Expected = [<<"ok">> | [<<"refused 14 0">> || _ <- Calls]] ++ [<<"empty">>, <<"-">>],
+    Answers = [{Flags, drive_port:ask(drive_port:with_flags(Drive, Flags), Commands)} || Flags <- lists:seq(4, 255)],
+    [tally:check(?UNKNOWN, Answer =:= Expected, {flags, Flags, Answer}) || {Flags, Answer} <- Answers],
+    tally:say(?UNKNOWN, "all bytes from 4 to 255").
+
+%% The node sends identifiers at the ends of all ranges.
+wide(Run) ->
+    {Packets, Log} = sent_wide(Run, ?WIDE),
+    own_in_limits(Run, Log),
+    say(?WIDE, Packets).
+
+sent_wide(Run, Part) ->
+    {Packets, Log} = sent(Run, wide, 2, 150),
+    {Outputs, Model} = feed(Run, Part, Packets, Log, keep),
+    all_met(Part, Outputs, Log),
+    in_order(Part, Outputs),
+    same_cache(Run#run.drive, Part, Model),
+    met(Part, wide_refused),
+    {Packets, Log}.
+
+%% The node's own pids, some with a Serial, and aliases keep the older limits.
+own_in_limits(Run, Log) ->
+    Own = lists:append([canonical:all(fun(Value) -> own_identifier(Run, Value) end, value(Term)) || {_, Term} <- maps:values(Log)]),
+    tally:check(?WIDE, [Each || Each <- Own, wide:identifiers(Each) =/= []] =:= [], own_identifiers_are_wide),
+    tally:check(?WIDE, [Serial || {pid, _, _, Serial, _} <- Own, Serial > 0] =/= [], {never_met, own_serial}).
+
+%% The value if it is a pid or reference of the node in its present start, whose Creation is never below 4.
+own_identifier(#run{node = Node}, Pid = {pid, Node, _, _, Creation}) when Creation > 3 -> Pid;
+own_identifier(#run{node = Node}, Reference = {ref, Node, _, Creation}) when Creation > 3 -> Reference;
+own_identifier(_, _) -> none.
+
+value(Term) -> canonical:value(term_to_binary(Term, [{minor_version, 2}])).
+
+%% The node sends and takes them whatever was agreed.
+unagreed(Run = #run{drive = Drive}) ->
+    {Packets, _} = sent_wide(Run, ?UNAGREED),
+    Sent = [Output || Output <- ends(Run, drive_port:with_flags(Drive, 3)), wide:identifiers(canonical:value(Output)) =/= []],
+    all_returned(Run, ?UNAGREED, Sent),
+    [tally:difference(wide_sent) || _ <- lists:seq(1, tally:count({note, {?UNAGREED, wide_refused}}) - length(Sent))],
+    [tally:difference(wide_taken) || _ <- Sent],
+    say(?UNAGREED, Packets).
+
+%% Canonical messages, of the node's own and of generated values, reach a process of the node as they are, and come back as they are.
 back(Run = #run{drive = Drive}, Outputs) ->
+    all_returned(Run, ?BACK, Outputs ++ ends(Run, Drive)),
+    Back = returned(Run, ?BACK, generated(Drive)),
+    tally:say(?BACK, io_lib:format("each is =:= to what the node received; with those generated ~b came back, equal", [length(Outputs) + length(Back)])).
+
+wide_back(Run = #run{drive = Drive}) ->
+    Ends = ends(Run, Drive),
+    tally:check(?WIDE_BACK, [canonical:value(Output) || Output <- Ends] =:= end_values(Run), ends_not_written),
+    all_returned(Run, ?WIDE_BACK, Ends),
+    returned(Run, ?WIDE_BACK, generated(Drive)),
+    tally:say(?WIDE_BACK, io_lib:format("~b messages with wide identifiers", [tally:count({note, {?WIDE_BACK, wide_refused}})])).
+
+%% What the flags let through of the identifiers at the ends of the ranges.
+ends(Run, Drive) -> [Output || Value <- end_values(Run), {ok, Output} <- [drive_port:write(Drive, "standalone", "empty", encodings:standalone(Value))]].
+end_values(#run{node = Node}) -> wide:ends("a@b", 7) ++ wide:ends(Node, 1).
+
+generated(Drive) ->
     Values = pick:some(1500, fun() -> encodings:value(pick:range(0, 3)) end),
     Made = [drive_port:write(Drive, "standalone", "empty", encodings:standalone(Value)) || Value <- Values],
-    Sent = Outputs ++ [Output || {ok, Output} <- Made, readable(Output)],
+    [Output || {ok, Output} <- Made, readable(Output)].
+
+all_returned(Run, Part, Sent) -> tally:check(Part, length(returned(Run, Part, Sent)) =:= length(Sent), not_all_came_back).
+
+%% Messages to a process of the node, which sends each back. Answers those that came back; texts over 32 bytes do not.
+returned(Run, Part, Sent) ->
     {Link, Name} = join(Run),
     [dist_link:register_send(Link, "receiver", Output) || Output <- Sent],
     File = filename:join(Run#run.folder, "received"),
     Marker = pick:bytes(16),
     dist_link:register_send(Link, "receiver", term_to_binary({keep, File, Name, Marker})),
-    collect(Link, Marker),
-    as_sent(Sent, node_side:read_log(File)),
-    tally:say(?BACK, "each is =:= to what the node received").
+    Packets = collect(Link, Marker),
+    as_sent(Part, Sent, node_side:read_log(File)),
+    Log = log(File, 1),
+    {Outputs, _} = feed(Run, Part, Packets, Log, keep),
+    Numbered = maps:from_list(lists:enumerate(Sent)),
+    [tally:check(Part, came_back(Number, map_get(Number, Numbered), Back), {Number, Back}) || {{1, Number}, Back} <- Outputs].
 
-as_sent([Output | Sent], [Term | Received]) ->
-    tally:check(?BACK, same(binary_to_term(Output), Term), {Output, Term}),
-    as_sent(Sent, Received);
-as_sent(Sent, Received) -> tally:check(?BACK, Sent =:= [] andalso Received =:= [], {left_over, Sent, Received}).
+%% {1, Number, Message}, with the message's own bytes but for a listed reason.
+came_back(Number, <<131, Message/binary>>, Back) ->
+    <<131, Integer/binary>> = term_to_binary(Number),
+    case <<131, 104, 3, 97, 1, Integer/binary, Message/binary>> of
+        Back -> true;
+        Other -> term_tests:differs_for(differences:same_on_node(Other, Back))
+    end.
+
+%% The node closes a connection on which one of its own identifiers is wider than it makes them; we read it.
+own(Run = #run{drive = Drive, node = Node}) ->
+    {Link, _} = join(Run),
+    Creation = dist_link:creation(Link),
+    dist_link:close(Link),
+    Values = wide:ends(Node, Creation),
+    Wide = [Value || Value <- Values, wide:identifiers(Value) =/= []],
+    Pids = [Value || Value = {pid, _, _, _, _} <- Values -- Wide],
+    Written = fun(Value) -> {ok, Output} = drive_port:write(Drive, "standalone", "empty", encodings:standalone(Value)), Output end,
+    [tally:check(?OWN, closed(Run, Written(Value)) andalso tally:difference(own_closes), {not_closed, Value}) || Value <- Wide],
+    all_returned(Run, ?OWN, [Written(Value) || Value <- Pids]),
+    tally:say(?OWN, io_lib:format("~b close the connection, ~b pids in its limits come back", [length(Wide), length(Pids)])).
+
+closed(Run, Output) ->
+    {Link, _} = join(Run),
+    dist_link:register_send(Link, "receiver", Output),
+    Answer = dist_link:next(Link, 10000),
+    dist_link:close(Link),
+    Answer =:= {error, closed}.
+
+as_sent(Part, [Output | Sent], [Term | Received]) ->
+    tally:check(Part, same(binary_to_term(Output), Term), {Output, Term}),
+    as_sent(Part, Sent, Received);
+as_sent(Part, Sent, Received) -> tally:check(Part, Sent =:= [] andalso Received =:= [], {left_over, Sent, Received}).
 
 readable(Output) ->
     try binary_to_term(Output) of
@@ -125,7 +252,8 @@ readable(Output) ->
 
 %% One line with the kinds of answers.
 say(Part, Packets) ->
-    Kinds = [plain, plain_between, pending, complete, words, words_replaced_in_cache, fun_refused | [{refused, Number} || Number <- [12, 21, 23, 24, 25, 26]]],
+    Kinds = [plain, plain_between, pending, complete, words, words_replaced_in_cache, fun_refused, wide_refused
+             | [{refused, Number} || Number <- [12, 21, 23, 24, 25, 26]]],
     Met = [io_lib:format(", ~b ~tp", [Count, Kind]) || Kind <- Kinds, Count <- [tally:count({note, {Part, Kind}})], Count > 0],
     tally:say(Part, [io_lib:format("~b packets", [length(Packets)]), Met]).
 
@@ -134,10 +262,10 @@ met(Part, Kind) -> tally:check(Part, tally:count({note, {Part, Kind}}) > 0, {nev
 
 %% The node.
 
-join(#run{drive = Drive, node = Node, cookie = Cookie}) ->
+join(#run{drive = Drive, node = Node, cookie = Cookie, v4_nc = V4Nc}) ->
     drive_port:reset(Drive),
     Name = "ik" ++ integer_to_list(erlang:unique_integer([positive])) ++ "@127.0.0.1",
-    {dist_link:connect(Name, Node, Cookie), list_to_atom(Name)}.
+    {dist_link:connect(Name, Node, Cookie, V4Nc), list_to_atom(Name)}.
 
 %% The packets of a connection on which the node was asked to send, and the node's log: {Sender, Number} to control message and message.
 sent(Run = #run{folder = Folder}, Kind, Senders, Count) ->
@@ -146,8 +274,11 @@ sent(Run = #run{folder = Folder}, Kind, Senders, Count) ->
     Marker = pick:bytes(16),
     dist_link:register_send(Link, "orders", term_to_binary({send, Kind, pick:bits(30), Senders, Count, Name, File, Marker})),
     Packets = collect(Link, Marker),
+    {Packets, log(File, Senders)}.
+
+log(File, Senders) ->
     Entries = lists:append([node_side:read_log(File ++ integer_to_list(Sender)) || Sender <- lists:seq(1, Senders)]),
-    {Packets, maps:from_list([{{Sender, Number}, Entry} || Entry = {_, {Sender, Number, _}} <- Entries])}.
+    maps:from_list([{{Sender, Number}, Entry} || Entry = {_, {Sender, Number, _}} <- Entries]).
 
 %% All packets up to the one with the marker.
 collect(Link, Marker) ->
@@ -161,17 +292,22 @@ collect(Link, Marker) ->
 %% Answers {{Sender, Number}, Output of the message} for each message read, in order, and the model.
 feed(Run, Part, Packets, Log, Policy) ->
     drive_port:reset(Run#run.drive),
-    {Outputs, Model} = lists:mapfoldl(fun(Packet, Model) -> step(Run, Part, Packet, Log, Policy, Model) end, packet_model:new(), Packets),
+    {Outputs, Model} = lists:mapfoldl(fun(Packet, Model) -> step(Run, Part, Packet, Log, Policy, Model) end, packet_model:new(utf8), Packets),
     {lists:append(Outputs), Model}.
 
 step(#run{drive = Drive}, Part, Packet, Log, Policy, Model) ->
+    {Answer, Expected, Payload, Next} = taken(Drive, Part, Packet, Model),
+    Outputs = [Output || Answer =:= Expected, Payload =/= none, Output <- payload(Drive, Part, Answer, Packet, Payload, Log)],
+    {Outputs, after_answer(Drive, Part, Answer, Policy, Next)}.
+
+%% The packet call's answer, the model's, the payload and the model after it; the lists' words are compared.
+taken(Drive, Part, Packet, Model) ->
     Answer = drive_port:packet(Drive, Packet),
     {Expected, Payload, Next} = packet_model:take(Packet, Model),
     tally:check(Part, Answer =:= Expected, {packet, Packet, ours, Answer, expected, Expected}),
     tally:note({Part, kind(Answer, packet_model:pending(Model))}, 1),
     [same_words(Drive, Part, List, Entries, packet_model:cache(Next)) || {List, Entries} <- packet_model:words(Next)],
-    Outputs = [Output || Answer =:= Expected, Payload =/= none, Output <- payload(Drive, Part, Answer, Packet, Payload, Log)],
-    {Outputs, after_answer(Drive, Part, Answer, Policy, Next)}.
+    {Answer, Expected, Payload, Next}.
 
 %% The words by a list are the texts of the header that wrote it, whatever packets came since.
 same_words(Drive, Part, List, Entries, Cache) ->
@@ -203,11 +339,13 @@ payload(Drive, Part, {plain, Offset, Length}, Packet, Payload, Log) ->
 payload(Drive, Part, {complete, Gathered}, _, Payload, Log) ->
     message(Drive, Part, "pending", drive_port:gathered(Drive, Gathered), Payload, Log).
 
+%% Payloads are read with both flags here, and with the others by compared.
 message(Drive, Part, List, Bytes, Payload, Log) ->
     tally:check(Part, Bytes =:= Payload, {payload, Bytes, Payload}),
-    Read = drive_port:read(Drive, "payload", List, Bytes),
-    case drive_port:write(Drive, "payload", List, Bytes, ?ROOM) of
-        {ok, Output} -> tally:guard(Part, Output, [], fun() -> compared(Drive, Part, List, Read, Output, Log) end);
+    Both = drive_port:with_flags(Drive, 3),
+    Read = drive_port:read(Both, "payload", List, Bytes),
+    case drive_port:write(Both, "payload", List, Bytes, ?ROOM) of
+        {ok, Output} -> tally:guard(Part, Output, [], fun() -> compared(Both, Part, List, Bytes, Read, Output, Log) end);
         Refused -> refused(Part, Refused, Read, Bytes), []
     end.
 
@@ -216,7 +354,7 @@ refused(Part, Refused = {refused, Number, Place}, Read, Bytes) ->
     tally:note({Part, fun_refused}, 1),
     tally:check(Part, Read =:= Refused andalso Number =:= 3 andalso binary:at(Bytes, Place) =:= 112, {payload_refused, Refused, Bytes}).
 
-compared(Drive, Part, List, Read, Output, Log) ->
+compared(Drive, Part, List, Bytes, Read, Output, Log) ->
     {Control, Used} = binary_to_term(Output, [used]),
     <<First:Used/binary, Second/binary>> = Output,
     Message = {Sender, Number, _} = binary_to_term(Second),
@@ -226,10 +364,19 @@ compared(Drive, Part, List, Read, Output, Log) ->
              {own_bytes, term_tests:own_bytes(First, SentControl) andalso term_tests:own_bytes(Second, SentMessage)},
              {rows, Read =:= {ok, 2, measure:rows(SentControl) + measure:rows(SentMessage)}},
              {words, own_words(Drive, List, [SentControl, SentMessage])},
-             {fixed, fixed(Drive, First) andalso fixed(Drive, Second)}],
+             {fixed, fixed(Drive, First) andalso fixed(Drive, Second)},
+             {other_flags, other_flags(Drive, Part, List, Bytes, Read, Output, wide:of_term([SentControl, SentMessage]))}],
     Wrong = [What || {What, false} <- Found],
     tally:check(Part, Wrong =:= [], {Wrong, Read, Output, SentControl, SentMessage}),
     [{{Sender, Number}, Second}].
+
+%% Without V4_NC the payload is read and written alike, or refused at its first wide identifier.
+other_flags(Drive, Part, List, Bytes, Read, Output, Identifiers) ->
+    Again = fun(Flags) -> drive_port:read(drive_port:with_flags(Drive, Flags), "payload", List, Bytes) end,
+    Written = drive_port:write(drive_port:with_flags(Drive, 1), "payload", List, Bytes, ?ROOM),
+    tally:note({Part, wide_refused}, min(1, length(Identifiers))),
+    Expected = case Identifiers of [] -> {ok, Output}; _ -> Again(1) end,
+    term_tests:without(Again, Bytes, Read, Identifiers) andalso Written =:= Expected.
 
 %% Each word is an atom of the terms that were sent.
 own_words(Drive, List, Terms) ->
@@ -259,7 +406,7 @@ in_order(Part, Outputs) ->
 
 %% The cache.
 
-same_cache(#run{drive = Drive}, Part, Model) ->
+same_cache(Drive, Part, Model) ->
     Texts = packet_model:cache(Model),
     Places = << <<Text/binary, 0:(8 * (32 - byte_size(Text)))>> || Place <- lists:seq(0, 2047), Text <- [maps:get(Place, Texts, <<>>)] >>,
     Lengths = << <<Length:16>> || Place <- lists:seq(0, 2047), Length <- [case Texts of #{Place := Text} -> byte_size(Text); _ -> 65535 end] >>,

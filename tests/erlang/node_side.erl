@@ -1,4 +1,4 @@
-%% What runs on the real node: processes that send to the joined node as ordered, and one that keeps what it receives.
+%% What runs on the real node: processes that send to the joined node as ordered, and one that keeps what it receives and sends it back.
 %% What is sent or received is also written to a log by the node's own term_to_binary.
 -module(node_side).
 -export([start/0, read_log/1]).
@@ -32,13 +32,16 @@ log(File, Term) -> Bytes = term_to_binary(Term, [{minor_version, 2}]), ok = file
 
 read_log(Name) -> {ok, Bytes} = file:read_file(Name), [binary_to_term(Entry) || <<Size:32, Entry:Size/binary>> <= Bytes].
 
-%% Keeps messages until {keep, Log, To, Marker}, then logs them in order and sends the marker.
+%% Keeps messages until {keep, Log, To, Marker}, then logs them in order, sends each back (and logs that too) and then the marker.
 kept(Messages) ->
     receive
         {keep, Log, To, Marker} ->
             {ok, File} = file:open(Log, [write, raw, binary]),
             [log(File, Message) || Message <- lists:reverse(Messages)],
             ok = file:close(File),
+            {ok, Back} = file:open(Log ++ "1", [write, raw, binary]),
+            [send(Back, To, {1, Number, Message}) || {Number, Message} <- lists:enumerate(lists:reverse(Messages))],
+            ok = file:close(Back),
             {sink, To} ! {finished, Marker},
             kept([]);
         Message -> kept([Message | Messages])
@@ -60,7 +63,23 @@ term(long, _) -> {few_atoms(), pick:bytes(pick:range(65536, 350000))};
 term(edge, Number) -> {one, pick:bytes(65460 + Number)};
 %% long_texts: atoms of up to 255 characters, up to 1,020 bytes, beside short ones.
 term(long_texts, _) -> pick:some(pick:range(1, 4), fun() -> pick:one_of([few_atoms(), few_atoms(), wide_atom(pick:range(1, 90))]) end);
+%% wide: identifiers at the ends of their ranges, of another node and of an earlier start of this one, then random ones, beside the node's own:
+%% a pid whose number is past 2^15, an alias, a reference.
+term(wide, 2) -> [ok = spawn_and_wait() || _ <- lists:seq(1, 1 bsl 15)], self();
+term(wide, Number) -> {few_atoms(), own(), [wide(Number) | pick:one_of([few_atoms(), [], own()])], pick:some(pick:range(0, 2), fun node_terms:wide/0)};
 term(funs, Number) -> pick:one_of([fun() -> Number end, {few_atoms(), fun(X) -> X + Number end}]).
+
+wide(Number) ->
+    Ends = [Value || {Node, Creation} <- [{"a@b", 7}, {atom_to_list(node()), 1}], Value <- wide:ends(Node, Creation)],
+    case Number - 2 =< length(Ends) of
+        true -> binary_to_term(encodings:standalone(lists:nth(Number - 2, Ends)));
+        false -> node_terms:wide()
+    end.
+
+own() -> pick:one_of([spawn(fun() -> ok end), alias(), make_ref(), self(), few_atoms()]).
+
+%% A process that ends at once.
+spawn_and_wait() -> {Pid, Monitor} = spawn_monitor(fun() -> ok end), receive {'DOWN', Monitor, process, Pid, normal} -> ok end.
 
 all_few() -> [one, two, three, four, five, 'f\x{fc}nf', '\x{516d}', seven].
 few_atoms() -> pick:one_of(all_few()).

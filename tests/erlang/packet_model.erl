@@ -1,11 +1,12 @@
 %% What document 01 answers to the packets that a node sends, kept apart from the library: header, cache, fragments.
 %% Faults that a node does not make (a place named again, bad texts) are not known here and would show as a disagreement.
 -module(packet_model).
--export([new/0, take/2, drop/1, header/1, cache/1, words/1, pending/1]).
+-export([new/1, take/2, drop/1, header/1, cache/1, words/1, pending/1]).
 
--record(state, {cache = #{}, lost = #{}, words = #{}, sequence = 0, due = 0, gathered = <<>>, sound = true}).
+-record(state, {coding, cache = #{}, lost = #{}, words = #{}, sequence = 0, due = 0, gathered = <<>>, sound = true}).
 
-new() -> #state{}.
+%% The coding of the headers' texts: utf8 or latin1.
+new(Coding) -> #state{coding = Coding}.
 cache(#state{cache = Cache}) -> Cache.
 %% Place and text of each reference, by each list that was written since the start.
 words(#state{words = Words}) -> maps:to_list(Words).
@@ -16,10 +17,10 @@ drop(State) -> State#state{sequence = 0, due = 0, gathered = <<>>}.
 
 %% {Answer, Payload, State}; the payload is none where none is complete, or where a text that it needs was refused earlier.
 take(<<131, 68, Rest/binary>> = Packet, State) ->
-    {References, Payload} = header(Rest),
+    {References, Payload} = coded(Rest, State),
     plain(check(References, Payload, State), Packet, Payload, References, State);
 take(<<131, 69, Sequence:64, Id:64, Rest/binary>>, State = #state{due = 0}) ->
-    {References, Payload} = header(Rest),
+    {References, Payload} = coded(Rest, State),
     start(check(References, Payload, State), Sequence, Id, Payload, References, State);
 take(<<131, 69, _:64, _:64, Rest/binary>>, State) ->
     {References, _} = header(Rest),
@@ -79,6 +80,12 @@ fill(List, References, State = #state{cache = Cache, lost = Lost, words = Words}
 
 %% No cached reference names a place whose latest text was refused.
 sound(References, #state{lost = Lost}) -> not lists:any(fun(Place) -> is_map_key(Place, Lost) end, [Place || {cached, Place} <- References]).
+
+%% The references with their texts in UTF-8.
+coded(Rest, #state{coding = Coding}) -> {References, Payload} = header(Rest), {[coded_one(Reference, Coding) || Reference <- References], Payload}.
+
+coded_one({new, Place, Text}, Coding) -> {new, Place, unicode:characters_to_binary(Text, Coding)};
+coded_one(Cached, _) -> Cached.
 
 %% The references of a header, from its count on, and the bytes after it.
 header(<<0, Payload/binary>>) -> {[], Payload};

@@ -1,6 +1,6 @@
 %% Standalone terms through the writer and the reader, against the node's own binary_to_term and term_to_binary.
 -module(term_tests).
--export([run/1, parts/0, own_bytes/2]).
+-export([run/1, parts/0, say_differences/0, own_bytes/2, without/4, differs_for/1]).
 
 -define(OWN, "terms of the node's term_to_binary").
 -define(OURS, "terms of our generator").
@@ -8,12 +8,14 @@
 -define(PAIRS, "pairs, canonical form against =:=").
 -define(VALUES, "values of our generator").
 -define(BAD_BYTES, "bad bytes of texts").
+-define(NARROW, "the same messages with other flags").
+-define(ENDS, "identifiers at the ends of their ranges").
 -define(LISTED, "listed differences").
 
-parts() -> [?OWN, ?OURS, ?LISTS, ?PAIRS, ?VALUES, ?BAD_BYTES, ?LISTED].
+parts() -> [?OWN, ?OURS, ?LISTS, ?PAIRS, ?VALUES, ?BAD_BYTES, ?NARROW, ?ENDS, ?LISTED].
 
 run(Program) ->
-    Drive = drive_port:open(Program),
+    Drive = drive_port:with_flags(drive_port:open(Program), 3),
     pick:seed(1),
     [one(Drive, ?OWN, node_terms:bytes()) || _ <- lists:seq(1, 6000)],
     tally:say(?OWN, both_accept(?OWN)),
@@ -27,8 +29,21 @@ run(Program) ->
     tally:say(?PAIRS, io_lib:format("~b equal, ~b different for both", [tally:count({note, same}), tally:count({note, different})])),
     tally:say(?VALUES, "each is accepted, and its canonical form has that value"),
     tally:say(?BAD_BYTES, "a text goes wrong where refusal 5 says"),
-    say_differences(),
+    tally:say(?NARROW, io_lib:format("~b have wide identifiers, 4 at the first one without V4_NC", [tally:count({note, wide})])),
+    [layout(Drive, Layout) || Layout <- wide:layouts()],
+    tally:say(?ENDS, "tags 88 and 90 widen with V4_NC, 103 and 114 do not"),
     drive_port:close(Drive).
+
+%% One layout of an identifier, with all flags and on the node.
+layout(Drive, {Bytes, With, Without}) ->
+    one(Drive, ?ENDS, Bytes),
+    [layout(Drive, Bytes, Flags, Right) || {Flags, Right} <- [{0, Without}, {1, Without}, {2, With}, {3, With}]].
+
+%% Rows of the identifier and its node, or 4 at the tag.
+layout(Drive, Bytes, Flags, Right) ->
+    Read = drive_port:read(drive_port:with_flags(Drive, Flags), "standalone", "empty", Bytes),
+    Expected = case Right of true -> {ok, 1, 2}; false -> {refused, 4, 1} end,
+    tally:check(?ENDS, Read =:= Expected, {Flags, Bytes, Read, Expected}).
 
 %% In each layout those of up to 8,191 parts are accepted, and no longer one.
 long_lists(Drive) ->
@@ -56,12 +71,33 @@ one(Drive, Part, Bytes) -> tally:guard(Part, Bytes, false, fun() -> judged(Drive
 judged(Drive, Part, Bytes) ->
     Written = drive_port:write(Drive, "standalone", "empty", Bytes),
     Read = drive_port:read(Drive, "standalone", "empty", Bytes),
-    case {Written, on_node(Bytes)} of
+    Node = on_node(Bytes),
+    other_flags(Drive, Bytes, Read, Written, Node),
+    case {Written, Node} of
         {{ok, Output}, {ok, Term, _}} -> both(Drive, Part, Bytes, Output, Term, Read);
         {_, {ok, Term, Used}} -> listed(Part, agree(Read, Written), differences:node_only(Written, Bytes, Term, Used), Bytes, Written);
         {{ok, Output}, refused} -> listed(Part, agree(Read, Written), differences:ours_only(Output), Bytes, Written);
         {_, refused} -> tally:note({neither, Part}, 1), bad_byte(Written, Bytes), tally:check(Part, agree(Read, Written), {Bytes, Read, Written})
     end.
+
+%% The message with other flags: UTF-8 changes nothing, and without V4_NC only wide identifiers are refused, which the node reads.
+other_flags(Drive, Bytes, Read, Written, Node) ->
+    Identifiers = wide_in(Drive, Bytes, Written),
+    Right = without(fun(Flags) -> drive_port:read(drive_port:with_flags(Drive, Flags), "standalone", "empty", Bytes) end, Bytes, Read, Identifiers),
+    Narrow = drive_port:with_flags(Drive, 1),
+    {ReadNarrow, WrittenNarrow} = {drive_port:read(Narrow, "standalone", "empty", Bytes), drive_port:write(Narrow, "standalone", "empty", Bytes)},
+    Same = WrittenNarrow =:= Written orelse ReadNarrow =/= Read,
+    tally:check(?NARROW, Right andalso agree(ReadNarrow, WrittenNarrow) andalso Same, {Read, ReadNarrow, Written, WrittenNarrow, Bytes}),
+    ReadNarrow =/= Read andalso tally:note(wide, 1) andalso Node =/= refused andalso tally:difference(wide_read).
+
+%% Whether the answers with flags 0, 1 and 2 are right beside that with 3.
+without(Read, Bytes, With, Identifiers) ->
+    Read(2) =:= With andalso lists:all(fun(Flags) -> wide:narrow(Bytes, With, Read(Flags), Identifiers) end, [0, 1]).
+
+%% The wide identifiers of an accepted message; refused where it is refused.
+wide_in(_, _, {ok, Output}) -> wide:identifiers(canonical:value(Output));
+wide_in(Drive, Bytes, {refused, 11, 0}) -> wide_in(Drive, Bytes, drive_port:write(Drive, "standalone", "empty", Bytes, 262144));
+wide_in(_, _, {refused, _, _}) -> refused.
 
 bad_byte(Refused = {refused, 5, Place}, Bytes) -> tally:check(?BAD_BYTES, texts:wrong_at(Bytes, Place), {Bytes, Refused});
 bad_byte(_, _) -> none.

@@ -11,7 +11,7 @@ altered({int, N}) -> pick:one_of([{int, N + 1}, {int, -N}, {int, N bxor (1 bsl p
 altered({float, Bits}) -> {float, Bits bxor pick:one_of([1, 1 bsl 63])};
 altered({atom, Text}) -> {atom, tl(Text ++ "x")};
 altered({bits, Bits}) -> {bits, <<Bits/bitstring, 0:1>>};
-altered(Pid = {pid, _, _, _, _}) -> other_field(Pid, pick:range(3, 5));
+altered(Pid = {pid, _, _, _, _}) -> pick:one_of([other_field(Pid, pick:range(3, 5)), other_bit(Pid, pick:range(3, 5))]);
 altered({port, Node, Id, Creation}) -> pick:one_of([{port, "x" ++ Node, Id, Creation}, other_field({port, Node, Id, Creation}, pick:range(3, 4))]);
 altered({ref, Node, [Word], Creation}) -> {ref, Node, [Word, pick:one_of([0, 1])], Creation};
 altered({ref, Node, Words, Creation}) -> {ref, Node, lists:droplast(Words), Creation};
@@ -19,6 +19,7 @@ altered({export, Module, Function, Arity}) -> pick:one_of([{export, Function, Mo
 altered(_) -> {int, 7}.
 
 other_field(Value, Field) -> setelement(Field, Value, element(Field, Value) bxor 1).
+other_bit(Value, Field) -> setelement(Field, Value, element(Field, Value) bxor (1 bsl pick:range(0, 31))).
 
 %% One element altered.
 in_one(List) ->
