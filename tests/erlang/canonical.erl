@@ -1,9 +1,12 @@
 %% Canonical bytes as a value (see encodings), and values made alike where the node sees no difference.
 -module(canonical).
--export([value/1, why_same/2, find/2, all/2, after_atom/1]).
+-export([value/1, of_term/1, why_same/2, find/2, all/2, after_atom/1]).
 
 %% The value of one canonical standalone term.
 value(<<131, Bytes/binary>>) -> {Value, <<>>} = term(Bytes), Value.
+
+%% The value of a term of the node.
+of_term(Term) -> value(term_to_binary(Term, [{minor_version, 2}])).
 
 term(<<97, N, Rest/binary>>) -> {{int, N}, Rest};
 term(<<98, N:32/signed, Rest/binary>>) -> {{int, N}, Rest};

@@ -62,6 +62,7 @@ many(Run) ->
                                    [length(Packets), Entered, Replaced, Cached, tally:count({note, {?MANY, words}})])),
     {Packets, Log, [Output || {_, Output} <- Outputs]}.
 
+%% The packet call has no use for V4_NC.
 recut(Run, Packets, Log) ->
     Cut = cut(Packets, []),
     {Outputs, Model} = feed(Run, ?RECUT, Cut, Log, keep),
@@ -153,7 +154,7 @@ sent_wide(Run, Part) ->
 
 %% The node's own pids, some with a Serial, and aliases keep the older limits.
 own_in_limits(Run, Log) ->
-    Own = lists:append([canonical:all(fun(Value) -> own_identifier(Run, Value) end, value(Term)) || {_, Term} <- maps:values(Log)]),
+    Own = lists:append([canonical:all(fun(Value) -> own_identifier(Run, Value) end, canonical:of_term(Term)) || {_, Term} <- maps:values(Log)]),
     tally:check(?WIDE, [Each || Each <- Own, wide:identifiers(Each) =/= []] =:= [], own_identifiers_are_wide),
     tally:check(?WIDE, [Serial || {pid, _, _, Serial, _} <- Own, Serial > 0] =/= [], {never_met, own_serial}).
 
@@ -162,38 +163,38 @@ own_identifier(#run{node = Node}, Pid = {pid, Node, _, _, Creation}) when Creati
 own_identifier(#run{node = Node}, Reference = {ref, Node, _, Creation}) when Creation > 3 -> Reference;
 own_identifier(_, _) -> none.
 
-value(Term) -> canonical:value(term_to_binary(Term, [{minor_version, 2}])).
-
 %% The node sends and takes them whatever was agreed.
 unagreed(Run = #run{drive = Drive}) ->
-    {Packets, _} = sent_wide(Run, ?UNAGREED),
-    Sent = [Output || Output <- ends(Run, drive_port:with_flags(Drive, 3)), wide:identifiers(canonical:value(Output)) =/= []],
+    {Packets, Log} = sent_wide(Run, ?UNAGREED),
+    [tally:difference(wide_sent) || {_, Message} <- maps:values(Log), wide:identifiers(canonical:of_term(Message)) =/= []],
+    Sent = written(drive_port:with_flags(Drive, 3), [Value || Value <- end_values(Run), wide:identifiers(Value) =/= []]),
     all_returned(Run, ?UNAGREED, Sent),
-    [tally:difference(wide_sent) || _ <- lists:seq(1, tally:count({note, {?UNAGREED, wide_refused}}) - length(Sent))],
     [tally:difference(wide_taken) || _ <- Sent],
     say(?UNAGREED, Packets).
 
 %% Canonical messages, of the node's own and of generated values, reach a process of the node as they are, and come back as they are.
 back(Run = #run{drive = Drive}, Outputs) ->
-    all_returned(Run, ?BACK, Outputs ++ ends(Run, Drive)),
+    Ends = written(Drive, end_values(Run)),
+    all_returned(Run, ?BACK, Outputs ++ Ends),
     Back = returned(Run, ?BACK, generated(Drive)),
-    tally:say(?BACK, io_lib:format("each is =:= to what the node received; with those generated ~b came back, equal", [length(Outputs) + length(Back)])).
+    tally:say(?BACK, io_lib:format("each is =:= to what the node received; ~b came back, equal", [length(Outputs ++ Ends ++ Back)])).
 
 wide_back(Run = #run{drive = Drive}) ->
-    Ends = ends(Run, Drive),
+    Ends = written(Drive, end_values(Run)),
     tally:check(?WIDE_BACK, [canonical:value(Output) || Output <- Ends] =:= end_values(Run), ends_not_written),
     all_returned(Run, ?WIDE_BACK, Ends),
     returned(Run, ?WIDE_BACK, generated(Drive)),
     tally:say(?WIDE_BACK, io_lib:format("~b messages with wide identifiers", [tally:count({note, {?WIDE_BACK, wide_refused}})])).
 
-%% What the flags let through of the identifiers at the ends of the ranges.
-ends(Run, Drive) -> [Output || Value <- end_values(Run), {ok, Output} <- [drive_port:write(Drive, "standalone", "empty", encodings:standalone(Value))]].
+%% The canonical forms of the values that the flags let through.
+written(Drive, Values) -> [Output || Value <- Values, {ok, Output} <- [drive_port:write(Drive, "standalone", "empty", encodings:standalone(Value))]].
+
+%% Identifiers at the ends of their ranges, of another node and of an earlier start of this one.
 end_values(#run{node = Node}) -> wide:ends("a@b", 7) ++ wide:ends(Node, 1).
 
 generated(Drive) ->
     Values = pick:some(1500, fun() -> encodings:value(pick:range(0, 3)) end),
-    Made = [drive_port:write(Drive, "standalone", "empty", encodings:standalone(Value)) || Value <- Values],
-    [Output || {ok, Output} <- Made, readable(Output)].
+    [Output || Output <- written(Drive, Values), readable(Output)].
 
 all_returned(Run, Part, Sent) -> tally:check(Part, length(returned(Run, Part, Sent)) =:= length(Sent), not_all_came_back).
 
@@ -226,11 +227,12 @@ own(Run = #run{drive = Drive, node = Node}) ->
     dist_link:close(Link),
     Values = wide:ends(Node, Creation),
     Wide = [Value || Value <- Values, wide:identifiers(Value) =/= []],
-    Pids = [Value || Value = {pid, _, _, _, _} <- Values -- Wide],
-    Written = fun(Value) -> {ok, Output} = drive_port:write(Drive, "standalone", "empty", encodings:standalone(Value)), Output end,
-    [tally:check(?OWN, closed(Run, Written(Value)) andalso tally:difference(own_closes), {not_closed, Value}) || Value <- Wide],
-    all_returned(Run, ?OWN, [Written(Value) || Value <- Pids]),
-    tally:say(?OWN, io_lib:format("~b close the connection, ~b pids in its limits come back", [length(Wide), length(Pids)])).
+    Closing = written(Drive, Wide),
+    tally:check(?OWN, length(Closing) =:= length(Wide), wide_not_written),
+    [tally:check(?OWN, closed(Run, Output) andalso tally:difference(own_closes), {not_closed, Output}) || Output <- Closing],
+    Pids = written(Drive, [Value || Value = {pid, _, _, _, _} <- Values -- Wide]),
+    all_returned(Run, ?OWN, Pids),
+    tally:say(?OWN, io_lib:format("~b close the connection, ~b pids in its limits come back", [length(Closing), length(Pids)])).
 
 closed(Run, Output) ->
     {Link, _} = join(Run),
@@ -365,7 +367,7 @@ compared(Drive, Part, List, Bytes, Read, Output, Log) ->
              {rows, Read =:= {ok, 2, measure:rows(SentControl) + measure:rows(SentMessage)}},
              {words, own_words(Drive, List, [SentControl, SentMessage])},
              {fixed, fixed(Drive, First) andalso fixed(Drive, Second)},
-             {other_flags, other_flags(Drive, Part, List, Bytes, Read, Output, wide:of_term([SentControl, SentMessage]))}],
+             {other_flags, other_flags(Drive, Part, List, Bytes, Read, Output, wide:identifiers(canonical:of_term([SentControl, SentMessage])))}],
     Wrong = [What || {What, false} <- Found],
     tally:check(Part, Wrong =:= [], {Wrong, Read, Output, SentControl, SentMessage}),
     [{{Sender, Number}, Second}].

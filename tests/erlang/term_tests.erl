@@ -29,9 +29,9 @@ run(Program) ->
     tally:say(?PAIRS, io_lib:format("~b equal, ~b different for both", [tally:count({note, same}), tally:count({note, different})])),
     tally:say(?VALUES, "each is accepted, and its canonical form has that value"),
     tally:say(?BAD_BYTES, "a text goes wrong where refusal 5 says"),
-    tally:say(?NARROW, io_lib:format("~b have wide identifiers, 4 at the first one without V4_NC", [tally:count({note, wide})])),
     [layout(Drive, Layout) || Layout <- wide:layouts()],
     tally:say(?ENDS, "tags 88 and 90 widen with V4_NC, 103 and 114 do not"),
+    tally:say(?NARROW, io_lib:format("~b have wide identifiers, 4 at the first one without V4_NC", [tally:count({note, wide})])),
     drive_port:close(Drive).
 
 %% One layout of an identifier, with all flags and on the node.

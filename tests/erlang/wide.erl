@@ -1,10 +1,9 @@
 %% Identifiers that V4_NC alone lets through: tag 88 with an ID of 2^15 or a Serial of 2^13 and more, tag 90 with 4 or 5 words.
 -module(wide).
--export([identifiers/1, of_term/1, narrow/4, ends/2, layouts/0]).
+-export([identifiers/1, narrow/4, ends/2, layouts/0]).
 
-%% All such identifiers of a value (see encodings), or of a term of the node.
+%% All such identifiers of a value (see encodings).
 identifiers(Value) -> canonical:all(fun identifier/1, Value).
-of_term(Term) -> identifiers(canonical:value(term_to_binary(Term, [{minor_version, 2}]))).
 
 identifier(Pid = {pid, _, Id, Serial, _}) when Id >= 1 bsl 15; Serial >= 1 bsl 13 -> Pid;
 identifier(Reference = {ref, _, Words, _}) when length(Words) > 3 -> Reference;
@@ -50,7 +49,8 @@ words(Words) -> << <<Word:32>> || Word <- Words >>.
 
 %% Pids and references at the ends of all ranges.
 ends(Node, Creation) ->
-    [{pid, Node, Id, Serial, Creation} || Id <- ids(), Serial <- serials()] ++ [{ref, Node, Words, Creation} || Count <- lists:seq(1, 5), Words <- word_ends(Count)].
+    [{pid, Node, Id, Serial, Creation} || Id <- ids(), Serial <- serials()]
+        ++ [{ref, Node, Words, Creation} || Count <- lists:seq(1, 5), Words <- word_ends(Count)].
 
 ids() -> [0, (1 bsl 15) - 1, 1 bsl 15, (1 bsl 28) - 1, 1 bsl 28, (1 bsl 32) - 1].
 serials() -> [0, (1 bsl 13) - 1, 1 bsl 13, (1 bsl 32) - 1].
