@@ -1,14 +1,21 @@
 //! Writing: "the same input to one canonical standalone term. For a payload of two terms it writes
-//! two, one after the other". Written from the meaning alone.
+//! two, one after the other". Written from the meaning alone: the flags decide what is accepted, not
+//! what is written (OQ-109-9).
 
 use crate::terms::{self, Form, Integer, Term};
 use crate::text::AtomList;
-use crate::{refusal, Refusal};
+use crate::{refusal, Connection, Refusal};
 
 /// The canonical standalone terms of a message, one after the other. Its refusals are the reader's
 /// (OP-48).
-pub fn canonical(form: Form, message: &[u8], list: &AtomList, rows: usize) -> Result<Vec<u8>, Refusal> {
-    let reading = terms::read(form, message, list, rows)?;
+pub fn canonical(
+    connection: Connection,
+    form: Form,
+    message: &[u8],
+    list: &AtomList,
+    rows: usize,
+) -> Result<Vec<u8>, Refusal> {
+    let reading = terms::read(connection, form, message, list, rows)?;
     let mut out = Vec::new();
     for term in &reading.terms {
         out.push(131);
@@ -21,13 +28,14 @@ pub fn canonical(form: Form, message: &[u8], list: &AtomList, rows: usize) -> Re
 /// "every other refusal leaves all lent memory unchanged, save the writer's scratch table, which
 /// always ends all zero."
 pub fn write_into(
+    connection: Connection,
     form: Form,
     message: &[u8],
     list: &AtomList,
     scratch: &mut [u64],
     output: &mut [u8],
 ) -> Result<usize, Refusal> {
-    let answer = canonical(form, message, list, scratch.len());
+    let answer = canonical(connection, form, message, list, scratch.len());
     scratch.fill(0);
     let bytes = answer?;
     // 11: "output shorter than the canonical form"; "11 comes last", at 0.

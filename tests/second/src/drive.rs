@@ -4,7 +4,7 @@ use crate::looks::{self, Index, Mark, Number, Stretch};
 use crate::packets::{self, Answer, Cache, Lent, ListOut, Record};
 use crate::terms::{self, Form};
 use crate::text::{self, AtomList};
-use crate::{canon, Refusal, CACHE_PLACES, EMPTY, LIST_PLACES, MESSAGE_MAX, PLACE_BYTES, ROWS_MAX};
+use crate::{canon, Connection, Refusal, CACHE_PLACES, EMPTY, LIST_PLACES, MESSAGE_MAX, PLACE_BYTES, ROWS_MAX};
 
 /// The names of the memory, in the order of DRIVE.md's table.
 pub const NAMES: [&str; 12] = [
@@ -24,6 +24,9 @@ pub const NAMES: [&str; 12] = [
 
 /// More elements than this are not lent (DRIVE.md names no bound; the memory must exist).
 const LEND_MAX: u64 = 1 << 24;
+
+/// "1 at the start"
+const AT_THE_START: Connection = Connection { flags: 1 };
 
 /// Why a line is no command: the word after `? `.
 type NoCommand = &'static str;
@@ -62,10 +65,12 @@ struct Memory {
     output: Vec<u8>,
 }
 
-/// One driver: its memory, and the memory's forms at the last `same` (at the start, the first ones).
+/// One driver: its memory, the connection record handed to the calls (no part of the memory), and the
+/// memory's forms at the last `same` (at the start, the first ones).
 #[derive(Clone, Debug)]
 pub struct Driver {
     memory: Memory,
+    connection: Connection,
     same: Vec<Vec<u8>>,
 }
 
@@ -152,12 +157,9 @@ fn form(word: &[u8]) -> Result<Form, NoCommand> {
     }
 }
 
-fn agreed(word: &[u8]) -> Result<bool, NoCommand> {
-    match word {
-        b"1" => Ok(true),
-        b"0" => Ok(false),
-        _ => Err("utf8"),
-    }
+/// "the connection byte (0 to 255)"
+fn flags(word: &[u8]) -> Result<u8, NoCommand> {
+    u8::try_from(number(word)?).map_err(|_| "flags")
 }
 
 fn name(word: &[u8]) -> Result<&'static str, NoCommand> {
@@ -266,7 +268,7 @@ impl Driver {
     pub fn new() -> Driver {
         let memory = Memory::new();
         let same = NAMES.iter().map(|name| memory.form(name)).collect();
-        Driver { memory, same }
+        Driver { memory, connection: AT_THE_START, same }
     }
 
     /// The answer to one line (without its newline).
@@ -277,6 +279,7 @@ impl Driver {
 
     fn command(&mut self, words: &[&[u8]]) -> Result<String, NoCommand> {
         let memory = &mut self.memory;
+        let connection = self.connection;
         match words {
             [b"set", part, offset, hex] => {
                 let (part, offset, new) = (name(part)?, number(offset)?, bytes(hex)?);
@@ -327,10 +330,15 @@ impl Driver {
                     NAMES.iter().zip(&self.same).filter(differs).map(|(name, _)| *name).collect();
                 Ok(if names.is_empty() { "-".to_string() } else { names.join(" ") })
             }
+            // "sets the connection byte (0 to 255) handed to every later call but `reset`"
+            [b"flags", n] => {
+                self.connection = Connection { flags: flags(n)? };
+                Ok("ok".to_string())
+            }
             [b"read", f, l, m] => {
                 let (f, m) = (form(f)?, bytes(m)?);
                 let mut table = memory.table.clone();
-                let answer = terms::read_into(f, &m, &memory.list(l)?, &mut table);
+                let answer = terms::read_into(connection, f, &m, &memory.list(l)?, &mut table);
                 memory.table = table;
                 Ok(answer.map_or_else(refused, |(terms, rows)| format!("ok {terms} {rows}")))
             }
@@ -351,14 +359,14 @@ impl Driver {
             [b"write", f, l, m] => {
                 let (f, m) = (form(f)?, bytes(m)?);
                 let (mut table, mut output) = (memory.table.clone(), memory.output.clone());
-                let answer = canon::write_into(f, &m, &memory.list(l)?, &mut table, &mut output);
+                let answer = canon::write_into(connection, f, &m, &memory.list(l)?, &mut table, &mut output);
                 memory.table = table;
                 memory.output = output;
                 Ok(answer.map_or_else(refused, |length| format!("ok {length}")))
             }
             [b"number", f, l, row, m] => {
                 let (f, row, m) = (form(f)?, number(row)?, bytes(m)?);
-                Ok(match looks::number(f, &m, &memory.list(l)?, row) {
+                Ok(match looks::number(connection, f, &m, &memory.list(l)?, row) {
                     Ok(Number::Whole(value)) => format!("whole {value}"),
                     Ok(Number::Float(bits)) => format!("float {bits}"),
                     Ok(Number::Neither) => "neither".to_string(),
@@ -367,7 +375,7 @@ impl Driver {
             }
             [b"text", f, l, offset, m] => {
                 let (f, offset, m) = (form(f)?, number(offset)?, bytes(m)?);
-                Ok(match looks::text(f, &m, &memory.list(l)?, offset) {
+                Ok(match looks::text(connection, f, &m, &memory.list(l)?, offset) {
                     Stretch::Message { start, length } => format!("message {start} {length}"),
                     Stretch::List { start, length } => format!("list {start} {length}"),
                     Stretch::Empty => "empty".to_string(),
@@ -375,14 +383,14 @@ impl Driver {
             }
             [b"mark", f, l, offset, m] => {
                 let (f, offset, m) = (form(f)?, number(offset)?, bytes(m)?);
-                Ok(match looks::mark(f, &m, &memory.list(l)?, offset) {
+                Ok(match looks::mark(connection, f, &m, &memory.list(l)?, offset) {
                     Ok(Mark::Latin1) => "latin1".to_string(),
                     Ok(Mark::Utf8) => "utf8".to_string(),
                     Err(refusal) => refused(refusal),
                 })
             }
-            [b"packet", utf8, packet] => {
-                let (utf8, packet) = (agreed(utf8)?, bytes(packet)?);
+            [b"packet", packet] => {
+                let packet = bytes(packet)?;
                 let mut lent = Lent {
                     cache: Cache { texts: &mut memory.cache, lengths: &mut memory.lengths },
                     plain: memory.plain.lent_out(),
@@ -390,7 +398,7 @@ impl Driver {
                     record: &mut memory.record,
                     gather: &mut memory.gather,
                 };
-                Ok(match packets::packet(&mut lent, utf8, &packet) {
+                Ok(match packets::packet(connection, &mut lent, &packet) {
                     Ok(Answer::Plain { offset, length }) => format!("plain {offset} {length}"),
                     Ok(Answer::Pending { due, gathered }) => format!("pending {due} {gathered}"),
                     Ok(Answer::Complete { gathered }) => format!("complete {gathered}"),
@@ -398,7 +406,7 @@ impl Driver {
                 })
             }
             [b"drop"] => {
-                let answer = packets::drop_pending(&mut memory.record);
+                let answer = packets::drop_pending(connection, &mut memory.record);
                 Ok(answer.map_or_else(refused, |()| "ok".to_string()))
             }
             [b"reset"] => {
@@ -407,12 +415,12 @@ impl Driver {
                 Ok(answer.map_or_else(refused, |()| "ok".to_string()))
             }
             [b"word", l, i] => {
-                let answer = looks::word(&memory.list(l)?, Index(number(i)?));
+                let answer = looks::word(connection, &memory.list(l)?, Index(number(i)?));
                 Ok(answer.map_or_else(refused, |text| format!("text {}", hex(text.as_bytes()))))
             }
             [b""] => Err("empty"),
             [b"set" | b"fill" | b"lend" | b"get" | b"same" | b"changed" | b"read" | b"kind" | b"write"
-            | b"number" | b"text" | b"mark" | b"packet" | b"drop" | b"reset" | b"word", ..] => Err("words"),
+            | b"number" | b"text" | b"mark" | b"packet" | b"drop" | b"reset" | b"word" | b"flags", ..] => Err("words"),
             _ => Err("command"),
         }
     }

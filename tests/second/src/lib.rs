@@ -9,11 +9,14 @@
 #![forbid(unsafe_code)]
 
 pub mod canon;
+pub mod connection;
 pub mod drive;
 pub mod looks;
 pub mod packets;
 pub mod terms;
 pub mod text;
+
+pub use connection::Connection;
 
 /// "Term bytes or payload at most 65,536." "Gather buffer 65,536 bytes."
 pub const MESSAGE_MAX: usize = 65_536;

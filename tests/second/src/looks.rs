@@ -4,7 +4,7 @@
 
 use crate::terms::{self, Form};
 use crate::text::{self, AtomList};
-use crate::{refusal, Refusal, ROWS_MAX};
+use crate::{refusal, Connection, Refusal, ROWS_MAX};
 
 /// "a row answers a whole number, a float or neither". A float is told by its 64 bits.
 #[derive(Clone, Copy, Debug, PartialEq, Eq)]
@@ -36,24 +36,36 @@ pub struct Index(pub u64);
 
 /// "whole where an integer lies in -2^63 .. 2^63-1, a float for tag 70, otherwise neither, also where
 /// no such row is (they count from 0). [...] a refused message gives its refusal."
-pub fn number(form: Form, message: &[u8], list: &AtomList, row: u64) -> Result<Number, Refusal> {
-    let reading = terms::read(form, message, list, ROWS_MAX)?;
+pub fn number(
+    connection: Connection,
+    form: Form,
+    message: &[u8],
+    list: &AtomList,
+    row: u64,
+) -> Result<Number, Refusal> {
+    let reading = terms::read(connection, form, message, list, ROWS_MAX)?;
     let row = usize::try_from(row).ok().and_then(|row| reading.rows.get(row));
     Ok(row.map_or(Number::Neither, |row| row.number))
 }
 
 /// The text's stretch and mark of the atom whose tag stands at `offset`: "the refusal: the message's
 /// own, or 4 at the offset asked for where none of its atoms' tags stands".
-fn atom_at(form: Form, message: &[u8], list: &AtomList, offset: u64) -> Result<(Stretch, Mark), Refusal> {
-    let reading = terms::read(form, message, list, ROWS_MAX)?;
+fn atom_at(
+    connection: Connection,
+    form: Form,
+    message: &[u8],
+    list: &AtomList,
+    offset: u64,
+) -> Result<(Stretch, Mark), Refusal> {
+    let reading = terms::read(connection, form, message, list, ROWS_MAX)?;
     let asked = reading.rows.iter().find(|row| row.text.is_some() && row.offset as u64 == offset);
     asked.and_then(|row| row.text).ok_or(Refusal { number: 4, place: offset })
 }
 
 /// "An atom's text, asked for by its term's offset, is answered as a stretch of the message or of the
 /// atom list, empty where refused." An empty atom's is empty too (OP-44).
-pub fn text(form: Form, message: &[u8], list: &AtomList, offset: u64) -> Stretch {
-    match atom_at(form, message, list, offset) {
+pub fn text(connection: Connection, form: Form, message: &[u8], list: &AtomList, offset: u64) -> Stretch {
+    match atom_at(connection, form, message, list, offset) {
         Ok((Stretch::Message { length: 0, .. } | Stretch::List { length: 0, .. }, _)) => Stretch::Empty,
         Ok((stretch, _)) => stretch,
         Err(_) => Stretch::Empty,
@@ -61,17 +73,25 @@ pub fn text(form: Form, message: &[u8], list: &AtomList, offset: u64) -> Stretch
 }
 
 /// "A second call on the same input answers the mark, Latin-1 or UTF-8, or the refusal".
-pub fn mark(form: Form, message: &[u8], list: &AtomList, offset: u64) -> Result<Mark, Refusal> {
-    Ok(atom_at(form, message, list, offset)?.1)
+pub fn mark(
+    connection: Connection,
+    form: Form,
+    message: &[u8],
+    list: &AtomList,
+    offset: u64,
+) -> Result<Mark, Refusal> {
+    Ok(atom_at(connection, form, message, list, offset)?.1)
 }
 
 /// #107: "given a message's atom list and a reference index, answer the text. [...] Refusals: 13 on the
-/// list, 6, 14, place 0." Places that are not asked for are not judged (OP-22).
-pub fn word(list: &AtomList, index: Index) -> Result<String, Refusal> {
+/// list, 6, 14, place 0." The connection's 14 stands between 13 and 6 (#109). Places that are not asked
+/// for are not judged (OP-22).
+pub fn word(connection: Connection, list: &AtomList, index: Index) -> Result<String, Refusal> {
     // 13: "a cache, list or gather buffer not of its stated size"
     if !list.is_of_its_stated_size() {
         return Err(refusal(13, 0));
     }
+    connection.judge()?;
     // 6: "reference index not below n"
     if index.0 >= u64::from(list.n) {
         return Err(refusal(6, 0));

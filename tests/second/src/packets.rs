@@ -2,7 +2,7 @@
 //! link's length prefix." Also drop and reset.
 
 use crate::text;
-use crate::{refusal, Refusal, CACHE_PLACES, EMPTY, LIST_PLACES, MESSAGE_MAX, PLACE_BYTES};
+use crate::{refusal, Connection, Refusal, CACHE_PLACES, EMPTY, LIST_PLACES, MESSAGE_MAX, PLACE_BYTES};
 
 /// "small record of sequence id, fragment due and gathered length". "The pending record names the id
 /// due; 0 there means none pending."
@@ -161,7 +161,7 @@ fn opening(packet: &[u8]) -> Result<Opening, u8> {
 /// "then 2 on the count and flags, then each reference in turn: 2, 22 (at the later one), 5, 23, 21,
 /// 14". The place is "the number of the reference, or 0 before the first"; 5's is its byte's, "in a
 /// packet counted from the packet's first byte" (#101).
-fn header(packet: &[u8], at: usize, is_utf8: bool, cache: &Cache) -> Result<Header, Refusal> {
+fn header(connection: Connection, packet: &[u8], at: usize, cache: &Cache) -> Result<Header, Refusal> {
     let n = usize::from(*packet.get(at).ok_or(refusal(2, 0))?);
     let mut at = at + 1;
     // "For n = 0 flags and references are absent, else n/2+1 flag bytes."
@@ -209,7 +209,7 @@ fn header(packet: &[u8], at: usize, is_utf8: bool, cache: &Cache) -> Result<Head
         if new {
             // "in Latin-1 or UTF-8 as the caller states was agreed"; 5: "text not UTF-8, or over 255
             // characters"
-            let text = text::atom_text(bytes, is_utf8).map_err(|bad| refusal(5, text_at + bad))?;
+            let text = text::atom_text(bytes, connection.is_utf8()).map_err(|bad| refusal(5, text_at + bad))?;
             // 23: "text over 32 bytes as UTF-8"
             if text.len() > PLACE_BYTES {
                 return Err(refusal(23, i));
@@ -266,9 +266,10 @@ fn after_fragment(record: &mut Record, sequence: u64, fragment: u64, gathered: u
 /// One packet.
 ///
 /// "In a packet: 13, 14 on the record, 1, 2, 20, ids with 24 for zero, 26 or 25, 24 for the wrong one,
-/// then 2 on the count and flags, then each reference in turn [...]; 12 last." Nothing is written
-/// before the last judgement: "every other refusal leaves all lent memory unchanged".
-pub fn packet(lent: &mut Lent, is_utf8: bool, packet: &[u8]) -> Result<Answer, Refusal> {
+/// then 2 on the count and flags, then each reference in turn [...]; 12 last." The connection's 14 stands
+/// next after 13 (#109). Nothing is written before the last judgement: "every other refusal leaves all
+/// lent memory unchanged". V4_NC is not used here: the payload is read by a call of its own (OQ-109-11).
+pub fn packet(connection: Connection, lent: &mut Lent, packet: &[u8]) -> Result<Answer, Refusal> {
     // 13, on all that is lent, whatever the packet's kind (OP-24).
     let sizes = lent.cache.is_of_its_stated_size()
         && lent.plain.is_of_its_stated_size()
@@ -277,13 +278,14 @@ pub fn packet(lent: &mut Lent, is_utf8: bool, packet: &[u8]) -> Result<Answer, R
     if !sizes {
         return Err(refusal(13, 0));
     }
+    connection.judge()?;
     // 14: "a pending record gathered past 65,536", whatever id is due (OP-23).
     if lent.record.gathered > MESSAGE_MAX as u64 {
         return Err(refusal(14, 0));
     }
     match opening(packet).map_err(|number| refusal(number, 0))? {
         Opening::Plain { at } => {
-            let header = header(packet, at, is_utf8, &lent.cache)?;
+            let header = header(connection, packet, at, &lent.cache)?;
             let length = packet.len().saturating_sub(header.payload_at);
             // 12: "term, payload or gathered bytes over 65,536"; the payload's, not the packet's
             // (OP-36).
@@ -298,7 +300,7 @@ pub fn packet(lent: &mut Lent, is_utf8: bool, packet: &[u8]) -> Result<Answer, R
             if lent.record.due != 0 {
                 return Err(refusal(26, 0));
             }
-            let header = header(packet, at, is_utf8, &lent.cache)?;
+            let header = header(connection, packet, at, &lent.cache)?;
             let payload = packet.get(header.payload_at..).unwrap_or(&[]);
             if payload.len() > MESSAGE_MAX {
                 return Err(refusal(12, 0));
@@ -328,8 +330,10 @@ pub fn packet(lent: &mut Lent, is_utf8: bool, packet: &[u8]) -> Result<Answer, R
     }
 }
 
-/// "A drop gives 14, 25"; "Finishing or dropping zeroes the record".
-pub fn drop_pending(record: &mut Record) -> Result<(), Refusal> {
+/// "A drop gives 14, 25", the connection's 14 first of all (OQ-109-2); "Finishing or dropping zeroes the
+/// record".
+pub fn drop_pending(connection: Connection, record: &mut Record) -> Result<(), Refusal> {
+    connection.judge()?;
     if record.gathered > MESSAGE_MAX as u64 {
         return Err(refusal(14, 0));
     }
@@ -341,7 +345,7 @@ pub fn drop_pending(record: &mut Record) -> Result<(), Refusal> {
 }
 
 /// "a reset only 13"; "a reset does too [zeroes the record], zeroes all places and makes all their
-/// lengths 65,535." It measures the cache (OP-25).
+/// lengths 65,535." It measures the cache (OP-25). It does not share the connection record (#109).
 pub fn reset(cache: &mut Cache, record: &mut Record) -> Result<(), Refusal> {
     if !cache.is_of_its_stated_size() {
         return Err(refusal(13, 0));

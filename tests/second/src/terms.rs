@@ -3,7 +3,7 @@
 
 use crate::looks::{Mark, Number, Stretch};
 use crate::text::{self, AtomList};
-use crate::{refusal, Refusal, DEPTH_MAX, MESSAGE_MAX, PLACE_BYTES, ROWS_MAX};
+use crate::{refusal, Connection, Refusal, DEPTH_MAX, MESSAGE_MAX, PLACE_BYTES, ROWS_MAX};
 
 /// "A standalone term is 131, one term, end. A payload is one or two terms without 131, then end".
 #[derive(Clone, Copy, Debug, PartialEq, Eq)]
@@ -128,18 +128,25 @@ pub struct Reading {
 
 /// Reads a message with room for `rows_lent` rows.
 ///
-/// "Order: 13, then 12 on the term bytes, then byte order."
-pub fn read(form: Form, message: &[u8], list: &AtomList, rows_lent: usize) -> Result<Reading, Refusal> {
+/// "Order: 13, then 12 on the term bytes, then byte order"; the connection's 14 between 13 and 12.
+pub fn read(
+    connection: Connection,
+    form: Form,
+    message: &[u8],
+    list: &AtomList,
+    rows_lent: usize,
+) -> Result<Reading, Refusal> {
     if !list.is_of_its_stated_size() {
         return Err(refusal(13, 0));
     }
+    connection.judge()?;
     // "term, payload or gathered bytes over 65,536"; the 131 counts (OP-01).
     if message.len() > MESSAGE_MAX {
         return Err(refusal(12, 0));
     }
     // "Rows at most 8,192 and at most what the lent table holds."
-    let mut reader =
-        Reader { bytes: message, at: 0, list, rows: Vec::new(), rows_max: rows_lent.min(ROWS_MAX) };
+    let rows_max = rows_lent.min(ROWS_MAX);
+    let mut reader = Reader { connection, bytes: message, at: 0, list, rows: Vec::new(), rows_max };
     let mut terms = Vec::new();
     match form {
         Form::Standalone => {
@@ -168,12 +175,13 @@ pub fn read(form: Form, message: &[u8], list: &AtomList, rows_lent: usize) -> Re
 /// The reading call: how many terms and how many rows, the table filled. "all past the rows is zero";
 /// "A refused reading leaves the lent table all zero".
 pub fn read_into(
+    connection: Connection,
     form: Form,
     message: &[u8],
     list: &AtomList,
     table: &mut [u64],
 ) -> Result<(usize, usize), Refusal> {
-    let answer = read(form, message, list, table.len());
+    let answer = read(connection, form, message, list, table.len());
     table.fill(0);
     let reading = answer?;
     for (word, row) in table.iter_mut().zip(&reading.rows) {
@@ -188,6 +196,7 @@ fn big_endian(bytes: &[u8]) -> u64 {
 }
 
 struct Reader<'a> {
+    connection: Connection,
     bytes: &'a [u8],
     /// the first byte not yet read
     at: usize,
@@ -528,7 +537,8 @@ impl<'a> Reader<'a> {
         Ok(creation)
     }
 
-    /// "node, ID, Serial, Creation (4 bytes; in 103 one). ID under 2^15, Serial under 2^13"
+    /// "node, ID, Serial, Creation (4 bytes; in 103 one). ID under 2^15, Serial under 2^13"; #109: "With
+    /// V4_NC on, tag 88 may use all 32 bits of ID and Serial".
     fn pid(&mut self, at: usize, tag: u8, depth: usize, whole: Option<usize>) -> Result<Term, Refusal> {
         let row = self.open(Kind::Pid, at, at, depth, whole)?;
         let node = self.atom_part(depth + 1, row)?;
@@ -536,7 +546,8 @@ impl<'a> Reader<'a> {
         let id = self.number_field(at, 4)?;
         let serial = self.number_field(at, 4)?;
         let creation = self.field(at, if tag == 88 { 4 } else { 1 })?;
-        if id >= 1 << 15 || serial >= 1 << 13 {
+        let wide = tag == 88 && self.connection.is_v4_nc();
+        if !wide && (id >= 1 << 15 || serial >= 1 << 13) {
             return Err(refusal(4, at));
         }
         let creation = Reader::creation(creation, at)?;
@@ -559,10 +570,12 @@ impl<'a> Reader<'a> {
     }
 
     /// "2-byte word count 1..3, node, Creation (4 bytes; in 114 one), words. In 114 the first word is
-    /// under 2^18". The count is a field before the first part (OP-12).
+    /// under 2^18"; #109: "With V4_NC on, [...] tag 90 up to 5 words". The count is a field before the
+    /// first part (OP-12).
     fn reference(&mut self, at: usize, tag: u8, depth: usize, whole: Option<usize>) -> Result<Term, Refusal> {
         let count = self.number_field(at, 2)?;
-        if !(1..=3).contains(&count) {
+        let most = if tag == 90 && self.connection.is_v4_nc() { 5 } else { 3 };
+        if !(1..=most).contains(&count) {
             return Err(refusal(4, at));
         }
         let row = self.open(Kind::Reference, at, at, depth, whole)?;

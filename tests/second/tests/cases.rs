@@ -1,6 +1,6 @@
 //! The cases of document 01, and what the outside vectors do not reach: the sizes, the orders between
-//! refusals, false state, wrong sizes, the bad bytes of texts. Everything goes through the protocol of
-//! DRIVE.md.
+//! refusals, false state, wrong sizes, the bad bytes of texts, the flags of the connection record.
+//! Everything goes through the protocol of DRIVE.md.
 
 mod model;
 
@@ -16,9 +16,21 @@ fn get(driver: &mut Driver, name: &str) -> Vec<u8> {
     unhex(answer.as_bytes()).expect("hex")
 }
 
-/// The writer's answer with so many rows, its output in place of its length.
-fn write(form: &str, message: &[u8], rows: usize) -> String {
+/// Sets the flags of the connection record.
+fn connect(driver: &mut Driver, flags: u8) {
+    assert_eq!(ask(driver, &format!("flags {flags}")), "ok");
+}
+
+/// A driver with these flags.
+fn with(flags: u8) -> Driver {
     let mut driver = Driver::new();
+    connect(&mut driver, flags);
+    driver
+}
+
+/// The writer's answer with these flags and so many rows, its output in place of its length.
+fn write_with(flags: u8, form: &str, message: &[u8], rows: usize) -> String {
+    let mut driver = with(flags);
     ask(&mut driver, &format!("lend table {rows}"));
     ask(&mut driver, "fill table a5");
     let answer = ask(&mut driver, &format!("write {form} empty {}", hex(message)));
@@ -33,7 +45,12 @@ fn write(form: &str, message: &[u8], rows: usize) -> String {
     }
 }
 
-/// The bench's line for a standalone term (empty list, 8,192 rows, 65,536 bytes of output).
+/// The writer's answer with both flags on, as the bench has them.
+fn write(form: &str, message: &[u8], rows: usize) -> String {
+    write_with(3, form, message, rows)
+}
+
+/// The bench's line for a standalone term (both flags, empty list, 8,192 rows, 65,536 bytes of output).
 fn bench(message: &[u8]) -> String {
     write("standalone", message, 8_192)
 }
@@ -46,9 +63,9 @@ fn refused(message: &[u8], number: u8, place: usize) {
     assert_eq!(bench(message), format!("refused {number} {place}"), "{}", &hex(message)[..40.min(2 * message.len())]);
 }
 
-/// The reader's answer with so many rows.
-fn read(form: &str, message: &[u8], rows: usize) -> String {
-    let mut driver = Driver::new();
+/// The reader's answer with these flags and so many rows.
+fn read_with(flags: u8, form: &str, message: &[u8], rows: usize) -> String {
+    let mut driver = with(flags);
     ask(&mut driver, &format!("lend table {rows}"));
     ask(&mut driver, "fill table a5");
     let answer = ask(&mut driver, &format!("read {form} empty {}", hex(message)));
@@ -57,6 +74,11 @@ fn read(form: &str, message: &[u8], rows: usize) -> String {
         assert!(get(&mut driver, "table").iter().all(|byte| *byte == 0));
     }
     answer
+}
+
+/// The reader's answer with both flags on.
+fn read(form: &str, message: &[u8], rows: usize) -> String {
+    read_with(3, form, message, rows)
 }
 
 /// The list's words are these, and the next index is 6.
@@ -102,7 +124,7 @@ fn the_fragmented_example_of_001() {
     let mut driver = Driver::new();
     // "places 1,034 and 5 filled before"
     let filled = [131, 68, 2, 0x8c, 0, 10, 1, b'r', 5, 1, b's'];
-    assert_eq!(ask(&mut driver, &format!("packet 1 {}", hex(&filled))), "plain 11 0");
+    assert_eq!(ask(&mut driver, &format!("packet {}", hex(&filled))), "plain 11 0");
     words(&mut driver, "plain", &["r", "s"]);
     let ids = [0, 0, 2, 168, 0, 0, 5, 83, 0, 0, 0, 0, 0, 0, 0];
     let start = join(&[
@@ -115,16 +137,16 @@ fn the_fragmented_example_of_001() {
         &[104, 3, 82, 3, 103, 82, 0, 0, 0, 0, 245, 0, 0, 0, 2, 2, 104, 2, 82, 4, 109, 0, 0, 0, 128],
         &[0; 103],
     ]);
-    assert_eq!(ask(&mut driver, &format!("packet 1 {}", hex(&start))), "pending 1 148");
+    assert_eq!(ask(&mut driver, &format!("packet {}", hex(&start))), "pending 1 148");
     let started = ["r", "s", "reg", "call", "set_get_state"];
     words(&mut driver, "pending", &started);
     // Another header in between renames place 1,034 and the last fragment still has the old text.
     let between = [131, 68, 1, 0x0c, 10, 1, b'x'];
-    assert_eq!(ask(&mut driver, &format!("packet 1 {}", hex(&between))), "plain 7 0");
+    assert_eq!(ask(&mut driver, &format!("packet {}", hex(&between))), "plain 7 0");
     words(&mut driver, "plain", &["x"]);
     words(&mut driver, "pending", &started);
     let last = join(&[&[131, 70], &ids, &[1], &[0; 25]]);
-    assert_eq!(ask(&mut driver, &format!("packet 1 {}", hex(&last))), "complete 173");
+    assert_eq!(ask(&mut driver, &format!("packet {}", hex(&last))), "complete 173");
     words(&mut driver, "pending", &started);
     assert_eq!(ask(&mut driver, "get record"), "00".repeat(24));
     let payload = get(&mut driver, "gather")[..173].to_vec();
@@ -358,8 +380,8 @@ fn depth() {
     refused(&tuples(64, &[119, 1, 255]), 5, 131);
     refused(&tuples(64, &[82, 0]), 6, 129);
     refused(&tuples(64, &[108, 0, 0, 0, 0, 108, 0, 0, 0, 0, 106]), 8, 139);
-    refused(&tuples(64, &[90, 0, 4]), 4, 129);
-    refused(&tuples(64, &[90, 0, 3]), 8, 129);
+    refused(&tuples(64, &[90, 0, 6]), 4, 129);
+    refused(&tuples(64, &[90, 0, 5]), 8, 129);
     // OP-50: a pid at depth 64 is 8 at its node.
     refused(&tuples(63, &[103, 119, 1, b'a', 0]), 8, 128);
     refused(&tuples(63, &[103, 255]), 4, 128);
@@ -381,7 +403,7 @@ fn parts_that_must_be_atoms() {
     refused(&[131, 88, 108, 0, 0, 0, 0, 119, 0, 0, 0, 0, 0, 0, 0, 0, 0, 0, 0, 0, 0], 4, 2);
     refused(&[131, 88, 119, 1], 2, 2);
     refused(&[131, 88, 119, 0, 255, 255, 255, 255, 255, 255, 255, 255, 0, 0, 0], 2, 1);
-    refused(&[131, 88, 119, 0, 0, 0, 128, 0, 0, 0, 0, 0, 0, 0, 0, 0], 4, 1);
+    refused(&[131, 103, 119, 0, 0, 0, 128, 0, 0, 0, 0, 0, 0], 4, 1);
     refused(&[131, 113, 119, 0], 2, 4);
     refused(&[131, 113, 119, 0, 119, 0], 2, 6);
     refused(&[131, 113, 119, 0, 119, 0, 98, 0, 0, 0, 1], 4, 6);
@@ -570,7 +592,7 @@ fn atoms_asked_for() {
 /// A driver with place 7 holding "a", place 8 "bc".
 fn filled() -> Driver {
     let mut driver = Driver::new();
-    assert_eq!(ask(&mut driver, "packet 1 834402880007016108026263"), "plain 12 0");
+    assert_eq!(ask(&mut driver, "packet 834402880007016108026263"), "plain 12 0");
     driver
 }
 
@@ -583,8 +605,8 @@ fn packet_sizes_and_false_state() {
         ask(&mut driver, &format!("lend {wrong}"));
         ask(&mut driver, "fill record ff");
         ask(&mut driver, "same");
-        assert_eq!(ask(&mut driver, "packet 1 -"), "refused 13 0");
-        assert_eq!(ask(&mut driver, "packet 1 834400"), "refused 13 0");
+        assert_eq!(ask(&mut driver, "packet -"), "refused 13 0");
+        assert_eq!(ask(&mut driver, "packet 834400"), "refused 13 0");
         assert_eq!(ask(&mut driver, "changed"), "-");
         let resets = if wrong.starts_with("cache") || wrong.starts_with("lengths") { "refused 13 0" } else { "ok" };
         assert_eq!(ask(&mut driver, "reset"), resets);
@@ -594,44 +616,44 @@ fn packet_sizes_and_false_state() {
         let mut driver = Driver::new();
         ask(&mut driver, &format!("set record 15 {due}0000000000010001"));
         ask(&mut driver, "same");
-        assert_eq!(ask(&mut driver, "packet 1 -"), "refused 14 0");
-        assert_eq!(ask(&mut driver, "packet 1 834400"), "refused 14 0");
+        assert_eq!(ask(&mut driver, "packet -"), "refused 14 0");
+        assert_eq!(ask(&mut driver, "packet 834400"), "refused 14 0");
         assert_eq!(ask(&mut driver, "drop"), "refused 14 0");
         assert_eq!(ask(&mut driver, "changed"), "-");
         assert_eq!(ask(&mut driver, "reset"), "ok");
         assert_eq!(ask(&mut driver, "changed"), "record");
         assert_eq!(ask(&mut driver, "get record"), "00".repeat(24));
         ask(&mut driver, &format!("set record 15 {due}0000000000010000"));
-        assert_eq!(ask(&mut driver, "packet 1 834400"), "plain 3 0");
+        assert_eq!(ask(&mut driver, "packet 834400"), "plain 3 0");
         assert_eq!(ask(&mut driver, "drop"), if due == "00" { "refused 25 0" } else { "ok" });
     }
     // A cached place: 21, then 14; at the reference.
     let mut driver = filled();
     // each reference in turn: the first one's 21 before the second one's 2
-    assert_eq!(ask(&mut driver, "packet 1 834402000009"), "refused 21 0");
-    assert_eq!(ask(&mut driver, "packet 1 834402000007"), "refused 2 1");
-    assert_eq!(ask(&mut driver, "packet 1 83440200000709"), "refused 21 1");
+    assert_eq!(ask(&mut driver, "packet 834402000009"), "refused 21 0");
+    assert_eq!(ask(&mut driver, "packet 834402000007"), "refused 2 1");
+    assert_eq!(ask(&mut driver, "packet 83440200000709"), "refused 21 1");
     ask(&mut driver, "set lengths 18 0021");
-    assert_eq!(ask(&mut driver, "packet 1 83440200000709"), "refused 14 1");
+    assert_eq!(ask(&mut driver, "packet 83440200000709"), "refused 14 1");
     ask(&mut driver, "set lengths 18 fffe");
-    assert_eq!(ask(&mut driver, "packet 1 83440200000709"), "refused 14 1");
+    assert_eq!(ask(&mut driver, "packet 83440200000709"), "refused 14 1");
     ask(&mut driver, "set cache 288 ff");
     ask(&mut driver, "set lengths 18 0001");
-    assert_eq!(ask(&mut driver, "packet 1 83440200000709"), "refused 14 1");
+    assert_eq!(ask(&mut driver, "packet 83440200000709"), "refused 14 1");
     // OP-40: bytes after a cached text are not judged, the list's copy has zeros there.
     ask(&mut driver, "set lengths 18 0000");
-    assert_eq!(ask(&mut driver, "packet 1 83440200000709"), "plain 7 0");
+    assert_eq!(ask(&mut driver, "packet 83440200000709"), "plain 7 0");
     words(&mut driver, "plain", &["a", ""]);
     assert_eq!(get(&mut driver, "plain-texts")[32], 0);
     // OP-41: a place to be filled new may hold any length before.
     ask(&mut driver, "set lengths 18 0030");
-    assert_eq!(ask(&mut driver, "packet 1 834401080900"), "plain 6 0");
+    assert_eq!(ask(&mut driver, "packet 834401080900"), "plain 6 0");
     words(&mut driver, "plain", &[""]);
     assert_eq!(get(&mut driver, "lengths")[18..20], [0, 0]);
     assert_eq!(get(&mut driver, "cache")[288], 0);
     // Segment 7, internal index 255: place 2,047, the last.
-    assert_eq!(ask(&mut driver, "packet 1 83440107ff"), "refused 21 0");
-    assert_eq!(ask(&mut driver, "packet 1 8344010fff0162"), "plain 7 0");
+    assert_eq!(ask(&mut driver, "packet 83440107ff"), "refused 21 0");
+    assert_eq!(ask(&mut driver, "packet 8344010fff0162"), "plain 7 0");
     assert_eq!(get(&mut driver, "cache")[65_504], b'b');
     assert_eq!(get(&mut driver, "lengths")[4_094..], [0, 1]);
 }
@@ -673,11 +695,11 @@ fn headers() {
     refusals.push((&long, "refused 23 0"));
     for (packet, answer) in &refusals {
         let packet = packet.replace(' ', "");
-        assert_eq!(ask(&mut driver, &format!("packet 1 {packet}")), *answer, "{packet}");
+        assert_eq!(ask(&mut driver, &format!("packet {packet}")), *answer, "{packet}");
         assert_eq!(ask(&mut driver, "changed"), "-");
     }
     // Cached after cached is fine.
-    assert_eq!(ask(&mut driver, "packet 1 83440200000707"), "plain 7 0");
+    assert_eq!(ask(&mut driver, "packet 83440200000707"), "plain 7 0");
     assert_eq!(ask(&mut driver, "changed"), "plain-texts plain-lengths");
     // "list places from n on have length 0", and zero bytes (OP-39).
     let mut texts = vec![0; 8_160];
@@ -688,17 +710,19 @@ fn headers() {
     assert_eq!(get(&mut driver, "plain-lengths"), lengths);
     // Latin-1: 16 characters of two bytes are 32; 17 are 23.
     let new = |count: usize| format!("8344 01 08 0a {count:02x} {}", "e9".repeat(count)).replace(' ', "");
-    assert_eq!(ask(&mut driver, &format!("packet 0 {}", new(16))), "plain 22 0");
+    connect(&mut driver, 0);
+    assert_eq!(ask(&mut driver, &format!("packet {}", new(16))), "plain 22 0");
     words(&mut driver, "plain", &["\u{e9}".repeat(16).as_str()]);
     assert_eq!(get(&mut driver, "cache")[320..352], [0xc3, 0xa9].repeat(16));
-    assert_eq!(ask(&mut driver, &format!("packet 0 {}", new(17))), "refused 23 0");
-    assert_eq!(ask(&mut driver, &format!("packet 1 {}", new(16))), "refused 5 7");
+    assert_eq!(ask(&mut driver, &format!("packet {}", new(17))), "refused 23 0");
+    connect(&mut driver, 1);
+    assert_eq!(ask(&mut driver, &format!("packet {}", new(16))), "refused 5 7");
     // LongAtoms: odd n in the high half of the last flag byte, even n in the low half of the last.
-    assert_eq!(ask(&mut driver, "packet 1 834401180a000161"), "plain 8 0");
-    assert_eq!(ask(&mut driver, "packet 1 83440288010a0001610b000162"), "plain 13 0");
-    assert_eq!(ask(&mut driver, "packet 1 834402880e0a01610b0162"), "plain 11 0");
-    assert_eq!(ask(&mut driver, "packet 1 83440288f00a01610b0162"), "plain 11 0");
-    assert_eq!(ask(&mut driver, "packet 1 834401e80a0161"), "plain 7 0");
+    assert_eq!(ask(&mut driver, "packet 834401180a000161"), "plain 8 0");
+    assert_eq!(ask(&mut driver, "packet 83440288010a0001610b000162"), "plain 13 0");
+    assert_eq!(ask(&mut driver, "packet 834402880e0a01610b0162"), "plain 11 0");
+    assert_eq!(ask(&mut driver, "packet 83440288f00a01610b0162"), "plain 11 0");
+    assert_eq!(ask(&mut driver, "packet 834401e80a0161"), "plain 7 0");
     // n = 255, and an 82 of 254 and 255.
     let mut packet = vec![131, 68, 255];
     packet.extend(vec![0x88; 127]);
@@ -707,7 +731,7 @@ fn headers() {
         packet.extend([i, 1, b'a' + i % 26]);
     }
     packet.extend([104, 1, 82, 254]);
-    assert_eq!(ask(&mut driver, &format!("packet 1 {}", hex(&packet))), "plain 896 4");
+    assert_eq!(ask(&mut driver, &format!("packet {}", hex(&packet))), "plain 896 4");
     assert_eq!(ask(&mut driver, "write payload plain 680152fe"), "ok 6");
     assert_eq!(ask(&mut driver, "write payload plain 680152ff"), "refused 6 2");
     assert_eq!(ask(&mut driver, "word plain 253"), "text 74");
@@ -717,10 +741,10 @@ fn headers() {
     // The payload, not the packet, is at most 65,536 bytes.
     packet.truncate(packet.len() - 4);
     packet.extend(vec![0; 65_536]);
-    assert_eq!(ask(&mut driver, &format!("packet 1 {}", hex(&packet))), "plain 896 65536");
+    assert_eq!(ask(&mut driver, &format!("packet {}", hex(&packet))), "plain 896 65536");
     packet.push(0);
     ask(&mut driver, "same");
-    assert_eq!(ask(&mut driver, &format!("packet 1 {}", hex(&packet))), "refused 12 0");
+    assert_eq!(ask(&mut driver, &format!("packet {}", hex(&packet))), "refused 12 0");
     assert_eq!(ask(&mut driver, "changed"), "-");
 }
 
@@ -734,7 +758,7 @@ fn fragments() {
     let mut packet = |line: String| {
         let before = get(&mut driver, "gather");
         ask(&mut driver, "same");
-        let answer = ask(&mut driver, &format!("packet 1 {line}"));
+        let answer = ask(&mut driver, &format!("packet {line}"));
         if answer.starts_with("refused") {
             assert_eq!(ask(&mut driver, "changed"), "-");
             assert_eq!(get(&mut driver, "gather"), before);
@@ -767,17 +791,17 @@ fn fragments() {
     ask(&mut driver, "fill gather 33");
     ask(&mut driver, "same");
     let whole = fragment(69, 9, 1, &[1, 0, 7, 106, 106]);
-    assert_eq!(ask(&mut driver, &format!("packet 1 {whole}")), "complete 2");
+    assert_eq!(ask(&mut driver, &format!("packet {whole}")), "complete 2");
     assert_eq!(ask(&mut driver, "changed"), "pending-count pending-texts pending-lengths record gather");
     assert_eq!(ask(&mut driver, "get record"), "00".repeat(24));
     assert_eq!(get(&mut driver, "gather")[..4], [106, 106, 0x33, 0x33]);
-    assert_eq!(ask(&mut driver, &format!("packet 1 {}", fragment(70, 9, 1, &[]))), "refused 25 0");
+    assert_eq!(ask(&mut driver, &format!("packet {}", fragment(70, 9, 1, &[]))), "refused 25 0");
     // A start's payload: 65,536 pass, one more is 12 and takes no entry.
     let start = |count: usize| fragment(69, 9, 1, &join(&[&[1, 8, 99, 1, b'z'], &vec![5; count]]));
     ask(&mut driver, "same");
-    assert_eq!(ask(&mut driver, &format!("packet 1 {}", start(65_537))), "refused 12 0");
+    assert_eq!(ask(&mut driver, &format!("packet {}", start(65_537))), "refused 12 0");
     assert_eq!(ask(&mut driver, "changed"), "-");
-    assert_eq!(ask(&mut driver, &format!("packet 1 {}", start(65_536))), "complete 65536");
+    assert_eq!(ask(&mut driver, &format!("packet {}", start(65_536))), "complete 65536");
     words(&mut driver, "pending", &["z"]);
     assert_eq!(get(&mut driver, "cache")[32 * 99], b'z');
     // A reset touches cache and record only.
@@ -928,7 +952,7 @@ fn a_word_of_a_false_list() {
 #[test]
 fn each_message_keeps_its_own_words() {
     let mut driver = filled();
-    let packet = |driver: &mut Driver, bytes: &str| ask(driver, &format!("packet 1 {bytes}"));
+    let packet = |driver: &mut Driver, bytes: &str| ask(driver, &format!("packet {bytes}"));
     // A sequence names places 7 ("a") and 8 ("bc") as cached and fills place 9 with "ours".
     let start = fragment(69, 5, 3, &join(&[&[3, 0, 0x08, 7, 8, 9, 4], b"ours", &[104]]));
     assert_eq!(packet(&mut driver, &start), "pending 2 1");
@@ -975,8 +999,9 @@ fn lines_that_are_no_commands() {
         "lend plain-count 1", "lend cache", "lend cache x", "get", "get cache ", "same x", "changed x",
         "read standalone", "read both empty 83", "read standalone none 83", "read standalone empty",
         "read standalone empty 8", "kind", "kind x", "kind 4294967296", "write standalone empty 83 83",
-        "number standalone empty 83", "text standalone empty x 83", "mark standalone empty 0", "packet 2 83",
-        "packet 1", "drop 1", "reset 1", "read\tx", "word", "word plain", "word 0", "word plain 0 0", "word plain ",
+        "number standalone empty 83", "text standalone empty x 83", "mark standalone empty 0", "packet 1 83",
+        "packet 83 83", "packet", "packet 8", "packet ", "packet 1", "drop 1", "reset 1", "read\tx", "word",
+        "word plain", "word 0", "word plain 0 0", "word plain ",
         "word plain -", "word plain x", "word plain 00x", "word plain -1", "word plain 4294967296", "word none 0",
         "word 0 plain", "word  plain 0", "word plain 0 ", "words plain 0", "reference 0 1 83440108000161",
         "reference 0 plain", "place 7", "place",
@@ -1033,11 +1058,11 @@ fn messages_with(atom: &[u8]) -> Vec<(&'static str, Vec<u8>, usize)> {
     standalone.chain(payload.iter().map(|before| ("payload", join(&[before, atom]), before.len()))).collect()
 }
 
-/// Each call that reads messages answers this refusal; the text asked for is empty.
-fn refused_in_every_call(form: &str, message: &[u8], answer: &str) {
-    assert_eq!(read(form, message, 40), answer, "{}", hex(message));
-    assert_eq!(write(form, message, 40), answer, "{}", hex(message));
-    let mut driver = Driver::new();
+/// Each call that reads messages answers this refusal with these flags; the text asked for is empty.
+fn refused_in_every_call(flags: u8, form: &str, message: &[u8], answer: &str) {
+    assert_eq!(read_with(flags, form, message, 40), answer, "{flags} {}", hex(message));
+    assert_eq!(write_with(flags, form, message, 40), answer, "{flags} {}", hex(message));
+    let mut driver = with(flags);
     let bytes = hex(message);
     for offset in [0, 1, message.len()] {
         assert_eq!(ask(&mut driver, &format!("number {form} empty {offset} {bytes}")), answer, "{bytes}");
@@ -1050,7 +1075,7 @@ fn refused_in_every_call(form: &str, message: &[u8], answer: &str) {
 fn bad_in_messages(tag: u8, text: &[u8], bad: usize) {
     let fields = if [100, 118].contains(&tag) { 3 } else { 2 };
     for (form, message, before) in messages_with(&atom(tag, text)) {
-        refused_in_every_call(form, &message, &format!("refused 5 {}", before + fields + bad));
+        refused_in_every_call(1, form, &message, &format!("refused 5 {}", before + fields + bad));
     }
 }
 
@@ -1083,10 +1108,11 @@ fn headers_with(text: &[u8], long: bool, number: usize) -> Vec<(Vec<u8>, usize)>
 }
 
 /// The packet call's answer; where it is a refusal, no lent byte changes.
-fn packet_call(agreed: u8, packet: &[u8]) -> String {
+fn packet_call(flags: u8, packet: &[u8]) -> String {
     let mut driver = filled();
     ask(&mut driver, "same");
-    let answer = ask(&mut driver, &format!("packet {agreed} {}", hex(packet)));
+    connect(&mut driver, flags);
+    let answer = ask(&mut driver, &format!("packet {}", hex(packet)));
     if answer.starts_with("refused") {
         assert_eq!(ask(&mut driver, "changed"), "-");
     }
@@ -1095,13 +1121,13 @@ fn packet_call(agreed: u8, packet: &[u8]) -> String {
 
 /// 5 at this byte of the text in headers: as first, second and later reference, with each length that
 /// can tell the text's.
-fn bad_in_headers(agreed: u8, text: &[u8], bad: usize) {
+fn bad_in_headers(flags: u8, text: &[u8], bad: usize) {
     for number in [0, 1, 2, 5] {
         for long in [false, true] {
             if long || text.len() < 256 {
                 for (packet, text_at) in headers_with(text, long, number) {
                     let answer = format!("refused 5 {}", text_at + bad);
-                    assert_eq!(packet_call(agreed, &packet), answer, "{number} {long} {}", hex(&packet));
+                    assert_eq!(packet_call(flags, &packet), answer, "{number} {long} {}", hex(&packet));
                 }
             }
         }
@@ -1276,7 +1302,7 @@ fn the_first_byte_after_255_characters() {
                     let message = join(&[&[131], &atom(118, &text)]);
                     match bad {
                         Some(bad) => {
-                            refused_in_every_call("standalone", &message, &format!("refused 5 {}", 4 + bad));
+                            refused_in_every_call(3, "standalone", &message, &format!("refused 5 {}", 4 + bad));
                             for number in [0, 1] {
                                 for (packet, text_at) in headers_with(&text, true, number) {
                                     assert_eq!(packet_call(1, &packet), format!("refused 5 {}", text_at + bad));
@@ -1403,11 +1429,11 @@ fn what_comes_before_5_and_after_in_a_header() {
     let bad = [1, 8, 9, 1, 0xff];
     assert_eq!(packet_call(1, &join(&[&[131, 68], &bad, &vec![0; 65_537]])), "refused 5 6");
     let mut driver = filled();
-    let start = |id: u64| format!("packet 1 {}", fragment(69, 1, id, &bad));
+    let start = |id: u64| format!("packet {}", fragment(69, 1, id, &bad));
     assert_eq!(ask(&mut driver, &start(0)), "refused 24 0");
     assert_eq!(ask(&mut driver, &start(1)), "refused 5 22");
     assert_eq!(ask(&mut driver, &start(u64::MAX)), "refused 5 22");
-    assert_eq!(ask(&mut driver, &format!("packet 1 {}", fragment(69, 1, 2, &[0]))), "pending 1 0");
+    assert_eq!(ask(&mut driver, &format!("packet {}", fragment(69, 1, 2, &[0]))), "pending 1 0");
     assert_eq!(ask(&mut driver, &start(2)), "refused 26 0");
 }
 
@@ -1429,22 +1455,674 @@ fn a_kept_text_that_is_bad_is_14() {
         for (packet, answer) in
             [("8344010009", "refused 14 0"), ("83440200000709", "refused 14 1"), ("8344030000070809", "refused 14 2")]
         {
-            assert_eq!(ask(&mut driver, &format!("packet 1 {packet}")), answer);
+            assert_eq!(ask(&mut driver, &format!("packet {packet}")), answer);
         }
         let start = fragment(69, 1, 2, &[2, 0, 0, 7, 9]);
-        assert_eq!(ask(&mut driver, &format!("packet 1 {start}")), "refused 14 1");
+        assert_eq!(ask(&mut driver, &format!("packet {start}")), "refused 14 1");
     }
 }
 
 #[test]
 fn a_gathered_payload_counts_from_its_own_first_byte() {
     let mut driver = filled();
-    let mut packet = |line: String| ask(&mut driver, &format!("packet 1 {line}"));
+    let mut packet = |line: String| ask(&mut driver, &format!("packet {line}"));
     assert_eq!(packet(fragment(69, 1, 2, &[1, 0, 7, 104, 2, 82])), "pending 1 3");
     assert_eq!(packet(fragment(70, 1, 1, &[0, 119, 3, b'a', 0xe2, b'a'])), "complete 9");
     let payload = hex(&get(&mut driver, "gather")[..9]);
     assert_eq!(ask(&mut driver, &format!("read payload pending {payload}")), "refused 5 8");
     // A plain packet's payload likewise; its packet is taken.
-    assert_eq!(ask(&mut driver, "packet 1 8344007701ff"), "plain 3 3");
+    assert_eq!(ask(&mut driver, "packet 8344007701ff"), "plain 3 3");
     assert_eq!(ask(&mut driver, "write payload plain 7701ff"), "refused 5 2");
+}
+
+/// Bytes with a flag that is not known: each alone, beside the known ones, and all.
+const UNKNOWN: [u8; 14] = [4, 8, 16, 32, 64, 128, 5, 6, 7, 129, 131, 252, 254, 255];
+
+/// A pid of node `n` with this tag, 88 or 103.
+fn pid(tag: u8, id: u32, serial: u32) -> Vec<u8> {
+    let creation: &[u8] = if tag == 88 { &[0, 0, 0, 2] } else { &[2] };
+    join(&[&[tag, 119, 1, b'n'], &id.to_be_bytes(), &serial.to_be_bytes(), creation])
+}
+
+/// A reference of node `n` with this tag, 90 or 114, and these words.
+fn reference(tag: u8, words: &[u32]) -> Vec<u8> {
+    let creation: &[u8] = if tag == 90 { &[0, 0, 0, 2] } else { &[2] };
+    let words_bytes: Vec<u8> = words.iter().flat_map(|word| word.to_be_bytes()).collect();
+    join(&[&[tag], &(words.len() as u16).to_be_bytes(), &[119, 1, b'n'], creation, &words_bytes])
+}
+
+/// Messages that hold this term, each with its form and how many bytes stand before the term.
+fn messages_of(term: &[u8]) -> Vec<(&'static str, Vec<u8>, usize)> {
+    let around: [(&[u8], &[u8]); 7] = [
+        (&[], &[]),
+        (&[104, 3, 97, 5], &[106]),
+        (&[108, 0, 0, 0, 0], &[]),
+        (&[108, 0, 0, 0, 1], &[106]),
+        (&[108, 0, 0, 0, 1, 106], &[]),
+        (&[116, 0, 0, 0, 1], &[106]),
+        (&[116, 0, 0, 0, 1, 106], &[]),
+    ];
+    let beside: [(&[u8], &[u8]); 2] = [(&[106], &[]), (&[], &[106])];
+    let mut messages = Vec::new();
+    for (before, after) in around {
+        messages.push(("standalone", join(&[&[131], before, term, after]), 1 + before.len()));
+    }
+    for (before, after) in around.iter().chain(&beside) {
+        messages.push(("payload", join(&[before, term, after]), before.len()));
+    }
+    messages
+}
+
+/// With these flags a pid or reference is read, and written as `canonical`, wherever it may stand.
+fn taken(flags: u8, term: &[u8], canonical: &[u8]) {
+    let alone = write_with(flags, "standalone", &join(&[&[131], term]), 2);
+    assert_eq!(alone, format!("ok 83{}", hex(canonical)));
+    let node = if [90, 114].contains(&term[0]) { 3 } else { 1 };
+    for (form, message, before) in messages_of(term) {
+        let bytes = hex(&message);
+        assert!(read_with(flags, form, &message, 40).starts_with("ok "), "{flags} {bytes}");
+        let written = write_with(flags, form, &message, 40);
+        assert!(written.starts_with("ok ") && written.contains(&hex(canonical)), "{flags} {bytes} {written}");
+        let mut driver = with(flags);
+        let node_at = before + node;
+        assert_eq!(ask(&mut driver, &format!("number {form} empty 0 {bytes}")), "neither");
+        assert_eq!(ask(&mut driver, &format!("mark {form} empty {node_at} {bytes}")), "utf8");
+        let text = ask(&mut driver, &format!("text {form} empty {node_at} {bytes}"));
+        assert_eq!(text, format!("message {} 1", node_at + 2));
+    }
+}
+
+/// With these flags a term is 4 at its tag, wherever it may stand.
+fn not_taken(flags: u8, term: &[u8]) {
+    for (form, message, before) in messages_of(term) {
+        refused_in_every_call(flags, form, &message, &format!("refused 4 {before}"));
+    }
+}
+
+#[test]
+fn the_line_that_sets_the_flags() {
+    // 1 at the start: header texts are UTF-8, a wide pid is 4.
+    let wide = hex(&pid(88, 1 << 15, 0));
+    let is_1 = |driver: &mut Driver| {
+        assert_eq!(ask(driver, "packet 834401080902c3a9"), "plain 8 0");
+        words(driver, "plain", &["\u{e9}"]);
+        assert_eq!(ask(driver, &format!("read payload empty {wide}")), "refused 4 0");
+    };
+    is_1(&mut Driver::new());
+    // What is no flags line changes neither flags nor memory.
+    let mut driver = filled();
+    ask(&mut driver, "same");
+    for line in [
+        "flags", "flags ", "flags -", "flags x", "flags 1x", "flags 256", "flags 257", "flags 258", "flags 511",
+        "flags 65538", "flags 4294967295", "flags 4294967298", "flags 18446744073709551618", "flags -1", "flags +2",
+        "flags 2 2", "flags  2", "flags 2 ", "flags 0x2", "flags ff", "flag 2", "Flags 2", "get flags", "set flags 0 02",
+        "fill flags 02", "lend flags 1", "packet 2 834400", "packet 0 834400",
+    ] {
+        assert!(ask(&mut driver, line).starts_with("? "), "{line}");
+        assert_eq!(ask(&mut driver, "changed"), "-");
+    }
+    is_1(&mut driver);
+    // Every byte is taken, known or not; the memory does not know it.
+    ask(&mut driver, "same");
+    for flags in 0..=255 {
+        connect(&mut driver, flags);
+        assert_eq!(ask(&mut driver, "changed"), "-");
+        let answer = if flags > 3 { "refused 14 0" } else { "refused 2 1" };
+        assert_eq!(ask(&mut driver, "read standalone empty 83"), answer, "{flags}");
+    }
+    // A reset and a line that is no command leave them.
+    connect(&mut driver, 2);
+    assert_eq!(ask(&mut driver, "reset"), "ok");
+    assert!(ask(&mut driver, "flags 300").starts_with("? "));
+    assert_eq!(ask(&mut driver, &format!("read payload empty {wide}")), "ok 1 2");
+    assert_eq!(ask(&mut driver, "packet 834401080901ff"), "plain 7 0");
+    words(&mut driver, "plain", &["\u{ff}"]);
+}
+
+/// A driver with these flags on which each call is accepted if they are known: `filled`, a pending
+/// sequence 5 with id 1 due.
+fn ready(flags: u8) -> Driver {
+    let mut driver = filled();
+    assert_eq!(ask(&mut driver, &format!("packet {}", fragment(69, 5, 2, &[1, 0, 7, 106]))), "pending 1 1");
+    ask(&mut driver, "lend table 4");
+    ask(&mut driver, "lend output 9");
+    ask(&mut driver, "fill table a5");
+    ask(&mut driver, "fill output a5");
+    ask(&mut driver, "same");
+    connect(&mut driver, flags);
+    driver
+}
+
+/// Calls that a `ready` driver accepts, with their answers and the memory that they change.
+fn accepted_calls() -> Vec<(String, &'static str, &'static str)> {
+    let line = |line: &str| line.to_string();
+    vec![
+        (line("read standalone plain 8368015200"), "ok 1 2", "table"),
+        (line("read payload pending 52006a"), "ok 2 2", "table"),
+        (line("read payload empty 6a"), "ok 1 1", "table"),
+        (line("write standalone plain 836105"), "ok 3", "table output"),
+        (line("write payload pending 5200"), "ok 4", "table output"),
+        (line("write payload empty 6a6a"), "ok 4", "table output"),
+        (line("number standalone plain 0 836105"), "whole 5", "-"),
+        (line("number payload empty 7 6a"), "neither", "-"),
+        (line("text standalone plain 1 83770161"), "message 3 1", "-"),
+        (line("text payload plain 0 5201"), "list 32 2", "-"),
+        (line("mark standalone plain 1 83730161"), "latin1", "-"),
+        (line("mark payload empty 0 770161"), "utf8", "-"),
+        (line("word plain 1"), "text 6263", "-"),
+        (line("word pending 0"), "text 61", "-"),
+        (line("packet 834400"), "plain 3 0", "plain-count plain-texts plain-lengths"),
+        (line("packet 834401080a00"), "plain 6 0", "lengths plain-count plain-texts plain-lengths"),
+        (format!("packet {}", fragment(70, 5, 1, &[106])), "complete 2", "record gather"),
+        (line("drop"), "ok", "record"),
+    ]
+}
+
+#[test]
+fn an_unknown_flag_in_each_call() {
+    for (line, answer, changed) in accepted_calls() {
+        for flags in 0..=3 {
+            let mut driver = ready(flags);
+            assert_eq!(ask(&mut driver, &line), answer, "{flags} {line}");
+            assert_eq!(ask(&mut driver, "changed"), changed, "{flags} {line}");
+        }
+        for flags in 4..=255 {
+            let mut driver = ready(flags);
+            let refused = if line.starts_with("text") { "empty" } else { "refused 14 0" };
+            assert_eq!(ask(&mut driver, &line), refused, "{flags} {line}");
+            // "A refused reading leaves the lent table all zero"; the writer's scratch table ends so too.
+            let zeroes = line.starts_with("read") || line.starts_with("write");
+            assert_eq!(ask(&mut driver, "changed"), if zeroes { "table" } else { "-" }, "{flags} {line}");
+            assert!(!zeroes || get(&mut driver, "table").iter().all(|byte| *byte == 0));
+            // With known flags the same call then does what it would have done.
+            connect(&mut driver, flags & 3);
+            assert_eq!(ask(&mut driver, &line), answer, "{flags} {line}");
+        }
+    }
+    // A reset has no connection record, and `kind` is no call.
+    for flags in UNKNOWN {
+        let mut driver = ready(1);
+        assert_eq!(ask(&mut driver, "read payload empty 6a"), "ok 1 1");
+        connect(&mut driver, flags);
+        assert_eq!(ask(&mut driver, "kind 0"), "list 0 -");
+        ask(&mut driver, "same");
+        assert_eq!(ask(&mut driver, "reset"), "ok");
+        assert_eq!(ask(&mut driver, "changed"), "cache lengths record");
+        ask(&mut driver, "lend cache 65535");
+        assert_eq!(ask(&mut driver, "reset"), "refused 13 0");
+    }
+}
+
+#[test]
+fn an_unknown_flag_is_judged_after_13() {
+    for (line, ..) in accepted_calls() {
+        let lent: &[&str] = match line.split(' ').next() {
+            Some("packet") => &["cache 65535", "cache 65537", "lengths 2047", "lengths 2049", "plain-texts 8159",
+                "plain-lengths 256", "pending-texts 8161", "pending-lengths 254", "gather 65535", "gather 65537"],
+            Some("drop") => &[],
+            _ if line.contains("plain") => &["plain-texts 8159", "plain-texts 8161", "plain-lengths 254",
+                "plain-lengths 256"],
+            _ if line.contains("pending") => &["pending-texts 8159", "pending-texts 0", "pending-lengths 254",
+                "pending-lengths 0"],
+            _ => &[],
+        };
+        for wrong in lent {
+            for flags in [0, 1, 2, 3].into_iter().chain(UNKNOWN) {
+                let mut driver = ready(flags);
+                ask(&mut driver, &format!("lend {wrong}"));
+                let refused = if line.starts_with("text") { "empty" } else { "refused 13 0" };
+                assert_eq!(ask(&mut driver, &line), refused, "{flags} {wrong} {line}");
+            }
+        }
+        // What is lent to other calls alone is not judged: with it of a wrong size the flag is the first.
+        for other in ["cache 0", "lengths 0", "gather 0"] {
+            if !line.starts_with("packet") && !line.starts_with("text") {
+                let mut driver = ready(4);
+                ask(&mut driver, &format!("lend {other}"));
+                assert_eq!(ask(&mut driver, &line), "refused 14 0", "{other} {line}");
+            }
+        }
+    }
+}
+
+#[test]
+fn an_unknown_flag_is_judged_before_the_bytes() {
+    let long = join(&[&[131, 109, 0, 0, 255, 251], &[7; 65_531]]);
+    let many = join(&[&[131, 105, 0, 0, 32, 0], &[106; 8_192]]);
+    let standalone: [(&[u8], &str); 17] = [
+        (&long, "refused 12 0"),
+        (&[], "refused 1 0"),
+        (&[130, 106], "refused 1 0"),
+        (&[131], "refused 2 1"),
+        (&[131, 104, 1], "refused 2 3"),
+        (&[131, 255], "refused 3 1"),
+        (&[131, 104, 1, 255], "refused 3 3"),
+        (&[131, 110, 0, 2], "refused 4 1"),
+        (&join(&[&[131], &pid(103, 1 << 15, 0)]), "refused 4 1"),
+        (&join(&[&[131], &reference(90, &[0; 6])]), "refused 4 1"),
+        (&[131, 119, 1, 0xff], "refused 5 3"),
+        (&[131, 82, 2], "refused 6 1"),
+        (&[131, 116, 0, 0, 0, 2, 106, 106, 106], "refused 7 8"),
+        (&tuples(64, &[104, 0]), "refused 8 129"),
+        (&many, "refused 9 8197"),
+        (&[131, 106, 106], "refused 10 2"),
+        (&[131, 104, 2, 82, 1, 255], "refused 3 5"),
+    ];
+    let mut driver = filled();
+    let mut check = |line: String, known: &str, unknown: &str| {
+        for (flags, answer) in [(3, known)].into_iter().chain(UNKNOWN.map(|flags| (flags, unknown))) {
+            connect(&mut driver, flags);
+            assert_eq!(ask(&mut driver, &line), answer, "{flags} {line:.90}");
+        }
+    };
+    for (message, answer) in standalone {
+        let message = hex(message);
+        for call in ["read standalone plain", "write standalone plain"] {
+            check(format!("{call} {message}"), answer, "refused 14 0");
+        }
+        for call in ["number standalone plain 0", "mark standalone plain 0"] {
+            check(format!("{call} {message}"), answer, "refused 14 0");
+        }
+        check(format!("text standalone plain 1 {message}"), "empty", "empty");
+    }
+    check("read payload plain -".to_string(), "refused 2 0", "refused 14 0");
+    check("mark payload plain 3 6a".to_string(), "refused 4 3", "refused 14 0");
+    // 6 of a word.
+    for i in [2, 255, 4_294_967_295u64] {
+        check(format!("word plain {i}"), "refused 6 0", "refused 14 0");
+    }
+    check("word empty 0".to_string(), "refused 6 0", "refused 14 0");
+    // 9 and 11, which hang on what is lent.
+    for (lend, answer) in [("table 0", "refused 9 1"), ("output 1", "refused 11 0")] {
+        for (flags, answer) in [(3, answer)].into_iter().chain(UNKNOWN.map(|flags| (flags, "refused 14 0"))) {
+            let mut driver = with(flags);
+            ask(&mut driver, &format!("lend {lend}"));
+            ask(&mut driver, "fill output a5");
+            assert_eq!(ask(&mut driver, "write standalone empty 836a"), answer, "{flags} {lend}");
+            assert!(get(&mut driver, "output").iter().all(|byte| *byte == 0xa5));
+        }
+    }
+}
+
+#[test]
+fn an_unknown_flag_is_judged_before_the_packet() {
+    let long = join(&[&[131, 68, 0], &[7; 65_537]]);
+    let packets: [(String, &str); 18] = [
+        (hex(&[]), "refused 1 0"),
+        (hex(&[130]), "refused 1 0"),
+        (hex(&[131]), "refused 2 0"),
+        (hex(&[131, 67]), "refused 20 0"),
+        (hex(&[131, 70, 0]), "refused 2 0"),
+        (fragment(69, 5, 0, &[0]), "refused 24 0"),
+        (fragment(69, 5, 1, &[0]), "refused 26 0"),
+        (fragment(70, 6, 1, &[]), "refused 25 0"),
+        (fragment(70, 5, 2, &[]), "refused 24 0"),
+        (fragment(70, 5, 1, &[7; 65_536]), "refused 12 0"),
+        (hex(&[131, 68]), "refused 2 0"),
+        (hex(&[131, 68, 2, 0, 0, 7]), "refused 2 1"),
+        (hex(&[131, 68, 2, 0x80, 0, 7, 7, 0]), "refused 22 1"),
+        (hex(&[131, 68, 2, 0x80, 0, 7, 9, 1, 0xff]), "refused 5 8"),
+        (hex(&join(&[&[131, 68, 2, 0x80, 0, 7, 9, 33], &[b'a'; 33]])), "refused 23 1"),
+        (hex(&[131, 68, 2, 0, 0, 7, 9]), "refused 21 1"),
+        (hex(&[131, 68, 2, 0, 0, 7, 10]), "refused 14 1"),
+        (hex(&long), "refused 12 0"),
+    ];
+    let mut driver = ready(1);
+    ask(&mut driver, "set lengths 20 0021");
+    ask(&mut driver, "same");
+    for (packet, answer) in &packets {
+        for flags in [1, 3].into_iter().chain(UNKNOWN) {
+            let answer = if flags > 3 { "refused 14 0" } else { answer };
+            connect(&mut driver, flags);
+            assert_eq!(ask(&mut driver, &format!("packet {packet}")), answer, "{flags} {packet:.80}");
+            assert_eq!(ask(&mut driver, "changed"), "-");
+        }
+    }
+    // Beside a false pending record, and a drop where none is pending.
+    for flags in [0, 1, 2, 3].into_iter().chain(UNKNOWN) {
+        for gathered in ["0000000000010001", "ffffffffffffffff"] {
+            let mut driver = ready(flags);
+            ask(&mut driver, &format!("set record 16 {gathered}"));
+            ask(&mut driver, "same");
+            for line in ["packet -", "packet 834400", "drop"] {
+                assert_eq!(ask(&mut driver, line), "refused 14 0", "{flags} {line}");
+            }
+            assert_eq!(ask(&mut driver, "changed"), "-");
+        }
+        let mut driver = with(flags);
+        assert_eq!(ask(&mut driver, "drop"), if flags > 3 { "refused 14 0" } else { "refused 25 0" });
+        assert_eq!(ask(&mut driver, "get record"), "00".repeat(24));
+    }
+}
+
+#[test]
+fn the_ends_of_a_pid() {
+    let ids = [0, 0x7fff, 0x8000, 0x8001, 0x1_0000, 0x1000_0000, 0x7fff_ffff, 0x8000_0000, 0xffff_ffff];
+    let serials = [0, 0x1fff, 0x2000, 0x2001, 0x8000, 0x1_0000, 0x8000_0000, 0xffff_ffff];
+    for flags in 0..=3 {
+        for tag in [88, 103] {
+            for id in ids {
+                for serial in serials {
+                    let wide = tag == 88 && [2, 3].contains(&flags);
+                    if wide || (id <= 0x7fff && serial <= 0x1fff) {
+                        taken(flags, &pid(tag, id, serial), &pid(88, id, serial));
+                    } else {
+                        not_taken(flags, &pid(tag, id, serial));
+                    }
+                }
+            }
+        }
+    }
+    // In numbers: all bits of both, with the flag on alone and beside the other.
+    let all = [131, 88, 119, 1, b'n', 255, 255, 255, 255, 255, 255, 255, 255, 255, 255, 255, 255];
+    ok(&all, &all);
+    assert_eq!(write_with(2, "standalone", &all, 2), format!("ok {}", hex(&all)));
+    assert_eq!(write_with(1, "standalone", &all, 2), "refused 4 1");
+    assert_eq!(write_with(0, "standalone", &all, 2), "refused 4 1");
+}
+
+#[test]
+fn the_order_in_a_pid() {
+    for flags in 0..=3 {
+        let wide = flags >= 2;
+        let all = join(&[&[131], &pid(88, u32::MAX, u32::MAX)]);
+        // 2 before 4: all later fields are there before any is judged.
+        for length in 5..17 {
+            refused_in_every_call(flags, "standalone", &all[..length], "refused 2 1");
+        }
+        // The node's own refusals before the 4 of ID and Serial.
+        assert_eq!(read_with(flags, "standalone", &all, 2), if wide { "ok 1 2" } else { "refused 4 1" });
+        assert_eq!(read_with(flags, "standalone", &all, 1), "refused 9 2");
+        assert_eq!(read_with(flags, "standalone", &all, 0), "refused 9 1");
+        assert_eq!(read_with(flags, "standalone", &tuples(63, &all[1..]), 70), "refused 8 128");
+        refused_in_every_call(flags, "standalone", &join(&[&[131, 88, 106], &[255; 12]]), "refused 4 2");
+        refused_in_every_call(flags, "standalone", &join(&[&[131, 88, 119, 1, 255], &[255; 12]]), "refused 5 4");
+        refused_in_every_call(flags, "standalone", &join(&[&[131, 88, 82, 0], &[255; 12]]), "refused 6 2");
+        // The 4 before what stands after the pid.
+        let left = join(&[&all, &[106]]);
+        refused_in_every_call(flags, "standalone", &left, if wide { "refused 10 17" } else { "refused 4 1" });
+        let next = join(&[&[131, 104, 2], &all[1..], &[255]]);
+        refused_in_every_call(flags, "standalone", &next, if wide { "refused 3 19" } else { "refused 4 3" });
+        // A one-byte Creation is at most 3, with or without the flag; four bytes have no bound.
+        for (creation, answer) in [(3, "ok 1 2"), (4, "refused 4 0"), (255, "refused 4 0")] {
+            let old = join(&[&[103, 119, 0], &[0; 8], &[creation]]);
+            assert_eq!(read_with(flags, "payload", &old, 2), answer);
+        }
+    }
+}
+
+#[test]
+fn how_many_words() {
+    let first = [0, 0x3_ffff, 0x4_0000, 0xffff_ffff];
+    for flags in 0..=3 {
+        for tag in [90, 114] {
+            let most = if tag == 90 && [2, 3].contains(&flags) { 5 } else { 3 };
+            for count in 0..=7 {
+                for word in first {
+                    let words: Vec<u32> = [word].into_iter().chain(1..).take(count).collect();
+                    let bounded = tag == 114 && word > 0x3_ffff;
+                    if (1..=most).contains(&count) && !bounded {
+                        taken(flags, &reference(tag, &words), &reference(90, &words));
+                    } else {
+                        not_taken(flags, &reference(tag, &words));
+                    }
+                    // Every word but a 114's first may have all its bits.
+                    let full: Vec<u32> = [word].into_iter().chain([u32::MAX; 7]).take(count).collect();
+                    let answer = read_with(flags, "payload", &reference(tag, &full), 2);
+                    assert_eq!(answer == "ok 1 2", (1..=most).contains(&count) && !bounded);
+                }
+            }
+            // Both bytes of the count are judged.
+            for count in [6u16, 8, 255, 256, 257, 259, 260, 261, 0x0400, 0x0500, 0x8003, 0x8005, 65_535] {
+                let term = join(&[&[tag], &count.to_be_bytes(), &[119, 0], &[0; 40]]);
+                refused_in_every_call(flags, "payload", &term, "refused 4 0");
+            }
+        }
+    }
+}
+
+#[test]
+fn the_order_in_a_reference() {
+    for flags in 0..=3u8 {
+        for tag in [90, 114] {
+            let most = if tag == 90 && flags >= 2 { 5 } else { 3 };
+            for count in 0..=7u8 {
+                let good = (1..=most).contains(&count);
+                let answer = |then: &str, at: usize| if good { then.to_string() } else { format!("refused 4 {at}") };
+                let whole = join(&[&[131], &reference(tag, &vec![1; usize::from(count)])]);
+                // 2 on the count itself.
+                refused_in_every_call(flags, "standalone", &[131, tag], "refused 2 1");
+                refused_in_every_call(flags, "standalone", &[131, tag, 0], "refused 2 1");
+                // The count's 4 before a missing node, its tag, its 2, 5 and 6.
+                for (node, then) in [
+                    (&[][..], "refused 2 4"),
+                    (&[106], "refused 4 4"),
+                    (&[255], "refused 4 4"),
+                    (&[119, 1], "refused 2 4"),
+                    (&[119, 1, 255], "refused 5 6"),
+                    (&[82, 0], "refused 6 4"),
+                ] {
+                    let message = join(&[&[131, tag, 0, count], node]);
+                    refused_in_every_call(flags, "standalone", &message, &answer(then, 1));
+                }
+                // before 8, of the reference and of its node
+                let (at_65, at_64) = (tuples(64, &whole[1..]), tuples(63, &whole[1..]));
+                assert_eq!(read_with(flags, "standalone", &at_65, 70), answer("refused 8 129", 129));
+                assert_eq!(read_with(flags, "standalone", &at_64, 70), answer("refused 8 130", 127));
+                // before 9, of the reference and of its node
+                assert_eq!(read_with(flags, "standalone", &whole, 0), answer("refused 9 1", 1));
+                assert_eq!(read_with(flags, "standalone", &whole, 1), answer("refused 9 4", 1));
+                assert_eq!(read_with(flags, "standalone", &whole, 2), answer("ok 1 2", 1));
+                // A Creation or words cut off: 2 at the tag, after the count's 4.
+                for length in 7..whole.len() {
+                    refused_in_every_call(flags, "standalone", &whole[..length], &answer("refused 2 1", 1));
+                }
+            }
+        }
+        // A 114's Creation and first word are judged after all words are there, whatever the flags.
+        for (creation, word, answer) in [(3, 3, "ok 1 2"), (4, 3, "refused 4 0"), (3, 4, "refused 4 0")] {
+            let term = [114, 0, 1, 119, 0, creation, 0, word, 255, 255];
+            assert_eq!(read_with(flags, "payload", &term, 2), answer);
+            assert_eq!(read_with(flags, "payload", &term[..9], 2), "refused 2 0");
+        }
+    }
+}
+
+#[test]
+fn no_other_tag_is_wider() {
+    let zeros = [0; 4];
+    let id = |id: u32| id.to_be_bytes();
+    let node = [119, 1, b'n'];
+    let (under, over) = ((1 << 28) - 1, 1 << 28);
+    for flags in 0..=3 {
+        for value in [0, under] {
+            taken(flags, &join(&[&[89], &node, &id(value), &zeros]), &join(&[&[89], &node, &id(value), &zeros]));
+            taken(flags, &join(&[&[102], &node, &id(value), &[3]]), &join(&[&[89], &node, &id(value), &id(3)]));
+            let newest = join(&[&[120], &node, &zeros, &id(value), &zeros]);
+            taken(flags, &newest, &join(&[&[89], &node, &id(value), &zeros]));
+        }
+        for value in [over, 1 << 31, u32::MAX] {
+            not_taken(flags, &join(&[&[89], &node, &id(value), &zeros]));
+            not_taken(flags, &join(&[&[102], &node, &id(value), &[3]]));
+            let wide = join(&[&[120], &node, &zeros, &id(value), &zeros]);
+            taken(flags, &wide, &wide);
+        }
+        let widest = join(&[&[120], &node, &[255; 12]]);
+        taken(flags, &widest, &widest);
+        for value in [0, 0x3_ffff] {
+            taken(flags, &join(&[&[101], &node, &id(value), &[3]]), &join(&[&[90, 0, 1], &node, &id(3), &id(value)]));
+        }
+        for value in [0x4_0000, 1 << 31, u32::MAX] {
+            not_taken(flags, &join(&[&[101], &node, &id(value), &[3]]));
+        }
+        for creation in [4, 255] {
+            not_taken(flags, &join(&[&[101], &node, &zeros, &[creation]]));
+            not_taken(flags, &join(&[&[102], &node, &zeros, &[creation]]));
+            not_taken(flags, &join(&[&[103], &node, &zeros, &zeros, &[creation]]));
+            not_taken(flags, &join(&[&[114, 0, 1], &node, &[creation], &zeros]));
+        }
+    }
+}
+
+#[test]
+fn wider_identifiers_as_keys() {
+    let twice = |flags: u8, first: &[u8], second: &[u8]| {
+        let message = join(&[&[131, 116, 0, 0, 0, 2], first, &[106], second, &[106]]);
+        read_with(flags, "standalone", &message, 8)
+    };
+    let different = [
+        (pid(88, 0x8001, 0), pid(88, 1, 0)),
+        (pid(88, 0x8000_0001, 0), pid(88, 1, 0)),
+        (pid(88, 5, 0x2001), pid(88, 5, 1)),
+        (pid(88, 5, 0x8000_0001), pid(88, 5, 1)),
+        (pid(88, 0x1_0000, 0x2000), pid(88, 0x2000, 0x1_0000)),
+        (reference(90, &[1, 2, 3, 4]), reference(90, &[1, 2, 3])),
+        (reference(90, &[1, 2, 3, 4]), reference(90, &[1, 2, 3, 4, 0])),
+        (reference(90, &[1, 2, 3, 4]), reference(90, &[1, 2, 3, 5])),
+        (reference(90, &[1, 2, 3, 4, 5]), reference(90, &[1, 2, 3, 4, 6])),
+    ];
+    for flags in [2, 3] {
+        for (first, second) in &different {
+            assert_eq!(twice(flags, first, second), "ok 1 7");
+            assert_eq!(twice(flags, second, first), "ok 1 7");
+            assert_eq!(twice(flags, first, first), format!("refused 7 {}", 7 + first.len()));
+            // Without the flag the wider one is 4 at its tag, before any comparison.
+            assert_eq!(twice(flags - 2, first, first), "refused 4 6");
+        }
+        assert_eq!(twice(flags, &pid(103, 5, 6), &pid(88, 5, 6)), "refused 7 20");
+        assert_eq!(twice(flags, &reference(114, &[1, 2, 3]), &reference(90, &[1, 2, 3])), "refused 7 26");
+    }
+}
+
+#[test]
+fn the_utf_8_flag_is_bit_0_and_for_header_texts_alone() {
+    for flags in 0..=3 {
+        let utf8 = flags % 2 == 1;
+        let mut driver = with(flags);
+        assert_eq!(ask(&mut driver, "packet 834401080902c3a9"), "plain 8 0");
+        words(&mut driver, "plain", &[if utf8 { "\u{e9}" } else { "\u{c3}\u{a9}" }]);
+        let stored: &[u8] = if utf8 { &[0xc3, 0xa9, 0, 0] } else { &[0xc3, 0x83, 0xc2, 0xa9] };
+        assert_eq!(get(&mut driver, "cache")[288..292], *stored);
+        // 5 is UTF-8's, and 23 counts the bytes as stored.
+        let latin_17 = [0xe9; 17];
+        let utf8_32 = [0xc3, 0xa9].repeat(16);
+        for (text, with_utf8, without) in [
+            (&[0xff][..], "refused 5 6", "plain 7 0"),
+            (&[b'a', 0xe2, 0x82], "refused 5 7", "plain 9 0"),
+            (&latin_17, "refused 5 7", "refused 23 0"),
+            (&utf8_32, "plain 38 0", "refused 23 0"),
+            (&[b'a'; 32], "plain 38 0", "plain 38 0"),
+            (&[b'a'; 33], "refused 23 0", "refused 23 0"),
+        ] {
+            let packet = join(&[&[131, 68, 1, 8, 9, text.len() as u8], text]);
+            assert_eq!(packet_call(flags, &packet), if utf8 { with_utf8 } else { without }, "{flags} {}", hex(&packet));
+        }
+        // A start's header likewise.
+        let mut driver = with(flags);
+        let answer = ask(&mut driver, &format!("packet {}", fragment(69, 1, 1, &[1, 8, 9, 1, 0xe9])));
+        assert_eq!(answer, if utf8 { "refused 5 22" } else { "complete 0" });
+        assert_eq!(ask(&mut driver, "word pending 0"), if utf8 { "refused 6 0" } else { "text c3a9" });
+        // Tags of terms do not ask for it.
+        for (message, answer) in [
+            (&[131, 100, 0, 1, 0xe9][..], "ok 837702c3a9"),
+            (&[131, 115, 2, 0xc3, 0xa9], "ok 837704c383c2a9"),
+            (&[131, 118, 0, 2, 0xc3, 0xa9], "ok 837702c3a9"),
+            (&[131, 119, 2, 0xc3, 0xa9], "ok 837702c3a9"),
+            (&[131, 118, 0, 1, 0xe9], "refused 5 4"),
+            (&[131, 119, 1, 0xe9], "refused 5 3"),
+        ] {
+            assert_eq!(write_with(flags, "standalone", message, 1), answer, "{flags}");
+        }
+        // Nor do texts of lists and cached places: they are UTF-8 or false.
+        let mut driver = listed(3);
+        put(&mut driver, 1, "\u{e9}".as_bytes(), 2);
+        put(&mut driver, 2, &[0xe9], 1);
+        connect(&mut driver, flags);
+        assert_eq!(ask(&mut driver, "write payload plain 5201"), "ok 5");
+        assert_eq!(get(&mut driver, "output")[..5], *b"\x83\x77\x02\xc3\xa9");
+        assert_eq!(ask(&mut driver, "mark payload plain 0 5201"), "utf8");
+        assert_eq!(ask(&mut driver, "word plain 1"), "text c3a9");
+        assert_eq!(ask(&mut driver, "read payload plain 5202"), "refused 14 0");
+        assert_eq!(ask(&mut driver, "word plain 2"), "refused 14 0");
+        let mut driver = filled();
+        ask(&mut driver, "set cache 224 c3a9");
+        ask(&mut driver, "set lengths 14 0002");
+        connect(&mut driver, flags);
+        assert_eq!(ask(&mut driver, "packet 8344010007"), "plain 5 0");
+        words(&mut driver, "plain", &["\u{e9}"]);
+        ask(&mut driver, "set cache 224 e9");
+        ask(&mut driver, "set lengths 14 0001");
+        assert_eq!(ask(&mut driver, "packet 8344010007"), "refused 14 0");
+    }
+}
+
+#[test]
+fn flags_that_change_from_call_to_call() {
+    // A sequence whose payload is a wide pid of the node at reference 0, "é" sent as Latin-1.
+    let mut driver = with(2);
+    let payload = join(&[&[88, 82, 0], &0x8000u32.to_be_bytes(), &0x2000u32.to_be_bytes(), &[0, 0, 0, 1]]);
+    let start = fragment(69, 5, 3, &join(&[&[1, 8, 9, 1, 0xe9], &payload[..4]]));
+    assert_eq!(ask(&mut driver, &format!("packet {start}")), "pending 2 4");
+    words(&mut driver, "pending", &["\u{e9}"]);
+    // A plain packet with UTF-8 between; calls with an unknown flag touch nothing.
+    connect(&mut driver, 1);
+    assert_eq!(ask(&mut driver, "packet 834401080902c3a8"), "plain 8 0");
+    let unknown = |driver: &mut Driver| {
+        ask(driver, "same");
+        connect(driver, 131);
+        let next = fragment(70, 5, 2, &payload[4..]);
+        assert_eq!(ask(driver, &format!("packet {next}")), "refused 14 0");
+        assert_eq!(ask(driver, "packet 834401080901ff"), "refused 14 0");
+        assert_eq!(ask(driver, "drop"), "refused 14 0");
+        assert_eq!(ask(driver, "word pending 0"), "refused 14 0");
+        assert_eq!(ask(driver, "changed"), "-");
+    };
+    unknown(&mut driver);
+    // The rest of the sequence with other flags: a continuation asks for neither.
+    connect(&mut driver, 1);
+    assert_eq!(ask(&mut driver, &format!("packet {}", fragment(70, 5, 2, &payload[4..9]))), "pending 1 9");
+    unknown(&mut driver);
+    connect(&mut driver, 0);
+    assert_eq!(ask(&mut driver, &format!("packet {}", fragment(70, 5, 1, &payload[9..]))), "complete 15");
+    words(&mut driver, "plain", &["\u{e8}"]);
+    words(&mut driver, "pending", &["\u{e9}"]);
+    // The payload is read by the flags of its own call; what is written does not hang on them.
+    let gathered = hex(&get(&mut driver, "gather")[..15]);
+    assert_eq!(gathered, hex(&payload));
+    let written = join(&[b"\x83\x58\x77\x02\xc3\xa9", &payload[3..]]);
+    for flags in [0, 1, 2, 3, 1, 2, 0, 3, 7, 3] {
+        connect(&mut driver, flags);
+        ask(&mut driver, "fill output 00");
+        let (read, write) = match flags {
+            0 | 1 => ("refused 4 0", "refused 4 0"),
+            2 | 3 => ("ok 1 2", "ok 18"),
+            _ => ("refused 14 0", "refused 14 0"),
+        };
+        assert_eq!(ask(&mut driver, &format!("read payload pending {gathered}")), read);
+        assert_eq!(ask(&mut driver, &format!("write payload pending {gathered}")), write);
+        let text = ask(&mut driver, &format!("text payload pending 1 {gathered}"));
+        let mark = ask(&mut driver, &format!("mark payload pending 1 {gathered}"));
+        let number = ask(&mut driver, &format!("number payload pending 0 {gathered}"));
+        if read.starts_with("ok") {
+            assert_eq!([text.as_str(), mark.as_str(), number.as_str()], ["list 0 2", "utf8", "neither"]);
+            assert_eq!(get(&mut driver, "output")[..18], written);
+        } else {
+            assert_eq!([text.as_str(), mark.as_str(), number.as_str()], ["empty", read, read]);
+        }
+    }
+    // The form written with the flag is its own canonical form with it, and refused without it.
+    for flags in 0..=3 {
+        let answer = if flags >= 2 { format!("ok {}", hex(&written)) } else { "refused 4 1".to_string() };
+        assert_eq!(write_with(flags, "standalone", &written, 2), answer);
+    }
+    // A sequence begun with some flags is dropped with others.
+    for (first, second) in [(0, 3), (1, 2), (2, 1), (3, 0)] {
+        let mut driver = with(first);
+        assert_eq!(ask(&mut driver, &format!("packet {}", fragment(69, 5, 3, &[0]))), "pending 2 0");
+        connect(&mut driver, 4);
+        assert_eq!(ask(&mut driver, "drop"), "refused 14 0");
+        connect(&mut driver, second);
+        assert_eq!(ask(&mut driver, "drop"), "ok");
+        assert_eq!(ask(&mut driver, "get record"), "00".repeat(24));
+    }
 }

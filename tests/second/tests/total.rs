@@ -1,7 +1,8 @@
 //! Damaged and made-up input in quantity: nothing panics, and what document 01 says of every answer
 //! holds (a refused reading leaves the table zero, the canonical form is its own canonical form, rows
 //! fit together, refusals of packets change nothing, a word is what its list's bytes say, a packet
-//! changes the words of its own list alone, and 5 stands at the bad byte of a text).
+//! changes the words of its own list alone, 5 stands at the bad byte of a text, and flags change no
+//! answer but where #109 says so).
 
 mod model;
 
@@ -35,6 +36,20 @@ fn ask(driver: &mut Driver, line: &str) -> String {
 
 fn get(driver: &mut Driver, name: &str) -> Vec<u8> {
     unhex(ask(driver, &format!("get {name}")).as_bytes()).expect("hex")
+}
+
+/// Sets the flags of the connection record.
+fn connect(driver: &mut Driver, flags: u8) {
+    assert_eq!(ask(driver, &format!("flags {flags}")), "ok");
+}
+
+/// Flags, mostly known ones.
+fn some_flags(r: &mut Random) -> u8 {
+    if r.below(12) == 0 {
+        r.next() as u8
+    } else {
+        r.below(4) as u8
+    }
 }
 
 fn text(r: &mut Random, out: &mut Vec<u8>) {
@@ -101,7 +116,8 @@ fn term(r: &mut Random, out: &mut Vec<u8>, depth: u32) {
             let new = r.below(2) == 0;
             out.push(if new { 88 } else { 103 });
             atom(r, out);
-            out.extend([0, 0, r.below(128) as u8, 1, 0, 0, r.below(32) as u8, 1]);
+            let wide = if r.below(4) == 0 { [r.byte(), r.byte(), r.byte(), r.byte()] } else { [0, 0, 127, 31] };
+            out.extend([wide[0], 0, wide[2], 1, 0, wide[1], wide[3], 1]);
             out.extend(if new { &[0, 0, 0, 2][..] } else { &[2] });
         }
         10 => {
@@ -116,7 +132,7 @@ fn term(r: &mut Random, out: &mut Vec<u8>, depth: u32) {
         }
         11 => {
             let tag = [90, 114, 101][r.below(3) as usize];
-            let words = if tag == 101 { 1 } else { 1 + r.below(3) };
+            let words = if tag == 101 { 1 } else { [1, 2, 3, 1 + r.below(6)][r.below(4) as usize] };
             out.push(tag);
             if tag != 101 {
                 out.extend([0, words as u8]);
@@ -247,6 +263,31 @@ fn a_reference_is_bad_at(packet: &[u8], place: usize, utf8: bool) -> bool {
     })
 }
 
+/// The reader's answer and the writer's with its output, with these flags.
+fn both_answers(driver: &mut Driver, flags: u8, message: &str) -> [String; 2] {
+    connect(driver, flags);
+    ask(driver, "fill output 5a");
+    let written = ask(driver, &format!("write {message}"));
+    [ask(driver, &format!("read {message}")), written + " " + &ask(driver, "get output")]
+}
+
+/// Whether V4_NC takes what is refused without it. Bit 0 changes nothing, an unknown flag is 14, what is
+/// taken without V4_NC is the same with it, and what else V4_NC changes was 4 at an 88 or a 90.
+fn flags_of_a_reading(r: &mut Random, driver: &mut Driver, form: &str, message: &[u8]) -> bool {
+    let line = format!("{form} plain {}", hex(message));
+    let [off, utf8, v4_nc, both] = [0, 1, 2, 3].map(|flags| both_answers(driver, flags, &line));
+    assert_eq!(off, utf8, "{line}");
+    assert_eq!(v4_nc, both, "{line}");
+    let [read, written] = both_answers(driver, 4 + r.below(252) as u8, &line);
+    assert!(read == "refused 14 0" && written.starts_with("refused 14 0"), "{line}");
+    if off == v4_nc {
+        return false;
+    }
+    let place: usize = off[0].strip_prefix("refused 4 ").expect("a 4").parse().expect("a number");
+    assert!([88, 90].contains(&message[place]), "{} {line}", off[0]);
+    v4_nc[0].starts_with("ok")
+}
+
 #[test]
 fn made_up_messages() {
     let mut r = Random(0x9e37_79b9_7f4a_7c15);
@@ -258,7 +299,7 @@ fn made_up_messages() {
     ask(&mut driver, "set plain-lengths 0 0001000200010000");
     ask(&mut driver, "lend table 40");
     ask(&mut driver, "lend output 300");
-    let (mut accepted, mut refused, mut fives) = (0, 0, 0);
+    let (mut accepted, mut refused, mut fives, mut wide) = (0, 0, 0, 0);
     for round in 0..40_000 {
         let mut message = Vec::new();
         let form = if r.below(2) == 0 { "standalone" } else { "payload" };
@@ -272,6 +313,9 @@ fn made_up_messages() {
         if round % 2 == 0 {
             damage(&mut r, &mut message);
         }
+        wide += usize::from(flags_of_a_reading(&mut r, &mut driver, form, &message));
+        // Everything else here is under the same flags.
+        connect(&mut driver, r.below(4) as u8);
         let word = hex(&message);
         ask(&mut driver, "fill table 5a");
         ask(&mut driver, "same");
@@ -331,13 +375,15 @@ fn made_up_messages() {
             assert_eq!(mark.starts_with("refused"), kind != 3);
         }
     }
-    assert!(accepted > 10_000 && refused > 5_000 && fives > 200, "{accepted} {refused} {fives}");
+    let counts = [accepted, refused, fives, wide];
+    assert!(accepted > 10_000 && refused > 5_000 && fives > 200 && wide > 500, "{counts:?}");
 }
 
 #[test]
 fn made_up_packets() {
     let mut r = Random(0x1234_5678_9abc_def1);
     let mut driver = Driver::new();
+    let mut unknown = 0;
     let mut counts = std::collections::BTreeMap::new();
     for _ in 0..15_000 {
         let mut packet = vec![131, [68, 69, 70][r.below(3) as usize]];
@@ -379,46 +425,58 @@ fn made_up_packets() {
         let command = match r.below(30) {
             0 => "drop".to_string(),
             1 if r.below(5) == 0 => "reset".to_string(),
-            _ => format!("packet {} {}", r.below(2), hex(&packet)),
+            _ => format!("packet {}", hex(&packet)),
         };
+        let flags = some_flags(&mut r);
         let before = ["plain", "pending"].map(|list| words(&mut driver, list));
         ask(&mut driver, "same");
+        connect(&mut driver, flags);
         let answer = ask(&mut driver, &command);
         assert!(!answer.starts_with('?'));
+        // An unknown flag is judged before all else; sizes are right here. A reset does not know it.
+        if flags > 3 {
+            assert_eq!(answer, if command == "reset" { "ok" } else { "refused 14 0" }, "{flags} {command}");
+            unknown += 1;
+        }
         if answer.starts_with("refused") {
             assert_eq!(ask(&mut driver, "changed"), "-", "{command}");
         }
         if let Some(place) = answer.strip_prefix("refused 5 ") {
             let place = place.parse().expect("a number");
-            assert!(a_reference_is_bad_at(&packet, place, command.starts_with("packet 1")), "{answer} {command}");
+            assert!(a_reference_is_bad_at(&packet, place, flags % 2 == 1), "{flags} {answer} {command}");
         }
         // A plain packet writes the plain list's words, a start the pending one's, nothing else any.
         let after = ["plain", "pending"].map(|list| words(&mut driver, list));
         let plain = answer.starts_with("plain");
-        let start = command.starts_with("packet") && packet.starts_with(&[131, 69]);
+        let start = command.starts_with("packet") && packet.starts_with(&[131, 69]) && flags <= 3;
         assert!(plain || after[0] == before[0], "{command}");
         assert!(start || after[1] == before[1], "{command}");
         assert!(after.concat().iter().all(|word| word.starts_with("text ")));
         let key = answer.split(' ').take(if answer.starts_with("refused") { 2 } else { 1 }).collect::<Vec<_>>().join(" ");
         *counts.entry(key).or_insert(0) += 1;
     }
+    assert!(unknown > 500, "{unknown}");
     for number in [1, 2, 5, 14, 20, 21, 22, 23, 24, 25, 26] {
         assert!(counts.get(&format!("refused {number}")).is_some(), "{number} in {counts:?}");
     }
 }
 
-/// The answers for the list's words, as many as its n says.
+/// The answers for the list's words, as many as its n says, with known flags.
 fn words(driver: &mut Driver, list: &str) -> Vec<String> {
+    connect(driver, 1);
     let n = get(driver, &format!("{list}-count"))[0];
     (0..n).map(|i| ask(driver, &format!("word {list} {i}"))).collect()
 }
 
-/// What the word call is to answer, from the list's memory alone.
-fn expected_word(driver: &mut Driver, list: &str, i: usize) -> String {
+/// What the word call is to answer, from the flags and the list's memory alone.
+fn expected_word(driver: &mut Driver, flags: u8, list: &str, i: usize) -> String {
     let n = usize::from(get(driver, &format!("{list}-count"))[0]);
     let (texts, lengths) = (get(driver, &format!("{list}-texts")), get(driver, &format!("{list}-lengths")));
     if texts.len() != 8_160 || lengths.len() != 510 {
         return "refused 13 0".to_string();
+    }
+    if flags > 3 {
+        return "refused 14 0".to_string();
     }
     if i >= n {
         return "refused 6 0".to_string();
@@ -472,11 +530,14 @@ fn made_up_lists() {
         if let Some((part, count, _)) = wrong {
             ask(&mut driver, &format!("lend {list}-{part} {count}"));
         }
+        let flags = some_flags(&mut r);
+        connect(&mut driver, flags);
         ask(&mut driver, "same");
         let answer = ask(&mut driver, &format!("word {list} {i}"));
         assert_eq!(ask(&mut driver, "changed"), "-");
-        assert_eq!(answer, expected_word(&mut driver, list, i as usize), "{list} {n} {i}");
-        assert_eq!(ask(&mut driver, &format!("word empty {i}")), "refused 6 0");
+        assert_eq!(answer, expected_word(&mut driver, flags, list, i as usize), "{flags} {list} {n} {i}");
+        let empty = if flags > 3 { "refused 14 0" } else { "refused 6 0" };
+        assert_eq!(ask(&mut driver, &format!("word empty {i}")), empty);
         if i <= 255 {
             same_as_an_82(&mut driver, list, i as u8, &answer);
         }
@@ -578,7 +639,8 @@ fn text_in_a_header(r: &mut Random, driver: &mut Driver, text: &[u8]) -> bool {
     let utf8 = r.below(4) > 0;
     let bad = bad_in(text, utf8);
     let bytes = if utf8 { text.len() } else { text.iter().map(|byte| 1 + usize::from(byte >> 7)).sum() };
-    let answer = ask(driver, &format!("packet {} {}", u8::from(utf8), hex(&packet)));
+    connect(driver, u8::from(utf8) + 2 * r.below(2) as u8);
+    let answer = ask(driver, &format!("packet {}", hex(&packet)));
     match bad {
         Some(bad) => assert_eq!(answer, format!("refused 5 {}", at + bad), "{}", hex(&packet)),
         None if bytes > 32 => assert_eq!(answer, format!("refused 23 {before}"), "{}", hex(&packet)),
@@ -609,12 +671,16 @@ fn made_up_lines() {
     let mut driver = Driver::new();
     let words = [
         "set", "fill", "lend", "get", "same", "changed", "read", "kind", "write", "number", "text", "mark", "packet",
-        "drop", "reset", "word", "pending", "cache", "lengths", "plain-count", "record", "table", "standalone",
-        "payload", "empty", "plain", "0", "1", "7", "4294967295", "4294967296", "-", "83", "8361", "ff", "f", "", "x",
+        "drop", "reset", "word", "flags", "pending", "cache", "lengths", "plain-count", "record", "table", "standalone",
+        "payload", "empty", "plain", "0", "1", "7", "255", "256", "4294967295", "4294967296", "-", "83", "8361",
+        "ff", "f", "", "x",
     ];
     for _ in 0..60_000 {
         let count = 1 + r.below(5) as usize;
         let line: Vec<&str> = (0..count).map(|_| words[r.below(words.len() as u64) as usize]).collect();
         ask(&mut driver, &line.join(" "));
+        if r.below(60) == 0 {
+            connect(&mut driver, 3);
+        }
     }
 }

@@ -12,6 +12,7 @@ mod sha256;
 
 use json::Json;
 use second::drive::{hex, unhex, Driver};
+use second::Connection;
 use std::io::{BufRead, BufReader, Write};
 use std::process::{Child, ChildStdin, ChildStdout, Command, Stdio};
 
@@ -20,8 +21,16 @@ enum Target {
     There { _child: Child, input: ChildStdin, output: BufReader<ChildStdout> },
 }
 
+/// "the bench has both flags on"
+const BENCH: Connection = Connection { flags: 3 };
+
+/// The driver's "1 at the start", and before a session's first flags.
+const AT_THE_START: Connection = Connection { flags: 1 };
+
 struct Runner {
     target: Target,
+    /// the connection record that the driven program holds
+    connection: Connection,
     agreements: usize,
     disagreements: usize,
     /// how many vectors name the start of an empty stretch
@@ -52,6 +61,14 @@ impl Runner {
         if answer != "ok" {
             self.disagreements += 1;
             println!("ORDER {line:.100}: {answer:.100}");
+        }
+    }
+
+    /// From here on the calls are handed this connection record.
+    fn connect(&mut self, connection: Connection) {
+        if self.connection != connection {
+            self.order(&format!("flags {}", connection.flags));
+            self.connection = connection;
         }
     }
 
@@ -103,12 +120,14 @@ impl Runner {
 
     /// "`in`: hex of the bench's standard input; `out`: its line without the newline."
     fn standalone(&mut self, place: &str, vector: &Json) {
+        self.connect(BENCH);
         let message = word(vector, "in");
         let got = self.written("standalone", "empty", &message);
         self.agree(place, text(vector, "out"), &got);
     }
 
     fn payload(&mut self, place: &str, vector: &Json) {
+        self.connect(connection(vector));
         self.lend_list(vector);
         let (form, message) = (text(vector, "form"), word(vector, "in"));
         self.order(&format!("lend table {}", text(vector, "rows")));
@@ -154,6 +173,7 @@ impl Runner {
     }
 
     fn rows(&mut self, place: &str, vector: &Json) {
+        self.connect(connection(vector));
         self.lend_list(vector);
         let (form, message) = (text(vector, "form"), word(vector, "in"));
         for (what, command) in [("numbers", "number"), ("texts", "text"), ("marks", "mark")] {
@@ -179,6 +199,7 @@ impl Runner {
             self.order(&format!("fill {name} 00"));
         }
         self.order("reset");
+        self.connect(AT_THE_START);
         self.order("lend table 8192");
         self.order("lend output 65536");
         let steps = vector.get("steps").map_or(&[][..], Json::array);
@@ -195,11 +216,14 @@ impl Runner {
         }
     }
 
-    /// Every word of a list that holds these texts, and 6 for indexes not below their number.
+    /// Every word of a list that holds these texts, and 6 for indexes not below their number; with an
+    /// unknown flag in the last step's record 14 for all of them, as it stands before 6.
     fn words(&mut self, place: &str, list: &str, texts: &[Json]) {
+        let unknown = self.connection.flags > 3;
         let good = texts.iter().map(|text| format!("text {}", hex(&from_plain_hex(text.text().unwrap_or("")))));
         let over = [texts.len(), 255, 4_294_967_295].map(|i| (i, "refused 6 0".to_string()));
-        for (i, expected) in good.enumerate().chain(over) {
+        for (i, text) in good.enumerate().chain(over) {
+            let expected = if unknown { "refused 14 0".to_string() } else { text };
             let got = self.ask(&format!("word {list} {i}"));
             self.agree(&format!("{place} word {list} {i}"), &expected, &got);
             self.words += 1;
@@ -210,13 +234,18 @@ impl Runner {
         let zeros: usize = text(step, "zeros").parse().unwrap_or(0);
         let mut packet = from_plain_hex(text(step, "in"));
         packet.resize(packet.len() + zeros, 0);
-        let utf8 = if step.get("utf8").is_some_and(agreed) { "1" } else { "0" };
         let args = step.get("args").map_or(&[][..], Json::array);
         let arg = |i: usize| args.get(i).and_then(Json::text).unwrap_or("0").to_string();
         let number = |i: usize| arg(i).parse::<u64>().unwrap_or(0);
         let got = match text(step, "op") {
-            "packet" => self.ask(&format!("packet {utf8} {}", hex(&packet))),
-            "drop" => self.ask("drop"),
+            "packet" => {
+                self.connect(connection(step));
+                self.ask(&format!("packet {}", hex(&packet)))
+            }
+            "drop" => {
+                self.connect(connection(step));
+                self.ask("drop")
+            }
             "reset" => self.ask("reset"),
             "set_length" => {
                 let length = hex(&(number(1) as u16).to_be_bytes());
@@ -246,7 +275,8 @@ impl Runner {
             other => format!("unknown step {other}"),
         };
         self.agree(place, &text(step, "out").replace('\t', " "), &got);
-        // "After plain and complete: `texts` of the list, and `payload`: what the writer answers for it"
+        // "After plain and complete: `texts` of the list, and `payload`: what the writer answers for it";
+        // "a payload is read with its packet's flags"
         if let Some(payload) = step.get("payload") {
             let numbers: Vec<usize> = got.split(' ').skip(1).filter_map(|n| n.parse().ok()).collect();
             let (list, bytes) = match numbers[..] {
@@ -321,9 +351,9 @@ fn texts_after<'a>(steps: &'a [Json], list: &str) -> Vec<Option<&'a Json>> {
     known
 }
 
-/// Whether UTF-8 was agreed: the vectors say `true` or 1, and `false` or 0 where it was not.
-fn agreed(utf8: &Json) -> bool {
-    *utf8 == Json::Bool(true) || utf8.text() == Some("1")
+/// The connection record of a line or a step.
+fn connection(vector: &Json) -> Connection {
+    Connection { flags: text(vector, "flags").parse().expect("flags in a vector") }
 }
 
 fn text<'a>(vector: &'a Json, key: &str) -> &'a str {
@@ -361,7 +391,14 @@ fn main() {
         }
     };
     assert_eq!(plain_hex(&sha256::sha256(b"abc")[..8]), "ba7816bf8f01cfea");
-    let mut runner = Runner { target, agreements: 0, disagreements: 0, empty_stretches: 0, words: 0 };
+    let mut runner = Runner {
+        target,
+        connection: AT_THE_START,
+        agreements: 0,
+        disagreements: 0,
+        empty_stretches: 0,
+        words: 0,
+    };
     let files: [(&str, fn(&mut Runner, &str, &Json)); 4] = [
         ("standalone", Runner::standalone),
         ("payload", Runner::payload),
