@@ -3,8 +3,8 @@
 use mathlib.Core.Path.{_≡_}
 use mathlib.Core.List.{List}
 use Prim.Native.Nat.{ℕ, _/_, _%_, _^_}
-use Rattle.term_spec.specs.Head.{Atoms}
-use Rattle.term_spec.specs.AtomList.{AtomList, lent-list, atoms-of}
+use Rattle.term_spec.specs.Head.{Given}
+use Rattle.term_spec.specs.AtomList.{AtomList, lent-list, given-of}
 
 unfoldable pub count-in : ℕ → ℕ
 count-in w = w % 2 ^ 8
@@ -25,6 +25,6 @@ pub record Packed (n flags capacity w : ℕ) : Type 0 where
 abbrev pub list-in : ℕ → List ℕ → List ℕ → AtomList
 list-in w places lengths = lent-list (count-in w) places lengths
 
--- what reading asks of a word's flags and of that list
-abbrev pub atoms-in : ℕ → List ℕ → List ℕ → Atoms
-atoms-in w places lengths = atoms-of (flags-in w) (list-in w places lengths)
+-- what reading is given, of a word's flags and that list
+abbrev pub given-in : ℕ → List ℕ → List ℕ → Given
+given-in w places lengths = given-of (flags-in w) (list-in w places lengths)

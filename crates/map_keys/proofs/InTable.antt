@@ -10,8 +10,8 @@ use borrow.Author.Tests.{ne-eqb}
 use Rattle.term_spec.specs.Tree.{node, empty, _▹_, _▹▹_, size, sizes}
 use Rattle.term_spec.specs.Term.{Label, Term}
 use Rattle.term_spec.specs.Equal.{same, among}
-use Rattle.term_spec.specs.Head.{Atoms}
-use Rattle.term_spec.specs.AtomList.{AtomList, atoms-of}
+use Rattle.term_spec.specs.Head.{Given}
+use Rattle.term_spec.specs.AtomList.{AtomList, given-of}
 use Rattle.term_spec.specs.Reading.{Offset, tag-at, character-at, Located, meaning}
 use Rattle.term_spec.specs.Message.{Terms}
 use Rattle.term_spec.specs.Rows.{Row, tree-rows, rows, word, kind-of, kind-at, Tree-here, Rows-here}
@@ -30,24 +30,24 @@ unfolding Each-row
 each-row-both P Q [] h g = tt
 each-row-both P Q (r ∷ rs) h g = ((h .0, g .0), each-row-both P Q rs (h .1) (g .1))
 
-module _ (message : List ℕ) (cap : ℕ) (atoms : Atoms) where
+module _ (message : List ℕ) (cap : ℕ) (given : Given) where
   -- the message says the row's label at the row's place
   abbrev pub Backed-row : Row → Type 0
-  Backed-row r = Label-at message cap atoms (r .place) (r .label)
+  Backed-row r = Label-at message cap given (r .place) (r .label)
 
   mutual
     unfolding tree-rows Each-row
 
-    backed-tree-rows : (whole : Option ℕ) (n : ℕ) (t : Located) → Backed message cap atoms t → Each-row Backed-row (tree-rows whole n t)
+    backed-tree-rows : (whole : Option ℕ) (n : ℕ) (t : Located) → Backed message cap given t → Each-row Backed-row (tree-rows whole n t)
     backed-tree-rows whole n (node l ts) b = (b .0, backed-rows (some n) (n + 1) ts (b .1))
 
-    pub backed-rows : (whole : Option ℕ) (n : ℕ) (ts : Terms) → Backeds message cap atoms ts → Each-row Backed-row (rows whole n ts)
+    pub backed-rows : (whole : Option ℕ) (n : ℕ) (ts : Terms) → Backeds message cap given ts → Each-row Backed-row (rows whole n ts)
     backed-rows whole n empty b = tt
     backed-rows whole n (t ▹ ts) b =
         each-row-join Backed-row (tree-rows whole n t) (rows whole (n + size t) ts) (backed-tree-rows whole n t (b .0)) (backed-rows whole (n + size t) ts (b .1))
 
   -- without the kind of characters a kind is that of the label
-  term-kind-of : (l : Label) (p : Offset) → Label-at message cap atoms p l → term-kind (kind-at l p) ≡ kind-of l
+  term-kind-of : (l : Label) (p : Offset) → Label-at message cap given p l → term-kind (kind-at l p) ≡ kind-of l
   unfolding term-kind kind-at kind-of
   term-kind-of l (tag-at p) h = let r : Between 1 13 (kind-of l) = kind-of-range l in rw (ne-eqb (kind-of l) 14 (λ e. omega arith))
   term-kind-of l (character-at p) h = sym (ap kind-of (h .1))
@@ -56,18 +56,18 @@ module _ (message : List ℕ) (cap : ℕ) (atoms : Atoms) where
   pub record Term-in-table (T : List ℕ) (whole : Option ℕ) (n : ℕ) (t : Located) : Type 0 where
     pub stands : Tree-here T whole n t
     pub small : Each-row Small-row (tree-rows whole n t)
-    pub backed : Backed message cap atoms t
+    pub backed : Backed message cap given t
 
   pub record Rows-in-table (T : List ℕ) (whole : Option ℕ) (n : ℕ) (ts : Terms) : Type 0 where
     pub stand : Rows-here T whole n ts
     pub all-small : Each-row Small-row (rows whole n ts)
-    pub all-backed : Backeds message cap atoms ts
+    pub all-backed : Backeds message cap given ts
 
-  backed-left : (ts us : Terms) → Backeds message cap atoms (ts ▹▹ us) → Backeds message cap atoms ts
+  backed-left : (ts us : Terms) → Backeds message cap given (ts ▹▹ us) → Backeds message cap given ts
   backed-left empty us b = tt
   backed-left (t ▹ ts) us b = (b .0, backed-left ts us (b .1))
 
-  backed-right : (ts us : Terms) → Backeds message cap atoms (ts ▹▹ us) → Backeds message cap atoms us
+  backed-right : (ts us : Terms) → Backeds message cap given (ts ▹▹ us) → Backeds message cap given us
   backed-right empty us b = b
   backed-right (t ▹ ts) us b = backed-right ts us (b .1)
 
@@ -92,20 +92,20 @@ module _ (message : List ℕ) (cap : ℕ) (atoms : Atoms) where
       }
 
 module _ (flags : ℕ) (list : AtomList) (message : List ℕ) (lent : Lent list message) (cap : ℕ) where
-  -- what reading asks of the flags and of the list
-  abbrev pub atoms : Atoms
-  atoms = atoms-of flags list
+  -- what reading is given, of the flags and the list
+  abbrev pub given : Given
+  given = given-of flags list
 
   abbrev pub Known : Row → Type 0
-  Known r = Small-row r × Backed-row message cap atoms r
+  Known r = Small-row r × Backed-row message cap given r
 
   row-agrees : (r q : Row) → Known r → Known q → Agree (same-row message (list .places) (list .lengths) (word r) (word q)) (own r ≡ own q)
   unfolding same-row same-fields
   row-agrees r q k m =
       let v : Word-of r (word r) = word-packed r (k .0) in
       let w : Word-of q (word q) = word-packed q (m .0) in
-      let x : term-kind (kind-at (r .label) (r .place)) ≡ kind-of (r .label) = term-kind-of message cap atoms (r .label) (r .place) (k .1) in
-      let y : term-kind (kind-at (q .label) (q .place)) ≡ kind-of (q .label) = term-kind-of message cap atoms (q .label) (q .place) (m .1) in
+      let x : term-kind (kind-at (r .label) (r .place)) ≡ kind-of (r .label) = term-kind-of message cap given (r .label) (r .place) (k .1) in
+      let y : term-kind (kind-at (q .label) (q .place)) ≡ kind-of (q .label) = term-kind-of message cap given (q .label) (q .place) (m .1) in
       rw (v .kind-is, w .kind-is, v .offset-is, w .offset-is, v .parts-is, w .parts-is, x, y)
       (one (kind-of (r .label)) (kind-of (q .label)) (r .parts) (q .parts) _ (ap kind-of)
       (λ e. contents-agree flags list message lent cap (r .label) (q .label) (r .place) (q .place) (k .1) (m .1) (x ∙ e ∙ sym y)))
@@ -119,28 +119,28 @@ module _ (flags : ℕ) (list : AtomList) (message : List ℕ) (lent : Lent list 
           (and-then (eqb i j) _ (numbers-agree i j) (λ e. and-then (eqb n n′) c (numbers-agree n n′) (λ _. g e)))
 
   module _ (T : List ℕ) where
-    known-tree : {whole : Option ℕ} {n : ℕ} (t : Located) → Term-in-table message cap atoms T whole n t → Known-tree Known T whole n t
+    known-tree : {whole : Option ℕ} {n : ℕ} (t : Located) → Term-in-table message cap given T whole n t → Known-tree Known T whole n t
     known-tree {whole} {n} t h =
-        record { stands = h .stands; known = each-row-both Small-row (Backed-row message cap atoms) (tree-rows whole n t) (h .small) (backed-tree-rows message cap atoms whole n t (h .backed)) }
+        record { stands = h .stands; known = each-row-both Small-row (Backed-row message cap given) (tree-rows whole n t) (h .small) (backed-tree-rows message cap given whole n t (h .backed)) }
 
-    known-rows : {whole : Option ℕ} {n : ℕ} (ts : Terms) → Rows-in-table message cap atoms T whole n ts → Known-rows Known T whole n ts
+    known-rows : {whole : Option ℕ} {n : ℕ} (ts : Terms) → Rows-in-table message cap given T whole n ts → Known-rows Known T whole n ts
     known-rows {whole} {n} ts h =
-        record { stand = h .stand; all-known = each-row-both Small-row (Backed-row message cap atoms) (rows whole n ts) (h .all-small) (backed-rows message cap atoms whole n ts (h .all-backed)) }
+        record { stand = h .stand; all-known = each-row-both Small-row (Backed-row message cap given) (rows whole n ts) (h .all-small) (backed-rows message cap given whole n ts (h .all-backed)) }
 
     -- two terms compare as their meanings do
-    pub same-terms-same : {whole whole′ : Option ℕ} {a b : ℕ} (t u : Located) → Term-in-table message cap atoms T whole a t → Term-in-table message cap atoms T whole′ b u
+    pub same-terms-same : {whole whole′ : Option ℕ} {a b : ℕ} (t u : Located) → Term-in-table message cap given T whole a t → Term-in-table message cap given T whole′ b u
         → same-terms-raw message (list .places) (list .lengths) T a b ≡ same (meaning t) (meaning u)
     same-terms-same {whole} {whole′} {a} {b} t u h g =
         same-from-same (same-row message (list .places) (list .lengths)) Known (λ r k. k .0) row-agrees T whole whole′ a b t u (known-tree t h) (known-tree u g)
 
     -- a term right past pairs is compared with each of their keys
     pub among-rows-among : {whole whole′ : Option ℕ} {first key : ℕ} (ts : Terms) (u : Located) {ks : List Term} → Keys-of ts ks → key ≡ first + sizes ts
-        → Rows-in-table message cap atoms T whole first ts → Term-in-table message cap atoms T whole′ key u → among-rows message (list .places) (list .lengths) T first key ≡ among (meaning u) ks
+        → Rows-in-table message cap given T whole first ts → Term-in-table message cap given T whole′ key u → among-rows message (list .places) (list .lengths) T first key ≡ among (meaning u) ks
     among-rows-among {whole} {whole′} {first} {key} ts u p e h g =
         among-from-among (same-row message (list .places) (list .lengths)) Known (λ r k. k .0) row-agrees T whole whole′ key u (known-tree u g) first p e (known-rows ts h)
 
     -- the same of the last of terms, after pairs
-    pub last-among : {whole : Option ℕ} {first : ℕ} (ts : Terms) (u : Located) {ks : List Term} → Keys-of ts ks → Rows-in-table message cap atoms T whole first (ts ▹▹ (u ▹ empty))
+    pub last-among : {whole : Option ℕ} {first : ℕ} (ts : Terms) (u : Located) {ks : List Term} → Keys-of ts ks → Rows-in-table message cap given T whole first (ts ▹▹ (u ▹ empty))
         → among-rows message (list .places) (list .lengths) T first (first + sizes ts) ≡ among (meaning u) ks
     last-among ts u p h =
-        among-rows-among ts u p refl (held-left message cap atoms ts (u ▹ empty) h) (held-first message cap atoms u empty (held-right message cap atoms ts (u ▹ empty) h))
+        among-rows-among ts u p refl (held-left message cap given ts (u ▹ empty) h) (held-first message cap given u empty (held-right message cap given ts (u ▹ empty) h))

@@ -6,7 +6,7 @@ use Prim.Native.Nat.{ℕ, zero, suc, _+_, _-_, _/_}
 use native.Mathlib.Omega.{arith}
 use lib.ListN.{length, getD}
 use Rattle.term_spec.specs.Tree.{empty, _▹_, _▹▹_, size, sizes}
-use Rattle.term_spec.specs.Head.{Atoms}
+use Rattle.term_spec.specs.Head.{Given}
 use Rattle.term_spec.specs.Reading.{Located}
 use Rattle.term_spec.specs.Message.{Terms}
 use Rattle.term_spec.specs.Rows.{tree-rows, row-words, size-in}
@@ -65,13 +65,13 @@ module _ (m places lengths S : List ℕ) (whole : Option ℕ) (first : ℕ) wher
       )
 
 -- the rows of pairs, and of one more term, stand in the table
-module _ (m places lengths : List ℕ) (cap : ℕ) (atoms : Atoms) {S : List ℕ} {whole : Option ℕ} {first : ℕ} (us : Terms) (u : Located)
-    (h : Rows-in-table m cap atoms S whole first (us ▹▹ (u ▹ empty))) where
-  known-small : (n : ℕ) (ts : Terms) → Rows-in-table m cap atoms S whole n ts → Known-rows Small-row S whole n ts
+module _ (m places lengths : List ℕ) (cap : ℕ) (given : Given) {S : List ℕ} {whole : Option ℕ} {first : ℕ} (us : Terms) (u : Located)
+    (h : Rows-in-table m cap given S whole first (us ▹▹ (u ▹ empty))) where
+  known-small : (n : ℕ) (ts : Terms) → Rows-in-table m cap given S whole n ts → Known-rows Small-row S whole n ts
   known-small n ts g = record { stand = g .stand; all-known = g .all-small }
 
   pub hash-held : term-hash m places lengths S first (first + sizes us) ≡ hash-row-words m places lengths first (row-words (tree-rows whole (first + sizes us) u))
-  hash-held = hash-tree m places lengths S whole first (first + sizes us) u (first-known (known-small (first + sizes us) (u ▹ empty) (held-right m cap atoms us (u ▹ empty) h)))
+  hash-held = hash-tree m places lengths S whole first (first + sizes us) u (first-known (known-small (first + sizes us) (u ▹ empty) (held-right m cap given us (u ▹ empty) h)))
 
   pub contains-before : {L : List ℕ} → Contains-keys m places lengths whole first first us L → Contains-before m places lengths S first (first + sizes us) L
-  contains-before r = contains-from m places lengths S whole first (first + sizes us) (first + sizes us - first) first us r refl (known-small first us (held-left m cap atoms us (u ▹ empty) h))
+  contains-before r = contains-from m places lengths S whole first (first + sizes us) (first + sizes us - first) first us r refl (known-small first us (held-left m cap given us (u ▹ empty) h))

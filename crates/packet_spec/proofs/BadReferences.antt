@@ -7,19 +7,18 @@ use native.Mathlib.Numerals.{add-one}
 use native.Mathlib.Omega.{arith}
 use lib.Dec.{eqb, leb}
 use lib.ListN.{length, getD, take, drop}
-use borrow.Author.Tests.{eqb-true, eqb-false}
+use borrow.Author.Tests.{eqb-true}
 use Rattle.term_spec.specs.Numbers.{big-endian}
 use Rattle.term_spec.specs.Connection.{coding-agreed, flags-known}
 use Rattle.term_spec.specs.Text.{Coding, Checked, valid, invalid-at, check, encodes}
 use Rattle.term_spec.specs.Answer.{Answer, good, refused, Position, Reading, at-offset, after, byte, bytes, number}
 use Rattle.term_spec.specs.Head.{text-or}
-use Rattle.term_spec.specs.Message.{first-check}
 use Rattle.term_spec.proofs.Tests.{by-less}
 use Rattle.term_spec.proofs.Bridge.{byte-at, byte-end, bytes-at, bytes-end, number-at, number-end}
 use Rattle.term_spec.proofs.Holds.{refused-holds}
 use Rattle.term_spec.proofs.Walk.{Keeps, and-then, next-step, end, no, rule-keeps, version-keeps}
 use Rattle.term_spec.proofs.BadByte.{bad-bytes}
-use Rattle.term_spec.proofs.BadTexts.{found-refused, as-told}
+use Rattle.term_spec.proofs.BadTexts.{past-check, found-refused, as-told}
 use Rattle.packet_spec.specs.declared.Pending.{Pending}
 use Rattle.packet_spec.specs.declared.PacketAnswer.the-variants as packets
 use Rattle.packet_spec.specs.Memory.{Memory, Held, nothing, no-text, text, held, memory-of-size, record-true}
@@ -188,12 +187,6 @@ module _ (flags : ℕ) (holding : ℕ → Held) (bs : List ℕ) where
     packet-told : Told (λ _ _. Unit {0}) (packet agreed holding r (at-offset bs 0 0))
     unfolding packet
     packet-told = and-then (rule-keeps (record-true r) 14 0 refl _ λ _. next-step preamble-told λ kind t _ begun. rest-told kind t begun)
-
-module _ {A : Type 0} where
-  -- a refusal with 5 is no first check's
-  past-check : (t : Bool) (n p : ℕ) (o : Answer A) → eqb n 5 ≡ false → first-check t n o ≡ refused 5 p → o ≡ refused 5 p
-  past-check true n p o other e = e
-  past-check false n p o other e = absurd (eqb-false n 5 other cc)
 
 module _ (flags : ℕ) (m : Memory) (bs : List ℕ) (p : ℕ) where
   rules-bad : judged flags m bs ≡ refused 5 p → Bad-reference flags bs p

@@ -12,7 +12,7 @@ use Rattle.term_spec.specs.Numbers.{big-endian, Under}
 use Rattle.term_spec.specs.Text.{Coding, latin-1, utf-8}
 use Rattle.term_spec.specs.Answer.{Answer, good, refused}
 use Rattle.term_spec.specs.Answers.{read-answer, number-answer, mark-case, mark-answer}
-use Rattle.term_spec.specs.AtomList.{AtomList, place-length, atoms-of}
+use Rattle.term_spec.specs.AtomList.{AtomList, place-length, given-of}
 use Rattle.term_spec.specs.Message.{Framing, Terms, meanings, read}
 use Rattle.term_spec.specs.Rows.{rows, table-after}
 use Rattle.term_spec.specs.Look.{float-bits, number-at, row-number, number-in, atom-at, Stretch, of-message, of-list, text-of, atom-text, text-in, text-bytes, stretch-bytes}
@@ -66,7 +66,7 @@ module _ (flags : ℕ) (framing : Framing) (list : AtomList) (m : List ℕ) (few
 -- for the reader of the promise, used by no proof: the float that a row's number answers has exactly the 64 bits of its term, as encoded back
 pub exact : (flags : ℕ) (framing : Framing) (list : AtomList) (m : List ℕ) → Under 256 m → (row bits : ℕ) → number-in flags framing list m row ≡ good (float-bits bits)
     → (bits < 2 ^ 64) × (toBits binary64 (ofBits binary64 bits) ≡ bits)
-unfolding number-in row-number atoms-of
+unfolding number-in row-number given-of
 exact flags framing list m under row bits e = go (read flags framing list 8192 m) refl e
   where
     go : (o : Answer Terms) → read flags framing list 8192 m ≡ o → row-number row o ≡ good (float-bits bits) → (bits < 2 ^ 64) × (toBits binary64 (ofBits binary64 bits) ≡ bits)

@@ -14,7 +14,7 @@ use Rattle.term_spec.specs.Term.{Label, integer, float, atom, tuple, list, impr
 use Rattle.term_spec.specs.Answer.{good, refused}
 use Rattle.term_spec.specs.Answers.{read-answer, number-case}
 use Rattle.term_spec.specs.Head.{finite}
-use Rattle.term_spec.specs.AtomList.{AtomList, atoms-of}
+use Rattle.term_spec.specs.AtomList.{AtomList, given-of}
 use Rattle.term_spec.specs.Reading.{Offset, tag-at, character-at, Located, meaning}
 use Rattle.term_spec.specs.Message.{Terms, meanings}
 use Rattle.term_spec.specs.Rows.{Row, tree-rows, rows, kind-of, kind-at, offset-of, kind-in, offset-in, word, row-words, table-after, Here}
@@ -188,24 +188,24 @@ module _ (flags : ℕ) (list : AtomList) (m : List ℕ) (ts : Terms) (few : list
   abbrev T : List ℕ
   T = table-after most (good ts)
 
-  held : Rows-in-table m (min 8192 most) (atoms-of flags list) T option.none 0 ts
+  held : Rows-in-table m (min 8192 most) (given-of flags list) T option.none 0 ts
   held = held-rows flags list most m ts a
 
-  all-backed : Each-row (Backed-row m (min 8192 most) (atoms-of flags list)) all
-  all-backed = backed-rows m (min 8192 most) (atoms-of flags list) option.none 0 ts (held .all-backed)
+  all-backed : Each-row (Backed-row m (min 8192 most) (given-of flags list)) all
+  all-backed = backed-rows m (min 8192 most) (given-of flags list) option.none 0 ts (held .all-backed)
 
   abbrev found-at : ℕ → Content
   found-at w = content-of m (list .places) (list .lengths) (kind-in w) (offset-in w)
 
   -- the number of a row
   row-says : (i : ℕ) → i < sizes ts → number-at i all ≡ content-number (found-at (getD T i 0))
-  unfolding atoms-of
+  unfolding given-of
   row-says i h =
       let d : Row = no-row in
       let r : Row = getD all i d in
       let k : i < length all = rw (length-rows option.none 0 ts) h in
       let small : Small-row r = each-row-at Small-row all i d k (held .all-small) in
-      let backed : Backed-row m (min 8192 most) (atoms-of flags list) r = each-row-at (Backed-row m (min 8192 most) (atoms-of flags list)) all i d k all-backed in
+      let backed : Backed-row m (min 8192 most) (given-of flags list) r = each-row-at (Backed-row m (min 8192 most) (given-of flags list)) all i d k all-backed in
       let fit : Bits-fit (r .label) = each-row-at (λ q. Bits-fit (q .label)) all i d k (fit-rows flags option.none 0 ts (allowed-valid flags (meanings ts) (a .known .all-allowed))) in
       let w : Word-of r (word r) = word-packed r small in
       let kind : ℕ = kind-at (r .label) (r .place) in
@@ -234,7 +234,7 @@ module _ (flags : ℕ) (list : AtomList) (m : List ℕ) (ts : Terms) (few : list
   atom-says : (at : ℕ) → atom-at at all ≡ true → (said at ≡ text-at (good (text-of m list at))) × Text-inside m (list .places) (said at)
   unfolding text-at kind-at offset-of kind-of
   atom-says at e =
-      let b = atom-backed at (λ p l. Label-at m (min 8192 most) (atoms-of flags list) p l) all all-backed e in
+      let b = atom-backed at (λ p l. Label-at m (min 8192 most) (given-of flags list) p l) all all-backed e in
       let s : Says list m 3 at (atom (b .0)) = content-says flags list m lent (min 8192 most) (atom (b .0)) (tag-at at) (b .1) in
       let t = atom-tag flags list m (min 8192 most) (atom (b .0)) at (b .1) refl in
       (content-stands list m (b .0) at (t .0) (t .1) (s .means), said-inside m (list .places) at _ (s .sound))

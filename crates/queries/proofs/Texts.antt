@@ -14,9 +14,9 @@ use Rattle.term_spec.specs.Numbers.{little-endian, signed32, with-sign}
 use Rattle.term_spec.specs.Text.{Coding, latin-1, utf-8}
 use Rattle.term_spec.specs.Term.{Label, integer, float, atom, tuple, list, improper-list, binary, bitstring, export}
 use Rattle.term_spec.specs.Answer.{Position, at-offset, rule, bytes, number}
-use Rattle.term_spec.specs.Head.{Atoms, Wanted, an-atom, an-arity, one-of, Form, small-integer-ext, integer-ext, big-ext, new-float-ext, atom-ext, atom-cache-ref, tuple-ext, nil-ext, string-ext, list-ext, binary-ext, bit-binary-ext, map-ext, pid-ext, port-ext, new-reference-ext, reference-ext, export-ext, form-in, forms, fields, Head, parts, Later, known, pid-fields, port-fields, reference-fields, old-reference-fields, later, id-words, words-rule, creation-rule, limits, finite, bits-rule, bits-meaning, clear-low, term-head}
+use Rattle.term_spec.specs.Head.{Given, Wanted, an-atom, an-arity, one-of, Form, small-integer-ext, integer-ext, big-ext, new-float-ext, atom-ext, atom-cache-ref, tuple-ext, nil-ext, string-ext, list-ext, binary-ext, bit-binary-ext, map-ext, pid-ext, port-ext, new-reference-ext, reference-ext, export-ext, form-in, forms, fields, Head, parts, Later, known, pid-fields, port-fields, reference-fields, old-reference-fields, later, id-words, words-rule, creation-rule, limits, finite, bits-rule, bits-meaning, clear-low, term-head}
 use Rattle.term_spec.specs.Reading.{tag-at}
-use Rattle.term_spec.specs.AtomList.{AtomList, place-length, atoms-of}
+use Rattle.term_spec.specs.AtomList.{AtomList, place-length, given-of}
 use Rattle.term_spec.specs.Rows.{kind-of}
 use Rattle.term_spec.specs.Look.{Stretch, of-message, of-list, text-of}
 use Rattle.term_spec.proofs.Holds.{Holds, done-holds, weaken, skip}
@@ -79,7 +79,7 @@ later-other flags p (reference-fields k w) f s =
 later-other flags p old-reference-fields f s =
     skip (id-words p 1 s) λ ws t. skip (number p 1 t) λ creation t. skip (rule (words-rule 1 ws && creation-rule 1 creation) 4 p t) λ _ t. done-holds _ t (λ e. omega arith)
 
-module _ (m : List ℕ) (cap : ℕ) (atoms : Atoms) (p : ℕ) where
+module _ (m : List ℕ) (cap : ℕ) (atoms : Given) (p : ℕ) where
   -- a label that agrees with the head is an atom's only where the layout is
   abbrev Only : Form → Head → Position → Type 0
   Only f h _ = (b : Position) (x : Label) → Agrees m cap atoms p h b x → kind-of x ≡ 3 → atomic f ≡ true
@@ -133,9 +133,9 @@ atomic-tags tag f e a = sym (row-of (λ n g. atomic g ≡ one-of n (82 ∷ 100 �
 
 module _ (flags : ℕ) (atoms : AtomList) (m : List ℕ) (cap : ℕ) where
   -- the layout at an atom's place is an atom's
-  pub atom-tag : (x : Label) (p : ℕ) → Label-at m cap (atoms-of flags atoms) (tag-at p) x → kind-of x ≡ 3 → (f : Form) × Atom-form (getD m p 0) f
+  pub atom-tag : (x : Label) (p : ℕ) → Label-at m cap (given-of flags atoms) (tag-at p) x → kind-of x ≡ 3 → (f : Form) × Atom-form (getD m p 0) f
   atom-tag x p (h, a, b, i, e, agrees) k =
-      let A : Atoms = atoms-of flags atoms in
+      let A : Given = given-of flags atoms in
       let s : Position = a .start in
       let r : ℕ = s .rows-taken in
       let inside : p ≤ length m = omega (arith, a .in-step .inside, a .is-at) in

@@ -14,8 +14,8 @@ use Rattle.term_spec.specs.Connection.{flags-known}
 use Rattle.term_spec.specs.Answer.{Answer, good, refused, Position, at-offset, Reading, after, done}
 use Rattle.term_spec.specs.Answers.{read-answer}
 use Rattle.term_spec.specs.Promises.{Read-call}
-use Rattle.term_spec.specs.AtomList.{AtomList, of-size, atoms-of, lent-list}
-use Rattle.term_spec.specs.Head.{Atoms, any}
+use Rattle.term_spec.specs.AtomList.{AtomList, of-size, given-of, lent-list}
+use Rattle.term_spec.specs.Head.{Given, any}
 use Rattle.term_spec.specs.Message as message
 use Rattle.term_spec.specs.Message.{Terms, version, ending, standalone-term, payload-terms, terms-framed, result-of, first-check, read}
 use Rattle.term_spec.specs.Reading.{Located, term}
@@ -27,7 +27,7 @@ use Rattle.term_spec.proofs.Rows.{length-rows}
 use Rattle.term_spec.proofs.Words.{length-words-of}
 use Rattle.octets.specs.Cleared.{cleared}
 use Rattle.octets.proofs.Cleared.{cleared-all, cleared-sets}
-use Rattle.context.specs.Word.{Packed, capacity-in, list-in, atoms-in}
+use Rattle.context.specs.Word.{Packed, capacity-in, list-in, given-in}
 use Rattle.term_reader.specs.declared.Step.{Step}
 use Rattle.term_reader.specs.declared.Step.the-variants.{Got, Refused}
 use Rattle.reader.specs.declared.Framing.{Framing}
@@ -82,9 +82,9 @@ unfolding version
 version-there [] h e = absurd (h refl)
 version-there (b ∷ bs) h e = rw (eq-eqb b 131 e, version)
 
-module _ (atoms : Atoms) (cap : ℕ) (m : List ℕ) (T : List ℕ) where
+module _ (given : Given) (cap : ℕ) (m : List ℕ) (T : List ℕ) where
   abbrev Standalone-done : ReadAnswer → List ℕ → Type 0
-  Standalone-done r U = MessageDone m cap T (standalone-term atoms cap (at-offset m 0 0)) r U
+  Standalone-done r U = MessageDone m cap T (standalone-term given cap (at-offset m 0 0)) r U
 
   pub standalone-empty : (U : List ℕ) → length m ≡ 0 → Standalone-done (refusal 1 0) U
   unfolding standalone-term Done
@@ -94,14 +94,14 @@ module _ (atoms : Atoms) (cap : ℕ) (m : List ℕ) (T : List ℕ) where
   unfolding standalone-term Done
   standalone-other U e = rw (version-other m e)
 
-  module _ (some : length m ≡ 0 → ⊥) (first : getD m 0 0 ≡ 131) (r : Step) (T′ : List ℕ) (d : TermDone m cap 0 0 T (term atoms cap 64 any (at-offset m 1 0)) r T′) where
+  module _ (some : length m ≡ 0 → ⊥) (first : getD m 0 0 ≡ 131) (r : Step) (T′ : List ℕ) (d : TermDone m cap 0 0 T (term given cap 64 any (at-offset m 1 0)) r T′) where
     pub standalone-refused : (k p : ℕ) (U : List ℕ) → r ≡ Refused k p → Standalone-done (refusal k p) U
     unfolding standalone-term Done
-    standalone-refused k p U e = rw (version-there m some first, step-refused _ _ _ m cap 0 T (term atoms cap 64 any (at-offset m 1 0)) r T′ k p e d)
+    standalone-refused k p U e = rw (version-there m some first, step-refused _ _ _ m cap 0 T (term given cap 64 any (at-offset m 1 0)) r T′ k p e d)
 
     module _ (next end : ℕ) (e : r ≡ Got next end) where
-      abbrev only : Found size (λ t. row-words (tree-rows (whole-of 0) 0 t)) (Each-node (Placed 65536)) m cap 0 T (term atoms cap 64 any (at-offset m 1 0)) next end T′
-      only = step-found size _ _ m cap 0 T (term atoms cap 64 any (at-offset m 1 0)) r T′ next end e d
+      abbrev only : Found size (λ t. row-words (tree-rows (whole-of 0) 0 t)) (Each-node (Placed 65536)) m cap 0 T (term given cap 64 any (at-offset m 1 0)) next end T′
+      only = step-found size _ _ m cap 0 T (term given cap 64 any (at-offset m 1 0)) r T′ next end e d
 
       pub standalone-over : (U : List ℕ) → next < length m → Standalone-done (refusal 10 next) U
       unfolding standalone-term Done
@@ -115,55 +115,55 @@ module _ (atoms : Atoms) (cap : ℕ) (m : List ℕ) (T : List ℕ) where
 
 -- ---- a payload
 
-module _ (atoms : Atoms) (cap : ℕ) where
+module _ (given : Given) (cap : ℕ) where
   -- what is read where a first term ends
   abbrev rest : Located → List ℕ → Reading Terms
   rest t [] = done (t ▹ empty)
-  rest t (b ∷ bs) = λ s. after (term atoms cap 64 any s) (λ u. λ v. after (ending (v .left) v) (λ _. done (t ▹ u ▹ empty)))
+  rest t (b ∷ bs) = λ s. after (term given cap 64 any s) (λ u. λ v. after (ending (v .left) v) (λ _. done (t ▹ u ▹ empty)))
 
-module _ (atoms : Atoms) (cap : ℕ) (m : List ℕ) (T : List ℕ) (r : Step) (T′ : List ℕ) (d : TermDone m cap 0 0 T (term atoms cap 64 any (at-offset m 0 0)) r T′) where
+module _ (given : Given) (cap : ℕ) (m : List ℕ) (T : List ℕ) (r : Step) (T′ : List ℕ) (d : TermDone m cap 0 0 T (term given cap 64 any (at-offset m 0 0)) r T′) where
   abbrev Payload-done : ReadAnswer → List ℕ → Type 0
-  Payload-done a U = MessageDone m cap T (payload-terms atoms cap (at-offset m 0 0)) a U
+  Payload-done a U = MessageDone m cap T (payload-terms given cap (at-offset m 0 0)) a U
 
   pub payload-refused : (k p : ℕ) (U : List ℕ) → r ≡ Refused k p → Payload-done (refusal k p) U
   unfolding payload-terms Done
-  payload-refused k p U e = rw (step-refused _ _ _ m cap 0 T (term atoms cap 64 any (at-offset m 0 0)) r T′ k p e d)
+  payload-refused k p U e = rw (step-refused _ _ _ m cap 0 T (term given cap 64 any (at-offset m 0 0)) r T′ k p e d)
 
   module _ (next end : ℕ) (e : r ≡ Got next end) where
-    abbrev one : Found size (λ t. row-words (tree-rows (whole-of 0) 0 t)) (Each-node (Placed 65536)) m cap 0 T (term atoms cap 64 any (at-offset m 0 0)) next end T′
-    one = step-found size _ _ m cap 0 T (term atoms cap 64 any (at-offset m 0 0)) r T′ next end e d
+    abbrev one : Found size (λ t. row-words (tree-rows (whole-of 0) 0 t)) (Each-node (Placed 65536)) m cap 0 T (term given cap 64 any (at-offset m 0 0)) next end T′
+    one = step-found size _ _ m cap 0 T (term given cap 64 any (at-offset m 0 0)) r T′ next end e d
 
-    payload-is : payload-terms atoms cap (at-offset m 0 0) ≡ rest atoms cap (one .x) (drop next m) (at-offset m next end)
+    payload-is : payload-terms given cap (at-offset m 0 0) ≡ rest given cap (one .x) (drop next m) (at-offset m next end)
     unfolding payload-terms
     payload-is =
-        after-same (term atoms cap 64 any (at-offset m 0 0)) _ (λ t. λ s. rest atoms cap t (s .left) s) (λ t u. rest-is t (u .left) u)
-        ∙ ap (λ (o : Answer (Located × Position)). after o (λ t. λ s. rest atoms cap t (s .left) s)) (one .is)
+        after-same (term given cap 64 any (at-offset m 0 0)) _ (λ t. λ s. rest given cap t (s .left) s) (λ t u. rest-is t (u .left) u)
+        ∙ ap (λ (o : Answer (Located × Position)). after o (λ t. λ s. rest given cap t (s .left) s)) (one .is)
       where
         rest-is : (t : Located) (l : List ℕ) (s : Position)
             → (elim l as (λ _. Reading Terms) [
               | [] ↦ done (t ▹ empty)
-              | b ∷ bs ↦ λ s. after (term atoms cap 64 any s) (λ u. λ v. after (ending (v .left) v) (λ _. done (t ▹ u ▹ empty)))
-            ]) s ≡ rest atoms cap t l s
+              | b ∷ bs ↦ λ s. after (term given cap 64 any s) (λ u. λ v. after (ending (v .left) v) (λ _. done (t ▹ u ▹ empty)))
+            ]) s ≡ rest given cap t l s
         rest-is t [] s = refl
         rest-is t (b ∷ bs) s = refl
 
     pub payload-one : length m ≤ next → Payload-done (reads.Terms 1 end) T′
     payload-one h =
-        rw (payload-is ∙ ap (λ (l : List ℕ). rest atoms cap (one .x) l (at-offset m next end)) (drop-of-length-le m h)) (one-done m cap T T′ (one .x) next end (one .table-is) (one .near) (one .rows-are) (one .room))
+        rw (payload-is ∙ ap (λ (l : List ℕ). rest given cap (one .x) l (at-offset m next end)) (drop-of-length-le m h)) (one-done m cap T T′ (one .x) next end (one .table-is) (one .near) (one .rows-are) (one .room))
 
-    module _ (more : next < length m) (r′ : Step) (T″ : List ℕ) (d′ : TermDone m cap end 0 T′ (term atoms cap 64 any (at-offset m next end)) r′ T″) where
+    module _ (more : next < length m) (r′ : Step) (T″ : List ℕ) (d′ : TermDone m cap end 0 T′ (term given cap 64 any (at-offset m next end)) r′ T″) where
       -- a second term is read where the first ends
-      second : payload-terms atoms cap (at-offset m 0 0)
-          ≡ after (term atoms cap 64 any (at-offset m next end)) (λ u. λ s. after (ending (s .left) s) (λ _. done (one .x ▹ u ▹ empty)))
-      second = payload-is ∙ ap (λ (l : List ℕ). rest atoms cap (one .x) l (at-offset m next end)) (drop-cons m next 0 more)
+      second : payload-terms given cap (at-offset m 0 0)
+          ≡ after (term given cap 64 any (at-offset m next end)) (λ u. λ s. after (ending (s .left) s) (λ _. done (one .x ▹ u ▹ empty)))
+      second = payload-is ∙ ap (λ (l : List ℕ). rest given cap (one .x) l (at-offset m next end)) (drop-cons m next 0 more)
 
       pub payload-second-refused : (k p : ℕ) (U : List ℕ) → r′ ≡ Refused k p → Payload-done (refusal k p) U
       unfolding Done
-      payload-second-refused k p U f = rw (second, step-refused _ _ _ m cap end T′ (term atoms cap 64 any (at-offset m next end)) r′ T″ k p f d′)
+      payload-second-refused k p U f = rw (second, step-refused _ _ _ m cap end T′ (term given cap 64 any (at-offset m next end)) r′ T″ k p f d′)
 
       module _ (next′ end′ : ℕ) (f : r′ ≡ Got next′ end′) where
-        abbrev two : Found size (λ t. row-words (tree-rows (whole-of 0) end t)) (Each-node (Placed 65536)) m cap end T′ (term atoms cap 64 any (at-offset m next end)) next′ end′ T″
-        two = step-found size _ _ m cap end T′ (term atoms cap 64 any (at-offset m next end)) r′ T″ next′ end′ f d′
+        abbrev two : Found size (λ t. row-words (tree-rows (whole-of 0) end t)) (Each-node (Placed 65536)) m cap end T′ (term given cap 64 any (at-offset m next end)) next′ end′ T″
+        two = step-found size _ _ m cap end T′ (term given cap 64 any (at-offset m next end)) r′ T″ next′ end′ f d′
 
         pub payload-over : (U : List ℕ) → next′ < length m → Payload-done (refusal 10 next′) U
         unfolding Done
@@ -193,15 +193,15 @@ module _ (atoms : Atoms) (cap : ℕ) (m : List ℕ) (T : List ℕ) (r : Step) (T
 
 -- ---- either
 
-module _ (atoms : Atoms) (cap : ℕ) (m T : List ℕ) (framing : Framing) (r : ReadAnswer) (U : List ℕ) where
+module _ (given : Given) (cap : ℕ) (m T : List ℕ) (framing : Framing) (r : ReadAnswer) (U : List ℕ) where
   abbrev Framed-done : Type 0
-  Framed-done = MessageDone m cap T (terms-framed atoms cap (framing-of framing) (at-offset m 0 0)) r U
+  Framed-done = MessageDone m cap T (terms-framed given cap (framing-of framing) (at-offset m 0 0)) r U
 
-  pub framed-standalone : framing ≡ Standalone → MessageDone m cap T (standalone-term atoms cap (at-offset m 0 0)) r U → Framed-done
+  pub framed-standalone : framing ≡ Standalone → MessageDone m cap T (standalone-term given cap (at-offset m 0 0)) r U → Framed-done
   unfolding framing-of
   framed-standalone e d = rw e d
 
-  pub framed-payload : framing ≡ Payload → MessageDone m cap T (payload-terms atoms cap (at-offset m 0 0)) r U → Framed-done
+  pub framed-payload : framing ≡ Payload → MessageDone m cap T (payload-terms given cap (at-offset m 0 0)) r U → Framed-done
   unfolding framing-of
   framed-payload e d = rw e d
 
@@ -231,7 +231,7 @@ module _ (flags : ℕ) (list : AtomList) (m : List ℕ) where
     where
       go : (a b c : Bool) → k ≡ first-number a b c
           → first-check a 13 (first-check b 14 (first-check c 12
-          (result-of (terms-framed (atoms-of flags list) (min 8192 lent) framing (record { at = 0; left = m; rows-taken = 0 }))))) ≡ refused k 0
+          (result-of (terms-framed (given-of flags list) (min 8192 lent) framing (record { at = 0; left = m; rows-taken = 0 }))))) ≡ refused k 0
       go false b c e = ap (λ (n : ℕ). refused n 0) (sym e)
       go true false c e = ap (λ (n : ℕ). refused n 0) (sym e)
       go true true false e = ap (λ (n : ℕ). refused n 0) (sym e)
@@ -249,7 +249,7 @@ module _ (flags : ℕ) (list : AtomList) (m : List ℕ) where
       go true true true x y z e = (x, y, leb-true (length m) 65536 z)
 
   pub read-goes : (framing : message.Framing) (lent : ℕ) → 0 ≡ first-refusal flags list m
-      → read flags framing list lent m ≡ result-of (terms-framed (atoms-of flags list) (min 8192 lent) framing (at-offset m 0 0))
+      → read flags framing list lent m ≡ result-of (terms-framed (given-of flags list) (min 8192 lent) framing (at-offset m 0 0))
   unfolding read
   read-goes framing lent e = let h = read-first e in rw (h .0, h .1, le-leb (length m) 65536 (h .2))
 
@@ -292,15 +292,15 @@ refused-first flags framing list m T k a U e h d =
 module _ (flags n : ℕ) (places lengths m T : List ℕ) (k cap context : ℕ) (e : k ≡ first-refusal flags (lent-list n places lengths) m) (z : k ≡ 0)
     (c : cap ≡ min (length T) 8192) (packed : Packed n flags cap context) where
   pub read-settled : (framing : message.Framing) (r a : ReadAnswer) (T′ U : List ℕ) → length T′ ≡ length T
-      → MessageDone m (capacity-in context) T (terms-framed (atoms-in context places lengths) (capacity-in context) framing (at-offset m 0 0)) r T′
+      → MessageDone m (capacity-in context) T (terms-framed (given-in context places lengths) (capacity-in context) framing (at-offset m 0 0)) r T′
       → (a ≡ r) × (U ≡ cleared (rows-in r) T′) → Read-call flags framing (lent-list n places lengths) m T a U
   read-settled framing r a T′ U long d f =
       let list : AtomList = lent-list n places lengths in
       let g : cap ≡ min 8192 (length T) = omega arith in
       let d′ = rw (packed .count-is, packed .flags-are, packed .capacity-is) at d in
-      let h = settled m cap T (terms-framed (atoms-of flags list) cap framing (at-offset m 0 0)) r T′ U (omega arith) long d′ (f .1) in
-      let w : read flags framing list (length T) m ≡ result-of (terms-framed (atoms-of flags list) cap framing (at-offset m 0 0))
-      = read-goes flags list m framing (length T) (sym z ∙ e) ∙ ap (λ (j : ℕ). result-of (terms-framed (atoms-of flags list) j framing (at-offset m 0 0))) (sym g) in
+      let h = settled m cap T (terms-framed (given-of flags list) cap framing (at-offset m 0 0)) r T′ U (omega arith) long d′ (f .1) in
+      let w : read flags framing list (length T) m ≡ result-of (terms-framed (given-of flags list) cap framing (at-offset m 0 0))
+      = read-goes flags list m framing (length T) (sym z ∙ e) ∙ ap (λ (j : ℕ). result-of (terms-framed (given-of flags list) j framing (at-offset m 0 0))) (sym g) in
       record { read-answered = rw w (f .0 ∙ h .0); table-left = rw w (h .1) }
 
   pub room-first : Room m (list-in context places lengths) T (capacity-in context) 0 0 0

@@ -14,7 +14,7 @@ ghost use Rattle.term_spec.specs.AtomList.{lent-list};
 ghost use Rattle.term_spec.specs.Message.{standalone, payload};
 ghost use Rattle.term_spec.specs.Promises.{Read-call};
 ghost use Rattle.octets.specs.Cleared.{cleared};
-ghost use Rattle.context.specs.Word.{capacity-in, list-in, atoms-in};
+ghost use Rattle.context.specs.Word.{capacity-in, list-in, given-in};
 ghost use Rattle.term_reader.specs.Code.{Room};
 ghost use Rattle.reader.specs.Code.{first-refusal, rows-in, framing-of, Outermost-read, Message-read};
 
@@ -52,7 +52,7 @@ fn read_outermost(
 ) -> Step
     requires { ⌜ Room (now msg) (list-in context (now places) (now lengths)) (now table) (capacity-in context) at row 0 ⌝ }
     requires { ⌜ 0 < length (now seen) ⌝ }
-    ensures { λ r. ⌜ Outermost-read (now (msg .entry)) (atoms-in context (now (places .entry)) (now (lengths .entry))) (capacity-in context) at row (now (table .entry)) r (now (table .exit)) ⌝ }
+    ensures { λ r. ⌜ Outermost-read (now (msg .entry)) (given-in context (now (places .entry)) (now (lengths .entry))) (capacity-in context) at row (now (table .entry)) r (now (table .exit)) ⌝ }
 {
     term_reader::read_run(
         msg,
@@ -81,7 +81,7 @@ fn standalone_terms(
 ) -> ReadAnswer
     requires { ⌜ Room (now msg) (list-in context (now places) (now lengths)) (now table) (capacity-in context) 0 0 0 ⌝ }
     requires { ⌜ 0 < length (now seen) ⌝ }
-    ensures { λ r. ⌜ Message-read standalone (now (msg .entry)) (atoms-in context (now (places .entry)) (now (lengths .entry))) (capacity-in context) (now (table .entry)) r (now (table .exit)) ⌝ }
+    ensures { λ r. ⌜ Message-read standalone (now (msg .entry)) (given-in context (now (places .entry)) (now (lengths .entry))) (capacity-in context) (now (table .entry)) r (now (table .exit)) ⌝ }
 {
     if msg.len() == 0 {
         return ReadAnswer::Refused(Refusal {
@@ -120,7 +120,7 @@ fn payload_terms(
 ) -> ReadAnswer
     requires { ⌜ Room (now msg) (list-in context (now places) (now lengths)) (now table) (capacity-in context) 0 0 0 ⌝ }
     requires { ⌜ 0 < length (now seen) ⌝ }
-    ensures { λ r. ⌜ Message-read payload (now (msg .entry)) (atoms-in context (now (places .entry)) (now (lengths .entry))) (capacity-in context) (now (table .entry)) r (now (table .exit)) ⌝ }
+    ensures { λ r. ⌜ Message-read payload (now (msg .entry)) (given-in context (now (places .entry)) (now (lengths .entry))) (capacity-in context) (now (table .entry)) r (now (table .exit)) ⌝ }
 {
     match read_outermost(msg, context, places, lengths, table, seen, 0, 0) {
         Step::Refused { number, place } => ReadAnswer::Refused(Refusal { number, place }),
@@ -156,7 +156,7 @@ fn framed_terms(
 ) -> ReadAnswer
     requires { ⌜ Room (now msg) (list-in context (now places) (now lengths)) (now table) (capacity-in context) 0 0 0 ⌝ }
     requires { ⌜ 0 < length (now seen) ⌝ }
-    ensures { λ r. ⌜ Message-read (framing-of framing) (now (msg .entry)) (atoms-in context (now (places .entry)) (now (lengths .entry))) (capacity-in context) (now (table .entry)) r (now (table .exit)) ⌝ }
+    ensures { λ r. ⌜ Message-read (framing-of framing) (now (msg .entry)) (given-in context (now (places .entry)) (now (lengths .entry))) (capacity-in context) (now (table .entry)) r (now (table .exit)) ⌝ }
 {
     match framing {
         Framing::Standalone => standalone_terms(msg, context, places, lengths, table, seen),

@@ -7,7 +7,7 @@ use lib.Dec.{eqb}
 use borrow.Author.Tests.{eqb-true}
 use Rattle.term_spec.specs.Term.{Label}
 use Rattle.term_spec.specs.Reading.{Offset}
-use Rattle.term_spec.specs.AtomList.{AtomList, atoms-of}
+use Rattle.term_spec.specs.AtomList.{AtomList, given-of}
 use Rattle.term_spec.specs.Rows.{kind-at, offset-of}
 use Rattle.term_spec.proofs.Backed.{Label-at}
 use Rattle.row_fields.specs.Found.{content-of}
@@ -32,7 +32,7 @@ term-bare kind = go (eqb kind 14) refl
 
 module _ (flags : ℕ) (atoms : AtomList) (m : List ℕ) (l : Lent atoms m) (cap : ℕ) where
   -- what is found again of two nodes of one kind is the same exactly where their labels are equal
-  pub contents-agree : (x y : Label) (p q : Offset) → Label-at m cap (atoms-of flags atoms) p x → Label-at m cap (atoms-of flags atoms) q y → term-kind (kind-at x p) ≡ term-kind (kind-at y q)
+  pub contents-agree : (x y : Label) (p q : Offset) → Label-at m cap (given-of flags atoms) p x → Label-at m cap (given-of flags atoms) q y → term-kind (kind-at x p) ≡ term-kind (kind-at y q)
       → Agree (same-contents m (atoms .places) (content-of m (atoms .places) (atoms .lengths) (kind-at x p) (offset-of p)) (content-of m (atoms .places) (atoms .lengths) (kind-at y q) (offset-of q))) (x ≡ y)
   contents-agree x y p q a b e =
       let s = content-says flags atoms m l cap x p a in

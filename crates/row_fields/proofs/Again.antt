@@ -11,7 +11,7 @@ use Rattle.term_spec.specs.Term.{Label, integer}
 use Rattle.term_spec.specs.Answer.{Position, at-offset}
 use Rattle.term_spec.specs.Head.{term-head}
 use Rattle.term_spec.specs.Reading.{Offset, tag-at, character-at}
-use Rattle.term_spec.specs.AtomList.{AtomList, atoms-of}
+use Rattle.term_spec.specs.AtomList.{AtomList, given-of}
 use Rattle.term_spec.specs.Rows.{kind-of, kind-at, offset-of}
 use Rattle.term_spec.proofs.Holds.{Holds}
 use Rattle.term_spec.proofs.Invariant.{In-step}
@@ -39,15 +39,15 @@ module _ (flags : ℕ) (atoms : AtomList) (m : List ℕ) (l : Lent atoms m) (cap
       (omega arith, λ _. refl)
 
   -- what is found again of a node that the message backs, by its row's kind and offset, says its label
-  pub content-says : (x : Label) (place : Offset) → Label-at m cap (atoms-of flags atoms) place x → Says atoms m (kind-at x place) (offset-of place) x
+  pub content-says : (x : Label) (place : Offset) → Label-at m cap (given-of flags atoms) place x → Says atoms m (kind-at x place) (offset-of place) x
   unfolding kind-at offset-of
   content-says x (tag-at p) (h, a, b, i, e, agrees) =
       let s : Position = a .start in
       let r : ℕ = s .rows-taken in
       let inside : p ≤ length m = omega (arith, a .in-step .inside, a .is-at) in
       let here : s ≡ at-offset m p r = position-is m s (a .in-step .bytes-are) ∙ ap (λ (n : ℕ). at-offset m n r) (a .is-at) in
-      let told : Holds (term-head (atoms-of flags atoms) (a .wanted) (at-offset m p r))
-      (λ h t. (b : Position) → In-step m cap b → b .at ≡ t .at → (x : Label) → Agrees m cap (atoms-of flags atoms) p h b x → Says atoms m (kind-of x) p x)
-      = head-here m (atoms-of flags atoms) (a .wanted) p r inside (λ less f k _. form-told flags atoms m l cap p less r f k) in
-      told .known h (a .stop) (ap (term-head (atoms-of flags atoms) (a .wanted)) (sym here) ∙ a .reads) b i e x agrees
+      let told : Holds (term-head (given-of flags atoms) (a .wanted) (at-offset m p r))
+      (λ h t. (b : Position) → In-step m cap b → b .at ≡ t .at → (x : Label) → Agrees m cap (given-of flags atoms) p h b x → Says atoms m (kind-of x) p x)
+      = head-here m (given-of flags atoms) (a .wanted) p r inside (λ less f k _. form-told flags atoms m l cap p less r f k) in
+      told .known h (a .stop) (ap (term-head (given-of flags atoms) (a .wanted)) (sym here) ∙ a .reads) b i e x agrees
   content-says x (character-at p) (h, e) = rw e (character-says p h)

@@ -14,7 +14,7 @@ use Rattle.term_spec.specs.Text.{Checked, valid, invalid-at, Coding, latin-1, u
 use Rattle.term_spec.specs.Term.{Label, integer, tuple, list, improper-list, binary, bitstring, map, pid, reference, export}
 use Rattle.term_spec.specs.Answer.{Answer, good, Position, at-offset}
 use Rattle.term_spec.specs.Head.{Wanted, an-atom, an-arity, Form, small-integer-ext, integer-ext, big-ext, new-float-ext, atom-ext, atom-cache-ref, tuple-ext, nil-ext, string-ext, list-ext, binary-ext, bit-binary-ext, map-ext, pid-ext, port-ext, new-reference-ext, reference-ext, export-ext, form-in, forms, fields, Head, parts, characters, elements, pairs, leaf, Later, known, pid-fields, port-fields, reference-fields, old-reference-fields, later, term-head, finite, bits-rule, bits-meaning, clear-low, limits, creation-rule, words-rule}
-use Rattle.term_spec.specs.AtomList.{AtomList, place-length, place-bytes, place-text, atoms-of}
+use Rattle.term_spec.specs.AtomList.{AtomList, place-length, place-bytes, place-text, given-of}
 use Rattle.term_spec.specs.Rows.{kind-of}
 use Rattle.term_spec.proofs.Holds.{Holds, bind, done-holds, rule-holds, text-holds}
 use Rattle.term_spec.proofs.Invariant.{In-step}
@@ -47,7 +47,7 @@ place-valid atoms i cs e = go (leb (place-length atoms i) 32) refl e
 module _ (flags : ℕ) (atoms : AtomList) (m : List ℕ) (at r : ℕ) (less : at < length m) where
   -- an atom ends where its length says
   abbrev Ended : Form → Type 0
-  Ended f = Holds (fields (atoms-of flags atoms) at f (at-offset m (at + 1) r)) (λ _ t. t .at ≡ atom-end m at)
+  Ended f = Holds (fields (given-of flags atoms) at f (at-offset m (at + 1) r)) (λ _ t. t .at ≡ atom-end m at)
 
   text-ended : (tag w : ℕ) (c : Coding) → 0 < w → text-width tag ≡ w → getD m at 0 ≡ tag → Ended (atom-ext c w)
   unfolding fields
@@ -60,21 +60,21 @@ module _ (flags : ℕ) (atoms : AtomList) (m : List ℕ) (at r : ℕ) (less : at
   unfolding fields text-width
   node-ended tag f is-82 e =
       let q : at + 1 + 1 ≡ at + 2 = omega arith in
-      bind (number-here m at 1 (at + 1) r (omega arith) λ a. bind (rule-holds (ltb (value m 1 (at + 1)) (atoms-of flags atoms .n)) 6 at _ λ g.
-      bind (text-holds (atoms-of flags atoms .text (value m 1 (at + 1))) 14 _ _ λ cs h.
+      bind (number-here m at 1 (at + 1) r (omega arith) λ a. bind (rule-holds (ltb (value m 1 (at + 1)) (given-of flags atoms .n)) 6 at _ λ g.
+      bind (text-holds (given-of flags atoms .text (value m 1 (at + 1))) 14 _ _ λ cs h.
       done-holds _ _ (q ∙ atom-ends m at 0 _ less (ap text-width e) (end-listed m at)))))
   node-ended tag f is-100 e = text-ended 100 2 latin-1 (omega arith) refl e
   node-ended tag f is-115 e = text-ended 115 1 latin-1 (omega arith) refl e
   node-ended tag f is-118 e = text-ended 118 2 utf-8 (omega arith) refl e
   node-ended tag f is-119 e = text-ended 119 1 utf-8 (omega arith) refl e
 
-node-ends : (flags : ℕ) (atoms : AtomList) (m : List ℕ) (at r : ℕ) → at ≤ length m → Holds (term-head (atoms-of flags atoms) an-atom (at-offset m at r)) (λ _ t. t .at ≡ atom-end m at)
-node-ends flags atoms m at r h = head-here m (atoms-of flags atoms) an-atom at r h λ less f e a. node-ended flags atoms m at r less (getD m at 0) f (atom-form (getD m at 0) f e a) refl
+node-ends : (flags : ℕ) (atoms : AtomList) (m : List ℕ) (at r : ℕ) → at ≤ length m → Holds (term-head (given-of flags atoms) an-atom (at-offset m at r)) (λ _ t. t .at ≡ atom-end m at)
+node-ends flags atoms m at r h = head-here m (given-of flags atoms) an-atom at r h λ less f e a. node-ended flags atoms m at r less (getD m at 0) f (atom-form (getD m at 0) f e a) refl
 
 module _ (flags : ℕ) (atoms : AtomList) (m : List ℕ) (l : Lent atoms m) (cap p : ℕ) (less : p < length m) where
   -- what a head that ends at this offset says of each label that it agrees with
   abbrev pub Told : Head → ℕ → Type 0
-  Told h end = (b : Position) → In-step m cap b → b .at ≡ end → (x : Label) → Agrees m cap (atoms-of flags atoms) p h b x → Says atoms m (kind-of x) p x
+  Told h end = (b : Position) → In-step m cap b → b .at ≡ end → (x : Label) → Agrees m cap (given-of flags atoms) p h b x → Says atoms m (kind-of x) p x
 
   known-told : (ws : List Wanted) (n : ℕ) (x : Label) (t : ℕ) → Says atoms m (kind-of x) p x → Told (parts ws n (known x)) t
   unfolding later
@@ -122,7 +122,7 @@ module _ (flags : ℕ) (atoms : AtomList) (m : List ℕ) (l : Lent atoms m) (cap
   module _ (r : ℕ) where
     -- a layout with this tag
     abbrev Row : ℕ → Form → Type 0
-    Row tag f = getD m p 0 ≡ tag → Holds (fields (atoms-of flags atoms) p f (at-offset m (p + 1) r)) (λ h t. Told h (t .at))
+    Row tag f = getD m p 0 ≡ tag → Holds (fields (given-of flags atoms) p f (at-offset m (p + 1) r)) (λ h t. Told h (t .at))
 
     -- ---- integers
 
@@ -180,7 +180,7 @@ module _ (flags : ℕ) (atoms : AtomList) (m : List ℕ) (l : Lent atoms m) (cap
         (utf8-says atoms m 3 false (p + 1 + w) (value m w (p + 1)) cs b h))))))
 
     row-82 : Row 82 atom-cache-ref
-    unfolding fields kind-of atoms-of place-bytes place-length
+    unfolding fields kind-of given-of place-bytes place-length
     row-82 e =
         bind (number-here m p 1 (p + 1) r (omega arith) λ a. bind (rule-holds (ltb (value m 1 (p + 1)) (atoms .n)) 6 p _ λ g.
         bind (text-holds (place-text atoms (value m 1 (p + 1))) 14 _ _ λ cs h.
@@ -287,16 +287,16 @@ module _ (flags : ℕ) (atoms : AtomList) (m : List ℕ) (l : Lent atoms m) (cap
 
     -- ---- identifiers: their own fields stand where their node ends
 
-    node-told : (at : ℕ) (k : Later) → ((r : ℕ) → atom-end m at ≤ length m → Holds (later (atoms-of flags atoms .flags) p k (at-offset m (atom-end m at) r)) (λ x _. Says atoms m (kind-of x) p x))
+    node-told : (at : ℕ) (k : Later) → ((r : ℕ) → atom-end m at ≤ length m → Holds (later (given-of flags atoms .flags) p k (at-offset m (atom-end m at) r)) (λ x _. Says atoms m (kind-of x) p x))
         → Told (parts (an-atom ∷ []) 0 k) at
     node-told at k f b i e x a =
         let s : Position = a .0 in
         let n = a .3 refl in
         let from : b ≡ at-offset m (b .at) (b .rows-taken) = position-is m b (i .bytes-are) in
-        let ends : n .1 .at ≡ atom-end m (b .at) = node-ends flags atoms m (b .at) (b .rows-taken) (i .inside) .known (n .0) (n .1) (ap (term-head (atoms-of flags atoms) an-atom) (sym from) ∙ n .2) in
+        let ends : n .1 .at ≡ atom-end m (b .at) = node-ends flags atoms m (b .at) (b .rows-taken) (i .inside) .known (n .0) (n .1) (ap (term-head (given-of flags atoms) an-atom) (sym from) ∙ n .2) in
         let is : s .at ≡ atom-end m at = n .3 ∙ ends ∙ ap (atom-end m) e in
         let here : s ≡ at-offset m (atom-end m at) (s .rows-taken) = position-is m s (a .2 .bytes-are) ∙ ap (λ (z : ℕ). at-offset m z (s .rows-taken)) is in
-        f (s .rows-taken) (omega (arith, a .2 .inside, is)) .known x (a .1) (ap (later (atoms-of flags atoms .flags) p k) (sym here) ∙ a .4)
+        f (s .rows-taken) (omega (arith, a .2 .inside, is)) .known x (a .1) (ap (later (given-of flags atoms .flags) p k) (sym here) ∙ a .4)
 
     pid-row : (tag w : ℕ) → pid-found m w (atom-end m (p + 1)) ≡ pids-found m p tag → Row tag (pid-ext w)
     unfolding fields kind-of later label-of
@@ -305,7 +305,7 @@ module _ (flags : ℕ) (atoms : AtomList) (m : List ℕ) (l : Lent atoms m) (cap
         let q : end + 4 + 4 ≡ end + 8 = omega arith in
         done-holds _ _ (node-told (p + 1) (pid-fields w) λ r h.
         bind (number-here m p 4 end r h λ a. bind (number-here m p 4 (end + 4) r a λ b. bind (number-here m p w (end + 4 + 4) r b λ c.
-        bind (rule-holds (ltb (value m 4 end) (limits (atoms-of flags atoms .flags) w .id) && ltb (value m 4 (end + 4)) (limits (atoms-of flags atoms .flags) w .serial) && creation-rule w (value m w (end + 4 + 4))) 4 p _ λ g.
+        bind (rule-holds (ltb (value m 4 end) (limits (given-of flags atoms .flags) w .id) && ltb (value m 4 (end + 4)) (limits (given-of flags atoms .flags) w .serial) && creation-rule w (value m w (end + 4 + 4))) 4 p _ λ g.
         done-holds _ _ (pid-says tag e _ (Pid (value m 4 end) (value m 4 (end + 4)) (value m w (end + 8))) (pid-there m end w (omega arith) ∙ f)
         (ap (λ (z : ℕ). pid (value m 4 end) (value m 4 (end + 4)) (value m w z)) (sym q), tt)))))))
 
@@ -321,7 +321,7 @@ module _ (flags : ℕ) (atoms : AtomList) (m : List ℕ) (l : Lent atoms m) (cap
     reference-row : (tag w : ℕ) → counted-found m w p ≡ references-found m p tag → Row tag (new-reference-ext w)
     unfolding fields kind-of later label-of
     reference-row tag w f e =
-        bind (number-here m p 2 (p + 1) r (omega arith) λ a. bind (rule-holds (leb 1 (value m 2 (p + 1)) && leb (value m 2 (p + 1)) (limits (atoms-of flags atoms .flags) w .word-count)) 4 p _ λ k.
+        bind (number-here m p 2 (p + 1) r (omega arith) λ a. bind (rule-holds (leb 1 (value m 2 (p + 1)) && leb (value m 2 (p + 1)) (limits (given-of flags atoms .flags) w .word-count)) 4 p _ λ k.
         let n : ℕ = value m 2 (p + 1) in
         let end : ℕ = atom-end m (p + 3) in
         let q : p + 1 + 2 ≡ p + 3 = omega arith in
@@ -374,5 +374,5 @@ module _ (flags : ℕ) (atoms : AtomList) (m : List ℕ) (l : Lent atoms m) (cap
         (also row-113
         tt))))))))))))))))))))))))))
 
-    pub form-told : (f : Form) → form-in forms (getD m p 0) ≡ some f → Holds (fields (atoms-of flags atoms) p f (at-offset m (p + 1) r)) (λ h t. Told h (t .at))
+    pub form-told : (f : Form) → form-in forms (getD m p 0) ≡ some f → Holds (fields (given-of flags atoms) p f (at-offset m (p + 1) r)) (λ h t. Told h (t .at))
     form-told f e = row-of Row forms (getD m p 0) f all-rows e refl

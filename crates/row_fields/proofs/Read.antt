@@ -10,7 +10,7 @@ use lib.ListN.{length, getD, take, drop}
 use borrow.Author.Tests.{eqb-true}
 use Rattle.term_spec.specs.Answer.{Position, at-offset, bytes, number}
 use Rattle.term_spec.specs.Term.{Label}
-use Rattle.term_spec.specs.Head.{Atoms, Wanted, Form, form-in, forms, fields, Head, term-head, id-words}
+use Rattle.term_spec.specs.Head.{Given, Wanted, Form, form-in, forms, fields, Head, term-head, id-words}
 use Rattle.term_spec.specs.Reading.{Offset, tag-at, character-at}
 use Rattle.term_spec.specs.Rows.{offset-of}
 use Rattle.term_spec.proofs.Steps.{spot}
@@ -67,21 +67,21 @@ module _ (m : List ℕ) where
       bind (number-here p 4 at r h λ b. bind (words-here p k (at + 4) r b λ c. done-holds _ _ (rw e at (f (omega arith)))))
 
   -- a head: its tag, the table's row of the tag, its fields
-  module _ (atoms : Atoms) (w : Wanted) (p r : ℕ) (inside : p ≤ length m) where
+  module _ (given : Given) (w : Wanted) (p r : ℕ) (inside : p ≤ length m) where
     pub head-here : {Q : Head → Position → Type 0}
-        → (p < length m → (f : Form) → form-in forms (getD m p 0) ≡ some f → Allowed w (getD m p 0) → Holds (fields atoms p f (at-offset m (p + 1) r)) Q)
-        → Holds (term-head atoms w (at-offset m p r)) Q
+        → (p < length m → (f : Form) → form-in forms (getD m p 0) ≡ some f → Allowed w (getD m p 0) → Holds (fields given p f (at-offset m (p + 1) r)) Q)
+        → Holds (term-head given w (at-offset m p r)) Q
     unfolding term-head
     head-here {Q} k =
         by-less p (length m)
         (λ less. rw (byte-at m p p r less)
         (next (λ f t. (t ≡ at-offset m (p + 1) r) × (form-in forms (getD m p 0) ≡ some f) × Allowed w (getD m p 0)) (form-found p w (getD m p 0) (at-offset m (p + 1) r)) λ f t e.
-        subst (λ (t : Position). Holds (fields atoms p f t) Q) (sym (e .0)) (k less f (e .1) (e .2))))
+        subst (λ (t : Position). Holds (fields given p f t) Q) (sym (e .0)) (k less f (e .1) (e .2))))
         (λ over. rw (byte-end m p p r over) (refused-holds 2 p))
 
 -- a tag is a byte of the message
-module _ (m : List ℕ) (cap : ℕ) (atoms : Atoms) where
-  head-inside : (p : ℕ) (h : Head) → Head-at m cap atoms p h → p < length m
+module _ (m : List ℕ) (cap : ℕ) (given : Given) where
+  head-inside : (p : ℕ) (h : Head) → Head-at m cap given p h → p < length m
   head-inside p h a =
       let s : Position = a .start in
       let r : ℕ = s .rows-taken in
@@ -89,10 +89,10 @@ module _ (m : List ℕ) (cap : ℕ) (atoms : Atoms) where
       let k : s .at ≡ p = a .is-at in
       let inside : p ≤ length m = omega arith in
       let here : s ≡ at-offset m p r = position-is m s (a .in-step .bytes-are) ∙ ap (λ (n : ℕ). at-offset m n r) k in
-      let told : Holds (term-head atoms (a .wanted) (at-offset m p r)) (λ _ _. p < length m) = head-here m atoms (a .wanted) p r inside (λ less f k _. record { known = λ _ _ _. less }) in
-      told .known h (a .stop) (ap (term-head atoms (a .wanted)) (sym here) ∙ a .reads)
+      let told : Holds (term-head given (a .wanted) (at-offset m p r)) (λ _ _. p < length m) = head-here m given (a .wanted) p r inside (λ less f k _. record { known = λ _ _ _. less }) in
+      told .known h (a .stop) (ap (term-head given (a .wanted)) (sym here) ∙ a .reads)
 
-  pub label-inside : (place : Offset) (x : Label) → Label-at m cap atoms place x → offset-of place < length m
+  pub label-inside : (place : Offset) (x : Label) → Label-at m cap given place x → offset-of place < length m
   unfolding offset-of
   label-inside (tag-at p) x h = head-inside p (h .0) (h .1)
   label-inside (character-at p) x h = h .0

@@ -9,7 +9,7 @@ use lib.ListN.{length, drop}
 use lib.Seq.{drop-cons}
 use borrow.Author.Tests.{eqb-true, ltb-true}
 use Rattle.term_spec.specs.Answer.{Answer, good, refused, Position, Reading, done, at-offset}
-use Rattle.term_spec.specs.Head.{Atoms, Wanted, any, known, parts, characters, elements, pairs, term-head}
+use Rattle.term_spec.specs.Head.{Given, Wanted, any, known, parts, characters, elements, pairs, term-head}
 use Rattle.term_spec.specs.Head as head-spec
 use Rattle.term_spec.specs.Reading.{empty-108, opening}
 use Rattle.term_spec.specs.Rows.{kind-of}
@@ -69,37 +69,37 @@ common-stays h kind count (some-elements (suc n) some) = refl
 common-stays h kind count (some-pairs n some) = refl
 
 -- the first head that is none is the opening
-first-stays : (atoms : Atoms) (bound : List ℕ) (b : ℕ) (rest : List ℕ) → bound ≡ b ∷ rest → (w : Wanted) (s : Position) (h : head-spec.Head) (t : Position) → term-head atoms w s ≡ good (h, t) → empty-108 h ≡ false
-    → opening atoms bound w s ≡ good ((s .at, h), t)
+first-stays : (given : Given) (bound : List ℕ) (b : ℕ) (rest : List ℕ) → bound ≡ b ∷ rest → (w : Wanted) (s : Position) (h : head-spec.Head) (t : Position) → term-head given w s ≡ good (h, t) → empty-108 h ≡ false
+    → opening given bound w s ≡ good ((s .at, h), t)
 unfolding opening
-first-stays atoms bound b rest e w s h t f g =
-    rw (e, f) (ap (λ (z : Bool). (elim z as (λ _. Reading (ℕ × head-spec.Head)) [ true ↦ opening atoms rest any | false ↦ done (s .at, h) ]) t) g)
+first-stays given bound b rest e w s h t f g =
+    rw (e, f) (ap (λ (z : Bool). (elim z as (λ _. Reading (ℕ × head-spec.Head)) [ true ↦ opening given rest any | false ↦ done (s .at, h) ]) t) g)
 
 -- The term at `at` of a message, by its word
-module _ (atoms : Atoms) (wanted : Wanted) (m : List ℕ) (at row w : ℕ) where
+module _ (given : Given) (wanted : Wanted) (m : List ℕ) (at row w : ℕ) where
   pub record Quickly : Type 0 where
     pub h : head-spec.Head
     pub next : ℕ
-    pub opens : opening atoms (drop at m) wanted (at-offset m at row) ≡ good ((at, h), at-offset m next row)
+    pub opens : opening given (drop at m) wanted (at-offset m at row) ≡ good ((at, h), at-offset m next row)
     pub further : at < next
     pub near : next ≤ length m
     pub told-by : Told w h next
 
-  pub quickly : (w ≡ 0 → ⊥) → w ≡ quick-word (head-of (term-head atoms wanted (at-offset m at row))) → Quickly
+  pub quickly : (w ≡ 0 → ⊥) → w ≡ quick-word (head-of (term-head given wanted (at-offset m at row))) → Quickly
   unfolding head-of quick-word
-  quickly some e = go (term-head atoms wanted (at-offset m at row)) refl e
+  quickly some e = go (term-head given wanted (at-offset m at row)) refl e
     where
-      go : (o : Answer (head-spec.Head × Position)) → term-head atoms wanted (at-offset m at row) ≡ o → w ≡ quick-word (head-of o) → Quickly
+      go : (o : Answer (head-spec.Head × Position)) → term-head given wanted (at-offset m at row) ≡ o → w ≡ quick-word (head-of o) → Quickly
       go (refused n p) f g = absurd (some g)
       go (good x) f g =
-          let i : Past m (at + 1) row (x .1) = head-past-tag atoms m at row wanted .known (x .0) (x .1) f in
+          let i : Past m (at + 1) row (x .1) = head-past-tag given m at row wanted .known (x .0) (x .1) f in
           let t : Told w (x .0) (x .1 .at) = told w some (x .1 .at) (x .0) g in
           let inside : at < length m = omega (arith, i .later, i .in-step .inside) in
           let s : x .1 ≡ at-offset m (x .1 .at) row = past-is m (at + 1) row (x .1) i in
           record {
             h = x .0;
             next = x .1 .at;
-            opens = first-stays atoms (drop at m) _ _ (drop-cons m at 0 inside) wanted (at-offset m at row) (x .0) (x .1) f (common-stays (x .0) (t .kind) (t .count) (t .common))
+            opens = first-stays given (drop at m) _ _ (drop-cons m at 0 inside) wanted (at-offset m at row) (x .0) (x .1) f (common-stays (x .0) (t .kind) (t .count) (t .common))
                 ∙ ap (λ (p : Position). good ((at, x .0), p)) s;
             further = omega (arith, i .later);
             near = i .in-step .inside;

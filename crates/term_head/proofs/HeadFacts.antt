@@ -10,7 +10,7 @@ use lib.ListN.{length, getD}
 use borrow.Author.Tests.{eqb-true}
 use Rattle.term_spec.specs.Text.{check}
 use Rattle.term_spec.specs.Answer.{Position, at-offset, after, rule, byte, bytes, number}
-use Rattle.term_spec.specs.Head.{Atoms, limits, an-atom, an-arity, Form, small-integer-ext, integer-ext, new-float-ext, atom-cache-ref, nil-ext, string-ext, list-ext, binary-ext, bit-binary-ext, map-ext, reference-ext, export-ext, big-ext, tuple-ext, pid-ext, new-reference-ext, atom-ext, port-ext, text-or, finite, bits-rule, forms, form-in, form-or, form, fields, term-head, later, parts, characters, elements, pairs}
+use Rattle.term_spec.specs.Head.{Given, limits, an-atom, an-arity, Form, small-integer-ext, integer-ext, new-float-ext, atom-cache-ref, nil-ext, string-ext, list-ext, binary-ext, bit-binary-ext, map-ext, reference-ext, export-ext, big-ext, tuple-ext, pid-ext, new-reference-ext, atom-ext, port-ext, text-or, finite, bits-rule, forms, form-in, form-or, form, fields, term-head, later, parts, characters, elements, pairs}
 use Rattle.term_spec.specs.Head as head-spec
 use Rattle.term_spec.specs.Reading.{empty-108}
 use Rattle.term_spec.proofs.Bridge.{byte-at, byte-end}
@@ -39,17 +39,17 @@ module _ (m : List ℕ) (from rows : ℕ) where
   past-is t i = ap₂ (λ (l : List ℕ) (r : ℕ). record { at = t .at; left = l; rows-taken = r }) (i .in-step .bytes-are) (i .rows-are)
 
 -- a head ends past its tag, in the message
-pub head-past-tag : (atoms : Atoms) (m : List ℕ) (at rows : ℕ) (w : head-spec.Wanted) → Holds (term-head atoms w (at-offset m at rows)) (λ _ t. Past m (at + 1) rows t)
+pub head-past-tag : (given : Given) (m : List ℕ) (at rows : ℕ) (w : head-spec.Wanted) → Holds (term-head given w (at-offset m at rows)) (λ _ t. Past m (at + 1) rows t)
 unfolding term-head
-head-past-tag atoms m at rows w =
+head-past-tag given m at rows w =
     by-less at (length m)
     (λ inside.
     let start : Past m (at + 1) rows (at-offset m (at + 1) rows) =
     record { in-step = record { bytes-are = refl; inside = omega arith; room = omega arith }; later = omega arith; rows-are = refl } in
     rw (byte-at m at at rows inside)
     (next (λ _ t. Past m (at + 1) rows t)
-    (form-kept 0 (Past m (at + 1) rows) (past-byte m (at + 1) rows) (past-row m (at + 1) rows) atoms at w (getD m at 0) (at-offset m (at + 1) rows) start)
-    (λ f t i. fields-kept 0 (Past m (at + 1) rows) (past-byte m (at + 1) rows) (past-row m (at + 1) rows) atoms at f t i)))
+    (form-kept 0 (Past m (at + 1) rows) (past-byte m (at + 1) rows) (past-row m (at + 1) rows) given at w (getD m at 0) (at-offset m (at + 1) rows) start)
+    (λ f t i. fields-kept 0 (Past m (at + 1) rows) (past-byte m (at + 1) rows) (past-row m (at + 1) rows) given at f t i)))
     (λ over. rw (byte-end m at at rows over) (refused-holds 2 at))
 
 -- The parts that a head wants: none, a node, or module, function and arity
@@ -107,14 +107,14 @@ full : (l : List head-spec.Wanted) (n : ℕ) (x : head-spec.Later) → Wants l �
 unfolding Wanting
 full l n x w = record { wanting = w; other = λ _. refl }
 
-module _ (atoms : Atoms) (p : ℕ) where
-  shape : (f : Form) (s : Position) → Holds (fields atoms p f s) (λ h _. Shape (plain f) h)
+module _ (given : Given) (p : ℕ) where
+  shape : (f : Form) (s : Position) → Holds (fields given p f s) (λ h _. Shape (plain f) h)
   unfolding fields plain Wanting
   shape small-integer-ext s = skip (number p 1 s) λ n t. done-holds _ t (full _ _ _ no-part)
   shape integer-ext s = skip (number p 4 s) λ n t. done-holds _ t (full _ _ _ no-part)
   shape new-float-ext s = skip (number p 8 s) λ n t. skip (rule (finite n) 4 p t) λ _ t. done-holds _ t (full _ _ _ no-part)
   shape atom-cache-ref s =
-      skip (number p 1 s) λ n t. skip (rule (ltb n (atoms .n)) 6 p t) λ _ t. skip (text-or (atoms .text n) 14 _ t) λ cs t.
+      skip (number p 1 s) λ n t. skip (rule (ltb n (given .n)) 6 p t) λ _ t. skip (text-or (given .text n) 14 _ t) λ cs t.
       done-holds _ t (full _ _ _ no-part)
   shape nil-ext s = done-holds _ s (record { wanting = tt; other = λ _. refl })
   shape string-ext s = skip (number p 2 s) λ n t. skip (bytes p n t) λ bs t. done-holds _ t (record { wanting = tt; other = λ _. refl })
@@ -131,16 +131,16 @@ module _ (atoms : Atoms) (p : ℕ) where
       done-holds _ t (full _ _ _ no-part)
   shape (tuple-ext w) s = skip (number p w s) λ n t. done-holds _ t (full _ _ _ no-part)
   shape (pid-ext w) s = done-holds _ s (full _ _ _ one-node)
-  shape (new-reference-ext w) s = skip (number p 2 s) λ n t. skip (rule (leb 1 n && leb n (limits (atoms .flags) w .word-count)) 4 p t) λ _ t. done-holds _ t (full _ _ _ one-node)
+  shape (new-reference-ext w) s = skip (number p 2 s) λ n t. skip (rule (leb 1 n && leb n (limits (given .flags) w .word-count)) 4 p t) λ _ t. done-holds _ t (full _ _ _ one-node)
   shape (atom-ext c w) s = skip (number p w s) λ n t. skip (bytes p n t) λ bs t. skip (text-or (check c bs) 5 _ t) λ cs t. done-holds _ t (full _ _ _ no-part)
   shape (port-ext v w) s = done-holds _ s (full _ _ _ one-node)
 
 -- what a head wants
-pub head-wanting : (atoms : Atoms) (w : head-spec.Wanted) (s : Position) → Holds (term-head atoms w s) (λ h _. Wanting h)
+pub head-wanting : (given : Given) (w : head-spec.Wanted) (s : Position) → Holds (term-head given w s) (λ h _. Wanting h)
 unfolding term-head
-head-wanting atoms w s =
+head-wanting given w s =
     skip (byte (s .at) s) λ tag t. skip (form (s .at) w tag t) λ f t.
-    weaken (λ h _. Shape (plain f) h) (shape atoms (s .at) f t) (λ h _ x. x .wanting)
+    weaken (λ h _. Shape (plain f) h) (shape given (s .at) f t) (λ h _ x. x .wanting)
 
 -- the layout of a tag other than 108
 rows-plain : List (ℕ × Form) → Bool
@@ -161,24 +161,24 @@ only-108 (x ∷ fs) tag h r f e = go (eqb (x .0) 108) refl (plain (x .1)) refl r
     go false i true j r false k e ih = ih r e
     go false i false j r c k e ih = let z : _≡_ {A = ℕ} 0 1 = cc in absurd (omega arith)
 
-module _ (atoms : Atoms) (m : List ℕ) (at rows : ℕ) where
+module _ (given : Given) (m : List ℕ) (at rows : ℕ) where
   -- no 108: where its tag is not there or not allowed
   found-form : (tag : ℕ) → (tag ≡ 108 → ⊥) → (o : Option Form) → form-in forms tag ≡ o → (s : Position)
-      → Holds (after (form-or 3 at o s) (fields atoms at)) (λ h _. no-108 h ≡ true)
+      → Holds (after (form-or 3 at o s) (fields given at)) (λ h _. no-108 h ≡ true)
   unfolding form-or forms rows-plain plain
   found-form tag f none e s = refused-holds 3 at
-  found-form tag f (some x) e s = weaken (λ h _. Shape (plain x) h) (shape atoms at x s) (λ h _ y. y .other (only-108 forms tag f refl x e))
+  found-form tag f (some x) e s = weaken (λ h _. Shape (plain x) h) (shape given at x s) (λ h _ y. y .other (only-108 forms tag f refl x e))
 
-  pub other-tag : (w : Wanted) → (allowed w (getD m at 0) ≡ true → getD m at 0 ≡ 108 → ⊥) → Holds (term-head atoms (wanted-of w) (at-offset m at rows)) (λ h _. no-108 h ≡ true)
+  pub other-tag : (w : Wanted) → (allowed w (getD m at 0) ≡ true → getD m at 0 ≡ 108 → ⊥) → Holds (term-head given (wanted-of w) (at-offset m at rows)) (λ h _. no-108 h ≡ true)
   unfolding term-head
   other-tag w f =
       by-less at (length m)
       (λ inside. rw (byte-at m at at rows inside) (go (allowed w (getD m at 0)) refl))
       (λ over. rw (byte-end m at at rows over) (refused-holds 2 at))
     where
-      go : (b : Bool) → allowed w (getD m at 0) ≡ b → Holds (after (form at (wanted-of w) (getD m at 0) (at-offset m (at + 1) rows)) (fields atoms at)) (λ h _. no-108 h ≡ true)
+      go : (b : Bool) → allowed w (getD m at 0) ≡ b → Holds (after (form at (wanted-of w) (getD m at 0) (at-offset m (at + 1) rows)) (fields given at)) (λ h _. no-108 h ≡ true)
       go true e = rw (stands at (getD m at 0) (at-offset m (at + 1) rows) w e) (found-form (getD m at 0) (f e) (form-in forms (getD m at 0)) refl (at-offset m (at + 1) rows))
       go false e = rw (fails at (getD m at 0) (at-offset m (at + 1) rows) w e) (refused-holds 4 at)
 
-  pub not-108 : (w : Wanted) → (allowed w (getD m at 0) ≡ true → getD m at 0 ≡ 108 → ⊥) → Holds (term-head atoms (wanted-of w) (at-offset m at rows)) (λ h _. empty-108 h ≡ false)
+  pub not-108 : (w : Wanted) → (allowed w (getD m at 0) ≡ true → getD m at 0 ≡ 108 → ⊥) → Holds (term-head given (wanted-of w) (at-offset m at rows)) (λ h _. empty-108 h ≡ false)
   not-108 w f = weaken (λ h _. no-108 h ≡ true) (other-tag w f) (λ h _ x. filled-108 h x)

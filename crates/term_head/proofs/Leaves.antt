@@ -11,7 +11,7 @@ use borrow.Author.Tests.{le-leb, lt-leb, eq-eqb, ne-eqb}
 use Rattle.term_spec.specs.Numbers.{big-endian, little-endian, with-sign}
 use Rattle.term_spec.specs.Term.{Label, integer, binary, bitstring}
 use Rattle.term_spec.specs.Answer.{_>>_, Reading, after, done, rule, number, at-offset}
-use Rattle.term_spec.specs.Head.{Atoms, limits, Head, fields, characters, leaf, tuple-ext, list-ext, map-ext, string-ext, binary-ext, bit-binary-ext, big-ext, new-float-ext, new-reference-ext, finite, bits-rule, bits-meaning, clear-low}
+use Rattle.term_spec.specs.Head.{Given, limits, Head, fields, characters, leaf, tuple-ext, list-ext, map-ext, string-ext, binary-ext, bit-binary-ext, big-ext, new-float-ext, new-reference-ext, finite, bits-rule, bits-meaning, clear-low}
 use Rattle.term_spec.specs.Rows.{kind-of}
 use Rattle.term_spec.proofs.Bridge.{number-at, number-end}
 use Rattle.octets.proofs.Parts.{length-part}
@@ -31,48 +31,48 @@ module _ (m : List ℕ) (at w : ℕ) (value : ℕ → ℤ) (rows : ℕ) (inside 
   unfolding head-of head-at kind-later kind-of later-of
   integer-there h = rw (number-at m at w (at + 1) rows (omega arith))
 
-module _ (atoms : Atoms) (m : List ℕ) (at rows : ℕ) (inside : at < length m) where
-  pub tuple-short : (w : ℕ) → length m - at - 1 < w → Refused 2 at ≡ fields-of atoms m at (tuple-ext w) rows
+module _ (given : Given) (m : List ℕ) (at rows : ℕ) (inside : at < length m) where
+  pub tuple-short : (w : ℕ) → length m - at - 1 < w → Refused 2 at ≡ fields-of given m at (tuple-ext w) rows
   unfolding fields-of fields head-of
   tuple-short w h = rw (number-end m at w (at + 1) rows (omega arith) (omega arith))
 
   pub tuple-there : (w n : ℕ) → w ≤ length m - at - 1 → n ≡ big-endian (take w (drop (at + 1) m))
-      → Parts 4 0 n Known (at + 1 + w) ≡ fields-of atoms m at (tuple-ext w) rows
+      → Parts 4 0 n Known (at + 1 + w) ≡ fields-of given m at (tuple-ext w) rows
   unfolding fields-of fields head-of head-at kind-later kind-of later-of
   tuple-there w n h e = rw (number-at m at w (at + 1) rows (omega arith), ← e)
 
-  pub list-short : length m - at - 1 < 4 → Refused 2 at ≡ fields-of atoms m at list-ext rows
+  pub list-short : length m - at - 1 < 4 → Refused 2 at ≡ fields-of given m at list-ext rows
   unfolding fields-of fields head-of
   list-short h = rw (number-end m at 4 (at + 1) rows (omega arith) (omega arith))
 
-  pub list-there : (n : ℕ) → 4 ≤ length m - at - 1 → n ≡ big-endian (take 4 (drop (at + 1) m)) → Elements n (at + 1 + 4) ≡ fields-of atoms m at list-ext rows
+  pub list-there : (n : ℕ) → 4 ≤ length m - at - 1 → n ≡ big-endian (take 4 (drop (at + 1) m)) → Elements n (at + 1 + 4) ≡ fields-of given m at list-ext rows
   unfolding fields-of fields head-of head-at
   list-there n h e = rw (number-at m at 4 (at + 1) rows (omega arith), ← e)
 
-  pub map-short : length m - at - 1 < 4 → Refused 2 at ≡ fields-of atoms m at map-ext rows
+  pub map-short : length m - at - 1 < 4 → Refused 2 at ≡ fields-of given m at map-ext rows
   unfolding fields-of fields head-of
   map-short h = rw (number-end m at 4 (at + 1) rows (omega arith) (omega arith))
 
-  pub map-there : (n : ℕ) → 4 ≤ length m - at - 1 → n ≡ big-endian (take 4 (drop (at + 1) m)) → Pairs n (at + 1 + 4) ≡ fields-of atoms m at map-ext rows
+  pub map-there : (n : ℕ) → 4 ≤ length m - at - 1 → n ≡ big-endian (take 4 (drop (at + 1) m)) → Pairs n (at + 1 + 4) ≡ fields-of given m at map-ext rows
   unfolding fields-of fields head-of head-at
   map-there n h e = rw (number-at m at 4 (at + 1) rows (omega arith), ← e)
 
-  pub string-cut : (end : ℕ) → end ≡ counted-end m at 2 0 → end ≡ 0 → Refused 2 at ≡ fields-of atoms m at string-ext rows
+  pub string-cut : (end : ℕ) → end ≡ counted-end m at 2 0 → end ≡ 0 → Refused 2 at ≡ fields-of given m at string-ext rows
   unfolding fields-of fields head-of
   string-cut end c z = sym (ap head-of (plain-cut m at 2 rows inside (λ first bs. done (characters bs)) c z))
 
-  pub string-there : (end : ℕ) → end ≡ counted-end m at 2 0 → (end ≡ 0 → ⊥) → Characters (end - at - 3) end ≡ fields-of atoms m at string-ext rows
+  pub string-there : (end : ℕ) → end ≡ counted-end m at 2 0 → (end ≡ 0 → ⊥) → Characters (end - at - 3) end ≡ fields-of given m at string-ext rows
   unfolding fields-of fields head-of head-at
   string-there end c some =
       let near = past-some m at 2 0 c some in
       let n : end - at - 3 ≡ length (take (end - (at + 1 + 2)) (drop (at + 1 + 2) m)) = sym (length-part m (at + 1 + 2) (end - (at + 1 + 2)) (omega (arith, near .0, near .1)) ∙ omega arith) in
       ap (λ (k : ℕ). Characters k end) n ∙ sym (ap head-of (plain-there m at 2 rows inside (λ first bs. done (characters bs)) c some))
 
-  pub binary-cut : (end : ℕ) → end ≡ counted-end m at 4 0 → end ≡ 0 → Refused 2 at ≡ fields-of atoms m at binary-ext rows
+  pub binary-cut : (end : ℕ) → end ≡ counted-end m at 4 0 → end ≡ 0 → Refused 2 at ≡ fields-of given m at binary-ext rows
   unfolding fields-of fields head-of
   binary-cut end c z = sym (ap head-of (plain-cut m at 4 rows inside (λ first bs. done (leaf (binary bs))) c z))
 
-  pub binary-there : (end : ℕ) → end ≡ counted-end m at 4 0 → (end ≡ 0 → ⊥) → Parts 7 0 0 Known end ≡ fields-of atoms m at binary-ext rows
+  pub binary-there : (end : ℕ) → end ≡ counted-end m at 4 0 → (end ≡ 0 → ⊥) → Parts 7 0 0 Known end ≡ fields-of given m at binary-ext rows
   unfolding fields-of fields head-of head-at kind-later kind-of later-of
   binary-there end c some = sym (ap head-of (plain-there m at 4 rows inside (λ first bs. done (leaf (binary bs))) c some))
 
@@ -82,16 +82,16 @@ module _ (atoms : Atoms) (m : List ℕ) (at rows : ℕ) (inside : at < length m)
       rule (leb sign 1) 4 at
       done (leaf (integer (with-sign sign (little-endian ds))))
 
-    pub big-cut : end ≡ 0 → Refused 2 at ≡ fields-of atoms m at (big-ext w) rows
+    pub big-cut : end ≡ 0 → Refused 2 at ≡ fields-of given m at (big-ext w) rows
     unfolding fields-of fields head-of
     big-cut z = sym (ap head-of (marked-cut m at w rows inside big-head c z))
 
     module _ (some : end ≡ 0 → ⊥) (sign : ℕ) (f : sign ≡ value m 1 (at + 1 + w)) where
-      pub big-sign : 1 < sign → Refused 4 at ≡ fields-of atoms m at (big-ext w) rows
+      pub big-sign : 1 < sign → Refused 4 at ≡ fields-of given m at (big-ext w) rows
       unfolding fields-of fields head-of
       big-sign h = rw (marked-there m at w rows inside big-head c some, ← f, lt-leb sign 1 h)
 
-      pub big-there : sign ≤ 1 → Parts 1 0 0 Known end ≡ fields-of atoms m at (big-ext w) rows
+      pub big-there : sign ≤ 1 → Parts 1 0 0 Known end ≡ fields-of given m at (big-ext w) rows
       unfolding fields-of fields head-of head-at kind-later kind-of later-of
       big-there h = rw (marked-there m at w rows inside big-head c some, ← f, le-leb sign 1 h)
 
@@ -101,46 +101,46 @@ module _ (atoms : Atoms) (m : List ℕ) (at rows : ℕ) (inside : at < length m)
       rule (bits-rule n bits) 4 at
       done (leaf (bits-meaning bits bs))
 
-    pub bits-cut : end ≡ 0 → Refused 2 at ≡ fields-of atoms m at bit-binary-ext rows
+    pub bits-cut : end ≡ 0 → Refused 2 at ≡ fields-of given m at bit-binary-ext rows
     unfolding fields-of fields head-of
     bits-cut z = sym (ap head-of (marked-cut m at 4 rows inside bits-head c z))
 
     module _ (some : end ≡ 0 → ⊥) (n bits kind : ℕ) (e : n ≡ end - (at + 1 + 4 + 1)) (f : bits ≡ value m 1 (at + 1 + 4)) (told : Bits n bits kind) where
-      pub bits-broken : kind ≡ 0 → Refused 4 at ≡ fields-of atoms m at bit-binary-ext rows
+      pub bits-broken : kind ≡ 0 → Refused 4 at ≡ fields-of given m at bit-binary-ext rows
       unfolding fields-of fields head-of
       bits-broken k = rw (marked-there m at 4 rows inside bits-head c some, ← f, ← e, told .broken k)
 
-      pub bits-there : (kind ≡ 0 → ⊥) → Parts kind 0 0 Known end ≡ fields-of atoms m at bit-binary-ext rows
+      pub bits-there : (kind ≡ 0 → ⊥) → Parts kind 0 0 Known end ≡ fields-of given m at bit-binary-ext rows
       unfolding fields-of fields head-of head-at kind-later later-of
       bits-there k = rw (marked-there m at 4 rows inside bits-head c some, ← f, ← e, told .kept k, told .kind k)
 
-  pub float-short : length m - at - 1 < 8 → Refused 2 at ≡ fields-of atoms m at new-float-ext rows
+  pub float-short : length m - at - 1 < 8 → Refused 2 at ≡ fields-of given m at new-float-ext rows
   unfolding fields-of fields head-of
   float-short h = rw (number-end m at 8 (at + 1) rows (omega arith) (omega arith))
 
   module _ (bits : ℕ) (there : 8 ≤ length m - at - 1) (e : bits ≡ big-endian (take 8 (drop (at + 1) m))) where
-    pub float-odd : bits / 4503599627370496 % 2048 ≡ 2047 → Refused 4 at ≡ fields-of atoms m at new-float-ext rows
+    pub float-odd : bits / 4503599627370496 % 2048 ≡ 2047 → Refused 4 at ≡ fields-of given m at new-float-ext rows
     unfolding fields-of fields finite head-of
     float-odd h = rw (number-at m at 8 (at + 1) rows (omega arith), ← e, eq-eqb (bits / 4503599627370496 % 2048) 2047 h)
 
-    pub float-there : (bits / 4503599627370496 % 2048 ≡ 2047 → ⊥) → Parts 2 0 0 Known (at + 1 + 8) ≡ fields-of atoms m at new-float-ext rows
+    pub float-there : (bits / 4503599627370496 % 2048 ≡ 2047 → ⊥) → Parts 2 0 0 Known (at + 1 + 8) ≡ fields-of given m at new-float-ext rows
     unfolding fields-of fields finite head-of head-at kind-later kind-of later-of
     float-there h = rw (number-at m at 8 (at + 1) rows (omega arith), ← e, ne-eqb (bits / 4503599627370496 % 2048) 2047 h)
 
-  pub reference-short : (w : ℕ) → length m - at - 1 < 2 → Refused 2 at ≡ fields-of atoms m at (new-reference-ext w) rows
+  pub reference-short : (w : ℕ) → length m - at - 1 < 2 → Refused 2 at ≡ fields-of given m at (new-reference-ext w) rows
   unfolding fields-of fields head-of
   reference-short w h = rw (number-end m at 2 (at + 1) rows (omega arith) (omega arith))
 
   module _ (w n : ℕ) (there : 2 ≤ length m - at - 1) (e : n ≡ big-endian (take 2 (drop (at + 1) m))) where
-    pub reference-none : n < 1 → Refused 4 at ≡ fields-of atoms m at (new-reference-ext w) rows
+    pub reference-none : n < 1 → Refused 4 at ≡ fields-of given m at (new-reference-ext w) rows
     unfolding fields-of fields head-of
     reference-none h = rw (number-at m at 2 (at + 1) rows (omega arith), ← e, lt-leb 1 n h)
 
-    pub reference-many : 1 ≤ n → (flags most : ℕ) → atoms .flags ≡ flags → most ≡ limits flags w .word-count → most < n → Refused 4 at ≡ fields-of atoms m at (new-reference-ext w) rows
+    pub reference-many : 1 ≤ n → (flags most : ℕ) → given .flags ≡ flags → most ≡ limits flags w .word-count → most < n → Refused 4 at ≡ fields-of given m at (new-reference-ext w) rows
     unfolding fields-of fields head-of
     reference-many g flags most flags-are most-is h = rw (number-at m at 2 (at + 1) rows (omega arith), ← e, le-leb 1 n g, flags-are, ← most-is, lt-leb n most h)
 
-    pub reference-there : 1 ≤ n → (flags most : ℕ) → atoms .flags ≡ flags → most ≡ limits flags w .word-count → n ≤ most → Parts 12 1 0 (Reference n w) (at + 1 + 2) ≡ fields-of atoms m at (new-reference-ext w) rows
+    pub reference-there : 1 ≤ n → (flags most : ℕ) → given .flags ≡ flags → most ≡ limits flags w .word-count → n ≤ most → Parts 12 1 0 (Reference n w) (at + 1 + 2) ≡ fields-of given m at (new-reference-ext w) rows
     unfolding fields-of fields head-of head-at kind-later later-of
     reference-there g flags most flags-are most-is h = rw (number-at m at 2 (at + 1) rows (omega arith), ← e, le-leb 1 n g, flags-are, ← most-is, le-leb n most h)
 

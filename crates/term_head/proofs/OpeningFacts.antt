@@ -6,7 +6,7 @@ use Prim.Native.Nat.{ℕ, _+_, _^_, _≤_}
 use native.Mathlib.Omega.{arith}
 use lib.Dec.{eqb, ltb}
 use Rattle.term_spec.specs.Answer.{Answer, good, refused, Position, at-offset, Reading, done, rule, number}
-use Rattle.term_spec.specs.Head.{Atoms, limits, any, later, id-words, creation-rule, words-rule, known, pid-fields, port-fields, reference-fields, old-reference-fields, parts, characters, elements, pairs}
+use Rattle.term_spec.specs.Head.{Given, limits, any, later, id-words, creation-rule, words-rule, known, pid-fields, port-fields, reference-fields, old-reference-fields, parts, characters, elements, pairs}
 use Rattle.term_spec.specs.Head as head-spec
 use Rattle.term_spec.specs.Reading.{empty-108, opening}
 use Rattle.term_spec.specs.Rows.{kind-of}
@@ -23,16 +23,16 @@ pub record Opens (m : List ℕ) (at rows place : ℕ) (h : head-spec.Head) (t : 
   pub past : Past m (place + 1) rows t
   pub wanting : Wanting h
 
-pub opening-opens : (atoms : Atoms) (m : List ℕ) (bound : List ℕ) (at rows : ℕ) (w : head-spec.Wanted)
-    → Holds (opening atoms bound w (at-offset m at rows)) (λ o t. Opens m at rows (o .0) (o .1) t)
+pub opening-opens : (given : Given) (m : List ℕ) (bound : List ℕ) (at rows : ℕ) (w : head-spec.Wanted)
+    → Holds (opening given bound w (at-offset m at rows)) (λ o t. Opens m at rows (o .0) (o .1) t)
 unfolding opening
-opening-opens atoms m [] at rows w = refused-holds 2 at
-opening-opens atoms m (b ∷ bound) at rows w =
-    bind (record { known = λ h t e. go h t (head-past-tag atoms m at rows w .known h t e) (head-wanting atoms w (at-offset m at rows) .known h t e) (empty-108 h) (λ next. opening-opens atoms m bound next rows any) })
+opening-opens given m [] at rows w = refused-holds 2 at
+opening-opens given m (b ∷ bound) at rows w =
+    bind (record { known = λ h t e. go h t (head-past-tag given m at rows w .known h t e) (head-wanting given w (at-offset m at rows) .known h t e) (empty-108 h) (λ next. opening-opens given m bound next rows any) })
   where
     go : (h : head-spec.Head) (t : Position) → Past m (at + 1) rows t → Wanting h → (z : Bool)
-        → ((next : ℕ) → Holds (opening atoms bound any (at-offset m next rows)) (λ o t. Opens m next rows (o .0) (o .1) t))
-        → Holds ((elim z as (λ _. Reading (ℕ × head-spec.Head)) [ true ↦ opening atoms bound any | false ↦ done (at, h) ]) t) (λ o t. Opens m at rows (o .0) (o .1) t)
+        → ((next : ℕ) → Holds (opening given bound any (at-offset m next rows)) (λ o t. Opens m next rows (o .0) (o .1) t))
+        → Holds ((elim z as (λ _. Reading (ℕ × head-spec.Head)) [ true ↦ opening given bound any | false ↦ done (at, h) ]) t) (λ o t. Opens m at rows (o .0) (o .1) t)
     go h t i w true ih =
         rw (past-is m (at + 1) rows t i)
         (weaken (λ o t′. Opens m (t .at) rows (o .0) (o .1) t′) (ih (t .at))

@@ -10,7 +10,7 @@ use lib.ListN.{length, getD}
 use borrow.Author.Tests.{eqb-true, ne-eqb}
 use Rattle.term_spec.specs.Text.{latin-1, utf-8}
 use Rattle.term_spec.specs.Answer.{refused, Position, at-offset, Reading, refuse}
-use Rattle.term_spec.specs.Head.{Atoms, Form, forms, form-in, form-or, form, fields, term-head, tagged, one-of, small-integer-ext, atom-ext, atom-cache-ref, nil-ext, pid-ext, port-ext, reference-ext, export-ext}
+use Rattle.term_spec.specs.Head.{Given, Form, forms, form-in, form-or, form, fields, term-head, tagged, one-of, small-integer-ext, atom-ext, atom-cache-ref, nil-ext, pid-ext, port-ext, reference-ext, export-ext}
 use Rattle.term_spec.specs.Rows.{kind-of}
 use Rattle.term_spec.proofs.Bridge.{byte-at, byte-end}
 use Rattle.term_head.specs.declared.Wanted.{Wanted}
@@ -20,30 +20,30 @@ use Rattle.term_head.specs.declared.Head.{Head}
 use Rattle.term_head.specs.declared.Head.the-variants.{Refused, Parts, Characters}
 use Rattle.term_head.specs.Code.{head-of, head-at, fields-of, tag-fields, kind-later, later-of, wanted-of, allowed}
 
-module _ (atoms : Atoms) (m : List ℕ) (at rows : ℕ) where
+module _ (given : Given) (m : List ℕ) (at rows : ℕ) where
   -- layouts without fields
-  pub nil-head : Characters 0 (at + 1) ≡ fields-of atoms m at nil-ext rows
+  pub nil-head : Characters 0 (at + 1) ≡ fields-of given m at nil-ext rows
   unfolding fields-of fields head-of head-at
   nil-head = refl
 
-  pub pid-head : (w : ℕ) → Parts 10 1 0 (Pid w) (at + 1) ≡ fields-of atoms m at (pid-ext w) rows
+  pub pid-head : (w : ℕ) → Parts 10 1 0 (Pid w) (at + 1) ≡ fields-of given m at (pid-ext w) rows
   unfolding fields-of fields head-of head-at kind-later later-of
   pid-head w = refl
 
-  pub port-head : (v w : ℕ) → Parts 11 1 0 (Port v w) (at + 1) ≡ fields-of atoms m at (port-ext v w) rows
+  pub port-head : (v w : ℕ) → Parts 11 1 0 (Port v w) (at + 1) ≡ fields-of given m at (port-ext v w) rows
   unfolding fields-of fields head-of head-at kind-later later-of
   port-head v w = refl
 
-  pub old-head : Parts 12 1 0 OldReference (at + 1) ≡ fields-of atoms m at reference-ext rows
+  pub old-head : Parts 12 1 0 OldReference (at + 1) ≡ fields-of given m at reference-ext rows
   unfolding fields-of fields head-of head-at kind-later later-of
   old-head = refl
 
-  pub export-head : Parts 13 3 0 Known (at + 1) ≡ fields-of atoms m at export-ext rows
+  pub export-head : Parts 13 3 0 Known (at + 1) ≡ fields-of given m at export-ext rows
   unfolding fields-of fields head-of head-at kind-later kind-of later-of
   export-head = refl
 
   -- a tag of the table
-  pub at-tag : (tag k : ℕ) → tag ≡ k → (f : Form) → form-in forms k ≡ some f → fields-of atoms m at f rows ≡ tag-fields atoms m at tag rows
+  pub at-tag : (tag k : ℕ) → tag ≡ k → (f : Form) → form-in forms k ≡ some f → fields-of given m at f rows ≡ tag-fields given m at tag rows
   unfolding fields-of tag-fields form-or
   at-tag tag k e f p = rw (e, p)
 
@@ -59,9 +59,9 @@ absent B (f ∷ fs) tag h =
     let i = absent (B × (tag ≡ f .0 → ⊥)) fs tag h in
     (i .0 .0, ap (λ (t : Bool). elim t as (λ _. Option Form) [ true ↦ some (f .1) | false ↦ form-in fs tag ]) (ne-eqb (f .0) tag (λ e. i .0 .1 (sym e))) ∙ i .1)
 
-pub no-tag : (atoms : Atoms) (m : List ℕ) (at rows tag : ℕ) → Past (Unit {0}) forms tag → Refused 3 at ≡ tag-fields atoms m at tag rows
+pub no-tag : (given : Given) (m : List ℕ) (at rows tag : ℕ) → Past (Unit {0}) forms tag → Refused 3 at ≡ tag-fields given m at tag rows
 unfolding tag-fields form-or head-of
-no-tag atoms m at rows tag h = rw (absent (Unit {0}) forms tag h .1)
+no-tag given m at rows tag h = rw (absent (Unit {0}) forms tag h .1)
 
 -- an atom's tag, or none
 pub atom-tag : (tag k : ℕ) → tag ≡ k → one-of k (82 ∷ 100 ∷ 115 ∷ 118 ∷ 119 ∷ []) ≡ true → true ≡ one-of tag (82 ∷ 100 ∷ 115 ∷ 118 ∷ 119 ∷ [])
@@ -112,17 +112,17 @@ module _ (at tag : ℕ) (s : Position) where
   fails Atom e = ap (λ (t : Bool). (elim t as (λ _. Reading Form) [ true ↦ form-or 4 at (form-in forms tag) | false ↦ refuse 4 at ]) s) e
   fails Arity e = ap (λ (t : Bool). (elim t as (λ _. Reading Form) [ true ↦ form-or 4 at (form-in forms tag) | false ↦ refuse 4 at ]) s) e
 
-module _ (atoms : Atoms) (m : List ℕ) (at rows : ℕ) (w : Wanted) where
-  pub head-past : length m ≤ at → Refused 2 at ≡ head-of (term-head atoms (wanted-of w) (at-offset m at rows))
+module _ (given : Given) (m : List ℕ) (at rows : ℕ) (w : Wanted) where
+  pub head-past : length m ≤ at → Refused 2 at ≡ head-of (term-head given (wanted-of w) (at-offset m at rows))
   unfolding term-head head-of
   head-past h = rw (byte-end m at at rows h)
 
   module _ (inside : at < length m) where
-    pub head-barred : allowed w (getD m at 0) ≡ false → Refused 4 at ≡ head-of (term-head atoms (wanted-of w) (at-offset m at rows))
+    pub head-barred : allowed w (getD m at 0) ≡ false → Refused 4 at ≡ head-of (term-head given (wanted-of w) (at-offset m at rows))
     unfolding term-head head-of
     head-barred e = rw (byte-at m at at rows inside, fails at (getD m at 0) (at-offset m (at + 1) rows) w e)
 
-    pub head-known : (r : Head) → allowed w (getD m at 0) ≡ true → r ≡ tag-fields atoms m at (getD m at 0) rows
-        → r ≡ head-of (term-head atoms (wanted-of w) (at-offset m at rows))
+    pub head-known : (r : Head) → allowed w (getD m at 0) ≡ true → r ≡ tag-fields given m at (getD m at 0) rows
+        → r ≡ head-of (term-head given (wanted-of w) (at-offset m at rows))
     unfolding term-head tag-fields
     head-known r e f = rw (byte-at m at at rows inside, stands at (getD m at 0) (at-offset m (at + 1) rows) w e) f

@@ -56,8 +56,8 @@ head-of (refused n p) = Refused n p
 head-of (good x) = head-at (x .0) (x .1 .at)
 
 -- the fields after the tag at `at` of a message
-unfoldable pub fields-of : head-spec.Atoms → List ℕ → ℕ → head-spec.Form → ℕ → Head
-fields-of atoms m at f rows = head-of (fields atoms at f (at-offset m (at + 1) rows))
+unfoldable pub fields-of : head-spec.Given → List ℕ → ℕ → head-spec.Form → ℕ → Head
+fields-of given m at f rows = head-of (fields given at f (at-offset m (at + 1) rows))
 
 -- the kind k of n bytes with `bits` bits in the last one; 0 where the rule is broken
 pub record Bits (n bits k : ℕ) : Type 0 where
@@ -79,8 +79,8 @@ unfoldable pub later-fields : ℕ → List ℕ → ℕ → ℕ → head-spec.Lat
 later-fields flags m at place l rows = step-of (later flags place l (at-offset m at rows))
 
 -- the fields that a tag has; refusal 3: a tag not in the table
-unfoldable pub tag-fields : head-spec.Atoms → List ℕ → ℕ → ℕ → ℕ → Head
-tag-fields atoms m at tag rows = head-of (after (form-or 3 at (form-in forms tag) (at-offset m (at + 1) rows)) (fields atoms at))
+unfoldable pub tag-fields : head-spec.Given → List ℕ → ℕ → ℕ → ℕ → Head
+tag-fields given m at tag rows = head-of (after (form-or 3 at (form-in forms tag) (at-offset m (at + 1) rows)) (fields given at))
 
 -- whether a term with this tag may stand where one is so wanted
 unfoldable pub allowed : Wanted → ℕ → Bool
@@ -95,16 +95,16 @@ empty-at m at = leb 5 (length m - at) && eqb (getD m at 0) 108 && eqb (big-endia
 -- the number n of elements of the 108 that stands at an offset, or 0
 pub record Elements-at (m : List ℕ) (at n : ℕ) : Type 0 where
   pub inside : (n ≡ 0 → ⊥) → at + 5 ≤ length m
-  pub some : (n ≡ 0 → ⊥) → (atoms : head-spec.Atoms) (rows : ℕ) → term-head atoms any (at-offset m at rows) ≡ good (elements n, at-offset m (at + 5) rows)
-  pub none : n ≡ 0 → (atoms : head-spec.Atoms) (rows k : ℕ) (t : Position) → term-head atoms any (at-offset m at rows) ≡ good (elements k, t) → k ≡ 0
+  pub some : (n ≡ 0 → ⊥) → (given : head-spec.Given) (rows : ℕ) → term-head given any (at-offset m at rows) ≡ good (elements n, at-offset m (at + 5) rows)
+  pub none : n ≡ 0 → (given : head-spec.Given) (rows k : ℕ) (t : Position) → term-head given any (at-offset m at rows) ≡ good (elements k, t) → k ≡ 0
 
 -- the bytes left bound the 108s of length 0 as long as they are as many as those of the message
 pub record Skipped (m : List ℕ) (at place : ℕ) : Type 0 where
   pub from : at ≤ place
   pub inside : place ≤ length m
   pub stops : empty-at m place ≡ false
-  pub opens : (atoms : head-spec.Atoms) (rows : ℕ) (bound : List ℕ) → length m - at ≤ length bound
-      → (rest : List ℕ) × (length m - place ≤ length rest) × (opening atoms bound any (at-offset m at rows) ≡ opening atoms rest any (at-offset m place rows))
+  pub opens : (given : head-spec.Given) (rows : ℕ) (bound : List ℕ) → length m - at ≤ length bound
+      → (rest : List ℕ) × (length m - place ≤ length rest) × (opening given bound any (at-offset m at rows) ≡ opening given rest any (at-offset m place rows))
 
 -- a head with the offset of its tag; a refusal with its own place
 unfoldable pub opened-at : ℕ → Head → Opening

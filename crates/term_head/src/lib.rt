@@ -15,14 +15,14 @@ ghost use Rattle.term_spec.specs.Term.{integer};
 ghost use Rattle.term_spec.specs.Connection.{v4-nc};
 ghost use Rattle.term_spec.specs.Answer.{good, after, done, at-offset};
 ghost use Rattle.term_spec.specs.Answer as answer;
-ghost use Rattle.term_spec.specs.Head.{Atoms, limits, leaf, tuple-ext, list-ext, map-ext, string-ext, binary-ext, bit-binary-ext, big-ext, new-float-ext, new-reference-ext, atom-ext, atom-cache-ref};
+ghost use Rattle.term_spec.specs.Head.{Given, limits, leaf, tuple-ext, list-ext, map-ext, string-ext, binary-ext, bit-binary-ext, big-ext, new-float-ext, new-reference-ext, atom-ext, atom-cache-ref};
 ghost use Rattle.term_spec.specs.Head.{pid-fields, port-fields, reference-fields, old-reference-fields, creation-rule, words-rule, one-of, any, an-atom, characters, term-head};
 ghost use Rattle.term_spec.specs.Head as head-spec;
 ghost use Rattle.term_spec.specs.Reading.{opening};
 ghost use Rattle.term_spec.specs.AtomList.{of-size};
 ghost use Rattle.term_head.specs.Quick.{fit, quick-later, quick-word};
 ghost use Rattle.octets.specs.Parts.{Width, words-at};
-ghost use Rattle.context.specs.Word.{flags-in, list-in, atoms-in};
+ghost use Rattle.context.specs.Word.{flags-in, list-in, given-in};
 ghost use Rattle.term_head.specs.Code.{Bits, head-of, fields-of, later-of, step-of, later-fields, tag-fields, allowed, wanted-of, empty-at, Elements-at, Skipped, opened-at, opening-of};
 
 // An exponent of all ones, and what a float's bits are divided by to find its 11 bits of exponent.
@@ -142,7 +142,7 @@ fn integer(msg: &[u8], at: usize, width: usize) -> Head
 // Tags 110 and 111: a count of digits, a sign, the digits.
 fn big(msg: &[u8], at: usize, width: usize) -> Head
     requires { ⌜ (at < length (now msg)) × Width width ⌝ }
-    ensures { λ r. ⌜ ((atoms : Atoms) (rows : ℕ) → r ≡ fields-of atoms (now (msg .entry)) at (big-ext width) rows) ⌝ }
+    ensures { λ r. ⌜ ((given : Given) (rows : ℕ) → r ≡ fields-of given (now (msg .entry)) at (big-ext width) rows) ⌝ }
 {
     let end = octets::past_counted(msg, at, width, 1);
     if end == 0 {
@@ -169,7 +169,7 @@ fn big(msg: &[u8], at: usize, width: usize) -> Head
 // Tag 70: an exponent of all ones is refused.
 fn float(msg: &[u8], at: usize) -> Head
     requires { ⌜ at < length (now msg) ⌝ }
-    ensures { λ r. ⌜ ((atoms : Atoms) (rows : ℕ) → r ≡ fields-of atoms (now (msg .entry)) at new-float-ext rows) ⌝ }
+    ensures { λ r. ⌜ ((given : Given) (rows : ℕ) → r ≡ fields-of given (now (msg .entry)) at new-float-ext rows) ⌝ }
 {
     if msg.len() - at - 1 < 8 {
         return Head::Refused {
@@ -195,7 +195,7 @@ fn float(msg: &[u8], at: usize) -> Head
 // Tags 104 and 105.
 fn tuple(msg: &[u8], at: usize, width: usize) -> Head
     requires { ⌜ (at < length (now msg)) × Width width ⌝ }
-    ensures { λ r. ⌜ ((atoms : Atoms) (rows : ℕ) → r ≡ fields-of atoms (now (msg .entry)) at (tuple-ext width) rows) ⌝ }
+    ensures { λ r. ⌜ ((given : Given) (rows : ℕ) → r ≡ fields-of given (now (msg .entry)) at (tuple-ext width) rows) ⌝ }
 {
     if msg.len() - at - 1 < width {
         return Head::Refused {
@@ -215,7 +215,7 @@ fn tuple(msg: &[u8], at: usize, width: usize) -> Head
 // Tag 107.
 fn string(msg: &[u8], at: usize) -> Head
     requires { ⌜ at < length (now msg) ⌝ }
-    ensures { λ r. ⌜ ((atoms : Atoms) (rows : ℕ) → r ≡ fields-of atoms (now (msg .entry)) at string-ext rows) ⌝ }
+    ensures { λ r. ⌜ ((given : Given) (rows : ℕ) → r ≡ fields-of given (now (msg .entry)) at string-ext rows) ⌝ }
 {
     let end = octets::past_counted(msg, at, 2, 0);
     if end == 0 {
@@ -231,7 +231,7 @@ fn string(msg: &[u8], at: usize) -> Head
 // Tag 108.
 fn list(msg: &[u8], at: usize) -> Head
     requires { ⌜ at < length (now msg) ⌝ }
-    ensures { λ r. ⌜ ((atoms : Atoms) (rows : ℕ) → r ≡ fields-of atoms (now (msg .entry)) at list-ext rows) ⌝ }
+    ensures { λ r. ⌜ ((given : Given) (rows : ℕ) → r ≡ fields-of given (now (msg .entry)) at list-ext rows) ⌝ }
 {
     if msg.len() - at - 1 < 4 {
         return Head::Refused {
@@ -248,7 +248,7 @@ fn list(msg: &[u8], at: usize) -> Head
 // Tag 109.
 fn binary(msg: &[u8], at: usize) -> Head
     requires { ⌜ at < length (now msg) ⌝ }
-    ensures { λ r. ⌜ ((atoms : Atoms) (rows : ℕ) → r ≡ fields-of atoms (now (msg .entry)) at binary-ext rows) ⌝ }
+    ensures { λ r. ⌜ ((given : Given) (rows : ℕ) → r ≡ fields-of given (now (msg .entry)) at binary-ext rows) ⌝ }
 {
     let end = octets::past_counted(msg, at, 4, 0);
     if end == 0 {
@@ -291,7 +291,7 @@ fn bits_kind(n: usize, bits: usize) -> usize
 // Tag 77: a count of bytes, the bits of the last one, the bytes.
 fn bitstring(msg: &[u8], at: usize) -> Head
     requires { ⌜ at < length (now msg) ⌝ }
-    ensures { λ r. ⌜ ((atoms : Atoms) (rows : ℕ) → r ≡ fields-of atoms (now (msg .entry)) at bit-binary-ext rows) ⌝ }
+    ensures { λ r. ⌜ ((given : Given) (rows : ℕ) → r ≡ fields-of given (now (msg .entry)) at bit-binary-ext rows) ⌝ }
 {
     let end = octets::past_counted(msg, at, 4, 1);
     if end == 0 {
@@ -319,7 +319,7 @@ fn bitstring(msg: &[u8], at: usize) -> Head
 // Tag 116.
 fn map(msg: &[u8], at: usize) -> Head
     requires { ⌜ at < length (now msg) ⌝ }
-    ensures { λ r. ⌜ ((atoms : Atoms) (rows : ℕ) → r ≡ fields-of atoms (now (msg .entry)) at map-ext rows) ⌝ }
+    ensures { λ r. ⌜ ((given : Given) (rows : ℕ) → r ≡ fields-of given (now (msg .entry)) at map-ext rows) ⌝ }
 {
     if msg.len() - at - 1 < 4 {
         return Head::Refused {
@@ -376,7 +376,7 @@ fn pid_serials(context: usize, width: usize) -> usize
 // Tags 90 and 114: a count of words, from 1 to the most.
 fn reference(msg: &[u8], context: usize, at: usize, width: usize) -> Head
     requires { ⌜ at < length (now msg) ⌝ }
-    ensures { λ r. ⌜ ((atoms : Atoms) → atoms .flags ≡ flags-in context → (rows : ℕ) → r ≡ fields-of atoms (now (msg .entry)) at (new-reference-ext width) rows) ⌝ }
+    ensures { λ r. ⌜ ((given : Given) → given .flags ≡ flags-in context → (rows : ℕ) → r ≡ fields-of given (now (msg .entry)) at (new-reference-ext width) rows) ⌝ }
 {
     if msg.len() - at - 1 < 2 {
         return Head::Refused {
@@ -409,7 +409,7 @@ fn reference(msg: &[u8], context: usize, at: usize, width: usize) -> Head
 // Tags 100 and 115 (Latin-1), 118 and 119 (UTF-8): a count of bytes, the bytes of a text.
 fn atom(msg: &[u8], at: usize, width: usize, utf8: bool) -> Head
     requires { ⌜ (at < length (now msg)) × Width width ⌝ }
-    ensures { λ r. ⌜ ((atoms : Atoms) (rows : ℕ) → r ≡ fields-of atoms (now (msg .entry)) at (atom-ext (coding-of utf8) width) rows) ⌝ }
+    ensures { λ r. ⌜ ((given : Given) (rows : ℕ) → r ≡ fields-of given (now (msg .entry)) at (atom-ext (coding-of utf8) width) rows) ⌝ }
 {
     let end = octets::past_counted(msg, at, width, 0);
     if end == 0 {
@@ -437,7 +437,7 @@ fn atom(msg: &[u8], at: usize, width: usize, utf8: bool) -> Head
 // Tag 82: an index of this list, and the text at its place.
 fn cached_atom(msg: &[u8], context: usize, places: &[u8], lengths: &[u16], at: usize) -> Head
     requires { ⌜ (at < length (now msg)) × (of-size (list-in context (now places) (now lengths)) ≡ true) ⌝ }
-    ensures { λ r. ⌜ ((rows : ℕ) → r ≡ fields-of (atoms-in context (now (places .entry)) (now (lengths .entry))) (now (msg .entry)) at atom-cache-ref rows) ⌝ }
+    ensures { λ r. ⌜ ((rows : ℕ) → r ≡ fields-of (given-in context (now (places .entry)) (now (lengths .entry))) (now (msg .entry)) at atom-cache-ref rows) ⌝ }
 {
     if msg.len() - at - 1 < 1 {
         return Head::Refused {
@@ -688,7 +688,7 @@ fn no_fields(at: usize, kind: usize, wanted: usize, later: Later) -> Head
 // The fields that this tag has: the tag table.
 fn by_tag(msg: &[u8], context: usize, places: &[u8], lengths: &[u16], at: usize, tag: u8) -> Head
     requires { ⌜ (at < length (now msg)) × (length (now msg) ≤ 65536) × (of-size (list-in context (now places) (now lengths)) ≡ true) ⌝ }
-    ensures { λ r. ⌜ ((rows : ℕ) → r ≡ tag-fields (atoms-in context (now (places .entry)) (now (lengths .entry))) (now (msg .entry)) at tag rows) ⌝ }
+    ensures { λ r. ⌜ ((rows : ℕ) → r ≡ tag-fields (given-in context (now (places .entry)) (now (lengths .entry))) (now (msg .entry)) at tag rows) ⌝ }
 {
     match tag {
         tags::SMALL_INTEGER_EXT => integer(msg, at, 1),
@@ -763,7 +763,7 @@ fn read_head(
     wanted: Wanted,
 ) -> Head
     requires { ⌜ (at ≤ length (now msg)) × (length (now msg) ≤ 65536) × (of-size (list-in context (now places) (now lengths)) ≡ true) ⌝ }
-    ensures { λ r. ⌜ ((rows : ℕ) → r ≡ head-of (term-head (atoms-in context (now (places .entry)) (now (lengths .entry))) (wanted-of wanted) (at-offset (now (msg .entry)) at rows))) ⌝ }
+    ensures { λ r. ⌜ ((rows : ℕ) → r ≡ head-of (term-head (given-in context (now (places .entry)) (now (lengths .entry))) (wanted-of wanted) (at-offset (now (msg .entry)) at rows))) ⌝ }
 {
     if msg.len() <= at {
         return Head::Refused {
@@ -784,7 +784,7 @@ fn read_head(
 // Whether a 106 stands here.
 pub fn nil_at(msg: &[u8], at: usize) -> bool
     requires { ⌜ at ≤ length (now msg) ⌝ }
-    ensures { λ r. ⌜ (r ≡ true → (atoms : Atoms) (rows : ℕ) → term-head atoms any (at-offset (now (msg .entry)) at rows) ≡ good (characters [], at-offset (now (msg .entry)) (at + 1) rows)) ⌝ }
+    ensures { λ r. ⌜ (r ≡ true → (given : Given) (rows : ℕ) → term-head given any (at-offset (now (msg .entry)) at rows) ≡ good (characters [], at-offset (now (msg .entry)) (at + 1) rows)) ⌝ }
 {
     if msg.len() <= at {
         return false;
@@ -882,7 +882,7 @@ pub fn read_opening(
     wanted: Wanted,
 ) -> Opening
     requires { ⌜ (at ≤ length (now msg)) × (length (now msg) ≤ 65536) × (of-size (list-in context (now places) (now lengths)) ≡ true) ⌝ }
-    ensures { λ r. ⌜ ((rows : ℕ) → r ≡ opening-of (opening (atoms-in context (now (places .entry)) (now (lengths .entry))) (drop at (now (msg .entry))) (wanted-of wanted) (at-offset (now (msg .entry)) at rows))) ⌝ }
+    ensures { λ r. ⌜ ((rows : ℕ) → r ≡ opening-of (opening (given-in context (now (places .entry)) (now (lengths .entry))) (drop at (now (msg .entry))) (wanted-of wanted) (at-offset (now (msg .entry)) at rows))) ⌝ }
 {
     match wanted {
         Wanted::Any => {
@@ -971,7 +971,7 @@ fn word_of(head: Head) -> usize
 // The commonest terms without parts.
 fn leaf_word(msg: &[u8], at: usize, tag: u8) -> usize
     requires { ⌜ (at < length (now msg)) × (length (now msg) ≤ 65536) ⌝ }
-    ensures { λ r. ⌜ ((r ≡ 0 → ⊥) → (atoms : Atoms) (rows : ℕ) → r ≡ quick-word (tag-fields atoms (now (msg .entry)) at tag rows)) ⌝ }
+    ensures { λ r. ⌜ ((r ≡ 0 → ⊥) → (given : Given) (rows : ℕ) → r ≡ quick-word (tag-fields given (now (msg .entry)) at tag rows)) ⌝ }
 {
     match tag {
         tags::SMALL_INTEGER_EXT => word_of(integer(msg, at, 1)),
@@ -992,7 +992,7 @@ fn leaf_word(msg: &[u8], at: usize, tag: u8) -> usize
 // The commonest keys and values of a map, without parts.
 fn entry_word(msg: &[u8], at: usize, tag: u8) -> usize
     requires { ⌜ (at < length (now msg)) × (length (now msg) ≤ 65536) ⌝ }
-    ensures { λ r. ⌜ ((r ≡ 0 → ⊥) → (atoms : Atoms) (rows : ℕ) → r ≡ quick-word (tag-fields atoms (now (msg .entry)) at tag rows)) ⌝ }
+    ensures { λ r. ⌜ ((r ≡ 0 → ⊥) → (given : Given) (rows : ℕ) → r ≡ quick-word (tag-fields given (now (msg .entry)) at tag rows)) ⌝ }
 {
     match tag {
         tags::SMALL_ATOM_UTF8_EXT => word_of(atom(msg, at, 1, true)),
@@ -1014,7 +1014,7 @@ fn common_word(
     tag: u8,
 ) -> usize
     requires { ⌜ (at < length (now msg)) × (length (now msg) ≤ 65536) × (of-size (list-in context (now places) (now lengths)) ≡ true) ⌝ }
-    ensures { λ r. ⌜ ((r ≡ 0 → ⊥) → (rows : ℕ) → r ≡ quick-word (tag-fields (atoms-in context (now (places .entry)) (now (lengths .entry))) (now (msg .entry)) at tag rows)) ⌝ }
+    ensures { λ r. ⌜ ((r ≡ 0 → ⊥) → (rows : ℕ) → r ≡ quick-word (tag-fields (given-in context (now (places .entry)) (now (lengths .entry))) (now (msg .entry)) at tag rows)) ⌝ }
 {
     match tag {
         tags::SMALL_TUPLE_EXT => word_of(tuple(msg, at, 1)),
@@ -1032,7 +1032,7 @@ fn common_word(
 // The head of one of the commonest terms without parts in one word; 0 of any other, and of one that is not wanted.
 pub fn leaf_at(msg: &[u8], at: usize, wanted: Wanted) -> usize
     requires { ⌜ (at ≤ length (now msg)) × (length (now msg) ≤ 65536) ⌝ }
-    ensures { λ r. ⌜ ((r ≡ 0 → ⊥) → (atoms : Atoms) (rows : ℕ) → r ≡ quick-word (head-of (term-head atoms (wanted-of wanted) (at-offset (now (msg .entry)) at rows)))) ⌝ }
+    ensures { λ r. ⌜ ((r ≡ 0 → ⊥) → (given : Given) (rows : ℕ) → r ≡ quick-word (head-of (term-head given (wanted-of wanted) (at-offset (now (msg .entry)) at rows)))) ⌝ }
 {
     if msg.len() <= at {
         return 0;
@@ -1047,7 +1047,7 @@ pub fn leaf_at(msg: &[u8], at: usize, wanted: Wanted) -> usize
 // The head of one of the commonest keys and values of a map, without parts, in one word; 0 of any other. As `leaf_at`, it has one caller, so that both are inlined.
 pub fn entry_at(msg: &[u8], at: usize) -> usize
     requires { ⌜ (at ≤ length (now msg)) × (length (now msg) ≤ 65536) ⌝ }
-    ensures { λ r. ⌜ ((r ≡ 0 → ⊥) → (atoms : Atoms) (rows : ℕ) → r ≡ quick-word (head-of (term-head atoms any (at-offset (now (msg .entry)) at rows)))) ⌝ }
+    ensures { λ r. ⌜ ((r ≡ 0 → ⊥) → (given : Given) (rows : ℕ) → r ≡ quick-word (head-of (term-head given any (at-offset (now (msg .entry)) at rows)))) ⌝ }
 {
     if msg.len() <= at {
         return 0;
@@ -1058,7 +1058,7 @@ pub fn entry_at(msg: &[u8], at: usize) -> usize
 // The head of a 119, the commonest node, in one word; 0 of any other term. It has one caller, too.
 pub fn node_at(msg: &[u8], at: usize) -> usize
     requires { ⌜ (at ≤ length (now msg)) × (length (now msg) ≤ 65536) ⌝ }
-    ensures { λ r. ⌜ ((r ≡ 0 → ⊥) → (atoms : Atoms) (rows : ℕ) → r ≡ quick-word (head-of (term-head atoms an-atom (at-offset (now (msg .entry)) at rows)))) ⌝ }
+    ensures { λ r. ⌜ ((r ≡ 0 → ⊥) → (given : Given) (rows : ℕ) → r ≡ quick-word (head-of (term-head given an-atom (at-offset (now (msg .entry)) at rows)))) ⌝ }
 {
     if msg.len() <= at {
         return 0;
@@ -1079,7 +1079,7 @@ pub fn quick_at(
     wanted: Wanted,
 ) -> usize
     requires { ⌜ (at ≤ length (now msg)) × (length (now msg) ≤ 65536) × (of-size (list-in context (now places) (now lengths)) ≡ true) ⌝ }
-    ensures { λ r. ⌜ ((r ≡ 0 → ⊥) → (rows : ℕ) → r ≡ quick-word (head-of (term-head (atoms-in context (now (places .entry)) (now (lengths .entry))) (wanted-of wanted) (at-offset (now (msg .entry)) at rows)))) ⌝ }
+    ensures { λ r. ⌜ ((r ≡ 0 → ⊥) → (rows : ℕ) → r ≡ quick-word (head-of (term-head (given-in context (now (places .entry)) (now (lengths .entry))) (wanted-of wanted) (at-offset (now (msg .entry)) at rows)))) ⌝ }
 {
     if msg.len() <= at {
         return 0;

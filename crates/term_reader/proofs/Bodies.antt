@@ -13,7 +13,7 @@ use lib.Seq.{sets}
 use Rattle.term_spec.specs.Tree.{node, count, sizes, Each-node}
 use Rattle.term_spec.specs.Term.{Label}
 use Rattle.term_spec.specs.Answer.{Answer, Position, at-offset, after, done}
-use Rattle.term_spec.specs.Head.{Atoms, Wanted, Head, parts, characters, elements, pairs, later}
+use Rattle.term_spec.specs.Head.{Given, Wanted, Head, parts, characters, elements, pairs, later}
 use Rattle.term_spec.specs.AtomList.{AtomList}
 use Rattle.term_spec.specs.Reading.{tag-at, each, run, entries, string, list-tail, one-term, opening, row, contents, body, term}
 use Rattle.term_spec.specs.Message.{Terms}
@@ -38,15 +38,15 @@ use Rattle.term_reader.proofs.Runs.{after-same, after-after}
 
 -- ---- `read_term`
 
-module _ (atoms : Atoms) (cap left : ℕ) (w : Wanted) (m : List ℕ) (at row whole : ℕ) (T U : List ℕ) where
-  pub term-refused : (R : Opening) (n p : ℕ) → ((rows : ℕ) → R ≡ opening-of (opening atoms (drop at m) w (at-offset m at rows))) → R .head ≡ heads.Refused n p
-      → TermDone m cap row whole T (term atoms cap left w (at-offset m at row)) (step.Refused n p) U
+module _ (given : Given) (cap left : ℕ) (w : Wanted) (m : List ℕ) (at row whole : ℕ) (T U : List ℕ) where
+  pub term-refused : (R : Opening) (n p : ℕ) → ((rows : ℕ) → R ≡ opening-of (opening given (drop at m) w (at-offset m at rows))) → R .head ≡ heads.Refused n p
+      → TermDone m cap row whole T (term given cap left w (at-offset m at row)) (step.Refused n p) U
   unfolding one-term Done
-  term-refused R n p e f = rw (opened-refused atoms m at row w R n p e f)
+  term-refused R n p e f = rw (opened-refused given m at row w R n p e f)
 
-  pub term-opened : {place : ℕ} {head : code.Head} (o : Opened-at atoms m at row w place head) (r : Step)
-      → ((h : Head) (next : ℕ) → head ≡ head-at h next → Sound-head m place next h → TermDone m cap row whole T (body atoms cap left place h (at-offset m next row)) r U)
-      → TermDone m cap row whole T (term atoms cap left w (at-offset m at row)) r U
+  pub term-opened : {place : ℕ} {head : code.Head} (o : Opened-at given m at row w place head) (r : Step)
+      → ((h : Head) (next : ℕ) → head ≡ head-at h next → Sound-head m place next h → TermDone m cap row whole T (body given cap left place h (at-offset m next row)) r U)
+      → TermDone m cap row whole T (term given cap left w (at-offset m at row)) r U
   unfolding one-term
   term-opened o r d = rw (o .is) (d (o .h) (o .next) (o .head-is) (o .sound))
 
@@ -61,51 +61,51 @@ module _ {there : Bool} {row cap : ℕ} (e : there ≡ ltb row cap) where
   some-row f = ltb-true row cap (confirmed e f)
 
 -- a term is made of its parts and its label
-whole-inner : (atoms : Atoms) (cap d p : ℕ) (h : Head) (s : Position)
-    → contents atoms cap d (body atoms cap d) p h s ≡ after (inner atoms cap d p h s) (λ e. done (node (e .1, tag-at p) (e .0)))
+whole-inner : (given : Given) (cap d p : ℕ) (h : Head) (s : Position)
+    → contents given cap d (body given cap d) p h s ≡ after (inner given cap d p h s) (λ e. done (node (e .1, tag-at p) (e .0)))
 unfolding contents inner
-whole-inner atoms cap d p (parts ws n l) s =
-    sym (after-after (each (term atoms cap d) ws s) _ _
-    ∙ after-same (each (term atoms cap d) ws s) _ _ (λ ts u. after-after (run (term atoms cap d) n u) _ _
-    ∙ after-same (run (term atoms cap d) n u) _ _ (λ us v. after-after (later (atoms .flags) p l v) _ _)))
-whole-inner atoms cap d p (characters cs) s = sym (after-after (string atoms cap d p (p + 3) cs s) _ _)
-whole-inner atoms cap d p (elements n) s =
-    sym (after-after (run (term atoms cap d) n s) _ _
-    ∙ after-same (run (term atoms cap d) n s) _ _ (λ ts u. after-after (list-tail atoms cap d (body atoms cap d) (u .left) u) _ _))
-whole-inner atoms cap d p (pairs n) s = sym (after-after (entries (term atoms cap d) [] n s) _ _)
+whole-inner given cap d p (parts ws n l) s =
+    sym (after-after (each (term given cap d) ws s) _ _
+    ∙ after-same (each (term given cap d) ws s) _ _ (λ ts u. after-after (run (term given cap d) n u) _ _
+    ∙ after-same (run (term given cap d) n u) _ _ (λ us v. after-after (later (given .flags) p l v) _ _)))
+whole-inner given cap d p (characters cs) s = sym (after-after (string given cap d p (p + 3) cs s) _ _)
+whole-inner given cap d p (elements n) s =
+    sym (after-after (run (term given cap d) n s) _ _
+    ∙ after-same (run (term given cap d) n s) _ _ (λ ts u. after-after (list-tail given cap d (body given cap d) (u .left) u) _ _))
+whole-inner given cap d p (pairs n) s = sym (after-after (entries (term given cap d) [] n s) _ _)
 
-module _ (atoms : Atoms) (cap left : ℕ) (m : List ℕ) (place : ℕ) (h : Head) (next row whole : ℕ) (T : List ℕ) where
-  pub body-deep : (U : List ℕ) → left ≡ 0 → TermDone m cap row whole T (body atoms cap left place h (at-offset m next row)) (step.Refused 8 place) U
+module _ (given : Given) (cap left : ℕ) (m : List ℕ) (place : ℕ) (h : Head) (next row whole : ℕ) (T : List ℕ) where
+  pub body-deep : (U : List ℕ) → left ≡ 0 → TermDone m cap row whole T (body given cap left place h (at-offset m next row)) (step.Refused 8 place) U
   unfolding body Done
   body-deep U e = rw e
 
   module _ (some-left : left ≡ 0 → ⊥) where
-    body-at : (s : Position) → body atoms cap left place h s ≡ body atoms cap (suc (left - 1)) place h s
-    body-at s = let e : left ≡ suc (left - 1) = omega arith in ap (λ (d : ℕ). body atoms cap d place h s) e
+    body-at : (s : Position) → body given cap left place h s ≡ body given cap (suc (left - 1)) place h s
+    body-at s = let e : left ≡ suc (left - 1) = omega arith in ap (λ (d : ℕ). body given cap d place h s) e
 
-    pub body-full : (U : List ℕ) → cap ≤ row → TermDone m cap row whole T (body atoms cap left place h (at-offset m next row)) (step.Refused 9 place) U
+    pub body-full : (U : List ℕ) → cap ≤ row → TermDone m cap row whole T (body given cap left place h (at-offset m next row)) (step.Refused 9 place) U
     unfolding body Done
-    body-full U full = rw (body-at (at-offset m next row), row-none atoms cap place next (drop next m) row full)
+    body-full U full = rw (body-at (at-offset m next row), row-none given cap place next (drop next m) row full)
 
-    body-inner : row < cap → body atoms cap left place h (at-offset m next row)
-        ≡ after (inner atoms cap (left - 1) place h (at-offset m next (row + 1))) (λ e. done (node (e .1, tag-at place) (e .0)))
+    body-inner : row < cap → body given cap left place h (at-offset m next row)
+        ≡ after (inner given cap (left - 1) place h (at-offset m next (row + 1))) (λ e. done (node (e .1, tag-at place) (e .0)))
     unfolding body
     body-inner low =
         body-at (at-offset m next row)
-        ∙ rw (row-free atoms cap place next (drop next m) row low) (whole-inner atoms cap (left - 1) place h (at-offset m next (row + 1)))
+        ∙ rw (row-free given cap place next (drop next m) row low) (whole-inner given cap (left - 1) place h (at-offset m next (row + 1)))
 
     module _ (low : row < cap) (r : Parts) (T′ : List ℕ)
-        (d : PartsDone m 0 cap (row + 1) (row + 1) T (inner atoms cap (left - 1) place h (at-offset m next (row + 1))) r T′) where
-      pub body-refused : (k p : ℕ) (U : List ℕ) → r ≡ parts-of.Refused k p → TermDone m cap row whole T (body atoms cap left place h (at-offset m next row)) (step.Refused k p) U
+        (d : PartsDone m 0 cap (row + 1) (row + 1) T (inner given cap (left - 1) place h (at-offset m next (row + 1))) r T′) where
+      pub body-refused : (k p : ℕ) (U : List ℕ) → r ≡ parts-of.Refused k p → TermDone m cap row whole T (body given cap left place h (at-offset m next row)) (step.Refused k p) U
       unfolding Done
-      body-refused k p U e = rw (body-inner low, parts-refused m 0 cap (row + 1) (row + 1) T (inner atoms cap (left - 1) place h (at-offset m next (row + 1))) r T′ k p e d)
+      body-refused k p U e = rw (body-inner low, parts-refused m 0 cap (row + 1) (row + 1) T (inner given cap (left - 1) place h (at-offset m next (row + 1))) r T′ k p e d)
 
       pub body-got : (end rows′ n kind v : ℕ) → r ≡ parts-of.Got end rows′ n kind → place < 65536 → v ≡ pack kind place whole n (rows′ - row)
-          → TermDone m cap row whole T (body atoms cap left place h (at-offset m next row)) (step.Got end rows′) (set T′ row v)
+          → TermDone m cap row whole T (body given cap left place h (at-offset m next row)) (step.Got end rows′) (set T′ row v)
       unfolding Done tree-rows row-words word kind-at offset-of whole-of Each-node
       body-got end rows′ n kind v e near is =
-          let f : Parts-found m 0 cap (row + 1) (row + 1) T (inner atoms cap (left - 1) place h (at-offset m next (row + 1))) end rows′ n kind T′
-          = parts-found m 0 cap (row + 1) (row + 1) T (inner atoms cap (left - 1) place h (at-offset m next (row + 1))) r T′ end rows′ n kind e d in
+          let f : Parts-found m 0 cap (row + 1) (row + 1) T (inner given cap (left - 1) place h (at-offset m next (row + 1))) end rows′ n kind T′
+          = parts-found m 0 cap (row + 1) (row + 1) T (inner given cap (left - 1) place h (at-offset m next (row + 1))) r T′ end rows′ n kind e d in
           let ts : Terms = f .are .x .0 in
           let a : rows′ ≡ row + suc (sizes ts) = omega (arith, f .are .rows-are) in
           let b : rows′ - row ≡ suc (sizes ts) = omega arith in
@@ -130,8 +130,8 @@ module _ (atoms : Atoms) (cap left : ℕ) (m : List ℕ) (place : ℕ) (h : Head
       pub body-small : (list : AtomList) (at end rows′ n kind : ℕ) → r ≡ parts-of.Got end rows′ n kind → Room m list T cap at row whole → place < 65536
           → Small-fields kind place whole n (rows′ - row)
       body-small list at end rows′ n kind e room near =
-          let f : Parts-found m 0 cap (row + 1) (row + 1) T (inner atoms cap (left - 1) place h (at-offset m next (row + 1))) end rows′ n kind T′
-          = parts-found m 0 cap (row + 1) (row + 1) T (inner atoms cap (left - 1) place h (at-offset m next (row + 1))) r T′ end rows′ n kind e d in
+          let f : Parts-found m 0 cap (row + 1) (row + 1) T (inner given cap (left - 1) place h (at-offset m next (row + 1))) end rows′ n kind T′
+          = parts-found m 0 cap (row + 1) (row + 1) T (inner given cap (left - 1) place h (at-offset m next (row + 1))) r T′ end rows′ n kind e d in
           let ts : Terms = f .are .x .0 in
           let c : count ts ≤ sizes ts = count-le-sizes ts in
           let k : Between 1 13 (kind-of (f .are .x .1)) = kind-of-range (f .are .x .1) in

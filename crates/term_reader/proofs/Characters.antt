@@ -11,7 +11,7 @@ use borrow.Author.Tests.{lt-ltb, le-ltb}
 use Rattle.term_spec.specs.Tree.{node, empty, _▹_, count, sizes, Each-node, Each-nodes}
 use Rattle.term_spec.specs.Term.{integer}
 use Rattle.term_spec.specs.Answer.{good, refused, at-offset}
-use Rattle.term_spec.specs.Head.{Atoms, characters}
+use Rattle.term_spec.specs.Head.{Given, characters}
 use Rattle.term_spec.specs.Reading.{character-at, row, string}
 use Rattle.term_spec.specs.Message.{Terms}
 use Rattle.term_spec.specs.Rows.{rows, kind-of, kind-at, offset-of, whole-code, pack, word, row-words, Placed}
@@ -29,12 +29,12 @@ code-of-whole (suc n) = omega arith
 
 -- ---- a row is taken
 
-module _ (atoms : Atoms) (cap p at : ℕ) (left : List ℕ) (r : ℕ) where
-  pub row-free : r < cap → row atoms cap p (spot at left r) ≡ good (tt, spot at left (r + 1))
+module _ (given : Given) (cap p at : ℕ) (left : List ℕ) (r : ℕ) where
+  pub row-free : r < cap → row given cap p (spot at left r) ≡ good (tt, spot at left (r + 1))
   unfolding row
   row-free h = rw (lt-ltb r cap h, row)
 
-  pub row-none : cap ≤ r → row atoms cap p (spot at left r) ≡ refused 9 p
+  pub row-none : cap ≤ r → row given cap p (spot at left r) ≡ refused 9 p
   unfolding row
   row-none h = rw (le-ltb r cap h, row)
 
@@ -45,23 +45,23 @@ unfoldable pub characters-from : ℕ → List ℕ → Terms
 characters-from at [] = empty
 characters-from at (c ∷ cs) = node (integer (pos c), character-at at) empty ▹ characters-from (at + 1) cs
 
-module _ (atoms : Atoms) (cap d p at : ℕ) (left : List ℕ) where
+module _ (given : Given) (cap d p at : ℕ) (left : List ℕ) where
   pub string-fits : (off : ℕ) (cs : List ℕ) (r : ℕ) → r + length cs ≤ cap
-      → string atoms cap (suc d) p off cs (spot at left r) ≡ good (characters-from off cs, spot at left (r + length cs))
+      → string given cap (suc d) p off cs (spot at left r) ≡ good (characters-from off cs, spot at left (r + length cs))
   unfolding string characters-from
   string-fits off [] r h = ap (λ (k : ℕ). good (empty, spot at left k)) (omega arith)
   string-fits off (c ∷ cs) r h =
       let e : r + 1 + length cs ≡ r + suc (length cs) = omega arith in
-      rw (row-free atoms cap p at left r (omega arith), string-fits (off + 1) cs (r + 1) (omega arith), e)
+      rw (row-free given cap p at left r (omega arith), string-fits (off + 1) cs (r + 1) (omega arith), e)
 
   pub string-full : (off : ℕ) (cs : List ℕ) (r : ℕ) → r ≤ cap → cap < r + length cs
-      → string atoms cap (suc d) p off cs (spot at left r) ≡ refused 9 p
+      → string given cap (suc d) p off cs (spot at left r) ≡ refused 9 p
   unfolding string
   string-full off [] r h f = absurd (omega arith)
   string-full off (c ∷ cs) r h f =
       by-less r cap
-      (λ less. rw (row-free atoms cap p at left r less, string-full (off + 1) cs (r + 1) (omega arith) (omega arith)))
-      (λ over. rw (row-none atoms cap p at left r over))
+      (λ less. rw (row-free given cap p at left r less, string-full (off + 1) cs (r + 1) (omega arith) (omega arith)))
+      (λ over. rw (row-none given cap p at left r over))
 
 pub sizes-characters : (off : ℕ) (cs : List ℕ) → sizes (characters-from off cs) ≡ length cs
 unfolding characters-from
@@ -122,15 +122,15 @@ put-all T at row whole T′ i n p h f = let e : i ≡ n = omega arith in p .stor
 
 -- ---- one law for each way through `read_characters`
 
-module _ (atoms : Atoms) (m cs : List ℕ) (before cap row whole deep place next : ℕ) (T T′ : List ℕ) (n : ℕ) (same : length cs ≡ n) where
+module _ (given : Given) (m cs : List ℕ) (before cap row whole deep place next : ℕ) (T T′ : List ℕ) (n : ℕ) (same : length cs ≡ n) where
   abbrev Read : Parts → Type 0
-  Read r = PartsDone m before cap row whole T (inner atoms cap deep place (characters cs) (at-offset m next row)) r T′
+  Read r = PartsDone m before cap row whole T (inner given cap deep place (characters cs) (at-offset m next row)) r T′
 
   pub characters-none : n ≡ 0 → next ≤ length m → row ≤ cap → T′ ≡ T → Read (Got next row before 5)
   unfolding inner string Done rows row-words Each-node kind-of
   characters-none e near low kept = go cs (same ∙ e)
     where
-      go : (cs : List ℕ) → length cs ≡ 0 → PartsDone m before cap row whole T (inner atoms cap deep place (characters cs) (at-offset m next row)) (Got next row before 5) T′
+      go : (cs : List ℕ) → length cs ≡ 0 → PartsDone m before cap row whole T (inner given cap deep place (characters cs) (at-offset m next row)) (Got next row before 5) T′
       go [] e =
           let a : row ≡ row + 0 = omega arith in
           let b : before ≡ before + 0 = omega arith in
@@ -141,17 +141,17 @@ module _ (atoms : Atoms) (m cs : List ℕ) (before cap row whole deep place next
   unfolding inner string Done
   characters-deep more e = go cs (λ z. more (sym same ∙ z))
     where
-      go : (cs : List ℕ) → (length cs ≡ 0 → ⊥) → PartsDone m before cap row whole T (inner atoms cap deep place (characters cs) (at-offset m next row)) (Refused 8 place) T′
+      go : (cs : List ℕ) → (length cs ≡ 0 → ⊥) → PartsDone m before cap row whole T (inner given cap deep place (characters cs) (at-offset m next row)) (Refused 8 place) T′
       go [] more = absurd (more refl)
       go (c ∷ cs) more = rw e
 
   module _ (deeper : deep ≡ 0 → ⊥) where
-    string-at : string atoms cap deep place (place + 3) cs (at-offset m next row) ≡ string atoms cap (suc (deep - 1)) place (place + 3) cs (at-offset m next row)
-    string-at = let e : deep ≡ suc (deep - 1) = omega arith in ap (λ (d : ℕ). string atoms cap d place (place + 3) cs (at-offset m next row)) e
+    string-at : string given cap deep place (place + 3) cs (at-offset m next row) ≡ string given cap (suc (deep - 1)) place (place + 3) cs (at-offset m next row)
+    string-at = let e : deep ≡ suc (deep - 1) = omega arith in ap (λ (d : ℕ). string given cap d place (place + 3) cs (at-offset m next row)) e
 
     pub characters-full : row ≤ cap → cap - row < n → Read (Refused 9 place)
     unfolding inner Done
-    characters-full low full = rw (string-at, string-full atoms cap (deep - 1) place next _ (place + 3) cs row low (omega arith))
+    characters-full low full = rw (string-at, string-full given cap (deep - 1) place next _ (place + 3) cs row low (omega arith))
 
     pub characters-got : next ≤ length m → row + n ≤ cap → place + 3 + n ≤ 65536 → T′ ≡ sets T row (character-words whole (place + 3) n) → Read (Got next (row + n) (before + n) 5)
     unfolding inner Done kind-of
@@ -159,7 +159,7 @@ module _ (atoms : Atoms) (m cs : List ℕ) (before cap row whole deep place next
         let ts : Terms = characters-from (place + 3) cs in
         let a : length cs ≡ sizes ts = sym (sizes-characters (place + 3) cs) in
         let b : length cs ≡ count ts = sym (count-characters (place + 3) cs) in
-        rw (string-at, string-fits atoms cap (deep - 1) place next _ (place + 3) cs row (omega arith)) (
+        rw (string-at, string-fits given cap (deep - 1) place next _ (place + 3) cs row (omega arith)) (
           cc,
           record {
             table-is = stored ∙ ap (λ (ws : List ℕ). sets T row ws) (sym (words-characters whole row (place + 3) cs ∙ ap (λ (k : ℕ). character-words whole (place + 3) k) same));

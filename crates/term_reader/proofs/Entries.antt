@@ -10,8 +10,8 @@ use Rattle.term_spec.specs.Tree.{empty, _▹_, _▹▹_, count, size, sizes, Ea
 use Rattle.term_spec.specs.Term.{Term}
 use Rattle.term_spec.specs.Equal.{among}
 use Rattle.term_spec.specs.Answer.{Answer, good, Position, Reading, after, done, rule, at-offset}
-use Rattle.term_spec.specs.Head.{Atoms, Wanted, any, pairs}
-use Rattle.term_spec.specs.AtomList.{AtomList, of-size, atoms-of, lent-list}
+use Rattle.term_spec.specs.Head.{Given, Wanted, any, pairs}
+use Rattle.term_spec.specs.AtomList.{AtomList, of-size, given-of, lent-list}
 use Rattle.term_spec.specs.Reading.{Located, meaning, entries, term}
 use Rattle.term_spec.specs.Message.{Terms}
 use Rattle.term_spec.specs.Rows.{Row, tree-rows, rows, kind-of, whole-code, row-words, Placed, Here}
@@ -37,13 +37,13 @@ use Rattle.term_reader.proofs.Found.{Found, step-found, step-refused, j
 use Rattle.term_reader.proofs.Runs.{after-same, after-after, after-done}
 
 -- a key past pairs is compared with each key of theirs
-abbrev pub Told : List ℕ → ℕ → Atoms → List ℕ → List ℕ → ℕ → Type 0
-Told m cap atoms places lengths first =
-    (S : List ℕ) (us : Terms) (u : Located) (ks : List Term) → Keys-of us ks → Rows-in-table m cap atoms S (whole-of first) first (us ▹▹ (u ▹ empty))
+abbrev pub Told : List ℕ → ℕ → Given → List ℕ → List ℕ → ℕ → Type 0
+Told m cap given places lengths first =
+    (S : List ℕ) (us : Terms) (u : Located) (ks : List Term) → Keys-of us ks → Rows-in-table m cap given S (whole-of first) first (us ▹▹ (u ▹ empty))
     → among-rows m places lengths S first (first + sizes us) ≡ among (meaning u) ks
 
 pub keys-told : (flags n : ℕ) (places lengths m : List ℕ) (cap first : ℕ) → of-size (lent-list n places lengths) ≡ true → n < 256 → ((i : ℕ) → getD m i 0 < 256)
-    → Told m cap (atoms-of flags (lent-list n places lengths)) places lengths first
+    → Told m cap (given-of flags (lent-list n places lengths)) places lengths first
 keys-told flags n places lengths m cap first sized few under S us u ks k h =
     last-among flags (lent-list n places lengths) m (record { sized = sized; few = omega arith; under = under-all m (λ i _. under i) }) cap S us u k h
 
@@ -60,9 +60,9 @@ one-more empty us t = refl
 one-more (u ▹ ts) us t = ap (λ (x : Terms). u ▹ x) (one-more ts us t)
 
 -- Of a map of `all` pairs, whose parts start at the row `first` and the offset `start`; T₀ is the table before them:
-module _ (atoms : Atoms) (cap deep : ℕ) (m places lengths : List ℕ) (start first all : ℕ) (T₀ : List ℕ) where
+module _ (given : Given) (cap deep : ℕ) (m places lengths : List ℕ) (start first all : ℕ) (T₀ : List ℕ) where
   abbrev Part : Wanted → Reading Located
-  Part = term atoms cap deep
+  Part = term given cap deep
 
   abbrev all-entries : Answer (Terms × Position)
   all-entries = entries Part [] all (at-offset m start first)
@@ -72,7 +72,7 @@ module _ (atoms : Atoms) (cap deep : ℕ) (m places lengths : List ℕ) (start f
     pub table-is : T ≡ sets T₀ first (row-words (rows (whole-of first) first ts))
     pub rows-are : row ≡ first + sizes ts
     pub many : parts ≡ count ts
-    pub backed : Backeds m cap atoms ts
+    pub backed : Backeds m cap given ts
     pub placed : Each-nodes (Placed 65536) ts
 
   -- pairs are read; `more` pairs are to come, the first one's key at `at`
@@ -121,7 +121,7 @@ module _ (atoms : Atoms) (cap deep : ℕ) (m places lengths : List ℕ) (start f
       })
 
   abbrev Map-done : ℕ → Parts → List ℕ → Type 0
-  Map-done place r U = PartsDone m 0 cap first first T₀ (inner atoms cap deep place (pairs all) (at-offset m start first)) r U
+  Map-done place r U = PartsDone m 0 cap first first T₀ (inner given cap deep place (pairs all) (at-offset m start first)) r U
 
   abbrev then-value : List Term → ℕ → Located → Reading Terms
   then-value earlier more k = λ s. after (Part any s) (λ v. λ u. after (entries Part (meaning k ∷ earlier) more u) (λ us. done (k ▹ v ▹ us)))
@@ -201,14 +201,14 @@ module _ (atoms : Atoms) (cap deep : ℕ) (m places lengths : List ℕ) (start f
         unfolding rows Each-node
         stored-more ts s =
             let t : Located = part .x in
-            let b = term-backed m cap atoms deep any (at-offset m at row) (record { bytes-are = refl; inside = room .near; room = room .low }) .known t (at-offset m next end) (part .is) in
+            let b = term-backed m cap given deep any (at-offset m at row) (record { bytes-are = refl; inside = room .near; room = room .low }) .known t (at-offset m next end) (part .is) in
             record {
               table-is = part .table-is
                   ∙ ap (λ (rs : List Row). sets T row (row-words rs)) (sym (append-nil (tree-rows (whole-of first) row t)))
                   ∙ joined-words m cap first first T₀ T ts row (s .table-is) (s .rows-are) (t ▹ empty);
               rows-are = omega (arith, s .rows-are, part .rows-are, sizes-join ts (t ▹ empty));
               many = omega (arith, s .many, count-join ts (t ▹ empty));
-              backed = backing.joined m cap atoms ts (t ▹ empty) (s .backed) (b .1, tt);
+              backed = backing.joined m cap given ts (t ▹ empty) (s .backed) (b .1, tt);
               placed = each-nodes-join (Placed 65536) ts (t ▹ empty) (s .placed) (part .from, tt);
             }
 
@@ -232,12 +232,12 @@ module _ (atoms : Atoms) (cap deep : ℕ) (m places lengths : List ℕ) (start f
             })
 
         -- a key, which is judged, and which is among the earlier ones or not
-        module _ (i : Before-key at row parts T L) (some : parts / 2 < all) (tell : Told m cap atoms places lengths first)
+        module _ (i : Before-key at row parts T L) (some : parts / 2 < all) (tell : Told m cap given places lengths first)
             (b : Bool) (L₁ L₂ : List ℕ) (kept : Keeps L L₁) (judged : Contains-or-insert m places lengths T′ first row L₁ b L₂) where
           with-key : Stored (i .ts ▹▹ (part .x ▹ empty)) end (parts + 1) T′
           with-key = stored-more (i .ts) (i .stored)
 
-          held : Rows-in-table m cap atoms T′ (whole-of first) first (i .ts ▹▹ (part .x ▹ empty))
+          held : Rows-in-table m cap given T′ (whole-of first) first (i .ts ▹▹ (part .x ▹ empty))
           held =
               let us : Terms = i .ts ▹▹ (part .x ▹ empty) in
               let ws : List ℕ = row-words (rows (whole-of first) first us) in
@@ -255,7 +255,7 @@ module _ (atoms : Atoms) (cap deep : ℕ) (m places lengths : List ℕ) (start f
           recalls-keys : Contains-before m places lengths T′ first row L₁
           recalls-keys =
               subst (λ (k : ℕ). Contains-before m places lengths T′ first k L₁) (sym (i .stored .rows-are))
-              (contains-before m places lengths cap atoms (i .ts) (part .x) held (keys-kept kept (i .remembered)))
+              (contains-before m places lengths cap given (i .ts) (part .x) held (keys-kept kept (i .remembered)))
 
           is-among : b ≡ among (meaning (part .x)) (i .earlier)
           is-among =
@@ -273,7 +273,7 @@ module _ (atoms : Atoms) (cap deep : ℕ) (m places lengths : List ℕ) (start f
               let k : Located = part .x in
               let more : ℕ = i .more - 1 in
               let known : Contains L₂ (hash-row-words m places lengths first (row-words (tree-rows (whole-of first) (first + sizes ts) k))) (first + sizes ts)
-              = contains-as (hash-held m places lengths cap atoms ts k held) (rw (i .stored .rows-are) at (judged .inserted new)) in
+              = contains-as (hash-held m places lengths cap given ts k held) (rw (i .stored .rows-are) at (judged .inserted new)) in
               before-value
               (record {
                 ts = ts;

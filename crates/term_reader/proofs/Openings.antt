@@ -6,7 +6,7 @@ use Prim.Native.Nat.{ℕ, _+_, _≤_, _<_}
 use native.Mathlib.Omega.{arith}
 use lib.ListN.{length, drop}
 use Rattle.term_spec.specs.Answer.{Answer, good, refused, Position, at-offset, after, done}
-use Rattle.term_spec.specs.Head.{Atoms, Wanted, any, Head, parts, characters, elements, pairs, Later, later, term-head}
+use Rattle.term_spec.specs.Head.{Given, Wanted, any, Head, parts, characters, elements, pairs, Later, later, term-head}
 use Rattle.term_spec.specs.Reading.{empty-108, opening}
 use Rattle.term_spec.proofs.Backed.{Chars-at, On-chars, opening-backed}
 use Rattle.term_spec.proofs.Backed as backing
@@ -36,17 +36,17 @@ wants-asked ws one-node = refl
 wants-asked ws a-function = refl
 
 -- characters that stand in a message end in it
-characters-end : (m : List ℕ) (cap : ℕ) (atoms : Atoms) (off : ℕ) (cs : List ℕ) → Chars-at m cap atoms off cs → (length cs ≡ 0 → ⊥) → off + length cs ≤ length m
-characters-end m cap atoms off [] h some = absurd (some refl)
-characters-end m cap atoms off (c ∷ []) h some = omega (arith, h .0)
-characters-end m cap atoms off (c ∷ d ∷ cs) h some = omega (arith, characters-end m cap atoms (off + 1) (d ∷ cs) (h .2) (λ e. omega arith))
+characters-end : (m : List ℕ) (cap : ℕ) (given : Given) (off : ℕ) (cs : List ℕ) → Chars-at m cap given off cs → (length cs ≡ 0 → ⊥) → off + length cs ≤ length m
+characters-end m cap given off [] h some = absurd (some refl)
+characters-end m cap given off (c ∷ []) h some = omega (arith, h .0)
+characters-end m cap given off (c ∷ d ∷ cs) h some = omega (arith, characters-end m cap given (off + 1) (d ∷ cs) (h .2) (λ e. omega arith))
 
-head-fits : (m : List ℕ) (cap : ℕ) (atoms : Atoms) (place : ℕ) (h : Head) → Wanting h → On-chars m cap atoms place h → Head-fits m place h
+head-fits : (m : List ℕ) (cap : ℕ) (given : Given) (place : ℕ) (h : Head) → Wanting h → On-chars m cap given place h → Head-fits m place h
 unfolding Wanting Head-fits
-head-fits m cap atoms place (parts ws n l) w c = wants-asked ws w
-head-fits m cap atoms place (characters cs) w c = λ some. characters-end m cap atoms (place + 3) cs c some
-head-fits m cap atoms place (elements n) w c = tt
-head-fits m cap atoms place (pairs n) w c = tt
+head-fits m cap given place (parts ws n l) w c = wants-asked ws w
+head-fits m cap given place (characters cs) w c = λ some. characters-end m cap given (place + 3) cs c some
+head-fits m cap given place (elements n) w c = tt
+head-fits m cap given place (pairs n) w c = tt
 
 pub head-refused : (h : Head) (next n p : ℕ) → head-at h next ≡ heads.Refused n p → ⊥
 unfolding head-at
@@ -55,23 +55,23 @@ head-refused (characters cs) next n p e = let z : _≡_ {A = ℕ} 0 1 = cc in om
 head-refused (elements n′) next n p e = let z : _≡_ {A = ℕ} 0 1 = cc in omega arith
 head-refused (pairs n′) next n p e = let z : _≡_ {A = ℕ} 0 1 = cc in omega arith
 
-module _ (atoms : Atoms) (m : List ℕ) (at row : ℕ) (w : Wanted) where
+module _ (given : Given) (m : List ℕ) (at row : ℕ) (w : Wanted) where
   pub record Opened-at (place : ℕ) (head′ : code.Head) : Type 0 where
     pub h : Head
     pub next : ℕ
-    pub is : opening atoms (drop at m) w (at-offset m at row) ≡ good ((place, h), at-offset m next row)
+    pub is : opening given (drop at m) w (at-offset m at row) ≡ good ((place, h), at-offset m next row)
     pub head-is : head′ ≡ head-at h next
     pub further : at < next
     pub sound : Sound-head m place next h
 
-  opened-by : (o : Answer ((ℕ × Head) × Position)) (R : Opening) → opening atoms (drop at m) w (at-offset m at row) ≡ o → R ≡ opening-of o → ((n p : ℕ) → R .head ≡ heads.Refused n p → ⊥)
+  opened-by : (o : Answer ((ℕ × Head) × Position)) (R : Opening) → opening given (drop at m) w (at-offset m at row) ≡ o → R ≡ opening-of o → ((n p : ℕ) → R .head ≡ heads.Refused n p → ⊥)
       → at ≤ length m → Opened-at (R .place) (R .head)
   unfolding opening-of
   opened-by (refused k q) R f e other near = absurd (other k q (ap (λ (x : Opening). x .head) e))
   opened-by (good y) R f e other near =
-      let k : facts.Opens m at row (y .0 .0) (y .0 .1) (y .1) = opening-opens atoms m (drop at m) at row w .known (y .0) (y .1) f in
-      let b : backing.Opened m row atoms (y .0) (y .1)
-      = opening-backed m row atoms (drop at m) w (at-offset m at row) (record { bytes-are = refl; inside = near; room = omega arith }) .known (y .0) (y .1) f in
+      let k : facts.Opens m at row (y .0 .0) (y .0 .1) (y .1) = opening-opens given m (drop at m) at row w .known (y .0) (y .1) f in
+      let b : backing.Opened m row given (y .0) (y .1)
+      = opening-backed m row given (drop at m) w (at-offset m at row) (record { bytes-are = refl; inside = near; room = omega arith }) .known (y .0) (y .1) f in
       let p : R .place ≡ y .0 .0 = ap (λ (x : Opening). x .place) e in
       let ends : y .0 .0 < y .1 .at = omega (arith, k .past .later) in
       record {
@@ -81,15 +81,15 @@ module _ (atoms : Atoms) (m : List ℕ) (at row : ℕ) (w : Wanted) where
         head-is = ap (λ (x : Opening). x .head) e;
         further = omega (arith, k .from);
         sound = subst (λ (a : ℕ). Sound-head m a (y .1 .at) (y .0 .1)) (sym p)
-            (record { before = ends; end = k .past .in-step .inside; fits = head-fits m row atoms (y .0 .0) (y .0 .1) (k .wanting) (b .3) });
+            (record { before = ends; end = k .past .in-step .inside; fits = head-fits m row given (y .0 .0) (y .0 .1) (k .wanting) (b .3) });
       }
 
-  pub opened : (R : Opening) → ((rows : ℕ) → R ≡ opening-of (opening atoms (drop at m) w (at-offset m at rows))) → ((n p : ℕ) → R .head ≡ heads.Refused n p → ⊥)
+  pub opened : (R : Opening) → ((rows : ℕ) → R ≡ opening-of (opening given (drop at m) w (at-offset m at rows))) → ((n p : ℕ) → R .head ≡ heads.Refused n p → ⊥)
       → at ≤ length m → Opened-at (R .place) (R .head)
   opened R e other near = opened-by _ R refl (e row) other near
 
-  pub opened-refused : (R : Opening) (n p : ℕ) → ((rows : ℕ) → R ≡ opening-of (opening atoms (drop at m) w (at-offset m at rows))) → R .head ≡ heads.Refused n p
-      → opening atoms (drop at m) w (at-offset m at row) ≡ refused n p
+  pub opened-refused : (R : Opening) (n p : ℕ) → ((rows : ℕ) → R ≡ opening-of (opening given (drop at m) w (at-offset m at rows))) → R .head ≡ heads.Refused n p
+      → opening given (drop at m) w (at-offset m at row) ≡ refused n p
   opened-refused R n p e f = refused-found _ R (e row) n p f .0
 
   pub opens : {place : ℕ} {head′ : code.Head} → Opened-at place head′ → Head-read m place head′
@@ -97,32 +97,32 @@ module _ (atoms : Atoms) (m : List ℕ) (at row : ℕ) (w : Wanted) where
 
 -- ---- a list's tail, past 108s of length 0
 
-module _ (atoms : Atoms) (m : List ℕ) (at row : ℕ) (s : Skipped m at at) where
-  head-opened : (h : Head) (next : ℕ) → term-head atoms any (at-offset m at row) ≡ good (h, at-offset m next row) → Opened-at atoms m at row any at (head-at h next)
+module _ (given : Given) (m : List ℕ) (at row : ℕ) (s : Skipped m at at) where
+  head-opened : (h : Head) (next : ℕ) → term-head given any (at-offset m at row) ≡ good (h, at-offset m next row) → Opened-at given m at row any at (head-at h next)
   unfolding opening-of
   head-opened h next e =
-      opened-by atoms m at row any (good ((at, h), at-offset m next row)) (record { place = at; head = head-at h next })
-      (skipped-opens atoms m at at row s ∙ ap (λ (o : Answer (Head × Position)). after o (λ x. done (at, x))) e)
+      opened-by given m at row any (good ((at, h), at-offset m next row)) (record { place = at; head = head-at h next })
+      (skipped-opens given m at at row s ∙ ap (λ (o : Answer (Head × Position)). after o (λ x. done (at, x))) e)
       refl (λ n p f. head-refused h next n p f) (s .inside)
 
-  pub nil-opened : term-head atoms any (at-offset m at row) ≡ good (characters [], at-offset m (at + 1) row) → Opened-at atoms m at row (wanted-of Any) at (heads.Characters 0 (at + 1))
+  pub nil-opened : term-head given any (at-offset m at row) ≡ good (characters [], at-offset m (at + 1) row) → Opened-at given m at row (wanted-of Any) at (heads.Characters 0 (at + 1))
   unfolding wanted-of head-at
   nil-opened e = head-opened (characters []) (at + 1) e
 
-  pub elements-opened : (n : ℕ) → (n ≡ 0 → ⊥) → Elements-at m at n → Opened-at atoms m at row (wanted-of Any) at (heads.Elements n (at + 5))
+  pub elements-opened : (n : ℕ) → (n ≡ 0 → ⊥) → Elements-at m at n → Opened-at given m at row (wanted-of Any) at (heads.Elements n (at + 5))
   unfolding wanted-of head-at
-  elements-opened n more e = head-opened (elements n) (at + 5) (e .some more atoms row)
+  elements-opened n more e = head-opened (elements n) (at + 5) (e .some more given row)
 
 pub last-at : (m : List ℕ) (at : ℕ) → Skipped m at at → (n : ℕ) → n ≡ 0 → Elements-at m at n → Last-at m at
-last-at m at s n z i = record { no-elements = λ atoms rows place k t e. go atoms rows place k t (term-head atoms any (at-offset m at rows)) refl (sym (skipped-opens atoms m at at rows s) ∙ e) }
+last-at m at s n z i = record { no-elements = λ given rows place k t e. go given rows place k t (term-head given any (at-offset m at rows)) refl (sym (skipped-opens given m at at rows s) ∙ e) }
   where
-    go : (atoms : Atoms) (rows place k : ℕ) (t : Position) (o : Answer (Head × Position)) → term-head atoms any (at-offset m at rows) ≡ o
+    go : (given : Given) (rows place k : ℕ) (t : Position) (o : Answer (Head × Position)) → term-head given any (at-offset m at rows) ≡ o
         → _≡_ {A = Answer ((ℕ × Head) × Position)} (after o (λ h. done (at, h))) (good ((place, elements k), t)) → ⊥
-    go atoms rows place k t (refused c p) f e = let z : _≡_ {A = ℕ} 0 1 = cc in omega arith
-    go atoms rows place k t (good x) f e =
+    go given rows place k t (refused c p) f e = let z : _≡_ {A = ℕ} 0 1 = cc in omega arith
+    go given rows place k t (good x) f e =
         let q : _≡_ {A = (ℕ × Head) × Position} ((at, x .0), x .1) ((place, elements k), t) = cc in
         let h : x .0 ≡ elements k = ap (λ (y : (ℕ × Head) × Position). y .0 .1) q in
-        let y : k ≡ 0 = i .none z atoms rows k (x .1) (f ∙ ap (λ (w : Head). good (w, x .1)) h) in
-        let full : empty-108 (x .0) ≡ false = skipped-head atoms m at at rows s .known (x .0) (x .1) f in
+        let y : k ≡ 0 = i .none z given rows k (x .1) (f ∙ ap (λ (w : Head). good (w, x .1)) h) in
+        let full : empty-108 (x .0) ≡ false = skipped-head given m at at rows s .known (x .0) (x .1) f in
         let none : empty-108 (elements 0) ≡ false = rw (h, y) at full in
         let w : _≡_ {A = ℕ} 0 1 = cc in omega arith

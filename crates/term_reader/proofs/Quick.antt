@@ -7,7 +7,7 @@ use lib.ListN.{length, set, replicate}
 use Rattle.term_spec.specs.Tree.{count, Each-node}
 use Rattle.term_spec.specs.Term.{Label}
 use Rattle.term_spec.specs.Answer.{at-offset}
-use Rattle.term_spec.specs.Head.{Atoms, Wanted, any, Head, parts, elements, pairs, known, later, term-head}
+use Rattle.term_spec.specs.Head.{Given, Wanted, any, Head, parts, elements, pairs, known, later, term-head}
 use Rattle.term_spec.specs.AtomList.{AtomList}
 use Rattle.term_spec.specs.Reading.{each, run, string, one-term, body, term}
 use Rattle.term_spec.specs.Rows.{rows, kind-of, pack, Small-fields, row-words}
@@ -63,9 +63,9 @@ is-run (some-pairs n x) a b some = absurd (b refl)
 
 -- ---- `read_common`
 
-module _ (atoms : Atoms) (cap deep : ℕ) (m : List ℕ) (place row : ℕ) (T : List ℕ) where
+module _ (given : Given) (cap deep : ℕ) (m : List ℕ) (place row : ℕ) (T : List ℕ) where
   abbrev Common-done : Head → ℕ → Parts → List ℕ → Type 0
-  Common-done h next r U = PartsDone m 0 cap row row T (inner atoms cap deep place h (at-offset m next row)) r U
+  Common-done h next r U = PartsDone m 0 cap row row T (inner given cap deep place h (at-offset m next row)) r U
 
   -- a term without parts
   leaf-done : {h : Head} {k c : ℕ} → Common h k c → c ≡ 0 → (next : ℕ) → next ≤ length m → row ≤ cap → Common-done h next (parts-of.Got next row 0 k) T
@@ -88,33 +88,33 @@ module _ (atoms : Atoms) (cap deep : ℕ) (m : List ℕ) (place row : ℕ) (T : 
     common-pairs r U e d = rw (is-map (t .common) (sym (told-kind t) ∙ e)) (rw (told-next t, told-count t) at d)
 
     module _ (some : w / 2097152 ≡ 0 → ⊥) (no-list : w % 16 ≡ 15 → ⊥) (no-map : w % 16 ≡ 0 → ⊥) (near : next ≤ length m) (low : row ≤ cap) (r : Step) (T′ : List ℕ)
-        (d : RunDone m (w / 2097152) cap row row T (each (term atoms cap deep) (replicate (w / 2097152) (wanted-of Any)) (at-offset m (w / 16 % 131072) row)) r T′) where
-      ran : RunDone m (t .count) cap row row T (each (term atoms cap deep) (replicate (t .count) (wanted-of Any)) (at-offset m next row)) r T′
+        (d : RunDone m (w / 2097152) cap row row T (each (term given cap deep) (replicate (w / 2097152) (wanted-of Any)) (at-offset m (w / 16 % 131072) row)) r T′) where
+      ran : RunDone m (t .count) cap row row T (each (term given cap deep) (replicate (t .count) (wanted-of Any)) (at-offset m next row)) r T′
       ran = rw (told-next t, told-count t) at d
 
       it : Run-of h (t .kind) (t .count)
       it = is-run (t .common) (λ e. no-list (told-kind t ∙ e)) (λ e. no-map (told-kind t ∙ e)) (λ e. some (told-count t ∙ e))
 
-      none-wanted : RunDone m 0 cap row row T (each (term atoms cap deep) (asked 0) (at-offset m next row)) (step.Got next row) T
+      none-wanted : RunDone m 0 cap row row T (each (term given cap deep) (asked 0) (at-offset m next row)) (step.Got next row) T
       unfolding asked
-      none-wanted = run-none (term atoms cap deep) any m cap row row next T 0 refl low near
+      none-wanted = run-none (term given cap deep) any m cap row row next T 0 refl low near
 
       pub common-refused : (k p : ℕ) (U : List ℕ) → r ≡ step.Refused k p → Common-done h next (parts-of.Refused k p) U
       unfolding asked
-      common-refused k p U e = rw (it .head-is) (parts-second atoms cap deep m place next row T 0 (t .count) (known (it .l)) (step.Got next row) T none-wanted next row refl r T′ ran k p U e)
+      common-refused k p U e = rw (it .head-is) (parts-second given cap deep m place next row T 0 (t .count) (known (it .l)) (step.Got next row) T none-wanted next row refl r T′ ran k p U e)
 
       pub common-got : (next′ end : ℕ) → r ≡ step.Got next′ end → Common-done h next (parts-of.Got next′ end (w / 2097152) (w % 16)) T′
       unfolding asked step-of later kind-later
       common-got next′ end e =
           let z : 0 + t .count ≡ t .count = omega arith in
           rw (it .head-is, told-kind t, told-count t)
-          (rw z at (parts-got atoms cap deep m place next row T 0 (t .count) (known (it .l)) (step.Got next row) T none-wanted next row refl r T′ ran next′ end e (fields.Got next′) refl (t .kind) next′ (it .kind-is) refl))
+          (rw z at (parts-got given cap deep m place next row T 0 (t .count) (known (it .l)) (step.Got next row) T none-wanted next row refl r T′ ran next′ end e (fields.Got next′) refl (t .kind) next′ (it .kind-is) refl))
 
 -- ---- `read_quick`, and a leaf in `read_run`, `read_entry` and `read_wanted`
 
-module _ (atoms : Atoms) (w : Wanted) (m : List ℕ) (at row word : ℕ) (some : word ≡ 0 → ⊥) (is : word ≡ quick-word (head-of (term-head atoms w (at-offset m at row)))) where
-  abbrev pub opened-quickly : Quickly atoms w m at row word
-  opened-quickly = quickly atoms w m at row word some is
+module _ (given : Given) (w : Wanted) (m : List ℕ) (at row word : ℕ) (some : word ≡ 0 → ⊥) (is : word ≡ quick-word (head-of (term-head given w (at-offset m at row)))) where
+  abbrev pub opened-quickly : Quickly given w m at row word
+  opened-quickly = quickly given w m at row word some is
 
   pub quick-near : word / 16 % 131072 ≤ length m
   quick-near = omega (arith, opened-quickly .near, told-next (opened-quickly .told-by))
@@ -123,19 +123,19 @@ module _ (atoms : Atoms) (w : Wanted) (m : List ℕ) (at row word : ℕ) (some :
   quick-inside = omega (arith, opened-quickly .near, opened-quickly .further)
 
   module _ (cap left whole : ℕ) (T : List ℕ) where
-    pub quick-term : (r : Step) (U : List ℕ) → TermDone m cap row whole T (body atoms cap left at (opened-quickly .h) (at-offset m (opened-quickly .next) row)) r U
-        → TermDone m cap row whole T (term atoms cap left w (at-offset m at row)) r U
+    pub quick-term : (r : Step) (U : List ℕ) → TermDone m cap row whole T (body given cap left at (opened-quickly .h) (at-offset m (opened-quickly .next) row)) r U
+        → TermDone m cap row whole T (term given cap left w (at-offset m at row)) r U
     unfolding one-term
     quick-term r U d = rw (opened-quickly .opens) d
 
     pub quick-leaf : word < 2097152 → (left ≡ 0 → ⊥) → row < cap → at < 65536 → (v : ℕ) → v ≡ pack (word % 16) at whole 0 1
-        → TermDone m cap row whole T (term atoms cap left w (at-offset m at row)) (step.Got (word / 16) (row + 1)) (set T row v)
+        → TermDone m cap row whole T (term given cap left w (at-offset m at row)) (step.Got (word / 16) (row + 1)) (set T row v)
     quick-leaf little some-left low near v f =
         let a : word / 16 ≡ word / 16 % 131072 = omega arith in
         let b : row + 1 - row ≡ 1 = omega arith in
         rw a (quick-term _ _
-        (body-got atoms cap left m at (opened-quickly .h) (opened-quickly .next) row whole T some-left low (parts-of.Got (word / 16 % 131072) (row + 1) 0 (word % 16)) T
-        (common-leaf atoms cap (left - 1) m at (row + 1) T word (opened-quickly .told-by) (omega arith) (opened-quickly .near) (omega arith))
+        (body-got given cap left m at (opened-quickly .h) (opened-quickly .next) row whole T some-left low (parts-of.Got (word / 16 % 131072) (row + 1) 0 (word % 16)) T
+        (common-leaf given cap (left - 1) m at (row + 1) T word (opened-quickly .told-by) (omega arith) (opened-quickly .near) (omega arith))
         (word / 16 % 131072) (row + 1) 0 (word % 16) v refl near (f ∙ ap (λ (k : ℕ). pack (word % 16) at whole 0 k) (sym b))))
 
 -- the fields of a leaf's row are within their bits

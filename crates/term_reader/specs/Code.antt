@@ -10,7 +10,7 @@ use lib.Seq.{sets}
 use Rattle.term_spec.specs.Tree.{_▹▹_, count, size, sizes, Each-node, Each-nodes}
 use Rattle.term_spec.specs.Term.{Label, list, map}
 use Rattle.term_spec.specs.Answer.{_>>=_, Answer, good, refused, Position, at-offset, Reading, done}
-use Rattle.term_spec.specs.Head.{Atoms, Wanted, any, an-atom, an-arity, Head, parts, characters, elements, pairs, Later, later}
+use Rattle.term_spec.specs.Head.{Given, Wanted, any, an-atom, an-arity, Head, parts, characters, elements, pairs, Later, later}
 use Rattle.term_spec.specs.AtomList.{AtomList, of-size}
 use Rattle.term_spec.specs.Reading.{Located, bytes-left, each, run, entries, string, list-tail, opening, body, term}
 use Rattle.term_spec.specs.Message.{Terms}
@@ -40,8 +40,8 @@ character-words whole at zero = []
 character-words whole at (suc n) = pack 14 at whole 0 1 ∷ character-words whole (at + 1) n
 
 -- what the reader is given: a table with room for cap rows, of which those below `row` are taken
-pub record Room (m : List ℕ) (atoms : AtomList) (T : List ℕ) (cap at row whole : ℕ) : Type 0 where
-  pub sized : of-size atoms ≡ true
+pub record Room (m : List ℕ) (list : AtomList) (T : List ℕ) (cap at row whole : ℕ) : Type 0 where
+  pub sized : of-size list ≡ true
   pub short : length m ≤ 65536
   pub near : at ≤ length m
   pub few : cap ≤ 8192
@@ -70,27 +70,27 @@ pub record Head-read (m : List ℕ) (place : ℕ) (head : code.Head) : Type 0 wh
 
 -- no 108 opens at an offset: a tail there is joined no further
 pub record Last-at (m : List ℕ) (at : ℕ) : Type 0 where
-  pub no-elements : (atoms : Atoms) (rows place n : ℕ) (t : Position) → opening atoms (drop at m) any (at-offset m at rows) ≡ good ((place, elements n), t) → ⊥
+  pub no-elements : (given : Given) (rows place n : ℕ) (t : Position) → opening given (drop at m) any (at-offset m at rows) ≡ good ((place, elements n), t) → ⊥
 
 -- With `deep` levels left for the parts:
-module _ (atoms : Atoms) (cap deep : ℕ) where
+module _ (given : Given) (cap deep : ℕ) where
   -- the parts of the term at p, and its label
   unfoldable pub inner : ℕ → Head → Reading (Terms × Label)
   inner p (parts ws n l) = do
-    ts ← each (term atoms cap deep) ws
-    us ← run (term atoms cap deep) n
-    label ← later (atoms .flags) p l
+    ts ← each (term given cap deep) ws
+    us ← run (term given cap deep) n
+    label ← later (given .flags) p l
     done (ts ▹▹ us, label)
   inner p (characters cs) = do
-    ts ← string atoms cap deep p (p + 3) cs
+    ts ← string given cap deep p (p + 3) cs
     done (ts, list)
   inner p (elements n) = do
-    ts ← run (term atoms cap deep) n
+    ts ← run (term given cap deep) n
     bound ← bytes-left
-    end ← list-tail atoms cap deep (body atoms cap deep) bound
+    end ← list-tail given cap deep (body given cap deep) bound
     done (ts ▹▹ end .0, end .1)
   inner p (pairs n) = do
-    ts ← entries (term atoms cap deep) [] n
+    ts ← entries (term given cap deep) [] n
     done (ts, map)
 
 -- What a reader leaves: T′ is T with the words of what was read stored from `row` on, and reading goes on at an offset of m
@@ -125,53 +125,53 @@ PartsDone m before cap row whole =
 
 -- What the functions that read promise. Of the message m they read with these flags and this atom list, room for cap rows and `left` levels, from the offset `at` and the row `row` on,
 -- as parts of `whole`; they store rows in the table T and remember keys in S. T′ and S′ are the two after it
-module _ (m : List ℕ) (atoms : Atoms) (cap left at row whole : ℕ) (T S : List ℕ) where
+module _ (m : List ℕ) (given : Given) (cap left at row whole : ℕ) (T S : List ℕ) where
   -- a term that is wanted so
   pub record Term-read (wanted : Wanted) (r : Step) (T′ S′ : List ℕ) : Type 0 where
-    pub rows-stored : TermDone m cap row whole T (term atoms cap left wanted (at-offset m at row)) r T′
+    pub rows-stored : TermDone m cap row whole T (term given cap left wanted (at-offset m at row)) r T′
     pub keys-kept : Keeps S S′
 
   -- n terms that are wanted so, in turn
   pub record Run-read (n : ℕ) (wanted : List Wanted) (r : Step) (T′ S′ : List ℕ) : Type 0 where
-    pub rows-stored : RunDone m n cap row whole T (each (term atoms cap left) wanted (at-offset m at row)) r T′
+    pub rows-stored : RunDone m n cap row whole T (each (term given cap left) wanted (at-offset m at row)) r T′
     pub keys-kept : Keeps S S′
 
   -- the term at `at`, whose head is read
   pub record Body-read (head : code.Head) (r : Step) (T′ S′ : List ℕ) : Type 0 where
     pub rows-stored : (h : Head) (next : ℕ) → head ≡ head-at h next → Sound-head m at next h
-        → TermDone m cap row whole T (body atoms cap left at h (at-offset m next row)) r T′
+        → TermDone m cap row whole T (body given cap left at h (at-offset m next row)) r T′
     pub keys-kept : Keeps S S′
 
   -- the parts of the term at `at`, whose head is read
   pub record Inner-read (head : code.Head) (r : Parts) (T′ S′ : List ℕ) : Type 0 where
     pub rows-stored : (h : Head) (next : ℕ) → head ≡ head-at h next → Sound-head m at next h
-        → PartsDone m 0 cap row whole T (inner atoms cap left at h (at-offset m next row)) r T′
+        → PartsDone m 0 cap row whole T (inner given cap left at h (at-offset m next row)) r T′
     pub keys-kept : Keeps S S′
 
   -- the parts of the term at `place`, of this kind: wanted parts, then `count` of any kind, then later fields
   pub record Parts-read (place kind wanted count : ℕ) (later : code-later.Later) (r : Parts) (T′ S′ : List ℕ) : Type 0 where
     pub rows-stored : (l : Later) → kind ≡ kind-later l → later-of l ≡ later
-        → PartsDone m 0 cap row whole T (inner atoms cap left place (parts (asked wanted) count l) (at-offset m at row)) r T′
+        → PartsDone m 0 cap row whole T (inner given cap left place (parts (asked wanted) count l) (at-offset m at row)) r T′
     pub keys-kept : Keeps S S′
 
   -- the parts of any term with the head h
   pub record Many-read (h : Head) (r : Parts) (T′ S′ : List ℕ) : Type 0 where
-    pub rows-stored : (place : ℕ) → PartsDone m 0 cap row whole T (inner atoms cap left place h (at-offset m at row)) r T′
+    pub rows-stored : (place : ℕ) → PartsDone m 0 cap row whole T (inner given cap left place h (at-offset m at row)) r T′
     pub keys-kept : Keeps S S′
 
   -- what follows the elements of a list, of which `before` are read
   pub record Tail-read (before : ℕ) (r : Parts) (T′ S′ : List ℕ) : Type 0 where
-    pub rows-stored : PartsDone m before cap row whole T (list-tail atoms cap left (body atoms cap left) (drop at m) (at-offset m at row)) r T′
+    pub rows-stored : PartsDone m before cap row whole T (list-tail given cap left (body given cap left) (drop at m) (at-offset m at row)) r T′
     pub keys-kept : Keeps S S′
 
   -- the same of a tail that is joined no further, by any bound as long as the bytes left
   pub record Last-read (before : ℕ) (r : Parts) (T′ S′ : List ℕ) : Type 0 where
     pub rows-stored : (bound : List ℕ) → length m - at ≤ length bound
-        → PartsDone m before cap row whole T (list-tail atoms cap left (body atoms cap left) bound (at-offset m at row)) r T′
+        → PartsDone m before cap row whole T (list-tail given cap left (body given cap left) bound (at-offset m at row)) r T′
     pub keys-kept : Keeps S S′
 
 -- the parts of a term whose head is in a word
-pub record Common-read (m : List ℕ) (atoms : Atoms) (cap left row whole : ℕ) (T S : List ℕ) (word : ℕ) (r : Parts) (T′ S′ : List ℕ) : Type 0 where
+pub record Common-read (m : List ℕ) (given : Given) (cap left row whole : ℕ) (T S : List ℕ) (word : ℕ) (r : Parts) (T′ S′ : List ℕ) : Type 0 where
   pub rows-stored : (place : ℕ) (h : Head) (next : ℕ) → Told word h next
-      → PartsDone m 0 cap row whole T (inner atoms cap left place h (at-offset m next row)) r T′
+      → PartsDone m 0 cap row whole T (inner given cap left place h (at-offset m next row)) r T′
   pub keys-kept : Keeps S S′

@@ -13,7 +13,7 @@ ghost use lib.Seq.{sets};
 ghost use Rattle.term_spec.specs.Head as head-spec;
 ghost use Rattle.term_spec.specs.Head.{any, characters, elements, pairs, term-head};
 ghost use Rattle.term_spec.specs.Answer.{at-offset};
-ghost use Rattle.context.specs.Word.{capacity-in, list-in, atoms-in};
+ghost use Rattle.context.specs.Word.{capacity-in, list-in, given-in};
 ghost use Rattle.term_head.specs.Code.{wanted-of, head-of};
 ghost use Rattle.term_head.specs.Quick.{quick-word};
 ghost use Rattle.term_reader.specs.Code.{asked, character-words, Room, Head-read, Last-at, inner, PartsDone, Term-read, Run-read, Body-read, Inner-read, Parts-read, Many-read, Tail-read, Last-read, Common-read};
@@ -68,7 +68,7 @@ fn read_term(
 ) -> Step
     requires { ⌜ Room (now msg) (list-in context (now places) (now lengths)) (now table) (capacity-in context) at row whole ⌝ }
     requires { ⌜ 0 < length (now seen) ⌝ }
-    ensures { λ r. ⌜ Term-read (now (msg .entry)) (atoms-in context (now (places .entry)) (now (lengths .entry))) (capacity-in context) left at row whole (now (table .entry)) (now (seen .entry)) (wanted-of wanted) r (now (table .exit)) (now (seen .exit)) ⌝ }
+    ensures { λ r. ⌜ Term-read (now (msg .entry)) (given-in context (now (places .entry)) (now (lengths .entry))) (capacity-in context) left at row whole (now (table .entry)) (now (seen .entry)) (wanted-of wanted) r (now (table .exit)) (now (seen .exit)) ⌝ }
 {
     let word = term_head::quick_at(msg, context, places, lengths, at, wanted);
     if word != 0 {
@@ -123,9 +123,9 @@ fn read_quick(
     wanted: Wanted,
     word: usize,
 ) -> Step
-    requires { ⌜ Room (now msg) (list-in context (now places) (now lengths)) (now table) (capacity-in context) at row whole × (word ≡ 0 → ⊥) × ((rows : ℕ) → word ≡ quick-word (head-of (term-head (atoms-in context (now places) (now lengths)) (wanted-of wanted) (at-offset (now msg) at rows)))) ⌝ }
+    requires { ⌜ Room (now msg) (list-in context (now places) (now lengths)) (now table) (capacity-in context) at row whole × (word ≡ 0 → ⊥) × ((rows : ℕ) → word ≡ quick-word (head-of (term-head (given-in context (now places) (now lengths)) (wanted-of wanted) (at-offset (now msg) at rows)))) ⌝ }
     requires { ⌜ 0 < length (now seen) ⌝ }
-    ensures { λ r. ⌜ Term-read (now (msg .entry)) (atoms-in context (now (places .entry)) (now (lengths .entry))) (capacity-in context) left at row whole (now (table .entry)) (now (seen .entry)) (wanted-of wanted) r (now (table .exit)) (now (seen .exit)) ⌝ }
+    ensures { λ r. ⌜ Term-read (now (msg .entry)) (given-in context (now (places .entry)) (now (lengths .entry))) (capacity-in context) left at row whole (now (table .entry)) (now (seen .entry)) (wanted-of wanted) r (now (table .exit)) (now (seen .exit)) ⌝ }
 {
     if left == 0 {
         return Step::Refused {
@@ -177,7 +177,7 @@ fn read_common(
 ) -> Parts
     requires { ⌜ Room (now msg) (list-in context (now places) (now lengths)) (now table) (capacity-in context) (word / 16 % 131072) row row ⌝ }
     requires { ⌜ 0 < length (now seen) ⌝ }
-    ensures { λ r. ⌜ Common-read (now (msg .entry)) (atoms-in context (now (places .entry)) (now (lengths .entry))) (capacity-in context) deep row row (now (table .entry)) (now (seen .entry)) word r (now (table .exit)) (now (seen .exit)) ⌝ }
+    ensures { λ r. ⌜ Common-read (now (msg .entry)) (given-in context (now (places .entry)) (now (lengths .entry))) (capacity-in context) deep row row (now (table .entry)) (now (seen .entry)) word r (now (table .exit)) (now (seen .exit)) ⌝ }
 {
     let kind = word % term_head::WORD_KINDS;
     let at = word / term_head::WORD_KINDS % term_head::WORD_OFFSETS;
@@ -258,7 +258,7 @@ fn read_body(
 ) -> Step
     requires { ⌜ Room (now msg) (list-in context (now places) (now lengths)) (now table) (capacity-in context) place row whole × Head-read (now msg) place head ⌝ }
     requires { ⌜ 0 < length (now seen) ⌝ }
-    ensures { λ r. ⌜ Body-read (now (msg .entry)) (atoms-in context (now (places .entry)) (now (lengths .entry))) (capacity-in context) left place row whole (now (table .entry)) (now (seen .entry)) head r (now (table .exit)) (now (seen .exit)) ⌝ }
+    ensures { λ r. ⌜ Body-read (now (msg .entry)) (given-in context (now (places .entry)) (now (lengths .entry))) (capacity-in context) left place row whole (now (table .entry)) (now (seen .entry)) head r (now (table .exit)) (now (seen .exit)) ⌝ }
 {
     if left == 0 {
         return Step::Refused {
@@ -312,7 +312,7 @@ fn read_inner(
 ) -> Parts
     requires { ⌜ Room (now msg) (list-in context (now places) (now lengths)) (now table) (capacity-in context) place row row × Head-read (now msg) place head ⌝ }
     requires { ⌜ 0 < length (now seen) ⌝ }
-    ensures { λ r. ⌜ Inner-read (now (msg .entry)) (atoms-in context (now (places .entry)) (now (lengths .entry))) (capacity-in context) deep place row row (now (table .entry)) (now (seen .entry)) head r (now (table .exit)) (now (seen .exit)) ⌝ }
+    ensures { λ r. ⌜ Inner-read (now (msg .entry)) (given-in context (now (places .entry)) (now (lengths .entry))) (capacity-in context) deep place row row (now (table .entry)) (now (seen .entry)) head r (now (table .exit)) (now (seen .exit)) ⌝ }
 {
     match head {
         Head::Refused { number, place } => Parts::Refused { number, place },
@@ -391,7 +391,7 @@ fn read_parts(
 ) -> Parts
     requires { ⌜ Room (now msg) (list-in context (now places) (now lengths)) (now table) (capacity-in context) at row row ⌝ }
     requires { ⌜ 0 < length (now seen) ⌝ }
-    ensures { λ r. ⌜ Parts-read (now (msg .entry)) (atoms-in context (now (places .entry)) (now (lengths .entry))) (capacity-in context) deep at row row (now (table .entry)) (now (seen .entry)) place kind wanted count later r (now (table .exit)) (now (seen .exit)) ⌝ }
+    ensures { λ r. ⌜ Parts-read (now (msg .entry)) (given-in context (now (places .entry)) (now (lengths .entry))) (capacity-in context) deep at row row (now (table .entry)) (now (seen .entry)) place kind wanted count later r (now (table .exit)) (now (seen .exit)) ⌝ }
 {
     match read_wanted(
         msg,
@@ -458,7 +458,7 @@ fn read_more(
 ) -> Step
     requires { ⌜ Room (now msg) (list-in context (now places) (now lengths)) (now table) (capacity-in context) at row whole ⌝ }
     requires { ⌜ 0 < length (now seen) ⌝ }
-    ensures { λ r. ⌜ Run-read (now (msg .entry)) (atoms-in context (now (places .entry)) (now (lengths .entry))) (capacity-in context) deep at row whole (now (table .entry)) (now (seen .entry)) count (replicate count (wanted-of wanted)) r (now (table .exit)) (now (seen .exit)) ⌝ }
+    ensures { λ r. ⌜ Run-read (now (msg .entry)) (given-in context (now (places .entry)) (now (lengths .entry))) (capacity-in context) deep at row whole (now (table .entry)) (now (seen .entry)) count (replicate count (wanted-of wanted)) r (now (table .exit)) (now (seen .exit)) ⌝ }
 {
     if count == 0 {
         return Step::Got {
@@ -498,7 +498,7 @@ fn read_wanted(
 ) -> Step
     requires { ⌜ Room (now msg) (list-in context (now places) (now lengths)) (now table) (capacity-in context) at row whole ⌝ }
     requires { ⌜ 0 < length (now seen) ⌝ }
-    ensures { λ r. ⌜ Run-read (now (msg .entry)) (atoms-in context (now (places .entry)) (now (lengths .entry))) (capacity-in context) deep at row whole (now (table .entry)) (now (seen .entry)) wanted (asked wanted) r (now (table .exit)) (now (seen .exit)) ⌝ }
+    ensures { λ r. ⌜ Run-read (now (msg .entry)) (given-in context (now (places .entry)) (now (lengths .entry))) (capacity-in context) deep at row whole (now (table .entry)) (now (seen .entry)) wanted (asked wanted) r (now (table .exit)) (now (seen .exit)) ⌝ }
 {
     if wanted == 1 {
         let word = term_head::node_at(msg, at);
@@ -576,7 +576,7 @@ pub fn read_run(
 ) -> Step
     requires { ⌜ Room (now msg) (list-in context (now places) (now lengths)) (now table) (capacity-in context) at row whole ⌝ }
     requires { ⌜ 0 < length (now seen) ⌝ }
-    ensures { λ r. ⌜ Run-read (now (msg .entry)) (atoms-in context (now (places .entry)) (now (lengths .entry))) (capacity-in context) deep at row whole (now (table .entry)) (now (seen .entry)) count (replicate count (wanted-of wanted)) r (now (table .exit)) (now (seen .exit)) ⌝ }
+    ensures { λ r. ⌜ Run-read (now (msg .entry)) (given-in context (now (places .entry)) (now (lengths .entry))) (capacity-in context) deep at row whole (now (table .entry)) (now (seen .entry)) count (replicate count (wanted-of wanted)) r (now (table .exit)) (now (seen .exit)) ⌝ }
 {
     let mut at_now = at;
     let mut row_now = row;
@@ -642,7 +642,7 @@ fn read_characters(
     before: usize,
 ) -> Parts
     requires { ⌜ (capacity-in context ≤ 8192) × (capacity-in context ≤ length (now table)) × (row ≤ capacity-in context) × (whole ≤ row) × (before ≤ row) × ((count ≡ 0 → ⊥) → place + 3 + count ≤ 65536) ⌝ }
-    ensures { λ r. ⌜ ((atoms : head-spec.Atoms) (m cs : List ℕ) → length cs ≡ count → next ≤ length m → PartsDone m before (capacity-in context) row whole (now (table .entry)) (inner atoms (capacity-in context) deep place (characters cs) (at-offset m next row)) r (now (table .exit))) ⌝ }
+    ensures { λ r. ⌜ ((given : head-spec.Given) (m cs : List ℕ) → length cs ≡ count → next ≤ length m → PartsDone m before (capacity-in context) row whole (now (table .entry)) (inner given (capacity-in context) deep place (characters cs) (at-offset m next row)) r (now (table .exit))) ⌝ }
 {
     if count == 0 {
         return Parts::Got {
@@ -688,7 +688,7 @@ fn read_list(
 ) -> Parts
     requires { ⌜ Room (now msg) (list-in context (now places) (now lengths)) (now table) (capacity-in context) at row row ⌝ }
     requires { ⌜ 0 < length (now seen) ⌝ }
-    ensures { λ r. ⌜ Many-read (now (msg .entry)) (atoms-in context (now (places .entry)) (now (lengths .entry))) (capacity-in context) deep at row row (now (table .entry)) (now (seen .entry)) (elements count) r (now (table .exit)) (now (seen .exit)) ⌝ }
+    ensures { λ r. ⌜ Many-read (now (msg .entry)) (given-in context (now (places .entry)) (now (lengths .entry))) (capacity-in context) deep at row row (now (table .entry)) (now (seen .entry)) (elements count) r (now (table .exit)) (now (seen .exit)) ⌝ }
 {
     match read_run(
         msg,
@@ -737,7 +737,7 @@ fn read_tail(
 ) -> Parts
     requires { ⌜ Room (now msg) (list-in context (now places) (now lengths)) (now table) (capacity-in context) at row whole × (before ≤ row) ⌝ }
     requires { ⌜ 0 < length (now seen) ⌝ }
-    ensures { λ r. ⌜ Tail-read (now (msg .entry)) (atoms-in context (now (places .entry)) (now (lengths .entry))) (capacity-in context) deep at row whole (now (table .entry)) (now (seen .entry)) before r (now (table .exit)) (now (seen .exit)) ⌝ }
+    ensures { λ r. ⌜ Tail-read (now (msg .entry)) (given-in context (now (places .entry)) (now (lengths .entry))) (capacity-in context) deep at row whole (now (table .entry)) (now (seen .entry)) before r (now (table .exit)) (now (seen .exit)) ⌝ }
 {
     let mut at_now = at;
     let mut row_now = row;
@@ -808,7 +808,7 @@ fn read_last(
 ) -> Parts
     requires { ⌜ Room (now msg) (list-in context (now places) (now lengths)) (now table) (capacity-in context) at row whole × Last-at (now msg) at × (before ≤ row) ⌝ }
     requires { ⌜ 0 < length (now seen) ⌝ }
-    ensures { λ r. ⌜ Last-read (now (msg .entry)) (atoms-in context (now (places .entry)) (now (lengths .entry))) (capacity-in context) deep at row whole (now (table .entry)) (now (seen .entry)) before r (now (table .exit)) (now (seen .exit)) ⌝ }
+    ensures { λ r. ⌜ Last-read (now (msg .entry)) (given-in context (now (places .entry)) (now (lengths .entry))) (capacity-in context) deep at row whole (now (table .entry)) (now (seen .entry)) before r (now (table .exit)) (now (seen .exit)) ⌝ }
 {
     let opening = term_head::read_opening(msg, context, places, lengths, at, Wanted::Any);
     let place = opening.place;
@@ -857,7 +857,7 @@ fn read_entry(
 ) -> Step
     requires { ⌜ Room (now msg) (list-in context (now places) (now lengths)) (now table) (capacity-in context) at row whole ⌝ }
     requires { ⌜ 0 < length (now seen) ⌝ }
-    ensures { λ r. ⌜ Term-read (now (msg .entry)) (atoms-in context (now (places .entry)) (now (lengths .entry))) (capacity-in context) deep at row whole (now (table .entry)) (now (seen .entry)) any r (now (table .exit)) (now (seen .exit)) ⌝ }
+    ensures { λ r. ⌜ Term-read (now (msg .entry)) (given-in context (now (places .entry)) (now (lengths .entry))) (capacity-in context) deep at row whole (now (table .entry)) (now (seen .entry)) any r (now (table .exit)) (now (seen .exit)) ⌝ }
 {
     let word = term_head::entry_at(msg, at);
     if is_leaf(word, deep, row, context) {
@@ -898,7 +898,7 @@ fn read_pairs(
 ) -> Parts
     requires { ⌜ Room (now msg) (list-in context (now places) (now lengths)) (now table) (capacity-in context) at row row ⌝ }
     requires { ⌜ 0 < length (now seen) ⌝ }
-    ensures { λ r. ⌜ Many-read (now (msg .entry)) (atoms-in context (now (places .entry)) (now (lengths .entry))) (capacity-in context) deep at row row (now (table .entry)) (now (seen .entry)) (pairs count) r (now (table .exit)) (now (seen .exit)) ⌝ }
+    ensures { λ r. ⌜ Many-read (now (msg .entry)) (given-in context (now (places .entry)) (now (lengths .entry))) (capacity-in context) deep at row row (now (table .entry)) (now (seen .entry)) (pairs count) r (now (table .exit)) (now (seen .exit)) ⌝ }
 {
     let mut at_now = at;
     let mut row_now = row;

@@ -12,7 +12,7 @@ use Rattle.term_spec.specs.Tree.{Forest, node, empty, _▹_, _▹▹_, s
 use Rattle.term_spec.specs.Term.{Label, Term, integer, atom, tuple, list, improper-list, map, pid, port, reference, export}
 use Rattle.term_spec.specs.Equal.{among}
 use Rattle.term_spec.specs.Answer.{Answer, good, refused, Position, Reading, after, done}
-use Rattle.term_spec.specs.Head.{Atoms, limits, Wanted, any, an-atom, an-arity, Head, leaf, parts, characters, elements, pairs, Later, known, pid-fields, port-fields, reference-fields, old-reference-fields, later, id-words, words-rule, creation-rule}
+use Rattle.term_spec.specs.Head.{Given, limits, Wanted, any, an-atom, an-arity, Head, leaf, parts, characters, elements, pairs, Later, known, pid-fields, port-fields, reference-fields, old-reference-fields, later, id-words, words-rule, creation-rule}
 use Rattle.term_spec.specs.Reading.{Offset, tag-at, character-at, Located, meaning, empty-108, opening, one-term, row, body, contents, term, each, run, entries, string, list-tail}
 use Rattle.term_spec.specs.Message.{meanings}
 use Rattle.term_spec.specs.Numbers.{Under}
@@ -78,21 +78,21 @@ module _ {r : ℕ} (flags p : ℕ) (s : Position) (g : Fine r s) {Q : Label → 
       let k₃ : length ws ≤ limits flags 4 .word-count = omega (arith, limits-least flags 4 .counts) in
       done-holds _ t (q (reference creation ws) t (λ cs. ((cs, refl), k₁, k₂, k₃, us)) (λ x. x) g))))
 
-module _ (atoms : Atoms) (true-atoms : True-atoms atoms) where
+module _ (given : Given) (true-atoms : True-atoms given) where
   opening-holds : {r : ℕ} {w : Wanted} (a : Asked w) (bound : List ℕ) (s : Position) → Fine r s → {Q : ℕ × Head → Position → Type 0}
-      → ((p : ℕ) (h : Head) (t : Position) → Sound (atoms .flags) h → empty-108 h ≡ false → Suits a h → Fine r t → Q (p, h) t)
-      → Holds (opening atoms bound w s) Q
+      → ((p : ℕ) (h : Head) (t : Position) → Sound (given .flags) h → empty-108 h ≡ false → Suits a h → Fine r t → Q (p, h) t)
+      → Holds (opening given bound w s) Q
   unfolding opening
   opening-holds a [] s g q = refused-holds 2 _
   opening-holds {r} {w} a (b ∷ bound) s g {Q} q =
-      bind (head-holds atoms true-atoms a s g λ h t ok suits g.
+      bind (head-holds given true-atoms a s g λ h t ok suits g.
       go a q h t ok suits g (empty-108 h) refl (λ q′. opening-holds for-any bound t g q′))
     where
       go : {w : Wanted} (a : Asked w)
-          → ((p : ℕ) (h : Head) (t : Position) → Sound (atoms .flags) h → empty-108 h ≡ false → Suits a h → Fine r t → Q (p, h) t)
-          → (h : Head) (t : Position) → Sound (atoms .flags) h → Suits a h → Fine r t → (z : Bool) → empty-108 h ≡ z
-          → (((p : ℕ) (h : Head) (t : Position) → Sound (atoms .flags) h → empty-108 h ≡ false → Unit {0} → Fine r t → Q (p, h) t) → Holds (opening atoms bound any t) Q)
-          → Holds ((elim z as (λ _. Reading (ℕ × Head)) [ true ↦ opening atoms bound any | false ↦ done (s .at, h) ]) t) Q
+          → ((p : ℕ) (h : Head) (t : Position) → Sound (given .flags) h → empty-108 h ≡ false → Suits a h → Fine r t → Q (p, h) t)
+          → (h : Head) (t : Position) → Sound (given .flags) h → Suits a h → Fine r t → (z : Bool) → empty-108 h ≡ z
+          → (((p : ℕ) (h : Head) (t : Position) → Sound (given .flags) h → empty-108 h ≡ false → Unit {0} → Fine r t → Q (p, h) t) → Holds (opening given bound any t) Q)
+          → Holds ((elim z as (λ _. Reading (ℕ × Head)) [ true ↦ opening given bound any | false ↦ done (s .at, h) ]) t) Q
       go a q h t ok suits g false e ih = done-holds _ t (q (s .at) h t ok e suits g)
       go for-any q h t ok suits g true e ih = ih q
       go for-atom q h t ok suits g true e ih = let no-way : false ≡ true = sym (ap empty-108 (suits .1)) ∙ e in absurd (let z : _≡_ {A = ℕ} 0 1 = cc in omega arith)
@@ -151,10 +151,10 @@ elsewhere for-any h t s f g = tt
 elsewhere for-atom h t s f g = absurd (f (s .0) (s .1))
 elsewhere for-arity h t s f g = absurd (g (s .0) (s .2))
 
-module _ (cap : ℕ) (atoms : Atoms) where
+module _ (cap : ℕ) (given : Given) where
   -- a term is found, with r rows taken before
   pub record Found {w : Wanted} (a : Asked w) (d r : ℕ) (u : Located) (t : Position) : Type 0 where
-    pub valid : Valid (atoms .flags) (meaning u)
+    pub valid : Valid (given .flags) (meaning u)
     pub deep : depth (meaning u) ≤ d
     pub room : r + size (meaning u) ≤ cap
     pub fine : Fine (r + size (meaning u)) t
@@ -162,7 +162,7 @@ module _ (cap : ℕ) (atoms : Atoms) where
 
   -- a run of parts
   pub record Founds (d r : ℕ) (us : Forest (Label × Offset)) (t : Position) : Type 0 where
-    pub valid : Valids (atoms .flags) (meanings us)
+    pub valid : Valids (given .flags) (meanings us)
     pub deep : deepest (meanings us) ≤ d
     pub room : r + sizes (meanings us) ≤ cap
     pub fine : Fine (r + sizes (meanings us)) t
@@ -221,10 +221,10 @@ module _ (cap : ℕ) (atoms : Atoms) where
   character-found : {d r : ℕ} {t : Position} (c : ℕ) (p : Offset) → c < 256 → 0 < d → r < cap → Fine (r + 1) t
       → Found for-any d r (node (integer (pos c), p) empty) t
   character-found c p h k l g =
-      record { valid = (integer-fits (atoms .flags) (pos c) 1 h (lit< tt), tt); deep = omega arith; room = omega arith; fine = at-rows g (omega arith); answers = tt }
+      record { valid = (integer-fits (given .flags) (pos c) 1 h (lit< tt), tt); deep = omega arith; room = omega arith; fine = at-rows g (omega arith); answers = tt }
 
   row-holds : {r : ℕ} (p : ℕ) (s : Position) → Fine r s → {Q : Unit → Position → Type 0} → ((t : Position) → r < cap → Fine (r + 1) t → Q tt t)
-      → Holds (row atoms cap p s) Q
+      → Holds (row given cap p s) Q
   unfolding row
   row-holds {r} p s g {Q} q = go (ltb (s .rows-taken) cap) refl
     where
@@ -237,7 +237,7 @@ module _ (cap : ℕ) (atoms : Atoms) where
       go false e = refused-holds 9 p
 
   string-holds : (d p off : ℕ) (cs : List ℕ) → Under 256 cs → (r : ℕ) (s : Position) → Fine r s → r ≤ cap
-      → Holds (string atoms cap d p off cs s) (Founds d r)
+      → Holds (string given cap d p off cs s) (Founds d r)
   unfolding string
   string-holds d p off [] u r s g h = done-holds _ s (no-parts h g)
   string-holds zero p off (c ∷ cs) u r s g h = refused-holds 8 p
@@ -249,38 +249,38 @@ module _ (cap : ℕ) (atoms : Atoms) where
   -- What is asked of `inner`, which reads the parts after their heads.
   abbrev Inner : ℕ → (ℕ → Head → Reading Located) → Type 0
   Inner d inner =
-      (w : Wanted) (a : Asked w) (p : ℕ) (h : Head) (r : ℕ) (s : Position) → Sound (atoms .flags) h → empty-108 h ≡ false → Suits a h → Fine r s → r ≤ cap
+      (w : Wanted) (a : Asked w) (p : ℕ) (h : Head) (r : ℕ) (s : Position) → Sound (given .flags) h → empty-108 h ≡ false → Suits a h → Fine r s → r ≤ cap
       → Holds (inner p h s) (λ u t. Found a d r u t × (Plain h → ¬ IsList (top (meaning u))))
 
-  module _ (true-atoms : True-atoms atoms) (few : cap ≤ 8192) (d : ℕ) (inner : ℕ → Head → Reading Located) (ok-inner : Inner d inner) where
-    reader : (w : Wanted) (a : Asked w) (r : ℕ) (s : Position) → Fine r s → r ≤ cap → Holds (one-term atoms inner w s) (Found a d r)
+  module _ (true-atoms : True-atoms given) (few : cap ≤ 8192) (d : ℕ) (inner : ℕ → Head → Reading Located) (ok-inner : Inner d inner) where
+    reader : (w : Wanted) (a : Asked w) (r : ℕ) (s : Position) → Fine r s → r ≤ cap → Holds (one-term given inner w s) (Found a d r)
     unfolding one-term
     reader w a r s g h =
-        bind (opening-holds atoms true-atoms a (s .left) s g λ p x t ok z suits g.
+        bind (opening-holds given true-atoms a (s .left) s g λ p x t ok z suits g.
         weaken (λ u t. Found a d r u t × (Plain x → ¬ IsList (top (meaning u)))) (ok-inner w a p x r t ok z suits g h) (λ u t f. f .0))
 
     abbrev Ending : ℕ → Forest (Label × Offset) × Label → Position → Type 0
     Ending r e t = Founds d r (e .0) t × Ends (e .1) (meanings (e .0))
 
-    tail-holds : (bound : List ℕ) (r : ℕ) (s : Position) → Fine r s → r ≤ cap → Holds (list-tail atoms cap d inner bound s) (Ending r)
+    tail-holds : (bound : List ℕ) (r : ℕ) (s : Position) → Fine r s → r ≤ cap → Holds (list-tail given cap d inner bound s) (Ending r)
     unfolding list-tail
     tail-holds [] r s g h = refused-holds 2 _
     tail-holds (b ∷ bound) r s g h =
-        bind (opening-holds atoms true-atoms for-any (s .left) s g λ p x t ok z suits g.
+        bind (opening-holds given true-atoms for-any (s .left) s g λ p x t ok z suits g.
         go p x t ok z g (λ r′ s′ g′ h′. tail-holds bound r′ s′ g′ h′))
       where
-        go : (p : ℕ) (x : Head) (t : Position) → Sound (atoms .flags) x → empty-108 x ≡ false → Fine r t
-            → ((r′ : ℕ) (s′ : Position) → Fine r′ s′ → r′ ≤ cap → Holds (list-tail atoms cap d inner bound s′) (Ending r′))
+        go : (p : ℕ) (x : Head) (t : Position) → Sound (given .flags) x → empty-108 x ≡ false → Fine r t
+            → ((r′ : ℕ) (s′ : Position) → Fine r′ s′ → r′ ≤ cap → Holds (list-tail given cap d inner bound s′) (Ending r′))
             → Holds ((elim x as (λ _. Reading (Forest (Label × Offset) × Label)) [
-              | characters cs ↦ λ t. after (string atoms cap d p (p + 3) cs t) (λ ts. done (ts, list))
-              | elements n ↦ λ t. after (run (one-term atoms inner) n t) (λ ts. λ t. after (list-tail atoms cap d inner bound t) (λ end. done (ts ▹▹ end .0, end .1)))
+              | characters cs ↦ λ t. after (string given cap d p (p + 3) cs t) (λ ts. done (ts, list))
+              | elements n ↦ λ t. after (run (one-term given inner) n t) (λ ts. λ t. after (list-tail given cap d inner bound t) (λ end. done (ts ▹▹ end .0, end .1)))
               | parts ws n l ↦ λ t. after (inner p (parts ws n l) t) (λ u. done (u ▹ empty, improper-list))
               | pairs n ↦ λ t. after (inner p (pairs n) t) (λ u. done (u ▹ empty, improper-list))
             ]) t) (Ending r)
         go p (characters cs) t (a-string us) z g ih =
             next (Founds d r) (string-holds d p (p + 3) cs us r t g h) λ us t fs. done-holds _ t (fs, proper)
         go p (elements n) t a-list z g ih =
-            next (λ us t. Founds d r us t × (count (meanings us) ≡ n)) (run-holds d (one-term atoms inner) reader n r t g h) λ us t fs.
+            next (λ us t. Founds d r us t × (count (meanings us) ≡ n)) (run-holds d (one-term given inner) reader n r t g h) λ us t fs.
             next (Ending (r + sizes (meanings us))) (ih (r + sizes (meanings us)) t (fs .0 .fine) (fs .0 .room)) λ e t es.
             done-holds _ t (joined us (fs .0) (es .0), ends-join us (e .0) (es .1))
         go p (parts ws n l) t ok z g ih =
@@ -295,7 +295,7 @@ module _ (cap : ℕ) (atoms : Atoms) where
 
     -- a whole from its parts
     made : {w : Wanted} {a : Asked w} {r : ℕ} {us : Forest (Label × Offset)} {t : Position} (l : Label) (p : Offset)
-        → Founds d (r + 1) us t → Fits (atoms .flags) l (meanings us) → Answers a (node l (meanings us)) → Found a (suc d) r (node (l, p) us) t
+        → Founds d (r + 1) us t → Fits (given .flags) l (meanings us) → Answers a (node l (meanings us)) → Found a (suc d) r (node (l, p) us) t
     made l p f fits answers =
         record {
           valid = (fits, f .valid);
@@ -307,7 +307,7 @@ module _ (cap : ℕ) (atoms : Atoms) where
 
     -- a list from its elements and its end
     list-fits : (us vs : Forest (Label × Offset)) (l : Label) (r : ℕ) → r + 1 + sizes (meanings (us ▹▹ vs)) ≤ cap → 0 < count (meanings us) → Ends l (meanings vs)
-        → Fits (atoms .flags) l (meanings (us ▹▹ vs))
+        → Fits (given .flags) l (meanings (us ▹▹ vs))
     list-fits us vs list r room some-us proper = omega (arith, count-le-sizes (meanings (us ▹▹ vs)))
     list-fits empty vs improper-list r room some-us (improper h) = absurd (omega arith)
     list-fits (u ▹ us) vs improper-list r room some-us (improper h) = (omega (arith, count-le-sizes (meanings ((u ▹ us) ▹▹ vs))), improper-cons (meaning u) (meanings (us ▹▹ vs)) (last-join us vs h))
@@ -315,14 +315,14 @@ module _ (cap : ℕ) (atoms : Atoms) where
     -- over the identifiers: a node, then the later fields
     named-holds : {w : Wanted} (a : Asked w) (p : ℕ) (l : Later) (r : ℕ) (s : Position) → Suits a (parts (an-atom ∷ []) 0 l)
         → Fine (r + 1) s → r < cap
-        → ((r′ : ℕ) (s′ : Position) → Fine r′ s′ → Holds (later (atoms .flags) p l s′) (λ x t. Names (atoms .flags) x × (¬ IsList x) × Fine r′ t))
-        → Holds (contents atoms cap d inner p (parts (an-atom ∷ []) 0 l) s) (Result a r (parts (an-atom ∷ []) 0 l))
+        → ((r′ : ℕ) (s′ : Position) → Fine r′ s′ → Holds (later (given .flags) p l s′) (λ x t. Names (given .flags) x × (¬ IsList x) × Fine r′ t))
+        → Holds (contents given cap d inner p (parts (an-atom ∷ []) 0 l) s) (Result a r (parts (an-atom ∷ []) 0 l))
     unfolding contents each run
     named-holds a p l r s suits g less later-ok =
         next (λ us t. (u : Located) × (us ≡ u ▹ empty) × Found for-atom d (r + 1) u t)
         (next (Found for-atom d (r + 1)) (reader an-atom for-atom (r + 1) s g (omega arith)) λ u t f. done-holds _ t (u, refl, f)) λ us t f.
         let size-one : size (meaning (f .0)) ≡ 1 = ap size (f .2 .answers .1) in
-        next (λ x t. Names (atoms .flags) x × (¬ IsList x) × Fine (r + 1 + 1) t) (later-ok (r + 1 + 1) t (at-rows (f .2 .fine) (omega arith))) λ x t n.
+        next (λ x t. Names (given .flags) x × (¬ IsList x) × Fine (r + 1 + 1) t) (later-ok (r + 1 + 1) t (at-rows (f .2 .fine) (omega arith))) λ x t n.
         let founds : Founds d (r + 1) (f .0 ▹ empty) t
         = record {
           valid = (f .2 .valid, tt);
@@ -330,7 +330,7 @@ module _ (cap : ℕ) (atoms : Atoms) where
           room = omega (arith, f .2 .room);
           fine = at-rows (n .2) (omega arith);
         } in
-        let fits : Fits (atoms .flags) x (meaning (f .0) ▹ empty) = rw (f .2 .answers .1) (n .0 (f .2 .answers .0)) in
+        let fits : Fits (given .flags) x (meaning (f .0) ▹ empty) = rw (f .2 .answers .1) (n .0 (f .2 .answers .0)) in
         rw (f .1) (done-holds (node (x, tag-at p) (f .0 ▹ empty)) t
         (made x (tag-at p) founds fits (elsewhere a _ _ suits no-atom no-byte), λ _. n .1))
       where
@@ -342,7 +342,7 @@ module _ (cap : ℕ) (atoms : Atoms) where
 
     export-holds : {w : Wanted} (a : Asked w) (p r : ℕ) (s : Position) → Suits a (parts (an-atom ∷ an-atom ∷ an-arity ∷ []) 0 (known export))
         → Fine (r + 1) s → r < cap
-        → Holds (contents atoms cap d inner p (parts (an-atom ∷ an-atom ∷ an-arity ∷ []) 0 (known export)) s)
+        → Holds (contents given cap d inner p (parts (an-atom ∷ an-atom ∷ an-arity ∷ []) 0 (known export)) s)
         (Result a r (parts (an-atom ∷ an-atom ∷ an-arity ∷ []) 0 (known export)))
     unfolding contents each run later
     export-holds a p r s suits g less =
@@ -370,26 +370,26 @@ module _ (cap : ℕ) (atoms : Atoms) where
         no-byte n e = let z : _≡_ {A = ℕ} 0 1 = cc in omega arith
 
     -- everything that an accepted head may be
-    whole-holds : {w : Wanted} (a : Asked w) (p : ℕ) {h : Head} (r : ℕ) (s : Position) → Sound (atoms .flags) h → empty-108 h ≡ false → Suits a h
-        → Fine (r + 1) s → r < cap → Holds (contents atoms cap d inner p h s) (Result a r h)
+    whole-holds : {w : Wanted} (a : Asked w) (p : ℕ) {h : Head} (r : ℕ) (s : Position) → Sound (given .flags) h → empty-108 h ≡ false → Suits a h
+        → Fine (r + 1) s → r < cap → Holds (contents given cap d inner p h s) (Result a r h)
     unfolding contents each run later
     whole-holds a p r s (a-leaf {l = l} f nl) z suits g less =
         done-holds _ s (made l (tag-at p) (no-parts (omega arith) g) f (leaf-answers a l suits), λ _. nl)
     whole-holds a p r s (a-tuple {n = n} l) z suits g less =
-        next (λ us t. Founds d (r + 1) us t × (count (meanings us) ≡ n)) (run-holds d (one-term atoms inner) reader n (r + 1) s g (omega arith)) λ us t fs.
+        next (λ us t. Founds d (r + 1) us t × (count (meanings us) ≡ n)) (run-holds d (one-term given inner) reader n (r + 1) s g (omega arith)) λ us t fs.
         done-holds _ t (
           made tuple (tag-at p) (fs .0) (omega (arith, fs .1))
               (elsewhere a _ _ suits (λ cs e. let z : _≡_ {A = ℕ} 0 1 = cc in omega arith) (λ n e. let z : _≡_ {A = ℕ} 0 1 = cc in omega arith)),
           λ _ x. x,
         )
     whole-holds a p r s (a-pid {w = v} l) z suits g less =
-        named-holds a p _ r s suits g less (λ r′ s′ g′. pid-holds (atoms .flags) p s′ g′ (λ x t n nl g″. (n, nl, g″)) v l)
+        named-holds a p _ r s suits g less (λ r′ s′ g′. pid-holds (given .flags) p s′ g′ (λ x t n nl g″. (n, nl, g″)) v l)
     whole-holds a p r s (a-port {v = v} {w = v′} l l′) z suits g less =
-        named-holds a p _ r s suits g less (λ r′ s′ g′. port-holds (atoms .flags) p s′ g′ (λ x t n nl g″. (n, nl, g″)) v v′ l l′)
+        named-holds a p _ r s suits g less (λ r′ s′ g′. port-holds (given .flags) p s′ g′ (λ x t n nl g″. (n, nl, g″)) v v′ l l′)
     whole-holds a p r s (a-reference {k = k} {w = v} l l′ l″) z suits g less =
-        named-holds a p _ r s suits g less (λ r′ s′ g′. reference-holds (atoms .flags) p s′ g′ (λ x t n nl g″. (n, nl, g″)) k v l l′ l″)
+        named-holds a p _ r s suits g less (λ r′ s′ g′. reference-holds (given .flags) p s′ g′ (λ x t n nl g″. (n, nl, g″)) k v l l′ l″)
     whole-holds a p r s an-old-reference z suits g less =
-        named-holds a p _ r s suits g less (λ r′ s′ g′. old-holds (atoms .flags) p s′ g′ (λ x t n nl g″. (n, nl, g″)))
+        named-holds a p _ r s suits g less (λ r′ s′ g′. old-holds (given .flags) p s′ g′ (λ x t n nl g″. (n, nl, g″)))
     whole-holds a p r s an-export z suits g less = export-holds a p r s suits g less
     whole-holds a p r s (a-string {cs = cs} us) z suits g less =
         next (Founds d (r + 1)) (string-holds d p (p + 3) cs us (r + 1) s g (omega arith)) λ us t fs.
@@ -400,7 +400,7 @@ module _ (cap : ℕ) (atoms : Atoms) where
         )
     whole-holds a p r s (a-list {n = zero}) z suits g less = absurd (let z : _≡_ {A = ℕ} 0 1 = cc in omega arith)
     whole-holds a p r s (a-list {n = suc n}) z suits g less =
-        next (λ us t. Founds d (r + 1) us t × (count (meanings us) ≡ suc n)) (run-holds d (one-term atoms inner) reader (suc n) (r + 1) s g (omega arith)) λ us t fs.
+        next (λ us t. Founds d (r + 1) us t × (count (meanings us) ≡ suc n)) (run-holds d (one-term given inner) reader (suc n) (r + 1) s g (omega arith)) λ us t fs.
         next (Ending (r + 1 + sizes (meanings us))) (tail-holds (t .left) (r + 1 + sizes (meanings us)) t (fs .0 .fine) (fs .0 .room)) λ e t es.
         let all : Founds d (r + 1) (us ▹▹ e .0) t = joined us (fs .0) (es .0) in
         done-holds _ t (
@@ -409,20 +409,20 @@ module _ (cap : ℕ) (atoms : Atoms) where
           λ bad. absurd bad,
         )
     whole-holds a p r s (a-map {n = n}) z suits g less =
-        next (λ us t. Founds d (r + 1) us t × Keys [] (meanings us)) (entries-holds d (one-term atoms inner) reader [] n (r + 1) s g (omega arith)) λ us t fs.
+        next (λ us t. Founds d (r + 1) us t × Keys [] (meanings us)) (entries-holds d (one-term given inner) reader [] n (r + 1) s g (omega arith)) λ us t fs.
         done-holds _ t (
           made map (tag-at p) (fs .0) (omega (arith, count-le-sizes (meanings us), fs .0 .room), fs .1)
               (elsewhere a _ _ suits (λ cs e. let z : _≡_ {A = ℕ} 0 1 = cc in omega arith) (λ n e. let z : _≡_ {A = ℕ} 0 1 = cc in omega arith)),
           λ _ x. x,
         )
 
-  module _ (true-atoms : True-atoms atoms) (few : cap ≤ 8192) where
-    body-holds : (d : ℕ) → Inner d (body atoms cap d)
+  module _ (true-atoms : True-atoms given) (few : cap ≤ 8192) where
+    body-holds : (d : ℕ) → Inner d (body given cap d)
     unfolding body
     body-holds zero w a p h r s ok z suits g k = refused-holds 8 p
     body-holds (suc d) w a p h r s ok z suits g k =
-        bind (row-holds p s g λ t less g. whole-holds true-atoms few d (body atoms cap d) (body-holds d) a p r t ok z suits g less)
+        bind (row-holds p s g λ t less g. whole-holds true-atoms few d (body given cap d) (body-holds d) a p r t ok z suits g less)
 
     -- what is accepted is valid, within the levels and the rows
-    pub term-holds : (d : ℕ) {w : Wanted} (a : Asked w) (r : ℕ) (s : Position) → Fine r s → r ≤ cap → Holds (term atoms cap d w s) (Found a d r)
-    term-holds d {w} a r s g k = reader true-atoms few d (body atoms cap d) (body-holds d) w a r s g k
+    pub term-holds : (d : ℕ) {w : Wanted} (a : Asked w) (r : ℕ) (s : Position) → Fine r s → r ≤ cap → Holds (term given cap d w s) (Found a d r)
+    term-holds d {w} a r s g k = reader true-atoms few d (body given cap d) (body-holds d) w a r s g k

@@ -15,7 +15,7 @@ use Rattle.term_spec.specs.Tree.{Forest, node, empty, _▹_, _▹▹_}
 use Rattle.term_spec.specs.Term.{Label, Term, integer, atom, list, improper-list, map}
 use Rattle.term_spec.specs.Equal.{among}
 use Rattle.term_spec.specs.Answer.{Answer, good, refused, Position, Reading, after, done, rule, byte, first-of, bytes, number}
-use Rattle.term_spec.specs.Head.{Atoms, limits, Wanted, any, tagged, an-atom, one-of, leaf, Form, atom-ext, atom-cache-ref, form, form-in, forms, form-or, fields, Head, parts, characters, elements, pairs, later, term-head, text-or}
+use Rattle.term_spec.specs.Head.{Given, limits, Wanted, any, tagged, an-atom, one-of, leaf, Form, atom-ext, atom-cache-ref, form, form-in, forms, form-or, fields, Head, parts, characters, elements, pairs, later, term-head, text-or}
 use Rattle.term_spec.specs.Text.{Coding, latin-1, utf-8, check}
 use Rattle.term_spec.specs.Reading.{Offset, tag-at, character-at, Located, meaning, empty-108, opening, one-term, row, body, contents, term, each, run, entries, string, list-tail}
 use Rattle.term_spec.proofs.Holds.{Holds, both, next, done-holds, refused-holds, rule-holds, weaken, skip, characters-hold}
@@ -78,7 +78,7 @@ head-of [] (suc n) b bs e = let no-way : _≡_ {A = ℕ} 0 1 = cc in absurd (ome
 head-of (x ∷ m) zero b bs e = cc
 head-of (x ∷ m) (suc n) b bs e = head-of m n b bs e
 
-module _ (message : List ℕ) (cap : ℕ) (atoms : Atoms) where
+module _ (message : List ℕ) (cap : ℕ) (given : Given) where
   -- these characters stand in the message from an offset on
   abbrev pub Chars-at : ℕ → List ℕ → Type 0
   Chars-at off [] = Unit {0}
@@ -87,7 +87,7 @@ module _ (message : List ℕ) (cap : ℕ) (atoms : Atoms) where
   -- Where reading stands after the wanted parts, which begin at b: after an atom alone, where that atom's head ends
   abbrev pub Ends : List Wanted → Position → Position → Type 0
   Ends [] b s = s .at ≡ b .at
-  Ends (w ∷ []) b s = w ≡ an-atom → (h : Head) × (e : Position) × (term-head atoms an-atom b ≡ good (h, e)) × (s .at ≡ e .at)
+  Ends (w ∷ []) b s = w ≡ an-atom → (h : Head) × (e : Position) × (term-head given an-atom b ≡ good (h, e)) × (s .at ≡ e .at)
   Ends (w ∷ v ∷ ws) b s = Unit {0}
 
   -- and after n parts more
@@ -97,7 +97,7 @@ module _ (message : List ℕ) (cap : ℕ) (atoms : Atoms) where
 
   -- what a head that ends at b says of the label; later fields are read again where they stand, after the parts
   abbrev pub Agrees : ℕ → Head → Position → Label → Type 0
-  Agrees p (parts ws n l) b x = (s : Position) × (t : Position) × In-step message cap s × After ws n b s × (later (atoms .flags) p l s ≡ good (x, t))
+  Agrees p (parts ws n l) b x = (s : Position) × (t : Position) × In-step message cap s × After ws n b s × (later (given .flags) p l s ≡ good (x, t))
   Agrees p (characters cs) b x = x ≡ list
   Agrees p (elements n) b x = (x ≡ list) ⊎ (x ≡ improper-list)
   Agrees p (pairs n) b x = x ≡ map
@@ -109,7 +109,7 @@ module _ (message : List ℕ) (cap : ℕ) (atoms : Atoms) where
     pub stop : Position
     pub in-step : In-step message cap start
     pub is-at : start .at ≡ p
-    pub reads : term-head atoms wanted start ≡ good (h, stop)
+    pub reads : term-head given wanted start ≡ good (h, stop)
 
   -- a node's label follows from the message at its place
   abbrev pub Label-at : Offset → Label → Type 0
@@ -163,14 +163,14 @@ module _ (message : List ℕ) (cap : ℕ) (atoms : Atoms) where
   On-chars p (elements n) = Unit {0}
   On-chars p (pairs n) = Unit {0}
 
-  fields-chars : (p : ℕ) (f : Form) (s : Position) → In-step message cap s → s .at ≡ p + 1 → Holds (fields atoms p f s) (λ h t. On-chars p h)
+  fields-chars : (p : ℕ) (f : Form) (s : Position) → In-step message cap s → s .at ≡ p + 1 → Holds (fields given p f s) (λ h t. On-chars p h)
   fields-chars p f s i e =
-      characters-hold atoms (λ h t. On-chars p h) (λ _ _ _ _. tt) (λ _ _. tt) (λ _ _. tt) p f s tt
+      characters-hold given (λ h t. On-chars p h) (λ _ _ _ _. tt) (λ _ _. tt) (λ _ _. tt) p f s tt
       (weaken (λ _ t. In-step message cap t × (t .at ≡ s .at + 2)) (number-moves p 2 s i) λ n t k.
       weaken (λ bs u. In-step message cap u × Chars-at (t .at) bs) (bytes-are-there p n t (k .0)) λ bs u k′.
       subst (λ (x : ℕ). Chars-at x bs) (omega (arith, k .1)) (k′ .1))
 
-  head-chars : (w : Wanted) (s : Position) → In-step message cap s → Holds (term-head atoms w s) (λ h t. On-chars (s .at) h)
+  head-chars : (w : Wanted) (s : Position) → In-step message cap s → Holds (term-head given w s) (λ h t. On-chars (s .at) h)
   unfolding term-head
   head-chars w s i =
       next (λ b t. In-step message cap t × (t .at ≡ s .at + 1)) (go (s .left) refl) λ tag t k.
@@ -185,16 +185,16 @@ module _ (message : List ℕ) (cap : ℕ) (atoms : Atoms) where
   abbrev pub Opened : ℕ × Head → Position → Type 0
   Opened o t = In-step message cap t × (a : Head-at (o .0) (o .1)) × (t .at ≡ a .stop .at) × On-chars (o .0) (o .1)
 
-  pub opening-backed : (bound : List ℕ) (w : Wanted) (s : Position) → In-step message cap s → Holds (opening atoms bound w s) Opened
+  pub opening-backed : (bound : List ℕ) (w : Wanted) (s : Position) → In-step message cap s → Holds (opening given bound w s) Opened
   unfolding opening
   opening-backed [] w s i = refused-holds 2 _
   opening-backed (b ∷ bound) w s i =
-      next (λ h t. (In-step message cap t × On-chars (s .at) h) × (term-head atoms w s ≡ good (h, t)))
-      (keep (λ h t. In-step message cap t × On-chars (s .at) h) (record { known = λ h t e. (head-in-step message cap atoms w s i .known h t e, head-chars w s i .known h t e) }))
+      next (λ h t. (In-step message cap t × On-chars (s .at) h) × (term-head given w s ≡ good (h, t)))
+      (keep (λ h t. In-step message cap t × On-chars (s .at) h) (record { known = λ h t e. (head-in-step message cap given w s i .known h t e, head-chars w s i .known h t e) }))
       λ h t k. go h t (empty-108 h) k (opening-backed bound any t (k .0 .0))
     where
-      go : (h : Head) (t : Position) (z : Bool) → (In-step message cap t × On-chars (s .at) h) × (term-head atoms w s ≡ good (h, t)) → Holds (opening atoms bound any t) Opened
-          → Holds ((elim z as (λ _. Reading (ℕ × Head)) [ true ↦ opening atoms bound any | false ↦ done (s .at, h) ]) t) Opened
+      go : (h : Head) (t : Position) (z : Bool) → (In-step message cap t × On-chars (s .at) h) × (term-head given w s ≡ good (h, t)) → Holds (opening given bound any t) Opened
+          → Holds ((elim z as (λ _. Reading (ℕ × Head)) [ true ↦ opening given bound any | false ↦ done (s .at, h) ]) t) Opened
       go h t true k ih = ih
       go h t false k ih =
           done-holds _ t (k .0 .0, record { wanted = w; start = s; stop = t; in-step = i; is-at = refl; reads = k .1 }, refl, k .0 .1)
@@ -206,12 +206,12 @@ module _ (message : List ℕ) (cap : ℕ) (atoms : Atoms) where
   abbrev Run-backed : Forest (Label × Offset) → Position → Type 0
   Run-backed us t = In-step message cap t × Backeds us
 
-  string-backed : (d p off : ℕ) (cs : List ℕ) (s : Position) → In-step message cap s → Chars-at off cs → Holds (string atoms cap d p off cs s) Run-backed
+  string-backed : (d p off : ℕ) (cs : List ℕ) (s : Position) → In-step message cap s → Chars-at off cs → Holds (string given cap d p off cs s) Run-backed
   unfolding string
   string-backed d p off [] s i c = done-holds _ s (i, tt)
   string-backed zero p off (x ∷ cs) s i c = refused-holds 8 p
   string-backed (suc d) p off (x ∷ cs) s i c =
-      next (λ _ t. In-step message cap t) (row-in-step message cap atoms p s i) λ _ t i.
+      next (λ _ t. In-step message cap t) (row-in-step message cap given p s i) λ _ t i.
       next Run-backed (string-backed (suc d) p (off + 1) cs t i (c .2)) λ us t k.
       done-holds _ t (k .0, (((c .0, ap (λ (y : ℕ). integer (pos y)) (sym (c .1))), tt), k .1))
 
@@ -248,27 +248,27 @@ module _ (message : List ℕ) (cap : ℕ) (atoms : Atoms) where
   Stays inner = (p : ℕ) (l : Label) (s : Position) → Holds (inner p (leaf l) s) (λ _ t. t .at ≡ s .at)
 
   -- an atom's head is a leaf's
-  text-leaf : (p : ℕ) (c : Coding) (w : ℕ) (s : Position) → Holds (fields atoms p (atom-ext c w) s) (λ h _. (l : Label) × (h ≡ leaf l))
+  text-leaf : (p : ℕ) (c : Coding) (w : ℕ) (s : Position) → Holds (fields given p (atom-ext c w) s) (λ h _. (l : Label) × (h ≡ leaf l))
   unfolding fields
   text-leaf p c w s = skip (number p w s) λ n t. skip (bytes p n t) λ bs t. skip (text-or (check c bs) 5 _ t) λ cs t. done-holds _ t (atom cs, refl)
 
-  atom-fields : (p tag : ℕ) (f : Form) (s : Position) → Atom-form tag f → Holds (fields atoms p f s) (λ h _. (l : Label) × (h ≡ leaf l))
+  atom-fields : (p tag : ℕ) (f : Form) (s : Position) → Atom-form tag f → Holds (fields given p f s) (λ h _. (l : Label) × (h ≡ leaf l))
   unfolding fields
   atom-fields p tag f s is-82 =
-      skip (number p 1 s) λ n t. skip (rule (ltb n (atoms .n)) 6 p t) λ _ t. skip (text-or (atoms .text n) 14 _ t) λ cs t. done-holds _ t (atom cs, refl)
+      skip (number p 1 s) λ n t. skip (rule (ltb n (given .n)) 6 p t) λ _ t. skip (text-or (given .text n) 14 _ t) λ cs t. done-holds _ t (atom cs, refl)
   atom-fields p tag f s is-100 = text-leaf p latin-1 2 s
   atom-fields p tag f s is-115 = text-leaf p latin-1 1 s
   atom-fields p tag f s is-118 = text-leaf p utf-8 2 s
   atom-fields p tag f s is-119 = text-leaf p utf-8 1 s
 
-  atom-head : (s : Position) → Holds (term-head atoms an-atom s) (λ h _. (l : Label) × (h ≡ leaf l))
+  atom-head : (s : Position) → Holds (term-head given an-atom s) (λ h _. (l : Label) × (h ≡ leaf l))
   unfolding term-head
   atom-head s =
       skip (byte (s .at) s) λ tag t.
       next (λ f u. (u ≡ t) × (form-in forms tag ≡ some f) × Allowed an-atom tag) (form-found (s .at) an-atom tag t) λ f u e.
       atom-fields (s .at) tag f u (atom-form tag f (e .1) (e .2))
 
-  row-stays : (p : ℕ) (s : Position) → Holds (row atoms cap p s) (λ _ t. t .at ≡ s .at)
+  row-stays : (p : ℕ) (s : Position) → Holds (row given cap p s) (λ _ t. t .at ≡ s .at)
   unfolding row
   row-stays p s = go (ltb (s .rows-taken) cap)
     where
@@ -278,99 +278,99 @@ module _ (message : List ℕ) (cap : ℕ) (atoms : Atoms) where
 
   module _ (d : ℕ) (inner : ℕ → Head → Reading Located) (ok : Inner inner) (stays : Stays inner) where
     -- an atom ends with its head
-    atom-opening : (bound : List ℕ) (s : Position) → Holds (opening atoms bound an-atom s) (λ o t. (l : Label) × (o .1 ≡ leaf l) × (term-head atoms an-atom s ≡ good (leaf l, t)))
+    atom-opening : (bound : List ℕ) (s : Position) → Holds (opening given bound an-atom s) (λ o t. (l : Label) × (o .1 ≡ leaf l) × (term-head given an-atom s ≡ good (leaf l, t)))
     unfolding opening
     atom-opening [] s = refused-holds 2 _
     atom-opening (b ∷ bound) s =
-        next (λ h t. ((l : Label) × (h ≡ leaf l)) × (term-head atoms an-atom s ≡ good (h, t))) (keep (λ h _. (l : Label) × (h ≡ leaf l)) (atom-head s))
+        next (λ h t. ((l : Label) × (h ≡ leaf l)) × (term-head given an-atom s ≡ good (h, t))) (keep (λ h _. (l : Label) × (h ≡ leaf l)) (atom-head s))
         λ h t k. go h t (k .0 .0) (k .0 .1) (k .1)
       where
-        go : (h : Head) (t : Position) (l : Label) → h ≡ leaf l → term-head atoms an-atom s ≡ good (h, t)
-            → Holds ((elim (empty-108 h) as (λ _. Reading (ℕ × Head)) [ true ↦ opening atoms bound any | false ↦ done (s .at, h) ]) t)
-            (λ o t. (l : Label) × (o .1 ≡ leaf l) × (term-head atoms an-atom s ≡ good (leaf l, t)))
+        go : (h : Head) (t : Position) (l : Label) → h ≡ leaf l → term-head given an-atom s ≡ good (h, t)
+            → Holds ((elim (empty-108 h) as (λ _. Reading (ℕ × Head)) [ true ↦ opening given bound any | false ↦ done (s .at, h) ]) t)
+            (λ o t. (l : Label) × (o .1 ≡ leaf l) × (term-head given an-atom s ≡ good (leaf l, t)))
         go h t l e k =
-            subst (λ (x : Head). Holds ((elim (empty-108 x) as (λ _. Reading (ℕ × Head)) [ true ↦ opening atoms bound any | false ↦ done (s .at, x) ]) t)
-            (λ o t. (l : Label) × (o .1 ≡ leaf l) × (term-head atoms an-atom s ≡ good (leaf l, t)))) (sym e)
+            subst (λ (x : Head). Holds ((elim (empty-108 x) as (λ _. Reading (ℕ × Head)) [ true ↦ opening given bound any | false ↦ done (s .at, x) ]) t)
+            (λ o t. (l : Label) × (o .1 ≡ leaf l) × (term-head given an-atom s ≡ good (leaf l, t)))) (sym e)
             (done-holds _ t (l, refl, k ∙ ap (λ (x : Head). good (x, t)) e))
 
-    atom-ends : (s : Position) → Holds (one-term atoms inner an-atom s) (λ _ t. Ends (an-atom ∷ []) s t)
+    atom-ends : (s : Position) → Holds (one-term given inner an-atom s) (λ _ t. Ends (an-atom ∷ []) s t)
     unfolding one-term
     atom-ends s =
-        next (λ o t. (l : Label) × (o .1 ≡ leaf l) × (term-head atoms an-atom s ≡ good (leaf l, t))) (atom-opening (s .left) s) λ o t k.
+        next (λ o t. (l : Label) × (o .1 ≡ leaf l) × (term-head given an-atom s ≡ good (leaf l, t))) (atom-opening (s .left) s) λ o t k.
         subst (λ (x : Head). Holds (inner (o .0) x t) (λ _ u. Ends (an-atom ∷ []) s u)) (sym (k .1))
         (weaken (λ _ u. u .at ≡ t .at) (stays (o .0) (k .0) t) (λ _ u e _. (leaf (k .0), t, k .2, e)))
 
-    one-ends : (w : Wanted) (s : Position) → Holds (one-term atoms inner w s) (λ _ t. Ends (w ∷ []) s t)
-    one-ends w s = record { known = λ u t e is. atom-ends s .known u t (ap (λ (x : Wanted). one-term atoms inner x s) (sym is) ∙ e) refl }
+    one-ends : (w : Wanted) (s : Position) → Holds (one-term given inner w s) (λ _ t. Ends (w ∷ []) s t)
+    one-ends w s = record { known = λ u t e is. atom-ends s .known u t (ap (λ (x : Wanted). one-term given inner x s) (sym is) ∙ e) refl }
 
-    each-ends : (ws : List Wanted) (s : Position) → Holds (each (one-term atoms inner) ws s) (λ _ t. Ends ws s t)
+    each-ends : (ws : List Wanted) (s : Position) → Holds (each (one-term given inner) ws s) (λ _ t. Ends ws s t)
     unfolding each
     each-ends [] s = done-holds _ s refl
     each-ends (w ∷ []) s = next (λ _ t. Ends (w ∷ []) s t) (one-ends w s) λ u t k. done-holds _ t k
     each-ends (w ∷ v ∷ ws) s = record { known = λ _ _ _. tt }
 
-    run-after : (ws : List Wanted) (n : ℕ) (b s : Position) → Ends ws b s → Holds (run (one-term atoms inner) n s) (λ _ t. After ws n b t)
+    run-after : (ws : List Wanted) (n : ℕ) (b s : Position) → Ends ws b s → Holds (run (one-term given inner) n s) (λ _ t. After ws n b t)
     unfolding run
     run-after ws zero b s e = done-holds _ s e
     run-after ws (suc n) b s e = record { known = λ _ _ _. tt }
 
-    part-backed : (w : Wanted) (s : Position) → In-step message cap s → Holds (one-term atoms inner w s) Tree-backed
+    part-backed : (w : Wanted) (s : Position) → In-step message cap s → Holds (one-term given inner w s) Tree-backed
     unfolding one-term
     part-backed w s i = next Opened (opening-backed (s .left) w s i) λ o t k. ok (o .0) (o .1) t (k .0) (k .1) (k .2) (k .3)
 
     abbrev Ended : Forest (Label × Offset) × Label → Position → Type 0
     Ended e t = In-step message cap t × Backeds (e .0) × ((e .1 ≡ list) ⊎ (e .1 ≡ improper-list))
 
-    tail-backed : (bound : List ℕ) (s : Position) → In-step message cap s → Holds (list-tail atoms cap d inner bound s) Ended
+    tail-backed : (bound : List ℕ) (s : Position) → In-step message cap s → Holds (list-tail given cap d inner bound s) Ended
     unfolding list-tail
     tail-backed [] s i = refused-holds 2 _
     tail-backed (b ∷ bound) s i =
         next Opened (opening-backed (s .left) any s i) λ o t k. go (o .0) (o .1) t (k .0) (k .1) (k .2) (k .3) (λ t i. tail-backed bound t i)
       where
         go : (p : ℕ) (x : Head) (t : Position) → In-step message cap t → (a : Head-at p x) → t .at ≡ a .stop .at → On-chars p x
-            → ((t : Position) → In-step message cap t → Holds (list-tail atoms cap d inner bound t) Ended)
+            → ((t : Position) → In-step message cap t → Holds (list-tail given cap d inner bound t) Ended)
             → Holds ((elim x as (λ _. Reading (Forest (Label × Offset) × Label)) [
-              | characters cs ↦ λ t. after (string atoms cap d p (p + 3) cs t) (λ ts. done (ts, list))
-              | elements n ↦ λ t. after (run (one-term atoms inner) n t) (λ ts. λ t. after (list-tail atoms cap d inner bound t) (λ end. done (ts ▹▹ end .0, end .1)))
+              | characters cs ↦ λ t. after (string given cap d p (p + 3) cs t) (λ ts. done (ts, list))
+              | elements n ↦ λ t. after (run (one-term given inner) n t) (λ ts. λ t. after (list-tail given cap d inner bound t) (λ end. done (ts ▹▹ end .0, end .1)))
               | parts ws n l ↦ λ t. after (inner p (parts ws n l) t) (λ u. done (u ▹ empty, improper-list))
               | pairs n ↦ λ t. after (inner p (pairs n) t) (λ u. done (u ▹ empty, improper-list))
             ]) t) Ended
         go p (characters cs) t i h e c ih = next Run-backed (string-backed d p (p + 3) cs t i c) λ us t k. done-holds _ t (k .0, k .1, inl refl)
         go p (elements n) t i h e c ih =
-            next Run-backed (run-backed (one-term atoms inner) part-backed n t i) λ us t k. next Ended (ih t (k .0)) λ z t k′.
+            next Run-backed (run-backed (one-term given inner) part-backed n t i) λ us t k. next Ended (ih t (k .0)) λ z t k′.
             done-holds _ t (k′ .0, joined us (z .0) (k .1) (k′ .1), k′ .2)
         go p (parts ws n l) t i h e c ih = next Tree-backed (ok p (parts ws n l) t i h e c) λ u t k. done-holds _ t (k .0, (k .1, tt), inr refl)
         go p (pairs n) t i h e c ih = next Tree-backed (ok p (pairs n) t i h e c) λ u t k. done-holds _ t (k .0, (k .1, tt), inr refl)
 
     whole-backed : (p : ℕ) (h : Head) (s : Position) → In-step message cap s → (a : Head-at p h) → s .at ≡ a .stop .at → On-chars p h
-        → Holds (contents atoms cap d inner p h s) Tree-backed
+        → Holds (contents given cap d inner p h s) Tree-backed
     unfolding contents
     whole-backed p (parts ws n l) s i h e c =
-        next (λ us t. Run-backed us t × Ends ws s t) (both Run-backed (λ _ t. Ends ws s t) (each-backed (one-term atoms inner) part-backed ws s i) (each-ends ws s)) λ us t k.
+        next (λ us t. Run-backed us t × Ends ws s t) (both Run-backed (λ _ t. Ends ws s t) (each-backed (one-term given inner) part-backed ws s i) (each-ends ws s)) λ us t k.
         next (λ vs u. Run-backed vs u × After ws n s u)
-        (both Run-backed (λ _ u. After ws n s u) (run-backed (one-term atoms inner) part-backed n t (k .0 .0)) (run-after ws n s t (k .1))) λ vs t₁ k′.
-        next (λ x t. In-step message cap t × (later (atoms .flags) p l t₁ ≡ good (x, t))) (keep (λ _ t. In-step message cap t) (later-in-step message cap (atoms .flags) p l t₁ (k′ .0 .0))) λ x t₂ z.
+        (both Run-backed (λ _ u. After ws n s u) (run-backed (one-term given inner) part-backed n t (k .0 .0)) (run-after ws n s t (k .1))) λ vs t₁ k′.
+        next (λ x t. In-step message cap t × (later (given .flags) p l t₁ ≡ good (x, t))) (keep (λ _ t. In-step message cap t) (later-in-step message cap (given .flags) p l t₁ (k′ .0 .0))) λ x t₂ z.
         done-holds _ t₂ (z .0, ((parts ws n l, h, s, i, e, (t₁, t₂, k′ .0 .0, k′ .1, z .1)), joined us vs (k .0 .1) (k′ .0 .1)))
     whole-backed p (characters cs) s i h e c =
         next Run-backed (string-backed d p (p + 3) cs s i c) λ us t k. done-holds _ t (k .0, ((characters cs, h, s, i, e, refl), k .1))
     whole-backed p (elements n) s i h e c =
-        next Run-backed (run-backed (one-term atoms inner) part-backed n s i) λ us t k. next Ended (tail-backed (t .left) t (k .0)) λ z t k′.
+        next Run-backed (run-backed (one-term given inner) part-backed n s i) λ us t k. next Ended (tail-backed (t .left) t (k .0)) λ z t k′.
         done-holds _ t (k′ .0, ((elements n, h, s, i, e, k′ .2), joined us (z .0) (k .1) (k′ .1)))
     whole-backed p (pairs n) s i h e c =
-        next Run-backed (entries-backed (one-term atoms inner) part-backed [] n s i) λ us t k. done-holds _ t (k .0, ((pairs n, h, s, i, e, refl), k .1))
+        next Run-backed (entries-backed (one-term given inner) part-backed [] n s i) λ us t k. done-holds _ t (k .0, ((pairs n, h, s, i, e, refl), k .1))
 
-  body-stays : (d : ℕ) → Stays (body atoms cap d)
+  body-stays : (d : ℕ) → Stays (body given cap d)
   unfolding body contents each run later
   body-stays zero p l s = refused-holds 8 p
   body-stays (suc d) p l s = next (λ _ t. t .at ≡ s .at) (row-stays p s) λ _ t e. done-holds _ t e
 
-  body-backed : (d : ℕ) → Inner (body atoms cap d)
+  body-backed : (d : ℕ) → Inner (body given cap d)
   unfolding body
   body-backed zero p h s i a e c = refused-holds 8 p
   body-backed (suc d) p h s i a e c =
-      next (λ _ t. In-step message cap t × (t .at ≡ s .at)) (both (λ _ t. In-step message cap t) (λ _ t. t .at ≡ s .at) (row-in-step message cap atoms p s i) (row-stays p s)) λ _ t k.
-      whole-backed d (body atoms cap d) (body-backed d) (body-stays d) p h t (k .0) a (k .1 ∙ e) c
+      next (λ _ t. In-step message cap t × (t .at ≡ s .at)) (both (λ _ t. In-step message cap t) (λ _ t. t .at ≡ s .at) (row-in-step message cap given p s i) (row-stays p s)) λ _ t k.
+      whole-backed d (body given cap d) (body-backed d) (body-stays d) p h t (k .0) a (k .1 ∙ e) c
 
   -- every node of a term that is read is backed by the message
-  pub term-backed : (d : ℕ) (w : Wanted) (s : Position) → In-step message cap s → Holds (term atoms cap d w s) Tree-backed
-  term-backed d w s i = part-backed d (body atoms cap d) (body-backed d) (body-stays d) w s i
+  pub term-backed : (d : ℕ) (w : Wanted) (s : Position) → In-step message cap s → Holds (term given cap d w s) Tree-backed
+  term-backed d w s i = part-backed d (body given cap d) (body-backed d) (body-stays d) w s i

@@ -12,8 +12,8 @@ use Rattle.term_spec.specs.Numbers.{big-endian}
 use Rattle.term_spec.specs.Text.{Coding, Checked, valid, invalid-at}
 use Rattle.term_spec.specs.Connection.{flags-known}
 use Rattle.term_spec.specs.Answer.{Answer, good, refused, Position, at-offset, after, done, byte}
-use Rattle.term_spec.specs.Head.{Atoms, atom-ext, form-in, forms, fields, text-or}
-use Rattle.term_spec.specs.AtomList.{AtomList, of-size, atoms-of}
+use Rattle.term_spec.specs.Head.{Given, atom-ext, form-in, forms, fields, text-or}
+use Rattle.term_spec.specs.AtomList.{AtomList, of-size, given-of}
 use Rattle.term_spec.specs.Message.{Framing, Terms, meanings, terms-framed, result-of, first-check, capacity-of, read}
 use Rattle.term_spec.specs.Canonical.{standalones}
 use Rattle.term_spec.specs.Writing.{Written, written, write}
@@ -37,7 +37,7 @@ unfolding text-or
 text-refused (invalid-at k) n q place h s e = (k, refl, cc)
 text-refused (valid cs) n q place h s e = let no-way : _≡_ {A = ℕ} 0 1 = cc in absurd (omega arith)
 
-module _ (message : List ℕ) (atoms : Atoms) where
+module _ (message : List ℕ) (atoms : Given) where
   -- what the bytes of the length say, where w bytes after the tag at `at` hold it
   abbrev size-of : ℕ → ℕ → ℕ
   size-of at w = big-endian (take w (drop (at + 1) message))
@@ -87,7 +87,7 @@ module _ (message : List ℕ) (atoms : Atoms) where
 
 module _ {A : Type 0} where
   -- a refusal with 5 is no first check's, and has no position
-  past-check : (t : Bool) (n p : ℕ) (o : Answer A) → eqb n 5 ≡ false → first-check t n o ≡ refused 5 p → o ≡ refused 5 p
+  pub past-check : (t : Bool) (n p : ℕ) (o : Answer A) → eqb n 5 ≡ false → first-check t n o ≡ refused 5 p → o ≡ refused 5 p
   past-check true n p o other e = e
   past-check false n p o other e = absurd (eqb-false n 5 other cc)
 
@@ -103,7 +103,7 @@ module _ (flags : ℕ) (framing : Framing) (atoms : AtomList) (lent : ℕ) (mess
   rules-bad : read flags framing atoms lent message ≡ refused 5 p → Bad-text message p
   unfolding read
   rules-bad e =
-      refused-bad message (atoms-of flags atoms) (capacity-of lent) framing p
+      refused-bad message (given-of flags atoms) (capacity-of lent) framing p
       (found-refused _ 5 p (past-check (leb (length message) 65536) 12 p _ refl (past-check (flags-known flags) 14 p _ refl (past-check (of-size atoms) 13 p _ refl e))))
 
   read-bad : read-answer (read flags framing atoms lent message) ≡ reads.Refused (record { number = 5; place = p }) → Bad-text message p

@@ -13,9 +13,9 @@ use Rattle.term_spec.specs.Term.{Label, Term, list, improper-list}
 use Rattle.term_spec.specs.Equal.{among}
 use Rattle.term_spec.specs.Connection.{flags-known}
 use Rattle.term_spec.specs.Answer.{Answer, good, refused, Position, Reading, after, done, rule, byte, first-of, bytes}
-use Rattle.term_spec.specs.Head.{Atoms, Wanted, any, Form, fields, Head, parts, characters, elements, pairs, Later, later, term-head}
+use Rattle.term_spec.specs.Head.{Given, Wanted, any, Form, fields, Head, parts, characters, elements, pairs, Later, later, term-head}
 use Rattle.term_spec.specs.Reading.{Offset, tag-at, Located, meaning, empty-108, opening, one-term, row, body, contents, term, each, run, entries, string, list-tail}
-use Rattle.term_spec.specs.AtomList.{AtomList, of-size, atoms-of}
+use Rattle.term_spec.specs.AtomList.{AtomList, of-size, given-of}
 use Rattle.term_spec.specs.Message.{Framing, standalone, payload, Terms, version, ending, standalone-term, payload-terms, terms-framed, result-of, first-check, capacity-of, read}
 use Rattle.term_spec.proofs.Steps.{spot}
 use Rattle.term_spec.proofs.Holds.{Holds, both, next, weaken, done-holds, refused-holds, rule-holds, version-holds, ending-holds, characters-hold}
@@ -64,33 +64,33 @@ module _ (total : ℕ) where
       no-row : (s : Position) → s .rows-taken < 0 → Taken r due s → Taken r due (record { at = s .at; left = s .left; rows-taken = s .rows-taken + 1 })
       no-row s h i = absurd (omega arith)
 
-    module _ (atoms : Atoms) where
+    module _ (given : Given) where
       -- a row is due for the tag, and one for each character of a 107, which stands in a byte of its own
-      fields-due : (p : ℕ) (f : Form) (s : Position) → Taken r 1 s → Holds (fields atoms p f s) (λ h t. Taken r (1 + characters-in h) t)
+      fields-due : (p : ℕ) (f : Form) (s : Position) → Taken r 1 s → Holds (fields given p f s) (λ h t. Taken r (1 + characters-in h) t)
       fields-due p f s i =
           weaken (λ h t. Taken r 1 t × (Taken r 1 t → Taken r (1 + characters-in h) t))
           (both (λ _ t. Taken r 1 t) (λ h t. Taken r 1 t → Taken r (1 + characters-in h) t)
-          (fields-kept 0 (Taken r 1) (byte-takes 1) (no-row 1) atoms p f s i)
-          (characters-hold atoms (λ h t. Taken r 1 t → Taken r (1 + characters-in h) t) (λ _ _ _ _ i. i) (λ _ _ i. i) (λ _ _ i. i) p f s (λ i. i)
+          (fields-kept 0 (Taken r 1) (byte-takes 1) (no-row 1) given p f s i)
+          (characters-hold given (λ h t. Taken r 1 t → Taken r (1 + characters-in h) t) (λ _ _ _ _ i. i) (λ _ _ i. i) (λ _ _ i. i) p f s (λ i. i)
           (weaken (λ _ t. Taken r 1 t) (number-kept 0 (Taken r 1) (byte-takes 1) (no-row 1) p 2 s i) λ n t i.
           weaken (λ bs u. Taken r (1 + length bs) u) (bytes-due 1 p n t i) λ bs u i _. i)))
           λ h t k. k .1 (k .0)
 
-      head-due : (w : Wanted) (s : Position) → Taken r 0 s → Holds (term-head atoms w s) (λ h t. Taken r (1 + characters-in h) t)
+      head-due : (w : Wanted) (s : Position) → Taken r 0 s → Holds (term-head given w s) (λ h t. Taken r (1 + characters-in h) t)
       unfolding term-head
       head-due w s i =
           next (λ _ t. Taken r 1 t) (byte-due 0 (s .at) s i) λ tag t i.
-          next (λ _ t. Taken r 1 t) (form-kept 0 (Taken r 1) (byte-takes 1) (no-row 1) atoms (s .at) w tag t i) λ f t i. fields-due (s .at) f t i
+          next (λ _ t. Taken r 1 t) (form-kept 0 (Taken r 1) (byte-takes 1) (no-row 1) given (s .at) w tag t i) λ f t i. fields-due (s .at) f t i
 
-      opening-due : (bound : List ℕ) (w : Wanted) (s : Position) → Taken r 0 s → Holds (opening atoms bound w s) (λ o t. Taken r (1 + characters-in (o .1)) t)
+      opening-due : (bound : List ℕ) (w : Wanted) (s : Position) → Taken r 0 s → Holds (opening given bound w s) (λ o t. Taken r (1 + characters-in (o .1)) t)
       unfolding opening
       opening-due [] w s i = refused-holds 2 _
       opening-due (b ∷ bound) w s i =
           next (λ h t. Taken r (1 + characters-in h) t) (head-due w s i) λ h t i. go h t i (empty-108 h) (opening-due bound any t (i .0, omega (arith, i .1)))
         where
           go : (h : Head) (t : Position) → Taken r (1 + characters-in h) t → (z : Bool)
-              → Holds (opening atoms bound any t) (λ o t. Taken r (1 + characters-in (o .1)) t)
-              → Holds ((elim z as (λ _. Reading (ℕ × Head)) [ true ↦ opening atoms bound any | false ↦ done (s .at, h) ]) t) (λ o t. Taken r (1 + characters-in (o .1)) t)
+              → Holds (opening given bound any t) (λ o t. Taken r (1 + characters-in (o .1)) t)
+              → Holds ((elim z as (λ _. Reading (ℕ × Head)) [ true ↦ opening given bound any | false ↦ done (s .at, h) ]) t) (λ o t. Taken r (1 + characters-in (o .1)) t)
           go h t i true k = k
           go h t i false k = done-holds _ t i
 
@@ -184,14 +184,14 @@ module _ (small large total : ℕ) (less : small ≤ large) where
         step (alike any s f) λ k t i f. step (rule-alike (not (among (meaning k) earlier)) 7 (s .at) t f) λ _ t e f. step (alike any t f) λ v t j f.
         step (entries-alike (meaning k ∷ earlier) n t f) λ us t l f. end (k ▹ v ▹ us) t (omega arith) f
 
-  module _ (atoms : Atoms) where
+  module _ (given : Given) where
     opening-alike : (bound : List ℕ) (w : Wanted) (s : Position) → Covered total 0 s
-        → Alike (λ _. 0) (λ o. 1 + characters-in (o .1)) (s .rows-taken) (s .rows-taken) (opening atoms bound w s) (opening atoms bound w s)
-    opening-alike bound w s f = unseen (opening-due total (s .rows-taken) atoms bound w s (refl, f))
+        → Alike (λ _. 0) (λ o. 1 + characters-in (o .1)) (s .rows-taken) (s .rows-taken) (opening given bound w s) (opening given bound w s)
+    opening-alike bound w s f = unseen (opening-due total (s .rows-taken) given bound w s (refl, f))
 
     -- the step that sees the number of rows
     row-alike : (due p : ℕ) (s : Position) → Covered total (1 + due) s
-        → Alike (λ _. 1) (λ _. due) (s .rows-taken) (s .rows-taken) (row atoms small p s) (row atoms large p s)
+        → Alike (λ _. 1) (λ _. due) (s .rows-taken) (s .rows-taken) (row given small p s) (row given large p s)
     unfolding row
     row-alike due p s f = go (ltb (s .rows-taken) small) (ltb (s .rows-taken) large) refl refl
       where
@@ -208,7 +208,7 @@ module _ (small large total : ℕ) (less : small ≤ large) where
         go false false e e′ = no 9 p
 
     string-alike : (d p off : ℕ) (cs : List ℕ) (s : Position) → Covered total (length cs) s
-        → From sizes s (string atoms small d p off cs s) (string atoms large d p off cs s)
+        → From sizes s (string given small d p off cs s) (string given large d p off cs s)
     unfolding string
     string-alike d p off [] s f = end empty s (omega arith) f
     string-alike zero p off (c ∷ cs) s f = no 8 p
@@ -217,12 +217,12 @@ module _ (small large total : ℕ) (less : small ≤ large) where
 
     module _ (d : ℕ) (inner inner′ : ℕ → Head → Reading Located)
         (alike : (p : ℕ) (h : Head) (s : Position) → Covered total (1 + characters-in h) s → From size s (inner p h s) (inner′ p h s)) where
-      part-alike : (w : Wanted) (s : Position) → Covered total 0 s → From size s (one-term atoms inner w s) (one-term atoms inner′ w s)
+      part-alike : (w : Wanted) (s : Position) → Covered total 0 s → From size s (one-term given inner w s) (one-term given inner′ w s)
       unfolding one-term
       part-alike w s f = step (opening-alike (s .left) w s f) λ o t i f. counted (alike (o .0) (o .1) t f) (omega arith)
 
       tail-alike : (bound : List ℕ) (s : Position) → Covered total 0 s
-          → From (λ end. sizes (end .0)) s (list-tail atoms small d inner bound s) (list-tail atoms large d inner′ bound s)
+          → From (λ end. sizes (end .0)) s (list-tail given small d inner bound s) (list-tail given large d inner′ bound s)
       unfolding list-tail
       tail-alike [] s f = no 2 _
       tail-alike (b ∷ bound) s f = step (opening-alike (s .left) any s f) λ o t i f. counted (go (o .0) (o .1) t f (λ t f. tail-alike bound t f)) (omega arith)
@@ -230,45 +230,45 @@ module _ (small large total : ℕ) (less : small ≤ large) where
           tail-of : ℕ → (ℕ → Head → Reading Located) → ℕ → Head → Reading (Forest (Label × Offset) × Label)
           tail-of cap inner p x =
               elim x as (λ _. Reading (Forest (Label × Offset) × Label)) [
-                | characters cs ↦ λ t. after (string atoms cap d p (p + 3) cs t) (λ ts. done (ts, list))
-                | elements n ↦ λ t. after (run (one-term atoms inner) n t) (λ ts. λ t. after (list-tail atoms cap d inner bound t) (λ end. done (ts ▹▹ end .0, end .1)))
+                | characters cs ↦ λ t. after (string given cap d p (p + 3) cs t) (λ ts. done (ts, list))
+                | elements n ↦ λ t. after (run (one-term given inner) n t) (λ ts. λ t. after (list-tail given cap d inner bound t) (λ end. done (ts ▹▹ end .0, end .1)))
                 | parts ws n l ↦ λ t. after (inner p (parts ws n l) t) (λ u. done (u ▹ empty, improper-list))
                 | pairs n ↦ λ t. after (inner p (pairs n) t) (λ u. done (u ▹ empty, improper-list))
               ]
 
           go : (p : ℕ) (x : Head) (t : Position) → Covered total (1 + characters-in x) t
-              → ((t : Position) → Covered total 0 t → From (λ end. sizes (end .0)) t (list-tail atoms small d inner bound t) (list-tail atoms large d inner′ bound t))
+              → ((t : Position) → Covered total 0 t → From (λ end. sizes (end .0)) t (list-tail given small d inner bound t) (list-tail given large d inner′ bound t))
               → From (λ end. sizes (end .0)) t (tail-of small inner p x t) (tail-of large inner′ p x t)
           go p (characters cs) t f ih = step (string-alike d p (p + 3) cs t (omega arith)) λ us t i f. end _ t (omega arith) f
           go p (elements n) t f ih =
-              step (run-alike (one-term atoms inner) (one-term atoms inner′) part-alike n t (omega arith)) λ us t i f. step (ih t f) λ e t j f.
+              step (run-alike (one-term given inner) (one-term given inner′) part-alike n t (omega arith)) λ us t i f. step (ih t f) λ e t j f.
               end (us ▹▹ e .0, e .1) t (omega (arith, sizes-join us (e .0))) f
           go p (parts ws n l) t f ih = step (alike p (parts ws n l) t f) λ u t i f. end _ t (omega arith) f
           go p (pairs n) t f ih = step (alike p (pairs n) t f) λ u t i f. end _ t (omega arith) f
 
       -- the whole has taken its own row before
       whole-alike : (p : ℕ) (h : Head) (before : ℕ) (s : Position) → s .rows-taken ≡ before + 1 → Covered total (characters-in h) s
-          → Alike size (λ _. 0) before (s .rows-taken) (contents atoms small d inner p h s) (contents atoms large d inner′ p h s)
+          → Alike size (λ _. 0) before (s .rows-taken) (contents given small d inner p h s) (contents given large d inner′ p h s)
       unfolding contents
       whole-alike p (parts ws n l) before s e f =
-          step (each-alike (one-term atoms inner) (one-term atoms inner′) part-alike ws s f) λ us t i f.
-          step (run-alike (one-term atoms inner) (one-term atoms inner′) part-alike n t f) λ vs t j f.
-          step (later-alike (atoms .flags) p l t f) λ x t k f. end (node (x, tag-at p) (us ▹▹ vs)) t (omega (arith, sizes-join us vs)) f
+          step (each-alike (one-term given inner) (one-term given inner′) part-alike ws s f) λ us t i f.
+          step (run-alike (one-term given inner) (one-term given inner′) part-alike n t f) λ vs t j f.
+          step (later-alike (given .flags) p l t f) λ x t k f. end (node (x, tag-at p) (us ▹▹ vs)) t (omega (arith, sizes-join us vs)) f
       whole-alike p (characters cs) before s e f = step (string-alike d p (p + 3) cs s f) λ us t i f. end _ t (omega arith) f
       whole-alike p (elements n) before s e f =
-          step (run-alike (one-term atoms inner) (one-term atoms inner′) part-alike n s f) λ us t i f.
+          step (run-alike (one-term given inner) (one-term given inner′) part-alike n s f) λ us t i f.
           step (tail-alike (t .left) t f) λ l t j f. end (node (l .1, tag-at p) (us ▹▹ l .0)) t (omega (arith, sizes-join us (l .0))) f
       whole-alike p (pairs n) before s e f =
-          step (entries-alike (one-term atoms inner) (one-term atoms inner′) part-alike [] n s f) λ us t i f. end _ t (omega arith) f
+          step (entries-alike (one-term given inner) (one-term given inner′) part-alike [] n s f) λ us t i f. end _ t (omega arith) f
 
-    body-alike : (d p : ℕ) (h : Head) (s : Position) → Covered total (1 + characters-in h) s → From size s (body atoms small d p h s) (body atoms large d p h s)
+    body-alike : (d p : ℕ) (h : Head) (s : Position) → Covered total (1 + characters-in h) s → From size s (body given small d p h s) (body given large d p h s)
     unfolding body
     body-alike zero p h s f = no 8 p
     body-alike (suc d) p h s f =
-        step (row-alike (characters-in h) p s f) λ _ t i f. whole-alike d (body atoms small d) (body atoms large d) (body-alike d) p h (s .rows-taken) t i f
+        step (row-alike (characters-in h) p s f) λ _ t i f. whole-alike d (body given small d) (body given large d) (body-alike d) p h (s .rows-taken) t i f
 
-    pub term-alike : (d : ℕ) (w : Wanted) (s : Position) → Covered total 0 s → From size s (term atoms small d w s) (term atoms large d w s)
-    term-alike d w s f = part-alike d (body atoms small d) (body atoms large d) (body-alike d) w s f
+    pub term-alike : (d : ℕ) (w : Wanted) (s : Position) → Covered total 0 s → From size s (term given small d w s) (term given large d w s)
+    term-alike d w s f = part-alike d (body given small d) (body given large d) (body-alike d) w s f
 
     version-alike : (s : Position) → Covered total 0 s → From (λ _. 0) s (version s) (version s)
     version-alike s f = unseen (version-holds s λ b bs e. (refl, omega (arith, ap length e)))
@@ -276,12 +276,12 @@ module _ (small large total : ℕ) (less : small ≤ large) where
     ending-alike : (left : List ℕ) (s : Position) → Covered total 0 s → From (λ _. 0) s (ending left s) (ending left s)
     ending-alike left s f = unseen (ending-holds left s (refl, f))
 
-    standalone-alike : (s : Position) → Covered total 0 s → From sizes s (standalone-term atoms small s) (standalone-term atoms large s)
+    standalone-alike : (s : Position) → Covered total 0 s → From sizes s (standalone-term given small s) (standalone-term given large s)
     unfolding standalone-term
     standalone-alike s f =
         step (version-alike s f) λ _ t i f. step (term-alike 64 any t f) λ u t j f. step (ending-alike (t .left) t f) λ _ t k f. end (u ▹ empty) t (omega arith) f
 
-    payload-alike : (s : Position) → Covered total 0 s → From sizes s (payload-terms atoms small s) (payload-terms atoms large s)
+    payload-alike : (s : Position) → Covered total 0 s → From sizes s (payload-terms given small s) (payload-terms given large s)
     unfolding payload-terms
     payload-alike s f = step (term-alike 64 any s f) λ u t i f. go u t i f (t .left)
       where
@@ -289,7 +289,7 @@ module _ (small large total : ℕ) (less : small ≤ large) where
         second cap u left =
             elim left as (λ _. Reading Terms) [
               | [] ↦ done (u ▹ empty)
-              | b ∷ bs ↦ λ t. after (term atoms cap 64 any t) (λ v. λ t. after (ending (t .left) t) (λ _. done (u ▹ v ▹ empty)))
+              | b ∷ bs ↦ λ t. after (term given cap 64 any t) (λ v. λ t. after (ending (t .left) t) (λ _. done (u ▹ v ▹ empty)))
             ]
 
         go : (u : Located) (t : Position) → t .rows-taken ≡ s .rows-taken + size u → Covered total 0 t → (left : List ℕ)
@@ -297,7 +297,7 @@ module _ (small large total : ℕ) (less : small ≤ large) where
         go u t i f [] = end (u ▹ empty) t (omega arith) f
         go u t i f (b ∷ bs) = step (term-alike 64 any t f) λ v t j f. step (ending-alike (t .left) t f) λ _ t k f. end (u ▹ v ▹ empty) t (omega arith) f
 
-    pub framed-alike : (framing : Framing) (s : Position) → Covered total 0 s → From sizes s (terms-framed atoms small framing s) (terms-framed atoms large framing s)
+    pub framed-alike : (framing : Framing) (s : Position) → Covered total 0 s → From sizes s (terms-framed given small framing s) (terms-framed given large framing s)
     framed-alike standalone s f = standalone-alike s f
     framed-alike payload s f = payload-alike s f
 
@@ -330,7 +330,7 @@ module _ {A : Type 0} where
 module _ (flags : ℕ) (framing : Framing) (list : AtomList) (message : List ℕ) where
   -- what is found with that many rows
   abbrev found-with : ℕ → Answer Terms
-  found-with lent = result-of (terms-framed (atoms-of flags list) (capacity-of lent) framing (spot 0 message 0))
+  found-with lent = result-of (terms-framed (given-of flags list) (capacity-of lent) framing (spot 0 message 0))
 
   read-with : (lent lent′ : ℕ) (x : Answer Terms) → (found-with lent ≡ x → found-with lent′ ≡ x) → read flags framing list lent message ≡ x → read flags framing list lent′ message ≡ x
   unfolding read
@@ -339,8 +339,8 @@ module _ (flags : ℕ) (framing : Framing) (list : AtomList) (message : List ℕ
   -- the walk, over the whole message
   both-ways : (lent lent′ : ℕ) (more : capacity-of lent ≤ capacity-of lent′)
       → From (capacity-of lent) (capacity-of lent′) (length message) more sizes (spot 0 message 0)
-      (terms-framed (atoms-of flags list) (capacity-of lent) framing (spot 0 message 0)) (terms-framed (atoms-of flags list) (capacity-of lent′) framing (spot 0 message 0))
-  both-ways lent lent′ more = framed-alike (capacity-of lent) (capacity-of lent′) (length message) more (atoms-of flags list) framing (spot 0 message 0) (omega arith)
+      (terms-framed (given-of flags list) (capacity-of lent) framing (spot 0 message 0)) (terms-framed (given-of flags list) (capacity-of lent′) framing (spot 0 message 0))
+  both-ways lent lent′ more = framed-alike (capacity-of lent) (capacity-of lent′) (length message) more (given-of flags list) framing (spot 0 message 0) (omega arith)
 
   -- with a larger and with a smaller number of rows
   up : (lent lent′ : ℕ) → capacity-of lent ≤ capacity-of lent′ → (x : Answer Terms) → ((p : ℕ) → x ≡ refused 9 p → ⊥)
@@ -357,14 +357,14 @@ module _ (flags : ℕ) (framing : Framing) (list : AtomList) (message : List ℕ
   pub rows-lent : (lent : ℕ) (ts : Terms) → read flags framing list lent message ≡ good ts → sizes ts ≤ capacity-of lent
   unfolding read
   rows-lent lent ts e =
-      let o : Answer (Terms × Position) = terms-framed (atoms-of flags list) (capacity-of lent) framing (spot 0 message 0) in
+      let o : Answer (Terms × Position) = terms-framed (given-of flags list) (capacity-of lent) framing (spot 0 message 0) in
       let a = passed (of-size list) 13 _ ts e in
       let k = passed (flags-known flags) 14 _ ts (a .1) in
       let b = passed (leb (length message) 65536) 12 (result-of o) ts (k .1) in
       let g = found-good o ts (b .1) in
       let costs = both-ways lent lent (omega arith) .rows-are .known ts (g .0) (g .1) in
       let room : g .0 .rows-taken ≤ capacity-of lent
-      = framed-kept (capacity-of lent) (λ t. t .rows-taken ≤ capacity-of lent) (λ s b bs e i. i) (λ s less i. omega arith) (atoms-of flags list) message (omega arith) framing .known ts (g .0) (g .1) in
+      = framed-kept (capacity-of lent) (λ t. t .rows-taken ≤ capacity-of lent) (λ s b bs e i. i) (λ s less i. omega arith) (given-of flags list) message (omega arith) framing .known ts (g .0) (g .1) in
       omega (arith, costs .0)
 
   -- What is accepted with some number of rows is accepted, as the same terms, with any number that is at least the rows that the terms have
@@ -388,4 +388,4 @@ module _ (flags : ℕ) (framing : Framing) (list : AtomList) (message : List ℕ
       go true h = let few : lent ≤ 8192 = leb-true lent 8192 h in with-total _ _ (both-ways lent 8192 (omega arith) .agree) (omega arith)
       go false h =
           let many : capacity-of lent ≡ 8192 = omega (arith, leb-false lent 8192 h) in
-          ap (λ (c : ℕ). result-of (terms-framed (atoms-of flags list) c framing (spot 0 message 0))) many
+          ap (λ (c : ℕ). result-of (terms-framed (given-of flags list) c framing (spot 0 message 0))) many

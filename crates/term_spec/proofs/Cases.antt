@@ -2,7 +2,7 @@
 use mathlib.Core.Path.{_≡_, refl, _∙_, ap}
 use mathlib.Core.Bool.{Bool, true, false}
 use mathlib.Core.List.{List, [], _∷_, _++_}
-use Prim.Native.Nat.{ℕ, _≤_, min}
+use Prim.Native.Nat.{ℕ, _*_, _≤_, min}
 use native.Mathlib.Omega.{arith}
 use lib.Dec.{leb}
 use lib.ListN.{length, replicate}
@@ -14,7 +14,7 @@ use Rattle.term_spec.specs.Connection.{v4-nc, flags-known}
 use Rattle.term_spec.specs.Answer.{Answer, good, refused, bytes, number}
 use Rattle.term_spec.specs.Head.{forms, form-in, form-or, form, text-or, finite, bits-rule, clear-low, bits-meaning, fields, term-head, creation-rule, id-words, words-rule, limits, later}
 use Rattle.term_spec.specs.Reading.{opening, each, run, entries, row, string, list-tail, contents, body, one-term}
-use Rattle.term_spec.specs.AtomList.{AtomList, of-size, place-length, place-bytes, place-text, atoms-of, empty-list, lent-list}
+use Rattle.term_spec.specs.AtomList.{AtomList, of-size, place-length, place-bytes, place-text, given-of, empty-list, lent-list}
 use Rattle.term_spec.specs.Message.{standalone, payload, Terms, meanings, ending, version, standalone-term, payload-terms, terms-framed, result-of, first-check, read}
 use Rattle.term_spec.specs.Canonical.{big-bytes, integer-bytes, atom-bytes, tuple-bytes, port-bytes, words-bytes, small, all-small, list-bytes, term-bytes, canonical, canonical-standalone, standalones}
 use Rattle.term_spec.specs.Writing.{Written, written, write}
@@ -25,7 +25,7 @@ use Rattle.term_spec.proofs.Demand.{written-good, written-by, refused-b
 
 -- what the writer answers for a standalone term, with both flags, an empty list of zeros, 8,192 rows and 65,536 bytes of output
 unfoldable pub output : List ℕ → Answer Written
-unfolding ℕ-discrete big-endian in-bytes little-endian digits-within digits signed32 with-sign holds lines marker first emit decode check is-character encode encodes list-discrete integer-discrete term-discrete same among bytes number forms form-in form-or form text-or finite bits-rule clear-low bits-meaning fields term-head creation-rule id-words words-rule later opening each run entries row string list-tail contents body one-term of-size place-length place-bytes place-text atoms-of v4-nc flags-known limits big-bytes integer-bytes atom-bytes tuple-bytes port-bytes words-bytes small all-small list-bytes term-bytes canonical canonical-standalone standalones ending version standalone-term payload-terms read written write
+unfolding ℕ-discrete big-endian in-bytes little-endian digits-within digits signed32 with-sign holds lines marker first emit decode check is-character encode encodes list-discrete integer-discrete term-discrete same among bytes number forms form-in form-or form text-or finite bits-rule clear-low bits-meaning fields term-head creation-rule id-words words-rule later opening each run entries row string list-tail contents body one-term of-size place-length place-bytes place-text given-of v4-nc flags-known limits big-bytes integer-bytes atom-bytes tuple-bytes port-bytes words-bytes small all-small list-bytes term-bytes canonical canonical-standalone standalones ending version standalone-term payload-terms read written write
 output message = write 3 standalone empty-list 8192 65536 message
 
 -- one term, and its bytes
@@ -81,7 +81,7 @@ unfolding read
 more-rows flags list message lent h =
     let same : min 8192 lent ≡ 8192 = omega arith in
     ap (λ (cap : ℕ). first-check (of-size list) 13 (first-check (flags-known flags) 14 (first-check (leb (length message) 65536) 12
-    (result-of (terms-framed (atoms-of flags list) cap standalone (record { at = 0; left = message; rows-taken = 0 })))))) same
+    (result-of (terms-framed (given-of flags list) cap standalone (record { at = 0; left = message; rows-taken = 0 })))))) same
 
 -- what is written in 65,536 bytes of output is written in any that has room for it
 written-in-room : (o : Answer Terms) (bs : List ℕ) → written 65536 o ≡ one bs → (room : ℕ) → length bs ≤ room → written room o ≡ one bs
@@ -129,6 +129,22 @@ output-of rows message = write 3 payload empty-list rows 100 message
 unfoldable pub table-of : ℕ → List ℕ → List ℕ
 unfolding output table-after rows tree-rows row-words word kind-at kind-of offset-of whole-code pack
 table-of lent message = table-after lent (read 3 payload empty-list lent message)
+
+-- what the writer answers for a standalone term with these flags, and an empty list of zeros; and with a list of no size
+unfoldable pub output-with : ℕ → List ℕ → Answer Written
+unfolding output
+output-with flags message = write flags standalone empty-list 8192 65536 message
+
+unfoldable pub output-unsized : ℕ → List ℕ → Answer Written
+unfolding output
+output-unsized flags message = write flags standalone (lent-list 0 [] []) 8192 65536 message
+
+-- a pid and a reference with an empty node, Creation 9; each word has all bits
+abbrev pub pid-88 : List ℕ → List ℕ → List ℕ
+pid-88 id serial = 131 ∷ 88 ∷ 119 ∷ 0 ∷ (id ++ (serial ++ (0 ∷ 0 ∷ 0 ∷ 9 ∷ [])))
+
+abbrev pub reference-90 : ℕ → List ℕ
+reference-90 k = 131 ∷ 90 ∷ 0 ∷ k ∷ 119 ∷ 0 ∷ (0 ∷ 0 ∷ 0 ∷ 9 ∷ replicate (4 * k) 255)
 
 -- a list of two: a length of 33, a text that is not UTF-8
 abbrev pub false-list : AtomList
@@ -189,12 +205,33 @@ pub record Examples : Type 0 where
   -- lent state false: 14 at 0
   pub long-place : output-false (82 ∷ 0 ∷ []) ≡ refused 14 0
   pub no-utf8 : output-false (82 ∷ 1 ∷ []) ≡ refused 14 0
+  -- without V4_NC an ID has 15 bits and a Serial 13; with it all 32, which are written as they were, in tag 88 alone
+  pub narrow-pid : output-with 1 (pid-88 (0 ∷ 0 ∷ 127 ∷ 255 ∷ []) (0 ∷ 0 ∷ 31 ∷ 255 ∷ [])) ≡ one (pid-88 (0 ∷ 0 ∷ 127 ∷ 255 ∷ []) (0 ∷ 0 ∷ 31 ∷ 255 ∷ []))
+  pub narrow-id : output-with 1 (pid-88 (0 ∷ 0 ∷ 128 ∷ 0 ∷ []) (0 ∷ 0 ∷ 0 ∷ 0 ∷ [])) ≡ refused 4 1
+  pub narrow-serial : output-with 0 (pid-88 (0 ∷ 0 ∷ 0 ∷ 0 ∷ []) (0 ∷ 0 ∷ 32 ∷ 0 ∷ [])) ≡ refused 4 1
+  pub wide-pid : output-with 2 (pid-88 (255 ∷ 255 ∷ 255 ∷ 255 ∷ []) (255 ∷ 255 ∷ 255 ∷ 255 ∷ [])) ≡ one (pid-88 (255 ∷ 255 ∷ 255 ∷ 255 ∷ []) (255 ∷ 255 ∷ 255 ∷ 255 ∷ []))
+  pub wide-103 : output-with 3 (131 ∷ 103 ∷ 119 ∷ 0 ∷ 0 ∷ 0 ∷ 128 ∷ 0 ∷ 0 ∷ 0 ∷ 0 ∷ 0 ∷ 0 ∷ []) ≡ refused 4 1
+  -- without V4_NC a 90 has up to 3 words, with it up to 5; a 114 never more than 3
+  pub three-words : output-with 1 (reference-90 3) ≡ one (reference-90 3)
+  pub four-words : output-with 1 (reference-90 4) ≡ refused 4 1
+  pub five-words : output-with 3 (reference-90 5) ≡ one (reference-90 5)
+  pub six-words : output-with 3 (reference-90 6) ≡ refused 4 1
+  pub no-words : output-with 3 (reference-90 0) ≡ refused 4 1
+  pub wide-114 : output-with 3 (131 ∷ 114 ∷ 0 ∷ 4 ∷ 119 ∷ 0 ∷ 0 ∷ replicate 16 0) ≡ refused 4 1
+  -- 4 for the number of words comes before a missing node; where the number is right, 2 is where the node would stand
+  pub words-first : output-with 1 (131 ∷ 90 ∷ 0 ∷ 5 ∷ []) ≡ refused 4 1
+  pub then-node : output-with 3 (131 ∷ 90 ∷ 0 ∷ 5 ∷ []) ≡ refused 2 4
+  -- 14 at 0 for an unknown flag: before 1, after 13
+  pub third-flag : output-with 4 [] ≡ refused 14 0
+  pub last-flag : output-with 128 (131 ∷ 106 ∷ []) ≡ refused 14 0
+  pub all-flags : output-with 255 (131 ∷ 106 ∷ []) ≡ refused 14 0
+  pub size-first : output-unsized 255 (131 ∷ 106 ∷ []) ≡ refused 13 0
   -- two terms, the row numbers running on; characters; all past the rows zero
   pub two-terms : table-of 6 (104 ∷ 1 ∷ 106 ∷ 107 ∷ 0 ∷ 2 ∷ 7 ∷ 8 ∷ [])
       ≡ pack 4 0 0 1 2 ∷ pack 5 2 1 0 1 ∷ pack 5 3 0 2 3 ∷ pack 14 6 3 0 1 ∷ pack 14 7 3 0 1 ∷ 0 ∷ []
 
 pub examples : Examples
-unfolding output output-of output-false table-of nested
+unfolding output output-of output-with output-unsized output-false table-of nested
 examples = record {
   high-zero = refl;
   minus-zero = refl;
@@ -226,5 +263,22 @@ examples = record {
   deep-no-row = refl;
   long-place = refl;
   no-utf8 = refl;
+  narrow-pid = refl;
+  narrow-id = refl;
+  narrow-serial = refl;
+  wide-pid = refl;
+  wide-103 = refl;
+  three-words = refl;
+  four-words = refl;
+  five-words = refl;
+  six-words = refl;
+  no-words = refl;
+  wide-114 = refl;
+  words-first = refl;
+  then-node = refl;
+  third-flag = refl;
+  last-flag = refl;
+  all-flags = refl;
+  size-first = refl;
   two-terms = refl;
 }

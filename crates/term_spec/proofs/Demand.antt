@@ -14,7 +14,7 @@ use Rattle.term_spec.specs.Connection.{flags-known}
 use Rattle.term_spec.specs.Answer.{Answer, good, refused}
 use Rattle.term_spec.specs.Head.{any}
 use Rattle.term_spec.specs.Reading.{Located, meaning, term}
-use Rattle.term_spec.specs.AtomList.{AtomList, of-size, atoms-of}
+use Rattle.term_spec.specs.AtomList.{AtomList, of-size, given-of}
 use Rattle.term_spec.specs.Message.{Framing, standalone, Terms, meanings, ending, version, standalone-term, read}
 use Rattle.term_spec.specs.Canonical.{canonical, canonical-standalone, standalones}
 use Rattle.term_spec.specs.Writing.{Written, written, write, output-after, scratch-after}
@@ -36,11 +36,11 @@ use Rattle.term_spec.proofs.Message.{Allowed, All-allowed, Accepted-mes
 -- The canonical standalone term of a tree within the limits is read back, with any atom list of its size and any table of as many rows.
 read-back : (flags : ℕ) (t : Term) → flags-known flags ≡ true → Allowed flags t → (list : AtomList) → of-size list ≡ true → (lent : ℕ) → size t ≤ lent → length (canonical-standalone t) ≤ 65536
     → (tree : Located) × (read flags standalone list lent (canonical-standalone t) ≡ good (tree ▹ empty)) × (meaning tree ≡ t)
-unfolding read standalone-term version ending canonical-standalone atoms-of
+unfolding read standalone-term version ending canonical-standalone given-of
 read-back flags t known a list sized lent enough short =
     let cap : ℕ = min 8192 lent in
-    let r : Reads (atoms-of flags list) cap 64 any (canonical t ++ []) [] 1 0 t = read-tree (atoms-of flags list) cap t (a .valid-tree) 64 (a .levels) 1 0 [] (omega (arith, a .few-rows)) in
-    let e : term (atoms-of flags list) cap 64 any (spot 1 (canonical t) 0) ≡ good (r .tree, spot (r .end) [] (0 + size t)) = rw (append-nil (canonical t)) at (r .reads) in
+    let r : Reads (given-of flags list) cap 64 any (canonical t ++ []) [] 1 0 t = read-tree (given-of flags list) cap t (a .valid-tree) 64 (a .levels) 1 0 [] (omega (arith, a .few-rows)) in
+    let e : term (given-of flags list) cap 64 any (spot 1 (canonical t) 0) ≡ good (r .tree, spot (r .end) [] (0 + size t)) = rw (append-nil (canonical t)) at (r .reads) in
     (r .tree, rw (sized, known, le-leb _ 65536 short, e) refl, r .means)
 
 -- what is written where the room is enough
@@ -79,7 +79,7 @@ module _ (flags : ℕ) (t : Term) (a : Accepted-term flags t) where
   its-message = accepted-message flags (a .framing) (a .list) 8192 (a .message) (a .are-bytes) (a .terms) (a .accepted)
 
   term-allowed : Allowed flags t
-  unfolding atoms-of
+  unfolding given-of
   term-allowed = one-allowed flags t (meanings (a .terms)) (its-message .known .all-allowed) (a .one-of-them)
 
 -- a term's own output stands in what is written for its message

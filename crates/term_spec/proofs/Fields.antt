@@ -12,26 +12,26 @@ use Rattle.term_spec.specs.Numbers.{in-bytes, little-endian, signed32, w
 use Rattle.term_spec.specs.Text.{utf-8, encodes, Characters}
 use Rattle.term_spec.specs.Term.{integer, float, atom, tuple, binary, bitstring, pid, port, reference}
 use Rattle.term_spec.specs.Answer.{good}
-use Rattle.term_spec.specs.Head.{Atoms, limits, small-integer-ext, integer-ext, big-ext, new-float-ext, atom-ext, tuple-ext, list-ext, string-ext, binary-ext, bit-binary-ext, map-ext, new-reference-ext, fields, leaf, parts, characters, elements, pairs, known, finite, bits-rule, bits-meaning, text-or, an-atom, pid-fields, port-fields, reference-fields, id-words, words-rule, creation-rule, later}
+use Rattle.term_spec.specs.Head.{Given, limits, small-integer-ext, integer-ext, big-ext, new-float-ext, atom-ext, tuple-ext, list-ext, string-ext, binary-ext, bit-binary-ext, map-ext, new-reference-ext, fields, leaf, parts, characters, elements, pairs, known, finite, bits-rule, bits-meaning, text-or, an-atom, pid-fields, port-fields, reference-fields, id-words, words-rule, creation-rule, later}
 use Rattle.term_spec.specs.Canonical.{words-bytes}
 use Rattle.term_spec.proofs.Limits.{limits-most}
 use Rattle.term_spec.proofs.Steps.{spot, ends-at, number-of, bytes-append}
 use Rattle.term_spec.proofs.Text.{utf8-encodes}
 
-module _ (atoms : Atoms) (p at r : ℕ) (rest : List ℕ) where
+module _ (given : Given) (p at r : ℕ) (rest : List ℕ) where
   pub small-fields : (n : ℕ) → n < 256
-      → fields atoms p small-integer-ext (spot at (in-bytes 1 n ++ rest) r) ≡ good (leaf (integer (pos n)), spot (at + 1) rest r)
+      → fields given p small-integer-ext (spot at (in-bytes 1 n ++ rest) r) ≡ good (leaf (integer (pos n)), spot (at + 1) rest r)
   unfolding fields
   small-fields n h = rw (number-of p 1 n rest at r h)
 
   pub integer-fields : (n : ℕ) → n < 2 ^ 32
-      → fields atoms p integer-ext (spot at (in-bytes 4 n ++ rest) r) ≡ good (leaf (integer (signed32 n)), spot (at + 4) rest r)
+      → fields given p integer-ext (spot at (in-bytes 4 n ++ rest) r) ≡ good (leaf (integer (signed32 n)), spot (at + 4) rest r)
   unfolding fields
   integer-fields n h = rw (number-of p 4 n rest at r h)
 
   -- over the width
   pub big-fields : (w sign : ℕ) (ds : List ℕ) → length ds < 256 ^ w → sign ≤ 1
-      → fields atoms p (big-ext w) (spot at (in-bytes w (length ds) ++ (in-bytes 1 sign ++ (ds ++ rest))) r)
+      → fields given p (big-ext w) (spot at (in-bytes w (length ds) ++ (in-bytes 1 sign ++ (ds ++ rest))) r)
       ≡ good (leaf (integer (with-sign sign (little-endian ds))), spot (at + w + 1 + length ds) rest r)
   unfolding fields
   big-fields w sign ds h k =
@@ -43,12 +43,12 @@ module _ (atoms : Atoms) (p at r : ℕ) (rest : List ℕ) where
       )
 
   pub float-fields : (bits : ℕ) → bits < 2 ^ 64 → finite bits ≡ true
-      → fields atoms p new-float-ext (spot at (in-bytes 8 bits ++ rest) r) ≡ good (leaf (float bits), spot (at + 8) rest r)
+      → fields given p new-float-ext (spot at (in-bytes 8 bits ++ rest) r) ≡ good (leaf (float bits), spot (at + 8) rest r)
   unfolding fields
   float-fields bits h e = rw (number-of p 8 bits rest at r h, e)
 
   pub atom-fields : (w : ℕ) (cs : List ℕ) → length (encodes cs) < 256 ^ w → Characters cs → length cs ≤ 255
-      → fields atoms p (atom-ext utf-8 w) (spot at (in-bytes w (length (encodes cs)) ++ (encodes cs ++ rest)) r)
+      → fields given p (atom-ext utf-8 w) (spot at (in-bytes w (length (encodes cs)) ++ (encodes cs ++ rest)) r)
       ≡ good (leaf (atom cs), spot (at + w + length (encodes cs)) rest r)
   unfolding fields text-or
   atom-fields w cs h ok k =
@@ -59,28 +59,28 @@ module _ (atoms : Atoms) (p at r : ℕ) (rest : List ℕ) where
       )
 
   pub tuple-fields : (w n : ℕ) → n < 256 ^ w
-      → fields atoms p (tuple-ext w) (spot at (in-bytes w n ++ rest) r) ≡ good (parts [] n (known tuple), spot (at + w) rest r)
+      → fields given p (tuple-ext w) (spot at (in-bytes w n ++ rest) r) ≡ good (parts [] n (known tuple), spot (at + w) rest r)
   unfolding fields
   tuple-fields w n h = rw (number-of p w n rest at r h)
 
   pub string-fields : (cs : List ℕ) → length cs < 2 ^ 16
-      → fields atoms p string-ext (spot at (in-bytes 2 (length cs) ++ (cs ++ rest)) r) ≡ good (characters cs, spot (at + 2 + length cs) rest r)
+      → fields given p string-ext (spot at (in-bytes 2 (length cs) ++ (cs ++ rest)) r) ≡ good (characters cs, spot (at + 2 + length cs) rest r)
   unfolding fields
   string-fields cs h = rw (number-of p 2 (length cs) (cs ++ rest) at r h, bytes-append p cs rest (at + 2) r)
 
   pub list-fields : (n : ℕ) → n < 2 ^ 32
-      → fields atoms p list-ext (spot at (in-bytes 4 n ++ rest) r) ≡ good (elements n, spot (at + 4) rest r)
+      → fields given p list-ext (spot at (in-bytes 4 n ++ rest) r) ≡ good (elements n, spot (at + 4) rest r)
   unfolding fields
   list-fields n h = rw (number-of p 4 n rest at r h)
 
   pub binary-fields : (bs : List ℕ) → length bs < 2 ^ 32
-      → fields atoms p binary-ext (spot at (in-bytes 4 (length bs) ++ (bs ++ rest)) r) ≡ good (leaf (binary bs), spot (at + 4 + length bs) rest r)
+      → fields given p binary-ext (spot at (in-bytes 4 (length bs) ++ (bs ++ rest)) r) ≡ good (leaf (binary bs), spot (at + 4 + length bs) rest r)
   unfolding fields
   binary-fields bs h = rw (number-of p 4 (length bs) (bs ++ rest) at r h, bytes-append p bs rest (at + 4) r)
 
   pub bits-fields : (bits : ℕ) (bs : List ℕ) → length bs < 2 ^ 32 → bits < 256 → bits-rule (length bs) bits ≡ true
       → bits-meaning bits bs ≡ bitstring bits bs
-      → fields atoms p bit-binary-ext (spot at (in-bytes 4 (length bs) ++ (in-bytes 1 bits ++ (bs ++ rest))) r)
+      → fields given p bit-binary-ext (spot at (in-bytes 4 (length bs) ++ (in-bytes 1 bits ++ (bs ++ rest))) r)
       ≡ good (leaf (bitstring bits bs), spot (at + 4 + 1 + length bs) rest r)
   unfolding fields
   bits-fields bits bs h k e m =
@@ -93,15 +93,15 @@ module _ (atoms : Atoms) (p at r : ℕ) (rest : List ℕ) where
       )
 
   pub map-fields : (n : ℕ) → n < 2 ^ 32
-      → fields atoms p map-ext (spot at (in-bytes 4 n ++ rest) r) ≡ good (pairs n, spot (at + 4) rest r)
+      → fields given p map-ext (spot at (in-bytes 4 n ++ rest) r) ≡ good (pairs n, spot (at + 4) rest r)
   unfolding fields
   map-fields n h = rw (number-of p 4 n rest at r h)
 
-  pub reference-head : (w n : ℕ) → 1 ≤ n → n ≤ limits (atoms .flags) w .word-count
-      → fields atoms p (new-reference-ext w) (spot at (in-bytes 2 n ++ rest) r)
+  pub reference-head : (w n : ℕ) → 1 ≤ n → n ≤ limits (given .flags) w .word-count
+      → fields given p (new-reference-ext w) (spot at (in-bytes 2 n ++ rest) r)
       ≡ good (parts (an-atom ∷ []) 0 (reference-fields n w), spot (at + 2) rest r)
   unfolding fields
-  reference-head w n h k = rw (number-of p 2 n rest at r (omega (arith, limits-most (atoms .flags) w .counts)), le-leb 1 n h, le-leb n (limits (atoms .flags) w .word-count) k)
+  reference-head w n h k = rw (number-of p 2 n rest at r (omega (arith, limits-most (given .flags) w .counts)), le-leb 1 n h, le-leb n (limits (given .flags) w .word-count) k)
 
 -- Later fields.
 

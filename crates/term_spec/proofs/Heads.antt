@@ -15,7 +15,7 @@ use Rattle.term_spec.specs.Numbers.{little-endian, signed32, with-sign, 
 use Rattle.term_spec.specs.Text.{valid, latin-1, utf-8, Characters}
 use Rattle.term_spec.specs.Term.{Label, integer, float, atom, tuple, binary, bitstring, export}
 use Rattle.term_spec.specs.Answer.{refused, Position, Reading}
-use Rattle.term_spec.specs.Head.{Atoms, limits, Wanted, any, an-atom, an-arity, one-of, Form, small-integer-ext, integer-ext, big-ext, new-float-ext, atom-ext, atom-cache-ref, tuple-ext, nil-ext, string-ext, list-ext, binary-ext, bit-binary-ext, map-ext, pid-ext, port-ext, new-reference-ext, reference-ext, export-ext, form, form-in, forms, form-or, fields, Head, leaf, parts, characters, elements, pairs, known, term-head, bits-rule, bits-meaning, clear-low, pid-fields, port-fields, reference-fields, old-reference-fields}
+use Rattle.term_spec.specs.Head.{Given, limits, Wanted, any, an-atom, an-arity, one-of, Form, small-integer-ext, integer-ext, big-ext, new-float-ext, atom-ext, atom-cache-ref, tuple-ext, nil-ext, string-ext, list-ext, binary-ext, bit-binary-ext, map-ext, pid-ext, port-ext, new-reference-ext, reference-ext, export-ext, form, form-in, forms, form-or, fields, Head, leaf, parts, characters, elements, pairs, known, term-head, bits-rule, bits-meaning, clear-low, pid-fields, port-fields, reference-fields, old-reference-fields}
 use Rattle.term_spec.specs.Valid.{Fits, IsList, magnitude}
 use Rattle.term_spec.proofs.Numbers.{length-digits}
 use Rattle.term_spec.proofs.Text.{check-characters}
@@ -147,22 +147,22 @@ Comes (new-reference-ext w) h = Unit {0}
 Comes (port-ext v w) h = Unit {0}
 
 -- the atom list holds texts of characters, 255 at most
-abbrev pub True-atoms : Atoms → Type 0
-True-atoms atoms = (i : ℕ) (cs : List ℕ) → atoms .text i ≡ valid cs → Characters cs × (length cs ≤ 255)
+abbrev pub True-atoms : Given → Type 0
+True-atoms given = (i : ℕ) (cs : List ℕ) → given .text i ≡ valid cs → Characters cs × (length cs ≤ 255)
 
-module _ (atoms : Atoms) (true-atoms : True-atoms atoms) where
+module _ (given : Given) (true-atoms : True-atoms given) where
   pub fields-holds : {r : ℕ} (p : ℕ) (f : Form) → Widths f → (s : Position) → Fine r s → {Q : Head → Position → Type 0}
-      → ((h : Head) (t : Position) → Sound (atoms .flags) h → Comes f h → Fine r t → Q h t) → Holds (fields atoms p f s) Q
+      → ((h : Head) (t : Position) → Sound (given .flags) h → Comes f h → Fine r t → Q h t) → Holds (fields given p f s) Q
   unfolding fields
   fields-holds p small-integer-ext w s g q =
-      bind (number-holds p 1 s g λ n t h g. done-holds _ t (q _ t (a-leaf (integer-fits (atoms .flags) (pos n) 1 h (lit< tt)) (λ x. x)) (n, h, refl) g))
+      bind (number-holds p 1 s g λ n t h g. done-holds _ t (q _ t (a-leaf (integer-fits (given .flags) (pos n) 1 h (lit< tt)) (λ x. x)) (n, h, refl) g))
   fields-holds p integer-ext w s g q =
       bind (number-holds p 4 s g λ n t h g.
-      done-holds _ t (q _ t (a-leaf (integer-fits (atoms .flags) (signed32 n) 5 (omega (arith, signed-magnitude n h)) (lit< tt)) (λ x. x)) tt g))
+      done-holds _ t (q _ t (a-leaf (integer-fits (given .flags) (signed32 n) 5 (omega (arith, signed-magnitude n h)) (lit< tt)) (λ x. x)) tt g))
   fields-holds p new-float-ext w s g q =
       bind (number-holds p 8 s g λ n t h g. bind (rule-holds _ 4 p t λ e. done-holds _ t (q _ t (a-leaf {l = float n} (refl, h, e) (λ x. x)) tt g)))
   fields-holds p atom-cache-ref w s g q =
-      bind (number-holds p 1 s g λ i t h g. bind (rule-holds (ltb i (atoms .n)) 6 p t λ e. bind (text-holds _ 14 _ t λ cs e.
+      bind (number-holds p 1 s g λ i t h g. bind (rule-holds (ltb i (given .n)) 6 p t λ e. bind (text-holds _ 14 _ t λ cs e.
       done-holds _ t (q _ t (a-leaf {l = atom cs} (refl, true-atoms i cs e .0, true-atoms i cs e .1) (λ x. x)) (cs, refl) g))))
   fields-holds p nil-ext w s g q = done-holds _ s (q _ s (a-string tt) tt g)
   fields-holds p string-ext w s g q =
@@ -172,14 +172,14 @@ module _ (atoms : Atoms) (true-atoms : True-atoms atoms) where
       bind (number-holds p 4 s g λ n t h g. bind (bytes-holds p n t g λ bs u l us g. done-holds _ u (q _ u (a-leaf {l = binary bs} (refl, rw l h) (λ x. x)) tt g)))
   fields-holds p bit-binary-ext w s g q =
       bind (number-holds p 4 s g λ n t h g. bind (number-holds p 1 t g λ bits t k g. bind (bytes-holds p n t g λ bs u l us g.
-      bind (rule-holds _ 4 p u λ e. done-holds _ u (q _ u (a-leaf (bits-fit (atoms .flags) bits bs (rw l h) k (rw l e)) (bits-no-list bits bs)) tt g)))))
+      bind (rule-holds _ 4 p u λ e. done-holds _ u (q _ u (a-leaf (bits-fit (given .flags) bits bs (rw l h) k (rw l e)) (bits-no-list bits bs)) tt g)))))
   fields-holds p map-ext w s g q = bind (number-holds p 4 s g λ n t h g. done-holds _ t (q _ t a-map tt g))
   fields-holds p reference-ext w s g q = done-holds _ s (q _ s an-old-reference tt g)
   fields-holds p export-ext w s g q = done-holds _ s (q _ s an-export tt g)
   fields-holds p (big-ext w) ok s g q =
       bind (number-holds p w s g λ n t h g. bind (number-holds p 1 t g λ sign t k g. bind (bytes-holds p n t g λ ds u l us g.
       bind (rule-holds (leb sign 1) 4 p u λ e. done-holds _ u (q _ u
-      (a-leaf {l = integer (with-sign sign (little-endian ds))} (integer-fits (atoms .flags) (with-sign sign (little-endian ds)) n (rw (sign-magnitude sign (little-endian ds)) (rw l at (little-under ds us))) (omega arith)) (λ x. x)) tt g)))))
+      (a-leaf {l = integer (with-sign sign (little-endian ds))} (integer-fits (given .flags) (with-sign sign (little-endian ds)) n (rw (sign-magnitude sign (little-endian ds)) (rw l at (little-under ds us))) (omega arith)) (λ x. x)) tt g)))))
   fields-holds p (atom-ext coding w) ok s g q =
       bind (number-holds p w s g λ n t h g. bind (bytes-holds p n t g λ bs u l us g. bind (text-holds _ 5 _ u λ cs e.
       let ok : Characters cs × (length cs ≤ 255) = check-characters coding bs cs us e in
@@ -188,14 +188,14 @@ module _ (atoms : Atoms) (true-atoms : True-atoms atoms) where
   fields-holds p (pid-ext w) ok s g q = done-holds _ s (q _ s (a-pid ok) tt g)
   fields-holds p (new-reference-ext w) ok s g q =
       bind (number-holds p 2 s g λ n t h g. bind (rule-holds _ 4 p t λ e.
-      let few : (1 ≤ n) × (n ≤ limits (atoms .flags) w .word-count) = both-true n e in
+      let few : (1 ≤ n) × (n ≤ limits (given .flags) w .word-count) = both-true n e in
       done-holds _ t (q _ t (a-reference (few .0) (few .1) ok) tt g)))
     where
-      both-true : (n : ℕ) → (leb 1 n && leb n (limits (atoms .flags) w .word-count)) ≡ true → (1 ≤ n) × (n ≤ limits (atoms .flags) w .word-count)
-      both-true n e = go (leb 1 n) refl (leb n (limits (atoms .flags) w .word-count)) refl e
+      both-true : (n : ℕ) → (leb 1 n && leb n (limits (given .flags) w .word-count)) ≡ true → (1 ≤ n) × (n ≤ limits (given .flags) w .word-count)
+      both-true n e = go (leb 1 n) refl (leb n (limits (given .flags) w .word-count)) refl e
         where
-          go : (x : Bool) → leb 1 n ≡ x → (y : Bool) → leb n (limits (atoms .flags) w .word-count) ≡ y → (x && y) ≡ true → (1 ≤ n) × (n ≤ limits (atoms .flags) w .word-count)
-          go true p true q f = (leb-true 1 n p, leb-true n (limits (atoms .flags) w .word-count) q)
+          go : (x : Bool) → leb 1 n ≡ x → (y : Bool) → leb n (limits (given .flags) w .word-count) ≡ y → (x && y) ≡ true → (1 ≤ n) × (n ≤ limits (given .flags) w .word-count)
+          go true p true q f = (leb-true 1 n p, leb-true n (limits (given .flags) w .word-count) q)
           go true p false q f = let no-way : _≡_ {A = ℕ} 0 1 = cc in (omega arith, omega arith)
           go false p y q f = let no-way : _≡_ {A = ℕ} 0 1 = cc in (omega arith, omega arith)
   fields-holds p (port-ext v w) ok s g q = done-holds _ s (q _ s (a-port (ok .0) (ok .1)) tt g)
@@ -287,10 +287,10 @@ form-holds p for-arity tag s {Q} q = go (one-of tag (97 ∷ [])) refl
     go true e = form-or-holds 4 p (form-in forms tag) s (λ f e′. q f (widths-in forms table-widths tag f e′) (arity-tags tag e f e′))
     go false e = refused-holds 4 p
 
-module _ (atoms : Atoms) (true-atoms : True-atoms atoms) where
+module _ (given : Given) (true-atoms : True-atoms given) where
   pub head-holds : {r : ℕ} {w : Wanted} (a : Asked w) (s : Position) → Fine r s → {Q : Head → Position → Type 0}
-      → ((h : Head) (t : Position) → Sound (atoms .flags) h → Suits a h → Fine r t → Q h t) → Holds (term-head atoms w s) Q
+      → ((h : Head) (t : Position) → Sound (given .flags) h → Suits a h → Fine r t → Q h t) → Holds (term-head given w s) Q
   unfolding term-head
   head-holds {r} {w} a s g q =
       bind (byte-holds (s .at) s g λ tag t _ g. bind (form-holds (s .at) a tag t λ f ws suits.
-      fields-holds atoms true-atoms (s .at) f ws t g λ h u ok comes g. q h u ok (suits h comes) g))
+      fields-holds given true-atoms (s .at) f ws t g λ h u ok comes g. q h u ok (suits h comes) g))

@@ -11,7 +11,7 @@ use lib.ListN.{length}
 use Rattle.term_spec.specs.Numbers.{big-endian, little-endian, Under}
 use Rattle.term_spec.specs.Text.{Checked, valid, invalid-at, check}
 use Rattle.term_spec.specs.Answer.{Answer, good, refused, Position, Reading, after, rule, byte, first-of, bytes, number}
-use Rattle.term_spec.specs.Head.{Atoms, limits, Wanted, Later, Form, small-integer-ext, integer-ext, big-ext, new-float-ext, atom-ext, atom-cache-ref, tuple-ext, nil-ext, string-ext, list-ext, binary-ext, bit-binary-ext, map-ext, pid-ext, port-ext, new-reference-ext, reference-ext, export-ext, fields, Head, parts, characters, elements, pairs, finite, bits-rule, text-or}
+use Rattle.term_spec.specs.Head.{Given, limits, Wanted, Later, Form, small-integer-ext, integer-ext, big-ext, new-float-ext, atom-ext, atom-cache-ref, tuple-ext, nil-ext, string-ext, list-ext, binary-ext, bit-binary-ext, map-ext, pid-ext, port-ext, new-reference-ext, reference-ext, export-ext, fields, Head, parts, characters, elements, pairs, finite, bits-rule, text-or}
 use Rattle.term_spec.specs.Message.{version, ending}
 
 -- if the answer is good, Q holds of what is found and of where reading ends
@@ -126,16 +126,16 @@ ending-holds [] s q = done-holds tt s q
 ending-holds (b ∷ bs) s q = refused-holds 10 _
 
 -- Of the heads, only those of a 106 and of a 107 say characters: what holds of these, and of all other heads, holds of what the fields say
-module _ (atoms : Atoms) (Q : Head → Position → Type 0) (of-parts : (ws : List Wanted) (n : ℕ) (l : Later) (t : Position) → Q (parts ws n l) t)
+module _ (given : Given) (Q : Head → Position → Type 0) (of-parts : (ws : List Wanted) (n : ℕ) (l : Later) (t : Position) → Q (parts ws n l) t)
     (of-elements : (n : ℕ) (t : Position) → Q (elements n) t) (of-pairs : (n : ℕ) (t : Position) → Q (pairs n) t) where
   pub characters-hold : (p : ℕ) (f : Form) (s : Position) → Q (characters []) s → Holds (number p 2 s) (λ n t. Holds (bytes p n t) (λ cs u. Q (characters cs) u))
-      → Holds (fields atoms p f s) Q
+      → Holds (fields given p f s) Q
   unfolding fields
   characters-hold p small-integer-ext s none some = skip (number p 1 s) λ n t. done-holds _ t (of-parts _ _ _ t)
   characters-hold p integer-ext s none some = skip (number p 4 s) λ n t. done-holds _ t (of-parts _ _ _ t)
   characters-hold p new-float-ext s none some = skip (number p 8 s) λ n t. skip (rule (finite n) 4 p t) λ _ t. done-holds _ t (of-parts _ _ _ t)
   characters-hold p atom-cache-ref s none some =
-      skip (number p 1 s) λ n t. skip (rule (ltb n (atoms .n)) 6 p t) λ _ t. skip (text-or (atoms .text n) 14 _ t) λ cs t. done-holds _ t (of-parts _ _ _ t)
+      skip (number p 1 s) λ n t. skip (rule (ltb n (given .n)) 6 p t) λ _ t. skip (text-or (given .text n) 14 _ t) λ cs t. done-holds _ t (of-parts _ _ _ t)
   characters-hold p nil-ext s none some = done-holds _ s none
   characters-hold p string-ext s none some =
       next (λ n t. Holds (bytes p n t) (λ cs u. Q (characters cs) u)) some λ n t h. next (λ cs u. Q (characters cs) u) h λ cs u q. done-holds _ u q
@@ -153,5 +153,5 @@ module _ (atoms : Atoms) (Q : Head → Position → Type 0) (of-parts : (ws : Li
   characters-hold p (tuple-ext w) s none some = skip (number p w s) λ n t. done-holds _ t (of-parts _ _ _ t)
   characters-hold p (pid-ext w) s none some = done-holds _ s (of-parts _ _ _ s)
   characters-hold p (new-reference-ext w) s none some =
-      skip (number p 2 s) λ n t. skip (rule (leb 1 n && leb n (limits (atoms .flags) w .word-count)) 4 p t) λ _ t. done-holds _ t (of-parts _ _ _ t)
+      skip (number p 2 s) λ n t. skip (rule (leb 1 n && leb n (limits (given .flags) w .word-count)) 4 p t) λ _ t. done-holds _ t (of-parts _ _ _ t)
   characters-hold p (port-ext v w) s none some = done-holds _ s (of-parts _ _ _ s)

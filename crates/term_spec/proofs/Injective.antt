@@ -7,7 +7,7 @@ use Rattle.term_spec.specs.Tree.{size, depth}
 use Rattle.term_spec.specs.Text.{invalid-at}
 use Rattle.term_spec.specs.Term.{Term}
 use Rattle.term_spec.specs.Answer.{Answer, good, Position}
-use Rattle.term_spec.specs.Head.{Atoms, any}
+use Rattle.term_spec.specs.Head.{Given, any}
 use Rattle.term_spec.specs.Reading.{Located, meaning, term}
 use Rattle.term_spec.specs.Canonical.{canonical}
 use Rattle.term_spec.specs.Valid.{Valid}
@@ -21,7 +21,7 @@ good-is e = cc
 
 pub canonical-prefix : (flags : ℕ) (t u : Term) → Valid flags t → Valid flags u → (x y : List ℕ) → canonical t ++ x ≡ canonical u ++ y → (t ≡ u) × (x ≡ y)
 canonical-prefix flags t u v w x y e =
-    let none-known : Atoms = record { flags = flags; n = 0; text = λ i. invalid-at 0 } in
+    let none-known : Given = record { flags = flags; n = 0; text = λ i. invalid-at 0 } in
     let cap : ℕ = size t + size u in
     let d : ℕ = depth t + depth u in
     let a : Reads none-known cap d any (canonical t ++ x) x 0 0 t = read-tree none-known cap t v d (omega arith) 0 0 x (omega arith) in

@@ -6,7 +6,7 @@ use native.Mathlib.Numerals.{add-one}
 use native.Mathlib.Omega.{arith}
 use lib.ListN.{length, drop}
 use Rattle.term_spec.specs.Answer.{Answer, Position, number}
-use Rattle.term_spec.specs.Head.{Atoms, Wanted, Form, form, fields, Later, later, term-head}
+use Rattle.term_spec.specs.Head.{Given, Wanted, Form, form, fields, Later, later, term-head}
 use Rattle.term_spec.specs.Reading.{row, run, term}
 use Rattle.term_spec.specs.Message.{Framing, terms-framed}
 use Rattle.term_spec.proofs.Steps.{spot}
@@ -29,27 +29,27 @@ module _ (cap : ℕ) (I : Position → Type 0)
   pub later-kept : (flags p : ℕ) (l : Later) (s : Position) → I s → Kept (later flags p l s)
   later-kept flags p l s i = walk.later-kept cap I Nothing on-byte on-row flags p l s i .ends
 
-  module _ (atoms : Atoms) where
-    pub fields-kept : (p : ℕ) (f : Form) (s : Position) → I s → Kept (fields atoms p f s)
-    fields-kept p f s i = walk.fields-kept cap I Nothing on-byte on-row atoms p f s (λ _ _ _ _ _. tt) i .ends
+  module _ (given : Given) where
+    pub fields-kept : (p : ℕ) (f : Form) (s : Position) → I s → Kept (fields given p f s)
+    fields-kept p f s i = walk.fields-kept cap I Nothing on-byte on-row given p f s (λ _ _ _ _ _. tt) i .ends
 
     pub form-kept : (p : ℕ) (w : Wanted) (tag : ℕ) (s : Position) → I s → Kept (form p w tag s)
-    form-kept p w tag s i = walk.form-kept cap I Nothing on-byte on-row atoms p w tag s i .ends
+    form-kept p w tag s i = walk.form-kept cap I Nothing on-byte on-row given p w tag s i .ends
 
-    head-kept : (w : Wanted) (s : Position) → I s → Kept (term-head atoms w s)
-    head-kept w s i = walk.head-kept cap I Nothing on-byte on-row atoms (λ _ _ _ _. tt) w s i .ends
+    head-kept : (w : Wanted) (s : Position) → I s → Kept (term-head given w s)
+    head-kept w s i = walk.head-kept cap I Nothing on-byte on-row given (λ _ _ _ _. tt) w s i .ends
 
-    row-kept : (p : ℕ) (s : Position) → I s → Kept (row atoms cap p s)
-    row-kept p s i = walk.row-kept cap I Nothing on-byte on-row atoms (λ _ _ _ _. tt) p s i .ends
+    row-kept : (p : ℕ) (s : Position) → I s → Kept (row given cap p s)
+    row-kept p s i = walk.row-kept cap I Nothing on-byte on-row given (λ _ _ _ _. tt) p s i .ends
 
     -- terms one after the other
-    pub run-kept : (d n : ℕ) (s : Position) → I s → Kept (run (term atoms cap d) n s)
+    pub run-kept : (d n : ℕ) (s : Position) → I s → Kept (run (term given cap d) n s)
     run-kept d n s i =
-        walk.run-kept cap I Nothing on-byte on-row atoms (λ _ _ _ _. tt) (term atoms cap d)
-        (walk.term-kept cap I Nothing on-byte on-row atoms (λ _ _ _ _. tt) d) n s i .ends
+        walk.run-kept cap I Nothing on-byte on-row given (λ _ _ _ _. tt) (term given cap d)
+        (walk.term-kept cap I Nothing on-byte on-row given (λ _ _ _ _. tt) d) n s i .ends
 
-    pub framed-kept : (message : List ℕ) → I (spot 0 message 0) → (framing : Framing) → Kept (terms-framed atoms cap framing (spot 0 message 0))
-    framed-kept message i framing = walk.framed-kept cap I Nothing on-byte on-row atoms (λ _ _ _ _. tt) message i framing .ends
+    pub framed-kept : (message : List ℕ) → I (spot 0 message 0) → (framing : Framing) → Kept (terms-framed given cap framing (spot 0 message 0))
+    framed-kept message i framing = walk.framed-kept cap I Nothing on-byte on-row given (λ _ _ _ _. tt) message i framing .ends
 
 -- Positions in a message: the bytes left are those from the offset on, and the rows taken are no more than there are.
 pub record In-step (message : List ℕ) (cap : ℕ) (s : Position) : Type 0 where
@@ -79,9 +79,9 @@ module _ (message : List ℕ) (cap : ℕ) where
   pub later-in-step : (flags p : ℕ) (l : Later) (s : Position) → In-step message cap s → In-step-after (later flags p l s)
   later-in-step = later-kept cap (In-step message cap) on-byte on-row
 
-  module _ (atoms : Atoms) where
-    pub head-in-step : (w : Wanted) (s : Position) → In-step message cap s → In-step-after (term-head atoms w s)
-    head-in-step = head-kept cap (In-step message cap) on-byte on-row atoms
+  module _ (given : Given) where
+    pub head-in-step : (w : Wanted) (s : Position) → In-step message cap s → In-step-after (term-head given w s)
+    head-in-step = head-kept cap (In-step message cap) on-byte on-row given
 
-    pub row-in-step : (p : ℕ) (s : Position) → In-step message cap s → In-step-after (row atoms cap p s)
-    row-in-step = row-kept cap (In-step message cap) on-byte on-row atoms
+    pub row-in-step : (p : ℕ) (s : Position) → In-step message cap s → In-step-after (row given cap p s)
+    row-in-step = row-kept cap (In-step message cap) on-byte on-row given

@@ -12,9 +12,9 @@ use Rattle.term_spec.specs.Text.{Checked, valid, invalid-at, utf-8, chec
 use Rattle.term_spec.specs.Term.{Label, Term}
 use Rattle.term_spec.specs.Connection.{flags-known}
 use Rattle.term_spec.specs.Answer.{Answer, good, refused, Position, Reading, after, done}
-use Rattle.term_spec.specs.Head.{Atoms, any}
+use Rattle.term_spec.specs.Head.{Given, any}
 use Rattle.term_spec.specs.Reading.{Located, meaning, term}
-use Rattle.term_spec.specs.AtomList.{AtomList, of-size, atoms-of, place-length, place-text, place-bytes}
+use Rattle.term_spec.specs.AtomList.{AtomList, of-size, given-of, place-length, place-text, place-bytes}
 use Rattle.term_spec.specs.Message.{Framing, standalone, payload, Terms, meanings, ending, result-of, first-check, standalone-term, payload-terms, terms-framed, read}
 use Rattle.term_spec.specs.Numbers.{Under}
 use Rattle.term_spec.specs.Valid.{Valid, Valids}
@@ -42,29 +42,29 @@ allowed-valid flags empty a = tt
 allowed-valid flags (t ▹ ts) a = (a .0 .valid-tree, allowed-valid flags ts (a .1))
 
 -- what is known of the terms of a message, read with `cap` rows
-pub record Known (message : List ℕ) (cap : ℕ) (atoms : Atoms) (ts : Terms) : Type 0 where
-  pub all-allowed : All-allowed (atoms .flags) (meanings ts)
+pub record Known (message : List ℕ) (cap : ℕ) (given : Given) (ts : Terms) : Type 0 where
+  pub all-allowed : All-allowed (given .flags) (meanings ts)
   pub few : sizes ts ≤ cap
-  pub all-backed : Backeds message cap atoms ts
+  pub all-backed : Backeds message cap given ts
 
-module _ (atoms : Atoms) (true-atoms : True-atoms atoms) (cap : ℕ) (least : cap ≤ 8192) (message : List ℕ) (under : Under 256 message) where
+module _ (given : Given) (true-atoms : True-atoms given) (cap : ℕ) (least : cap ≤ 8192) (message : List ℕ) (under : Under 256 message) where
   -- a term that is no part, with r rows before its own
   abbrev Outer : ℕ → Located → Position → Type 0
-  Outer r x t = Found cap atoms for-any 64 r x t × (In-step message cap t × Backed message cap atoms x)
+  Outer r x t = Found cap given for-any 64 r x t × (In-step message cap t × Backed message cap given x)
 
-  outer : (r : ℕ) (s : Position) → Fine r s → r ≤ cap → In-step message cap s → Holds (term atoms cap 64 any s) (Outer r)
-  outer r s g h i = both _ _ (term-holds cap atoms true-atoms (omega arith) 64 for-any r s g h) (term-backed message cap atoms 64 any s i)
+  outer : (r : ℕ) (s : Position) → Fine r s → r ≤ cap → In-step message cap s → Holds (term given cap 64 any s) (Outer r)
+  outer r s g h i = both _ _ (term-holds cap given true-atoms (omega arith) 64 for-any r s g h) (term-backed message cap given 64 any s i)
 
   start : In-step message cap (spot 0 message 0)
   start = record { bytes-are = refl; inside = omega arith; room = omega arith }
 
-  allowed : (r : ℕ) (x : Located) (t : Position) → Outer r x t → Allowed (atoms .flags) (meaning x)
+  allowed : (r : ℕ) (x : Located) (t : Position) → Outer r x t → Allowed (given .flags) (meaning x)
   allowed r x t f = record { valid-tree = f .0 .valid; levels = f .0 .deep; few-rows = omega (arith, f .0 .room) }
 
-  one-known : (x : Located) (t : Position) → Outer 0 x t → Known message cap atoms (x ▹ empty)
+  one-known : (x : Located) (t : Position) → Outer 0 x t → Known message cap given (x ▹ empty)
   one-known x t f = record { all-allowed = (allowed 0 x t f, tt); few = omega (arith, size-meaning x, f .0 .room); all-backed = (f .1 .1, tt) }
 
-  two-known : (x y : Located) (t s : Position) → Outer 0 x t → Outer (0 + size (meaning x)) y s → Known message cap atoms (x ▹ y ▹ empty)
+  two-known : (x y : Located) (t s : Position) → Outer 0 x t → Outer (0 + size (meaning x)) y s → Known message cap given (x ▹ y ▹ empty)
   two-known x y t s f g =
       record {
         all-allowed = (allowed 0 x t f, (allowed (0 + size (meaning x)) y s g, tt));
@@ -72,7 +72,7 @@ module _ (atoms : Atoms) (true-atoms : True-atoms atoms) (cap : ℕ) (least : ca
         all-backed = (f .1 .1, (g .1 .1, tt));
       }
 
-  standalone-known : Holds (standalone-term atoms cap (spot 0 message 0)) (λ ts t. Known message cap atoms ts)
+  standalone-known : Holds (standalone-term given cap (spot 0 message 0)) (λ ts t. Known message cap given ts)
   unfolding standalone-term
   standalone-known =
       bind (version-holds (spot 0 message 0) λ b bs e.
@@ -80,27 +80,27 @@ module _ (atoms : Atoms) (true-atoms : True-atoms atoms) (cap : ℕ) (least : ca
       (outer 0 (spot 1 bs 0) (record { bytes-under = subst (Under 256) e under .1; rows-are = refl }) (omega arith) (on-byte message cap (spot 0 message 0) b bs e start)) λ x t f.
       bind (ending-holds (t .left) t (done-holds _ t (one-known x t f))))
 
-  payload-known : Holds (payload-terms atoms cap (spot 0 message 0)) (λ ts t. Known message cap atoms ts)
+  payload-known : Holds (payload-terms given cap (spot 0 message 0)) (λ ts t. Known message cap given ts)
   unfolding payload-terms
   payload-known = next (Outer 0) (outer 0 (spot 0 message 0) (record { bytes-under = under; rows-are = refl }) (omega arith) start) λ x t f. go x t f (t .left)
     where
       go : (x : Located) (t : Position) → Outer 0 x t → (left : List ℕ)
           → Holds ((elim left as (λ _. Reading Terms) [
             | [] ↦ done (x ▹ empty)
-            | b ∷ bs ↦ λ t. after (term atoms cap 64 any t) (λ u. λ t. after (ending (t .left) t) (λ _. done (x ▹ u ▹ empty)))
-          ]) t) (λ ts t. Known message cap atoms ts)
+            | b ∷ bs ↦ λ t. after (term given cap 64 any t) (λ u. λ t. after (ending (t .left) t) (λ _. done (x ▹ u ▹ empty)))
+          ]) t) (λ ts t. Known message cap given ts)
       go x t f [] = done-holds _ t (one-known x t f)
       go x t f (b ∷ bs) =
           next (Outer (0 + size (meaning x))) (outer (0 + size (meaning x)) t (f .0 .fine) (f .0 .room) (f .1 .0)) λ y s g.
           bind (ending-holds (s .left) s (done-holds _ s (two-known x y t s f g)))
 
-  framed-known : (framing : Framing) → Holds (terms-framed atoms cap framing (spot 0 message 0)) (λ ts t. Known message cap atoms ts)
+  framed-known : (framing : Framing) → Holds (terms-framed given cap framing (spot 0 message 0)) (λ ts t. Known message cap given ts)
   framed-known standalone = standalone-known
   framed-known payload = payload-known
 
 -- the lent atom list holds texts of characters
-list-true : (flags : ℕ) (list : AtomList) → True-atoms (atoms-of flags list)
-unfolding atoms-of place-text
+list-true : (flags : ℕ) (list : AtomList) → True-atoms (given-of flags list)
+unfolding given-of place-text
 list-true flags list i cs e = go (leb (place-length list i) 32) e
   where
     go : (z : Bool) → _≡_ {A = Checked} (elim z [ true ↦ check utf-8 (place-bytes list i) | false ↦ invalid-at 32 ]) (valid cs) → Characters cs × (length cs ≤ 255)
@@ -120,14 +120,14 @@ pub record Accepted-message (flags : ℕ) (list : AtomList) (lent : ℕ) (messag
   pub sized : of-size list ≡ true
   pub flags-true : flags-known flags ≡ true
   pub short : length message ≤ 65536
-  pub known : Known message (min 8192 lent) (atoms-of flags list) ts
+  pub known : Known message (min 8192 lent) (given-of flags list) ts
 
 pub accepted-message : (flags : ℕ) (framing : Framing) (list : AtomList) (lent : ℕ) (message : List ℕ) → Under 256 message → (ts : Terms)
     → read flags framing list lent message ≡ good ts → Accepted-message flags list lent message ts
 unfolding read
 accepted-message flags framing list lent message under ts e =
     let cap : ℕ = min 8192 lent in
-    let o : Answer (Terms × Position) = terms-framed (atoms-of flags list) cap framing (spot 0 message 0) in
+    let o : Answer (Terms × Position) = terms-framed (given-of flags list) cap framing (spot 0 message 0) in
     let a = passed (of-size list) 13 _ ts e in
     let k = passed (flags-known flags) 14 _ ts (a .1) in
     let b = passed (leb (length message) 65536) 12 (result-of o) ts (k .1) in
@@ -136,5 +136,5 @@ accepted-message flags framing list lent message under ts e =
       sized = a .0;
       flags-true = k .0;
       short = leb-true (length message) 65536 (b .0);
-      known = framed-known (atoms-of flags list) (list-true flags list) cap (omega arith) message under framing .known ts (g .0) (g .1);
+      known = framed-known (given-of flags list) (list-true flags list) cap (omega arith) message under framing .known ts (g .0) (g .1);
     }

@@ -11,7 +11,7 @@ use Rattle.term_spec.specs.Numbers.{in-bytes, digits, little-endian, sig
 use Rattle.term_spec.specs.Text.{utf-8, encodes, Characters}
 use Rattle.term_spec.specs.Term.{integer, float, atom, tuple, binary, bitstring, export}
 use Rattle.term_spec.specs.Answer.{good, Reading, done}
-use Rattle.term_spec.specs.Head.{Atoms, limits, Wanted, any, an-atom, an-arity, Form, small-integer-ext, integer-ext, big-ext, new-float-ext, atom-ext, tuple-ext, nil-ext, string-ext, list-ext, binary-ext, bit-binary-ext, map-ext, pid-ext, port-ext, new-reference-ext, export-ext, form, form-in, forms, form-or, fields, Head, leaf, parts, characters, elements, pairs, known, term-head, finite, bits-rule, bits-meaning, pid-fields, port-fields, reference-fields}
+use Rattle.term_spec.specs.Head.{Given, limits, Wanted, any, an-atom, an-arity, Form, small-integer-ext, integer-ext, big-ext, new-float-ext, atom-ext, tuple-ext, nil-ext, string-ext, list-ext, binary-ext, bit-binary-ext, map-ext, pid-ext, port-ext, new-reference-ext, export-ext, form, form-in, forms, form-or, fields, Head, leaf, parts, characters, elements, pairs, known, term-head, finite, bits-rule, bits-meaning, pid-fields, port-fields, reference-fields}
 use Rattle.term_spec.specs.Reading.{empty-108, opening}
 use Rattle.term_spec.specs.Canonical.{integer-bytes, big-bytes, atom-bytes, tuple-bytes}
 use Rattle.term_spec.specs.Valid.{magnitude}
@@ -126,26 +126,26 @@ signed-neg : (m : ℕ) → m < 2 ^ 31 → signed32 (2 ^ 32 - suc m) ≡ negsuc m
 unfolding signed32
 signed-neg m h = rw (le-ltb (2 ^ 32 - suc m) (2 ^ 31) (omega arith), signed32) (ap negsuc (omega arith))
 
-module _ (atoms : Atoms) where
+module _ (given : Given) where
   -- the bytes begin with a tag and fields that say h; then come more
   pub record Opens (w : Wanted) (left : List ℕ) (at r : ℕ) (h : Head) (more : List ℕ) : Type 0 where
     pub end : ℕ
-    pub opens : opening atoms left w (spot at left r) ≡ good ((at, h), spot end more r)
+    pub opens : opening given left w (spot at left r) ≡ good ((at, h), spot end more r)
 
   pub starting : {w : Wanted} {tag : ℕ} {f : Form} → Starts w tag f → (at r a : ℕ) (left more : List ℕ) (h : Head) → empty-108 h ≡ false
-      → fields atoms at f (spot (at + 1) left r) ≡ good (h, spot a more r) → Opens w (tag ∷ left) at r h more
+      → fields given at f (spot (at + 1) left r) ≡ good (h, spot a more r) → Opens w (tag ∷ left) at r h more
   unfolding opening term-head
   starting {w} {tag} {f} s at r a left more h z e =
       record {
         end = a;
-        opens = rw (s at, e) (ap (λ (t : Bool). (elim t as (λ _. Reading (ℕ × Head)) [ true ↦ opening atoms left any | false ↦ done (at, h) ]) (spot a more r)) z);
+        opens = rw (s at, e) (ap (λ (t : Bool). (elim t as (λ _. Reading (ℕ × Head)) [ true ↦ opening given left any | false ↦ done (at, h) ]) (spot a more r)) z);
       }
 
   module _ (at r : ℕ) (rest : List ℕ) where
     pub small-opens : {w : Wanted} → Starts w 97 small-integer-ext → (n : ℕ) → n < 256
         → Opens w (integer-bytes (pos n) ++ rest) at r (leaf (integer (pos n))) rest
     unfolding integer-bytes
-    small-opens s n h = rw (lt-ltb n 256 h) (starting s at r _ (in-bytes 1 n ++ rest) rest _ refl (small-fields atoms at (at + 1) r rest n h))
+    small-opens s n h = rw (lt-ltb n 256 h) (starting s at r _ (in-bytes 1 n ++ rest) rest _ refl (small-fields given at (at + 1) r rest n h))
 
     big-opens : (sign : ℕ) (ds : List ℕ) → sign ≤ 1 → length ds < 2 ^ 32
         → Opens any (big-bytes sign ds ++ rest) at r (leaf (integer (with-sign sign (little-endian ds)))) rest
@@ -154,10 +154,10 @@ module _ (atoms : Atoms) where
         by-less 255 (length ds)
         (λ long.
         rw (lt-leb (length ds) 255 long, append-assoc (in-bytes 4 (length ds)) (in-bytes 1 sign ++ ds) rest, append-assoc (in-bytes 1 sign) ds rest)
-        (starting any-111 at r _ _ rest _ refl (big-fields atoms at (at + 1) r rest 4 sign ds h s)))
+        (starting any-111 at r _ _ rest _ refl (big-fields given at (at + 1) r rest 4 sign ds h s)))
         (λ short.
         rw (le-leb (length ds) 255 short, append-assoc (in-bytes 1 (length ds)) (in-bytes 1 sign ++ ds) rest, append-assoc (in-bytes 1 sign) ds rest)
-        (starting any-110 at r _ _ rest _ refl (big-fields atoms at (at + 1) r rest 1 sign ds (omega arith) s)))
+        (starting any-110 at r _ _ rest _ refl (big-fields given at (at + 1) r rest 1 sign ds (omega arith) s)))
 
     pub integer-opens : (z : ℤ) → length (digits (magnitude z)) < 2 ^ 32 → Opens any (integer-bytes z ++ rest) at r (leaf (integer z)) rest
     unfolding integer-bytes with-sign
@@ -166,7 +166,7 @@ module _ (atoms : Atoms) where
         by-less n (2 ^ 31)
         (λ less.
         rw (le-ltb n 256 over, lt-ltb n (2 ^ 31) less, ← signed-pos n less)
-        (starting any-98 at r _ _ rest _ refl (integer-fields atoms at (at + 1) r rest n (omega arith))))
+        (starting any-98 at r _ _ rest _ refl (integer-fields given at (at + 1) r rest n (omega arith))))
         (λ over′.
         rw (le-ltb n 256 over, le-ltb n (2 ^ 31) over′)
         (rw (little-digits n) at (big-opens 0 (digits n) (omega arith) h)))
@@ -174,13 +174,13 @@ module _ (atoms : Atoms) where
         by-less m (2 ^ 31)
         (λ less.
         rw (lt-ltb m (2 ^ 31) less)
-        (rw (signed-neg m less) at (starting any-98 at r _ _ rest _ refl (integer-fields atoms at (at + 1) r rest (2 ^ 32 - suc m) (omega arith)))))
+        (rw (signed-neg m less) at (starting any-98 at r _ _ rest _ refl (integer-fields given at (at + 1) r rest (2 ^ 32 - suc m) (omega arith)))))
         (λ over.
         rw (le-ltb m (2 ^ 31) over)
         (rw (little-digits (suc m)) at (big-opens 1 (digits (suc m)) (omega arith) h)))
 
     pub float-opens : (bits : ℕ) → bits < 2 ^ 64 → finite bits ≡ true → Opens any (70 ∷ (in-bytes 8 bits ++ rest)) at r (leaf (float bits)) rest
-    float-opens bits h e = starting any-70 at r _ _ rest _ refl (float-fields atoms at (at + 1) r rest bits h e)
+    float-opens bits h e = starting any-70 at r _ _ rest _ refl (float-fields given at (at + 1) r rest bits h e)
 
     pub atom-opens : {w : Wanted} → Starts w 119 (atom-ext utf-8 1) → Starts w 118 (atom-ext utf-8 2) → (cs : List ℕ) → Characters cs → length cs ≤ 255
         → Opens w (atom-bytes (encodes cs) ++ rest) at r (leaf (atom cs)) rest
@@ -189,22 +189,22 @@ module _ (atoms : Atoms) where
         by-less 255 (length (encodes cs))
         (λ long.
         rw (lt-leb (length (encodes cs)) 255 long, append-assoc (in-bytes 2 (length (encodes cs))) (encodes cs) rest)
-        (starting s₂ at r _ _ rest _ refl (atom-fields atoms at (at + 1) r rest 2 cs (omega (arith, length-encodes cs)) ok k)))
+        (starting s₂ at r _ _ rest _ refl (atom-fields given at (at + 1) r rest 2 cs (omega (arith, length-encodes cs)) ok k)))
         (λ short.
         rw (le-leb (length (encodes cs)) 255 short, append-assoc (in-bytes 1 (length (encodes cs))) (encodes cs) rest)
-        (starting s₁ at r _ _ rest _ refl (atom-fields atoms at (at + 1) r rest 1 cs (omega arith) ok k)))
+        (starting s₁ at r _ _ rest _ refl (atom-fields given at (at + 1) r rest 1 cs (omega arith) ok k)))
 
     pub binary-opens : (bs : List ℕ) → length bs < 2 ^ 32 → Opens any (109 ∷ ((in-bytes 4 (length bs) ++ bs) ++ rest)) at r (leaf (binary bs)) rest
     binary-opens bs h =
         rw (append-assoc (in-bytes 4 (length bs)) bs rest)
-        (starting any-109 at r _ _ rest _ refl (binary-fields atoms at (at + 1) r rest bs h))
+        (starting any-109 at r _ _ rest _ refl (binary-fields given at (at + 1) r rest bs h))
 
     pub bits-opens : (bits : ℕ) (bs : List ℕ) → length bs < 2 ^ 32 → bits < 256 → bits-rule (length bs) bits ≡ true
         → bits-meaning bits bs ≡ bitstring bits bs
         → Opens any (77 ∷ ((in-bytes 4 (length bs) ++ (in-bytes 1 bits ++ bs)) ++ rest)) at r (leaf (bitstring bits bs)) rest
     bits-opens bits bs h k e m =
         rw (append-assoc (in-bytes 4 (length bs)) (in-bytes 1 bits ++ bs) rest, append-assoc (in-bytes 1 bits) bs rest)
-        (starting any-77 at r _ _ rest _ refl (bits-fields atoms at (at + 1) r rest bits bs h k e m))
+        (starting any-77 at r _ _ rest _ refl (bits-fields given at (at + 1) r rest bits bs h k e m))
 
     pub tuple-opens : (n : ℕ) (ps : List ℕ) → n < 2 ^ 32 → Opens any (tuple-bytes n ps ++ rest) at r (parts [] n (known tuple)) (ps ++ rest)
     unfolding tuple-bytes
@@ -212,15 +212,15 @@ module _ (atoms : Atoms) where
         by-less 255 n
         (λ long.
         rw (lt-leb n 255 long, append-assoc (in-bytes 4 n) ps rest)
-        (starting any-105 at r _ _ (ps ++ rest) _ refl (tuple-fields atoms at (at + 1) r (ps ++ rest) 4 n h)))
+        (starting any-105 at r _ _ (ps ++ rest) _ refl (tuple-fields given at (at + 1) r (ps ++ rest) 4 n h)))
         (λ short.
         rw (le-leb n 255 short, append-assoc (in-bytes 1 n) ps rest)
-        (starting any-104 at r _ _ (ps ++ rest) _ refl (tuple-fields atoms at (at + 1) r (ps ++ rest) 1 n (omega arith))))
+        (starting any-104 at r _ _ (ps ++ rest) _ refl (tuple-fields given at (at + 1) r (ps ++ rest) 1 n (omega arith))))
 
     pub map-opens : (n : ℕ) (ps : List ℕ) → n < 2 ^ 32 → Opens any (116 ∷ ((in-bytes 4 n ++ ps) ++ rest)) at r (pairs n) (ps ++ rest)
     map-opens n ps h =
         rw (append-assoc (in-bytes 4 n) ps rest)
-        (starting any-116 at r _ _ (ps ++ rest) _ refl (map-fields atoms at (at + 1) r (ps ++ rest) n h))
+        (starting any-116 at r _ _ (ps ++ rest) _ refl (map-fields given at (at + 1) r (ps ++ rest) n h))
 
     -- over the identifiers: the node comes at once
     pub pid-opens : (ps : List ℕ) → Opens any (88 ∷ ps) at r (parts (an-atom ∷ []) 0 (pid-fields 4)) ps
@@ -235,9 +235,9 @@ module _ (atoms : Atoms) where
     unfolding fields
     long-port-opens ps = starting any-120 at r (at + 1) ps ps _ refl refl
 
-    pub reference-opens : (n : ℕ) → 1 ≤ n → n ≤ limits (atoms .flags) 4 .word-count
+    pub reference-opens : (n : ℕ) → 1 ≤ n → n ≤ limits (given .flags) 4 .word-count
         → Opens any (90 ∷ (in-bytes 2 n ++ rest)) at r (parts (an-atom ∷ []) 0 (reference-fields n 4)) rest
-    reference-opens n h k = starting any-90 at r _ _ rest _ refl (reference-head atoms at (at + 1) r rest 4 n h k)
+    reference-opens n h k = starting any-90 at r _ _ rest _ refl (reference-head given at (at + 1) r rest 4 n h k)
 
     pub export-opens : (ps : List ℕ) → Opens any (113 ∷ ps) at r (parts (an-atom ∷ an-atom ∷ an-arity ∷ []) 0 (known export)) ps
     unfolding fields
@@ -249,9 +249,9 @@ module _ (atoms : Atoms) where
 
     pub string-opens : (cs : List ℕ) → length cs < 2 ^ 16
         → Opens any (107 ∷ (in-bytes 2 (length cs) ++ (cs ++ rest))) at r (characters cs) rest
-    string-opens cs h = starting any-107 at r _ _ rest _ refl (string-fields atoms at (at + 1) r rest cs h)
+    string-opens cs h = starting any-107 at r _ _ rest _ refl (string-fields given at (at + 1) r rest cs h)
 
     -- a 108 whose length is not 0
     pub list-opens : (n : ℕ) → n < 2 ^ 32 → 0 < n → Opens any (108 ∷ (in-bytes 4 n ++ rest)) at r (elements n) rest
     list-opens zero h k = absurd (omega arith)
-    list-opens (suc n) h k = starting any-108 at r _ _ rest _ refl (list-fields atoms at (at + 1) r rest (suc n) h)
+    list-opens (suc n) h k = starting any-108 at r _ _ rest _ refl (list-fields given at (at + 1) r rest (suc n) h)

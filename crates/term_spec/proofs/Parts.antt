@@ -11,7 +11,7 @@ use borrow.Author.Tests.{lt-ltb}
 use Rattle.term_spec.specs.Tree.{Forest, node, empty, _▹_, size, sizes, deepest, count, relabels}
 use Rattle.term_spec.specs.Term.{Label, Term, integer, float, atom, tuple, list, improper-list, binary, bitstring, map, pid, port, reference, export}
 use Rattle.term_spec.specs.Answer.{Answer, good, Position, Reading}
-use Rattle.term_spec.specs.Head.{Atoms, Wanted, any, Head, leaf, parts, characters, elements, pairs, term-head, form, form-in, forms, form-or, fields, later}
+use Rattle.term_spec.specs.Head.{Given, Wanted, any, Head, leaf, parts, characters, elements, pairs, term-head, form, form-in, forms, form-or, fields, later}
 use Rattle.term_spec.specs.Reading.{Offset, tag-at, character-at, Located, meaning, opening, row, body, one-term, contents, term, each, run, entries, string, list-tail}
 use Rattle.term_spec.specs.Canonical.{small, put, all-small, canonical, canonicals}
 use Rattle.term_spec.specs.Valid.{Fits, Valids, Keys}
@@ -54,9 +54,9 @@ Plain (characters cs) = ⊥
 Plain (elements n) = ⊥
 Plain (pairs n) = Unit {0}
 
-module _ (atoms : Atoms) (cap : ℕ) where
+module _ (given : Given) (cap : ℕ) where
   -- a row is there
-  pub row-at : (p at r : ℕ) (left : List ℕ) → r < cap → row atoms cap p (spot at left r) ≡ good (tt, spot at left (r + 1))
+  pub row-at : (p at r : ℕ) (left : List ℕ) → r < cap → row given cap p (spot at left r) ≡ good (tt, spot at left (r + 1))
   unfolding row
   row-at p at r left h = rw (lt-ltb r cap h, row)
 
@@ -64,17 +64,17 @@ module _ (atoms : Atoms) (cap : ℕ) where
   pub record Reads (d : ℕ) (w : Wanted) (left rest : List ℕ) (at r : ℕ) (t : Term) : Type 0 where
     pub tree : Located
     pub end : ℕ
-    pub reads : term atoms cap d w (spot at left r) ≡ good (tree, spot end rest (r + size t))
+    pub reads : term given cap d w (spot at left r) ≡ good (tree, spot end rest (r + size t))
     pub means : meaning tree ≡ t
 
   -- a head and a row: then come the parts
-  pub opened : (d : ℕ) {w : Wanted} {left : List ℕ} {at r : ℕ} {h : Head} {more : List ℕ} (o : Opens atoms w left at r h more) → r < cap
-      → term atoms cap (suc d) w (spot at left r) ≡ contents atoms cap d (body atoms cap d) at h (spot (o .end) more (r + 1))
+  pub opened : (d : ℕ) {w : Wanted} {left : List ℕ} {at r : ℕ} {h : Head} {more : List ℕ} (o : Opens given w left at r h more) → r < cap
+      → term given cap (suc d) w (spot at left r) ≡ contents given cap d (body given cap d) at h (spot (o .end) more (r + 1))
   unfolding one-term body
   opened d {w} {left} {at} {r} {h} {more} o k = rw (o .opens, row-at at (o .end) r more k)
 
   -- a term without parts
-  pub leaf-reads : (d : ℕ) {w : Wanted} {left : List ℕ} {at r : ℕ} {l : Label} {rest : List ℕ} → Opens atoms w left at r (leaf l) rest → r < cap
+  pub leaf-reads : (d : ℕ) {w : Wanted} {left : List ℕ} {at r : ℕ} {l : Label} {rest : List ℕ} → Opens given w left at r (leaf l) rest → r < cap
       → Reads (suc d) w left rest at r (node l empty)
   unfolding contents each run later
   leaf-reads d {w} {left} {at} {r} {l} {rest} o k =
@@ -92,7 +92,7 @@ module _ (atoms : Atoms) (cap : ℕ) where
   pub record Runs (d : ℕ) (left rest : List ℕ) (at r : ℕ) (ts : Forest Label) : Type 0 where
     pub trees : Forest (Label × Offset)
     pub end : ℕ
-    pub reads : run (term atoms cap d) (count ts) (spot at left r) ≡ good (trees, spot end rest (r + sizes ts))
+    pub reads : run (term given cap d) (count ts) (spot at left r) ≡ good (trees, spot end rest (r + sizes ts))
     pub means : relabels (λ l. l .0) trees ≡ ts
 
   pub run-reads : (d : ℕ) (ts : Forest Label) → All-readable d ts → (at r : ℕ) (rest : List ℕ) → r + sizes ts ≤ cap
@@ -114,10 +114,10 @@ module _ (atoms : Atoms) (cap : ℕ) where
   -- the characters of a list of small integers
   pub record Strings (d p off at : ℕ) (cs rest : List ℕ) (r : ℕ) (ts : Forest Label) : Type 0 where
     pub trees : Forest (Label × Offset)
-    pub reads : string atoms cap d p off cs (spot at rest r) ≡ good (trees, spot at rest (r + sizes ts))
+    pub reads : string given cap d p off cs (spot at rest r) ≡ good (trees, spot at rest (r + sizes ts))
     pub means : relabels (λ l. l .0) trees ≡ ts
 
-  pub string-reads : (d : ℕ) (ts : Forest Label) (cs : List ℕ) → all-small ts ≡ some cs → Valids (atoms .flags) ts → deepest ts ≤ suc d
+  pub string-reads : (d : ℕ) (ts : Forest Label) (cs : List ℕ) → all-small ts ≡ some cs → Valids (given .flags) ts → deepest ts ≤ suc d
       → (p off at r : ℕ) (rest : List ℕ) → r + sizes ts ≤ cap → Strings (suc d) p off at cs rest r ts
   unfolding string all-small
   string-reads d empty cs e ok h p off at r rest k =
@@ -134,7 +134,7 @@ module _ (atoms : Atoms) (cap : ℕ) where
       go (some c) x (some cs′) y z ih =
           let one-more : cs ≡ c ∷ cs′ = cc in
           let others : Strings (suc d) p (off + 1) at cs′ rest (r + 1) ts = ih cs′ y in
-          rw (one-more, small-is l c x, small-leaf (atoms .flags) l us c x (ok .0 .0))
+          rw (one-more, small-is l c x, small-leaf (given .flags) l us c x (ok .0 .0))
           (record {
             trees = node (integer (pos c), character-at off) empty ▹ others .trees;
             reads =
@@ -147,7 +147,7 @@ module _ (atoms : Atoms) (cap : ℕ) where
   pub record Maps (d : ℕ) (earlier : List Term) (n : ℕ) (left rest : List ℕ) (at r : ℕ) (ts : Forest Label) : Type 0 where
     pub trees : Forest (Label × Offset)
     pub end : ℕ
-    pub reads : entries (term atoms cap d) earlier n (spot at left r) ≡ good (trees, spot end rest (r + sizes ts))
+    pub reads : entries (term given cap d) earlier n (spot at left r) ≡ good (trees, spot end rest (r + sizes ts))
     pub means : relabels (λ l. l .0) trees ≡ ts
 
   pub entries-reads : (n d : ℕ) (earlier : List Term) (ts : Forest Label) → count ts ≡ n + n → Keys earlier ts → All-readable d ts
@@ -185,14 +185,14 @@ module _ (atoms : Atoms) (cap : ℕ) where
 
   -- the tail of a proper list
   pub tail-nil : (d at r : ℕ) (inner : ℕ → Head → Reading Located) (rest : List ℕ)
-      → list-tail atoms cap d inner (106 ∷ rest) (spot at (106 ∷ rest) r) ≡ good ((empty, list), spot (at + 1) rest r)
+      → list-tail given cap d inner (106 ∷ rest) (spot at (106 ∷ rest) r) ≡ good ((empty, list), spot (at + 1) rest r)
   unfolding list-tail opening term-head form form-in forms form-or fields string
   tail-nil d at r inner rest = refl
 
   -- the tail of an improper list
   pub tail-plain : (d at r : ℕ) (inner : ℕ → Head → Reading Located) (b : ℕ) (bound left more : List ℕ) (h : Head) (u : Located) (s : Position)
-      → Opens atoms any left at r h more → Plain h → one-term atoms inner any (spot at left r) ≡ good (u, s)
-      → list-tail atoms cap d inner (b ∷ bound) (spot at left r) ≡ good ((u ▹ empty, improper-list), s)
+      → Opens given any left at r h more → Plain h → one-term given inner any (spot at left r) ≡ good (u, s)
+      → list-tail given cap d inner (b ∷ bound) (spot at left r) ≡ good ((u ▹ empty, improper-list), s)
   unfolding list-tail one-term
   tail-plain d at r inner b bound left more (parts ws n l) u s o ok e =
       let e′ : inner at (parts ws n l) (spot (o .end) more r) ≡ good (u, s) = rw (o .opens) at e in rw (o .opens, e′)

@@ -13,7 +13,7 @@ use Rattle.term_spec.specs.Text.{Checked, valid, invalid-at, Coding, che
 use Rattle.term_spec.specs.Term.{Label, Term, list, improper-list}
 use Rattle.term_spec.specs.Equal.{among}
 use Rattle.term_spec.specs.Answer.{Answer, good, refused, Position, Reading, after, done, rule, byte, first-of, bytes, number}
-use Rattle.term_spec.specs.Head.{Atoms, limits, Wanted, any, tagged, one-of, Form, small-integer-ext, integer-ext, big-ext, new-float-ext, atom-ext, atom-cache-ref, tuple-ext, nil-ext, string-ext, list-ext, binary-ext, bit-binary-ext, map-ext, pid-ext, port-ext, new-reference-ext, reference-ext, export-ext, form, form-in, forms, form-or, fields, Head, parts, characters, elements, pairs, Later, known, pid-fields, port-fields, reference-fields, old-reference-fields, later, id-words, words-rule, creation-rule, finite, bits-rule, term-head, text-or}
+use Rattle.term_spec.specs.Head.{Given, limits, Wanted, any, tagged, one-of, Form, small-integer-ext, integer-ext, big-ext, new-float-ext, atom-ext, atom-cache-ref, tuple-ext, nil-ext, string-ext, list-ext, binary-ext, bit-binary-ext, map-ext, pid-ext, port-ext, new-reference-ext, reference-ext, export-ext, form, form-in, forms, form-or, fields, Head, parts, characters, elements, pairs, Later, known, pid-fields, port-fields, reference-fields, old-reference-fields, later, id-words, words-rule, creation-rule, finite, bits-rule, term-head, text-or}
 use Rattle.term_spec.specs.Reading.{Offset, Located, meaning, empty-108, opening, one-term, row, body, contents, term, each, run, entries, string, list-tail}
 use Rattle.term_spec.specs.Message.{Framing, standalone, payload, Terms, version, ending, standalone-term, payload-terms, terms-framed}
 use Rattle.term_spec.proofs.Steps.{spot}
@@ -70,7 +70,7 @@ module _ {F : ℕ → Type 0} where
         go (b ∷ bs) e = tested b bs e (eqb b 131)
 
 -- The head of an atom, read at s: its tag and its form are found, and its fields refuse with 5 at q
-pub record Atom-refused (atoms : Atoms) (s : Position) (q : ℕ) : Type 0 where
+pub record Atom-refused (given : Given) (s : Position) (q : ℕ) : Type 0 where
   pub wanted : Wanted
   pub tag : ℕ
   pub found : Form
@@ -81,7 +81,7 @@ pub record Atom-refused (atoms : Atoms) (s : Position) (q : ℕ) : Type 0 where
   pub tag-read : byte (s .at) s ≡ good (tag, past-tag)
   pub form-found : form (s .at) wanted tag past-tag ≡ good (found, before-fields)
   pub is-atom : found ≡ atom-ext coding width
-  pub refused-there : fields atoms (s .at) found before-fields ≡ refused 5 q
+  pub refused-there : fields given (s .at) found before-fields ≡ refused 5 q
 
 module _ (cap : ℕ) (I : Position → Type 0) (F : ℕ → Type 0)
     (on-byte : (s : Position) (b : ℕ) (bs : List ℕ) → s .left ≡ b ∷ bs → I s → I (record { at = s .at + 1; left = bs; rows-taken = s .rows-taken }))
@@ -134,16 +134,16 @@ module _ (cap : ℕ) (I : Position → Type 0) (F : ℕ → Type 0)
   later-kept flags p old-reference-fields s i =
       step (words-kept p 1 s i) λ ws t i. step (number-kept p 1 t i) λ creation t i. step (rule-kept (words-rule 1 ws && creation-rule 1 creation) 4 p refl t i) λ _ t i. end _ t i
 
-  module _ (atoms : Atoms) where
+  module _ (given : Given) where
     -- where the form is an atom's, F of the place where its text is refused is asked
-    pub fields-kept : (p : ℕ) (f : Form) (s : Position) → ((coding : Coding) (w q : ℕ) → f ≡ atom-ext coding w → fields atoms p f s ≡ refused 5 q → F q)
-        → I s → Kept (fields atoms p f s)
+    pub fields-kept : (p : ℕ) (f : Form) (s : Position) → ((coding : Coding) (w q : ℕ) → f ≡ atom-ext coding w → fields given p f s ≡ refused 5 q → F q)
+        → I s → Kept (fields given p f s)
     unfolding fields
     fields-kept p small-integer-ext s texts i = step (number-kept p 1 s i) λ n t i. end _ t i
     fields-kept p integer-ext s texts i = step (number-kept p 4 s i) λ n t i. end _ t i
     fields-kept p new-float-ext s texts i = step (number-kept p 8 s i) λ n t i. step (rule-kept (finite n) 4 p refl t i) λ _ t i. end _ t i
     fields-kept p atom-cache-ref s texts i =
-        step (number-kept p 1 s i) λ n t i. step (rule-kept (ltb n (atoms .n)) 6 p refl t i) λ _ t i. step (text-kept (atoms .text n) 14 _ refl t i) λ cs t i. end _ t i
+        step (number-kept p 1 s i) λ n t i. step (rule-kept (ltb n (given .n)) 6 p refl t i) λ _ t i. step (text-kept (given .text n) 14 _ refl t i) λ cs t i. end _ t i
     fields-kept p nil-ext s texts i = end _ s i
     fields-kept p string-ext s texts i = step (number-kept p 2 s i) λ n t i. step (bytes-kept p n t i) λ bs t i. end _ t i
     fields-kept p list-ext s texts i = step (number-kept p 4 s i) λ n t i. end _ t i
@@ -166,7 +166,7 @@ module _ (cap : ℕ) (I : Position → Type 0) (F : ℕ → Type 0)
         }
     fields-kept p (tuple-ext w) s texts i = step (number-kept p w s i) λ n t i. end _ t i
     fields-kept p (pid-ext w) s texts i = end _ s i
-    fields-kept p (new-reference-ext w) s texts i = step (number-kept p 2 s i) λ n t i. step (rule-kept (leb 1 n && leb n (limits (atoms .flags) w .word-count)) 4 p refl t i) λ _ t i. end _ t i
+    fields-kept p (new-reference-ext w) s texts i = step (number-kept p 2 s i) λ n t i. step (rule-kept (leb 1 n && leb n (limits (given .flags) w .word-count)) 4 p refl t i) λ _ t i. end _ t i
     fields-kept p (port-ext v w) s texts i = end _ s i
 
     form-or-kept : (n p : ℕ) → eqb n 5 ≡ false → (o : Option Form) (s : Position) → I s → Kept (form-or n p o s)
@@ -183,12 +183,12 @@ module _ (cap : ℕ) (I : Position → Type 0) (F : ℕ → Type 0)
         go true = form-or-kept 4 p refl (form-in forms tag) s i
         go false = no 4 p refl
 
-  module _ (atoms : Atoms) (on-atom : (s : Position) (q : ℕ) → I s → Atom-refused atoms s q → F q) where
-    pub head-kept : (w : Wanted) (s : Position) → I s → Kept (term-head atoms w s)
+  module _ (given : Given) (on-atom : (s : Position) (q : ℕ) → I s → Atom-refused given s q → F q) where
+    pub head-kept : (w : Wanted) (s : Position) → I s → Kept (term-head given w s)
     unfolding term-head
     head-kept w s i =
-        next-step (byte-kept (s .at) s i) λ tag t b j. next-step (form-kept atoms (s .at) w tag t j) λ f u g k.
-        fields-kept atoms (s .at) f u
+        next-step (byte-kept (s .at) s i) λ tag t b j. next-step (form-kept given (s .at) w tag t j) λ f u g k.
+        fields-kept given (s .at) f u
         (λ coding v q is r. on-atom s q i (record {
           wanted = w;
           tag = tag;
@@ -203,17 +203,17 @@ module _ (cap : ℕ) (I : Position → Type 0) (F : ℕ → Type 0)
           refused-there = r;
         })) k
 
-    opening-kept : (bound : List ℕ) (w : Wanted) (s : Position) → I s → Kept (opening atoms bound w s)
+    opening-kept : (bound : List ℕ) (w : Wanted) (s : Position) → I s → Kept (opening given bound w s)
     unfolding opening
     opening-kept [] w s i = no 2 _ refl
     opening-kept (b ∷ bound) w s i = step (head-kept w s i) λ h t i. go h t i (empty-108 h) (opening-kept bound any t i)
       where
-        go : (h : Head) (t : Position) → I t → (z : Bool) → Kept (opening atoms bound any t)
-            → Kept ((elim z as (λ _. Reading (ℕ × Head)) [ true ↦ opening atoms bound any | false ↦ done (s .at, h) ]) t)
+        go : (h : Head) (t : Position) → I t → (z : Bool) → Kept (opening given bound any t)
+            → Kept ((elim z as (λ _. Reading (ℕ × Head)) [ true ↦ opening given bound any | false ↦ done (s .at, h) ]) t)
         go h t i true k = k
         go h t i false k = end _ t i
 
-    pub row-kept : (p : ℕ) (s : Position) → I s → Kept (row atoms cap p s)
+    pub row-kept : (p : ℕ) (s : Position) → I s → Kept (row given cap p s)
     unfolding row
     row-kept p s i = go (ltb (s .rows-taken) cap) refl
       where
@@ -222,7 +222,7 @@ module _ (cap : ℕ) (I : Position → Type 0) (F : ℕ → Type 0)
         go true e = end tt _ (on-row s (ltb-true (s .rows-taken) cap e) i)
         go false e = no 9 p refl
 
-    string-kept : (d p off : ℕ) (cs : List ℕ) (s : Position) → I s → Kept (string atoms cap d p off cs s)
+    string-kept : (d p off : ℕ) (cs : List ℕ) (s : Position) → I s → Kept (string given cap d p off cs s)
     unfolding string
     string-kept d p off [] s i = end _ s i
     string-kept zero p off (c ∷ cs) s i = no 8 p refl
@@ -247,45 +247,45 @@ module _ (cap : ℕ) (I : Position → Type 0) (F : ℕ → Type 0)
           step (entries-kept (meaning k ∷ earlier) n t i) λ us t i. end _ t i
 
     module _ (d : ℕ) (inner : ℕ → Head → Reading Located) (ok : (p : ℕ) (h : Head) (s : Position) → I s → Kept (inner p h s)) where
-      part-kept : (w : Wanted) (s : Position) → I s → Kept (one-term atoms inner w s)
+      part-kept : (w : Wanted) (s : Position) → I s → Kept (one-term given inner w s)
       unfolding one-term
       part-kept w s i = step (opening-kept (s .left) w s i) λ o t i. ok (o .0) (o .1) t i
 
-      tail-kept : (bound : List ℕ) (s : Position) → I s → Kept (list-tail atoms cap d inner bound s)
+      tail-kept : (bound : List ℕ) (s : Position) → I s → Kept (list-tail given cap d inner bound s)
       unfolding list-tail
       tail-kept [] s i = no 2 _ refl
       tail-kept (b ∷ bound) s i = step (opening-kept (s .left) any s i) λ o t i. go (o .0) (o .1) t i (λ t i. tail-kept bound t i)
         where
-          go : (p : ℕ) (x : Head) (t : Position) → I t → ((t : Position) → I t → Kept (list-tail atoms cap d inner bound t))
+          go : (p : ℕ) (x : Head) (t : Position) → I t → ((t : Position) → I t → Kept (list-tail given cap d inner bound t))
               → Kept ((elim x as (λ _. Reading (Forest (Label × Offset) × Label)) [
-                | characters cs ↦ λ t. after (string atoms cap d p (p + 3) cs t) (λ ts. done (ts, list))
-                | elements n ↦ λ t. after (run (one-term atoms inner) n t) (λ ts. λ t. after (list-tail atoms cap d inner bound t) (λ end. done (ts ▹▹ end .0, end .1)))
+                | characters cs ↦ λ t. after (string given cap d p (p + 3) cs t) (λ ts. done (ts, list))
+                | elements n ↦ λ t. after (run (one-term given inner) n t) (λ ts. λ t. after (list-tail given cap d inner bound t) (λ end. done (ts ▹▹ end .0, end .1)))
                 | parts ws n l ↦ λ t. after (inner p (parts ws n l) t) (λ u. done (u ▹ empty, improper-list))
                 | pairs n ↦ λ t. after (inner p (pairs n) t) (λ u. done (u ▹ empty, improper-list))
               ]) t)
           go p (characters cs) t i ih = step (string-kept d p (p + 3) cs t i) λ us t i. end _ t i
-          go p (elements n) t i ih = step (run-kept (one-term atoms inner) part-kept n t i) λ us t i. step (ih t i) λ e t i. end _ t i
+          go p (elements n) t i ih = step (run-kept (one-term given inner) part-kept n t i) λ us t i. step (ih t i) λ e t i. end _ t i
           go p (parts ws n l) t i ih = step (ok p (parts ws n l) t i) λ u t i. end _ t i
           go p (pairs n) t i ih = step (ok p (pairs n) t i) λ u t i. end _ t i
 
-      whole-kept : (p : ℕ) (h : Head) (s : Position) → I s → Kept (contents atoms cap d inner p h s)
+      whole-kept : (p : ℕ) (h : Head) (s : Position) → I s → Kept (contents given cap d inner p h s)
       unfolding contents
       whole-kept p (parts ws n l) s i =
-          step (each-kept (one-term atoms inner) part-kept ws s i) λ us t i. step (run-kept (one-term atoms inner) part-kept n t i) λ vs t i.
-          step (later-kept (atoms .flags) p l t i) λ x t i. end _ t i
+          step (each-kept (one-term given inner) part-kept ws s i) λ us t i. step (run-kept (one-term given inner) part-kept n t i) λ vs t i.
+          step (later-kept (given .flags) p l t i) λ x t i. end _ t i
       whole-kept p (characters cs) s i = step (string-kept d p (p + 3) cs s i) λ us t i. end _ t i
       whole-kept p (elements n) s i =
-          step (run-kept (one-term atoms inner) part-kept n s i) λ us t i. step (tail-kept (t .left) t i) λ e t i. end _ t i
-      whole-kept p (pairs n) s i = step (entries-kept (one-term atoms inner) part-kept [] n s i) λ us t i. end _ t i
+          step (run-kept (one-term given inner) part-kept n s i) λ us t i. step (tail-kept (t .left) t i) λ e t i. end _ t i
+      whole-kept p (pairs n) s i = step (entries-kept (one-term given inner) part-kept [] n s i) λ us t i. end _ t i
 
-    body-kept : (d p : ℕ) (h : Head) (s : Position) → I s → Kept (body atoms cap d p h s)
+    body-kept : (d p : ℕ) (h : Head) (s : Position) → I s → Kept (body given cap d p h s)
     unfolding body
     body-kept zero p h s i = no 8 p refl
-    body-kept (suc d) p h s i = step (row-kept p s i) λ _ t i. whole-kept d (body atoms cap d) (body-kept d) p h t i
+    body-kept (suc d) p h s i = step (row-kept p s i) λ _ t i. whole-kept d (body given cap d) (body-kept d) p h t i
 
     -- what every byte and every row keeps, a term keeps
-    pub term-kept : (d : ℕ) (w : Wanted) (s : Position) → I s → Kept (term atoms cap d w s)
-    term-kept d w s i = part-kept d (body atoms cap d) (body-kept d) w s i
+    pub term-kept : (d : ℕ) (w : Wanted) (s : Position) → I s → Kept (term given cap d w s)
+    term-kept d w s i = part-kept d (body given cap d) (body-kept d) w s i
 
     -- so do the terms of a message
     module _ (message : List ℕ) (start : I (spot 0 message 0)) where
@@ -297,7 +297,7 @@ module _ (cap : ℕ) (I : Position → Type 0) (F : ℕ → Type 0)
       ending-kept [] s i = end tt s i
       ending-kept (b ∷ bs) s i = no 10 _ refl
 
-      pub framed-kept : (framing : Framing) → Kept (terms-framed atoms cap framing (spot 0 message 0))
+      pub framed-kept : (framing : Framing) → Kept (terms-framed given cap framing (spot 0 message 0))
       unfolding standalone-term payload-terms
       framed-kept standalone = step version-kept λ _ t i. step (term-kept 64 any t i) λ u t i. step (ending-kept (t .left) t i) λ _ t i. end _ t i
       framed-kept payload = step (term-kept 64 any _ start) λ u t i. go u t i (t .left)
@@ -305,7 +305,7 @@ module _ (cap : ℕ) (I : Position → Type 0) (F : ℕ → Type 0)
           go : (u : Located) (t : Position) → I t → (left : List ℕ)
               → Kept ((elim left as (λ _. Reading Terms) [
                 | [] ↦ done (u ▹ empty)
-                | b ∷ bs ↦ λ t. after (term atoms cap 64 any t) (λ v. λ t. after (ending (t .left) t) (λ _. done (u ▹ v ▹ empty)))
+                | b ∷ bs ↦ λ t. after (term given cap 64 any t) (λ v. λ t. after (ending (t .left) t) (λ _. done (u ▹ v ▹ empty)))
               ]) t)
           go u t i [] = end _ t i
           go u t i (b ∷ bs) = step (term-kept 64 any t i) λ v t i. step (ending-kept (t .left) t i) λ _ t i. end _ t i

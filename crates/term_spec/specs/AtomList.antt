@@ -5,7 +5,7 @@ use Prim.Native.Nat.{ℕ, _*_}
 use lib.Dec.{eqb, leb}
 use lib.ListN.{length, getD, take, drop, replicate}
 use Rattle.term_spec.specs.Text.{Checked, invalid-at, utf-8, check}
-use Rattle.term_spec.specs.Head.{Atoms}
+use Rattle.term_spec.specs.Head.{Given}
 
 pub record AtomList : Type 0 where
   pub n : ℕ
@@ -35,6 +35,6 @@ place-bytes list i = take (place-length list i) (drop (32 * i) (list .places))
 unfoldable pub place-text : AtomList → ℕ → Checked
 place-text list i = elim (leb (place-length list i) 32) [ true ↦ check utf-8 (place-bytes list i) | false ↦ invalid-at 32 ]
 
--- what reading asks of the connection's flags and of the list
-unfoldable pub atoms-of : ℕ → AtomList → Atoms
-atoms-of flags list = record { flags = flags; n = list .n; text = place-text list }
+-- what reading is given, of the connection's flags and the list
+unfoldable pub given-of : ℕ → AtomList → Given
+given-of flags list = record { flags = flags; n = list .n; text = place-text list }

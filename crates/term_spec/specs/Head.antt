@@ -111,8 +111,8 @@ pub data Head : Type 0 where
 abbrev pub leaf : Label → Head
 leaf l = parts [] 0 (known l)
 
--- What reading asks of what is lent with a message: the connection's flags; the atom list's count n, and its text at an index
-pub record Atoms : Type 0 where
+-- What reading is given beside the bytes: the connection's flags; the atom list's count n, and its text at an index
+pub record Given : Type 0 where
   pub flags : ℕ
   pub n : ℕ
   pub text : ℕ → Checked
@@ -152,7 +152,7 @@ clear-low bits (b ∷ c ∷ bs) = b ∷ clear-low bits (c ∷ bs)
 unfoldable pub bits-meaning : ℕ → List ℕ → Label
 bits-meaning bits bs = elim (eqb bits 0 || eqb bits 8) [ true ↦ binary bs | false ↦ bitstring bits (clear-low bits bs) ]
 
-module _ (atoms : Atoms) where
+module _ (given : Given) where
   -- The fields, at their term's place: all that follow the tag are read (2) before a rule is judged (4, 5, 6, 14). The place of 5 is the
   -- offset of the byte at which the text fails
   unfoldable pub fields : ℕ → Form → Reading Head
@@ -180,8 +180,8 @@ module _ (atoms : Atoms) where
     done (leaf (atom cs))
   fields p atom-cache-ref = do
     i ← number p 1
-    rule (ltb i (atoms .n)) 6 p
-    cs ← text-or (atoms .text i) 14 (λ k. 0)
+    rule (ltb i (given .n)) 6 p
+    cs ← text-or (given .text i) 14 (λ k. 0)
     done (leaf (atom cs))
   fields p (tuple-ext w) = do
     n ← number p w
@@ -211,7 +211,7 @@ module _ (atoms : Atoms) where
   fields p (port-ext v w) = done (parts (an-atom ∷ []) 0 (port-fields v w))
   fields p (new-reference-ext w) = do
     n ← number p 2
-    rule (leb 1 n && leb n (limits (atoms .flags) w .word-count)) 4 p
+    rule (leb 1 n && leb n (limits (given .flags) w .word-count)) 4 p
     done (parts (an-atom ∷ []) 0 (reference-fields n w))
   fields p reference-ext = done (parts (an-atom ∷ []) 0 old-reference-fields)
   fields p export-ext = done (parts (an-atom ∷ an-atom ∷ an-arity ∷ []) 0 (known export))

@@ -8,8 +8,8 @@ use Rattle.term_spec.specs.Tree.{Forest, empty, _▹_, relabels}
 use Rattle.term_spec.specs.Term.{Label}
 use Rattle.term_spec.specs.Connection.{flags-known}
 use Rattle.term_spec.specs.Answer.{Answer, good, refused, Position, Reading, _>>=_, _>>_, done, refuse, here}
-use Rattle.term_spec.specs.Head.{Atoms, any}
-use Rattle.term_spec.specs.AtomList.{AtomList, of-size, atoms-of}
+use Rattle.term_spec.specs.Head.{Given, any}
+use Rattle.term_spec.specs.AtomList.{AtomList, of-size, given-of}
 use Rattle.term_spec.specs.Reading.{Offset, Located, bytes-left, term}
 
 -- how the terms of a message are set: a standalone term, or a payload
@@ -39,10 +39,10 @@ ending (b ∷ bs) = do
   p ← here
   refuse 10 p
 
-module _ (atoms : Atoms) (capacity : ℕ) where
+module _ (given : Given) (capacity : ℕ) where
   -- Sizes: depth at most 64
   abbrev pub outermost : Reading Located
-  outermost = term atoms capacity 64 any
+  outermost = term given capacity 64 any
 
   -- a standalone term is 131, one term, end
   unfoldable pub standalone-term : Reading Terms
@@ -92,4 +92,4 @@ read flags framing list lent message =
     first-check (of-size list) 13
     (first-check (flags-known flags) 14
     (first-check (leb (length message) 65536) 12
-    (result-of (terms-framed (atoms-of flags list) (capacity-of lent) framing (record { at = 0; left = message; rows-taken = 0 })))))
+    (result-of (terms-framed (given-of flags list) (capacity-of lent) framing (record { at = 0; left = message; rows-taken = 0 })))))

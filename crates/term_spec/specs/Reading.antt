@@ -8,7 +8,7 @@ use Rattle.term_spec.specs.Tree.{Tree, Forest, node, empty, _▹_, _▹�
 use Rattle.term_spec.specs.Term.{Label, Term, integer, list, improper-list, map}
 use Rattle.term_spec.specs.Equal.{among}
 use Rattle.term_spec.specs.Answer.{good, refused, Reading, _>>=_, _>>_, done, refuse, here, rule}
-use Rattle.term_spec.specs.Head.{Atoms, Wanted, any, Head, parts, characters, elements, pairs, term-head, later}
+use Rattle.term_spec.specs.Head.{Given, Wanted, any, Head, parts, characters, elements, pairs, term-head, later}
 
 -- Where a term of the message stands: its tag's offset; of a character of a 107, its byte's
 pub data Offset : Type 0 where
@@ -36,20 +36,20 @@ empty-108 (pairs n) = false
 
 -- A term's tag and fields, with the tag's offset. A 108 of length 0 means the tail itself, so what stands in its place is taken.
 -- Each such takes a byte or more, so the bytes left bound their number.
-unfoldable pub opening : Atoms → List ℕ → Wanted → Reading (ℕ × Head)
-opening atoms [] wanted = do
+unfoldable pub opening : Given → List ℕ → Wanted → Reading (ℕ × Head)
+opening given [] wanted = do
   p ← here
   refuse 2 p
-opening atoms (b ∷ bound) wanted = do
+opening given (b ∷ bound) wanted = do
   p ← here
-  h ← term-head atoms wanted
-  elim (empty-108 h) [ true ↦ opening atoms bound any | false ↦ done (p, h) ]
+  h ← term-head given wanted
+  elim (empty-108 h) [ true ↦ opening given bound any | false ↦ done (p, h) ]
 
 -- a term: its tag and fields, and then what `inner` reads of the term at p with the head h
-unfoldable pub one-term : Atoms → (ℕ → Head → Reading Located) → Wanted → Reading Located
-one-term atoms inner wanted = do
+unfoldable pub one-term : Given → (ℕ → Head → Reading Located) → Wanted → Reading Located
+one-term given inner wanted = do
   bound ← bytes-left
-  o ← opening atoms bound wanted
+  o ← opening given bound wanted
   inner (o .0) (o .1)
 
 module _ (part : Wanted → Reading Located) where
@@ -80,7 +80,7 @@ module _ (part : Wanted → Reading Located) where
     more ← entries (meaning k ∷ earlier) n
     done (k ▹ v ▹ more)
 
-module _ (atoms : Atoms) (capacity : ℕ) where
+module _ (given : Given) (capacity : ℕ) where
   -- a row is taken. Refusal 9: no row left
   unfoldable pub row : ℕ → Reading Unit
   row p s =
@@ -108,13 +108,13 @@ module _ (atoms : Atoms) (capacity : ℕ) where
       refuse 2 p
     list-tail (b ∷ bound) = do
       left ← bytes-left
-      o ← opening atoms left any
+      o ← opening given left any
       elim (o .1) [
         | characters cs ↦ do
           ts ← string deep (o .0) (o .0 + 3) cs
           done (ts, list)
         | elements n ↦ do
-          ts ← run (one-term atoms inner) n
+          ts ← run (one-term given inner) n
           end ← list-tail bound
           done (ts ▹▹ end .0, end .1)
         | parts ws n l ↦ do
@@ -128,20 +128,20 @@ module _ (atoms : Atoms) (capacity : ℕ) where
     -- the parts and the later fields of the term at p
     unfoldable pub contents : ℕ → Head → Reading Located
     contents p (parts ws n l) = do
-      ts ← each (one-term atoms inner) ws
-      us ← run (one-term atoms inner) n
-      label ← later (atoms .flags) p l
+      ts ← each (one-term given inner) ws
+      us ← run (one-term given inner) n
+      label ← later (given .flags) p l
       done (node (label, tag-at p) (ts ▹▹ us))
     contents p (characters cs) = do
       ts ← string deep p (p + 3) cs
       done (node (list, tag-at p) ts)
     contents p (elements n) = do
-      ts ← run (one-term atoms inner) n
+      ts ← run (one-term given inner) n
       bound ← bytes-left
       end ← list-tail bound
       done (node (end .1, tag-at p) (ts ▹▹ end .0))
     contents p (pairs n) = do
-      ts ← entries (one-term atoms inner) [] n
+      ts ← entries (one-term given inner) [] n
       done (node (map, tag-at p) ts)
 
   -- The term at p, whose tag and fields are read, with `deep` levels left for it: 8, then 9, then parts, then later fields
@@ -153,4 +153,4 @@ module _ (atoms : Atoms) (capacity : ℕ) where
 
   -- a term, with `deep` levels left for it
   abbrev pub term : ℕ → Wanted → Reading Located
-  term deep = one-term atoms (body deep)
+  term deep = one-term given (body deep)

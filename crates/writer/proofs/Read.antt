@@ -12,9 +12,9 @@ use Rattle.term_spec.specs.Tree.{Forest, node, _▹_, sizes, Each-node, Each-no
 use Rattle.term_spec.specs.Text.{Checked, encodes}
 use Rattle.term_spec.specs.Term.{Label, list, bitstring}
 use Rattle.term_spec.specs.Answer.{good}
-use Rattle.term_spec.specs.Head.{Atoms, bits-rule, bits-meaning, clear-low}
+use Rattle.term_spec.specs.Head.{Given, bits-rule, bits-meaning, clear-low}
 use Rattle.term_spec.specs.Reading.{Offset, tag-at, character-at, Located, meaning}
-use Rattle.term_spec.specs.AtomList.{AtomList, of-size, atoms-of}
+use Rattle.term_spec.specs.AtomList.{AtomList, of-size, given-of}
 use Rattle.term_spec.specs.Message.{Framing, Terms, meanings, read}
 use Rattle.term_spec.specs.Rows.{kind-of, kind-at, offset-of, whole-code, table-after}
 use Rattle.term_spec.specs.Numbers.{Under}
@@ -39,7 +39,7 @@ use Rattle.term_writer.specs.InTable.{Writable, Run-in-table}
 
 -- ---- every node is found again
 
-module _ (m : List ℕ) (cap : ℕ) (atoms : Atoms) where
+module _ (m : List ℕ) (cap : ℕ) (atoms : Given) where
   -- a list's place is its tag
   pub label-tag : (place : Offset) (x : Label) → Label-at m cap atoms place x → x ≡ list → kind-at x place ≡ 5
   unfolding kind-at kind-of
@@ -101,29 +101,29 @@ module _ (m : List ℕ) (atoms : AtomList) (short : length m ≤ 65536) (fits : 
   listed-alone kind (Reference c start n) = refl
 
   module _ (flags : ℕ) (lent : Lent atoms m) (cap : ℕ) where
-    node-writable : (l : Label × Offset) (ts : Terms) → Label-at m cap (atoms-of flags atoms) (l .1) (l .0) → Fits flags (l .0) (meanings ts) → Writable m (atoms .places) (atoms .lengths) l ts
+    node-writable : (l : Label × Offset) (ts : Terms) → Label-at m cap (given-of flags atoms) (l .1) (l .0) → Fits flags (l .0) (meanings ts) → Writable m (atoms .places) (atoms .lengths) l ts
     node-writable l ts h f =
         let k : ℕ = kind-at (l .0) (l .1) in
         let p : ℕ = offset-of (l .1) in
         let c : Content = content-of m (atoms .places) (atoms .lengths) k p in
         let s : Says atoms m k p (l .0) = content-says flags atoms m lent cap (l .0) (l .1) h in
-        let near : p < length m = label-inside m cap (atoms-of flags atoms) (l .1) (l .0) h in
+        let near : p < length m = label-inside m cap (given-of flags atoms) (l .1) (l .0) h in
         record {
           near = omega arith;
           says = listed-alone k c ∙ s .means;
           sound = sound-by flags k c (meanings ts) (s .sound) (rw (s .means) f);
           flags = flags;
           fits = f;
-          at-tag = label-tag m cap (atoms-of flags atoms) (l .1) (l .0) h;
+          at-tag = label-tag m cap (given-of flags atoms) (l .1) (l .0) h;
         }
 
     mutual
       unfolding Each-node
 
-      tree-writable : (t : Located) → Backed m cap (atoms-of flags atoms) t → Valid flags (meaning t) → Each-node (Writable m (atoms .places) (atoms .lengths)) t
+      tree-writable : (t : Located) → Backed m cap (given-of flags atoms) t → Valid flags (meaning t) → Each-node (Writable m (atoms .places) (atoms .lengths)) t
       tree-writable (node l ts) b v = (node-writable l ts (b .0) (v .0), run-writable ts (b .1) (v .1))
 
-      run-writable : (ts : Terms) → Backeds m cap (atoms-of flags atoms) ts → Valids flags (meanings ts) → Each-nodes (Writable m (atoms .places) (atoms .lengths)) ts
+      run-writable : (ts : Terms) → Backeds m cap (given-of flags atoms) ts → Valids flags (meanings ts) → Each-nodes (Writable m (atoms .places) (atoms .lengths)) ts
       run-writable Forest.empty b v = tt
       run-writable (t ▹ ts) b v = (tree-writable t (b .0) (v .0), run-writable ts (b .1) (v .1))
 
@@ -140,7 +140,7 @@ places-few atoms e = go (eqb (length (atoms .places)) 8160) refl e
 -- the rows of an accepted message's terms stand in the table, and each can be written
 pub read-held : (flags : ℕ) (framing : Framing) (atoms : AtomList) (lent : ℕ) (m : List ℕ) → atoms .n ≤ 255 → Under 256 m → (ts : Terms) → read flags framing atoms lent m ≡ good ts
     → Run-in-table m (atoms .places) (atoms .lengths) (table-after lent (good ts)) 0 ts
-unfolding whole-code atoms-of
+unfolding whole-code given-of
 read-held flags framing atoms lent m n u ts e =
     let a : Accepted-message flags atoms lent m ts = accepted-message flags framing atoms lent m u ts e in
     let f : sizes ts ≤ min 8192 lent = a .known .few in

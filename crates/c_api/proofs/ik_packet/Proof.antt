@@ -12,7 +12,7 @@ use base.Fml.{GName, Lft, Share, Fml, ftrue, flft, fobs, fbor, fat}
 use prog.Memory.{Memory}
 use prog.Routine.{Routine}
 use prog.Wp.{Heap, Calls, Loops, WpFn, Tables}
-use ghost.Atoms.{Atoms}
+use ghost.Given.{Given}
 use contract.Monad.{Fun, fact}
 use contract.Running.{givenOf, tables, tablesOf}
 use types.Kit.{Given, ‵, raw, _⊛_, some, later, _$_, _∵_, !, qed, by, move, keep, drop, use1, ⋆, rewrite, split, join, pick, fsplit, fsplit3, fjoin, fjoin3, feqI, suffices, frame, await, done}
@@ -71,7 +71,7 @@ abbrev stayed : Stays (f.ended .signature .params) (f.ended .kept)
 stayed = (given (plain (λ _. u8)) yes, (given (shrSliceOf (0 ∷ []) tt (plain (λ _. u8))) yes, (given (mutSliceOf (1 ∷ []) tt (plain (λ _. u8))) yes, (given (mutSliceOf (2 ∷ []) tt (plain (λ _. u16))) yes, (given (mutRefTo (3 ∷ []) tt (plain (λ _. u8))) yes, (given (mutSliceOf (4 ∷ []) tt (plain (λ _. u8))) yes, (given (mutSliceOf (5 ∷ []) tt (plain (λ _. u16))) yes, (given (mutRefTo (6 ∷ []) tt (plain (λ _. u8))) yes, (given (mutSliceOf (7 ∷ []) tt (plain (λ _. u8))) yes, (given (mutSliceOf (8 ∷ []) tt (plain (λ _. u16))) yes, (stay-ref (9 ∷ []) tt (plain (λ _. T.the-row)), (given (mutSliceOf (10 ∷ []) tt (plain (λ _. u8))) yes, tt))))))))))))
 
 -- the contract that the proof cites
-abbrev Core : {M : Type 1} (𝓤 : URA M) (H : Heap 𝓤) (A : Atoms 𝓤) (at-mem : Memory → SProp 𝓤) (run : Routine → Fun 𝓤) → Contract 𝓤
+abbrev Core : {M : Type 1} (𝓤 : URA M) (H : Heap 𝓤) (A : Given 𝓤) (at-mem : Memory → SProp 𝓤) (run : Routine → Fun 𝓤) → Contract 𝓤
 Core 𝓤 H A at-mem run = tripleOf 𝓤 H A g.signature (g.spec 𝓤 H A at-mem run)
 
 -- the machine values of a record, and of an answer
@@ -81,7 +81,7 @@ vals = LL.vals T.the-type T′.the-laws
 abbrev replied : PacketReply → Val
 replied a = only (LL.vals R.the-type R′.the-laws a)
 
-module _ {M : Type 1} (𝓤 : URA M) (H : Heap 𝓤) (A : Atoms 𝓤) (W : Given 𝓤 H A) (at-mem : Memory → SProp 𝓤) (run : Routine → Fun 𝓤) (κ₀ : Lft) (κ₁ : Lft) (κ₂ : Lft) (κ₃ : Lft) (κ₄ : Lft) (κ₅ : Lft) (κ₆ : Lft) (κ₇ : Lft) (κ₈ : Lft) (κ₉ : Lft) (κ₁₀ : Lft) (q₀ : Share) (q₁ : Share) (q₂ : Share) (q₃ : Share) (q₄ : Share) (q₅ : Share) (q₆ : Share) (q₇ : Share) (q₈ : Share) (q₉ : Share) (q₁₀ : Share) (utf8 : ℕ) (packet : RefT (List ℕ)) (places : RefT (List ℕ)) (lengths : RefT (List ℕ)) (n : RefT ℕ) (texts : RefT (List ℕ)) (sizes : RefT (List ℕ)) (count : RefT ℕ) (kept : RefT (List ℕ)) (extents : RefT (List ℕ)) (b o : ℕ) (γ : GName) (h : Pending) (gather : RefT (List ℕ)) where
+module _ {M : Type 1} (𝓤 : URA M) (H : Heap 𝓤) (A : Given 𝓤) (W : Given 𝓤 H A) (at-mem : Memory → SProp 𝓤) (run : Routine → Fun 𝓤) (κ₀ : Lft) (κ₁ : Lft) (κ₂ : Lft) (κ₃ : Lft) (κ₄ : Lft) (κ₅ : Lft) (κ₆ : Lft) (κ₇ : Lft) (κ₈ : Lft) (κ₉ : Lft) (κ₁₀ : Lft) (q₀ : Share) (q₁ : Share) (q₂ : Share) (q₃ : Share) (q₄ : Share) (q₅ : Share) (q₆ : Share) (q₇ : Share) (q₈ : Share) (q₉ : Share) (q₁₀ : Share) (utf8 : ℕ) (packet : RefT (List ℕ)) (places : RefT (List ℕ)) (lengths : RefT (List ℕ)) (n : RefT ℕ) (texts : RefT (List ℕ)) (sizes : RefT (List ℕ)) (count : RefT ℕ) (kept : RefT (List ℕ)) (extents : RefT (List ℕ)) (b o : ℕ) (γ : GName) (h : Pending) (gather : RefT (List ℕ)) where
   abbrev x : Arg
   x = (utf8, (packet, (places, (lengths, (n, (texts, (sizes, (count, (kept, (extents, (record { ptr = (b, o); name = γ; now = h }, (gather, tt))))))))))))
 
@@ -228,7 +228,7 @@ module _ {M : Type 1} (𝓤 : URA M) (H : Heap 𝓤) (A : Atoms 𝓤) (W : Given
         move ! (65 ∷ 66 ∷ []) $ free1 ! $ move ! (63 ∷ 64 ∷ []) $ free1 ! $ move ! (61 ∷ 62 ∷ []) $ free1 ! $ move ! (59 ∷ 60 ∷ []) $ free1 ! $ move ! (57 ∷ 58 ∷ []) $ free1 ! $ move ! (55 ∷ 56 ∷ []) $ free1 ! $ move ! (53 ∷ 54 ∷ []) $ free1 ! $ move ! (51 ∷ 52 ∷ []) $ free1 ! $ move ! (49 ∷ 50 ∷ []) $ free1 ! $ move ! (47 ∷ 48 ∷ []) $ free1 ! $ move ! (45 ∷ 46 ∷ []) $ free1 ! $ move ! (43 ∷ 44 ∷ []) $ free1 ! $ move ! (41 ∷ 42 ∷ []) $ free1 ! $ move ! (39 ∷ 40 ∷ []) $ free1 ! $ move ! (37 ∷ 38 ∷ []) $ free1 ! $ move ! (35 ∷ 36 ∷ []) $ free1 ! $ move ! (33 ∷ 34 ∷ []) $ free1 ! $ move ! (31 ∷ 32 ∷ []) $ free1 ! $ move ! (29 ∷ 30 ∷ []) $ free1 ! $ move ! (27 ∷ 28 ∷ []) $ free1 ! $ move ! (25 ∷ 26 ∷ []) $ free1 ! $ move ! (23 ∷ 24 ∷ []) $ free1 ! $ move ! (21 ∷ 22 ∷ []) $ free1 ! $ move ! (19 ∷ 20 ∷ []) $ free1 ! $ move ! (17 ∷ 18 ∷ []) $ free1 ! $ move ! (15 ∷ 16 ∷ []) $ free1 ! $ move ! (13 ∷ 14 ∷ []) $ free1 ! $ move ! (11 ∷ 12 ∷ []) $ free1 ! $ move ! (9 ∷ 10 ∷ []) $ free1 ! $ move ! (7 ∷ 8 ∷ []) $ free1 ! $ move ! (5 ∷ 6 ∷ []) $ free1 ! $ free0 ! $
         keep ! (0 ∷ 1 ∷ 2 ∷ 3 ∷ 4 ∷ []) $ by ! (exits r (parts .0) ws e)))))))))))))))))))))))))))))))))))))))
 
-module _ {M : Type 1} (𝓤 : URA M) (H : Heap 𝓤) (A : Atoms 𝓤) (W : Given 𝓤 H A) (at-mem : Memory → SProp 𝓤) (run : Routine → Fun 𝓤) where
+module _ {M : Type 1} (𝓤 : URA M) (H : Heap 𝓤) (A : Given 𝓤) (W : Given 𝓤 H A) (at-mem : Memory → SProp 𝓤) (run : Routine → Fun 𝓤) where
   walks : (C : Calls 𝓤 H) (Λ : Loops 𝓤 H) → FmC 𝓤 H (W .laws) C → Triple 𝓤 (C #c-api·packet-by-value) (Core 𝓤 H A at-mem run) → Walks 𝓤 H A f.ended stayed (WpFn 𝓤 H C Λ code.function) (f.clauses 𝓤 H A at-mem run)
   walks C Λ fm known =
       walked 𝓤 H A f.ended stayed (f.clauses 𝓤 H A at-mem run) (WpFn 𝓤 H C Λ code.function) (λ κs. (uint-vals w8, (slice-vals, (slice-vals, (slice-vals, (ptr-vals, (slice-vals, (slice-vals, (ptr-vals, (slice-vals, (slice-vals, (ptr-vals, (slice-vals, tt))))))))))))) (λ κs. (uint-tells w8, (shr-slice-tells (named 0) (κs .0) u8, (mut-slice-tells (named 1) (κs .1 .0) u8, (mut-slice-tells (named 2) (κs .1 .1 .0) u16, (mut-tells (named 3) (κs .1 .1 .1 .0) u8, (mut-slice-tells (named 4) (κs .1 .1 .1 .1 .0) u8, (mut-slice-tells (named 5) (κs .1 .1 .1 .1 .1 .0) u16, (mut-tells (named 6) (κs .1 .1 .1 .1 .1 .1 .0) u8, (mut-slice-tells (named 7) (κs .1 .1 .1 .1 .1 .1 .1 .0) u8, (mut-slice-tells (named 8) (κs .1 .1 .1 .1 .1 .1 .1 .1 .0) u16, (mut-tells (named 9) (κs .1 .1 .1 .1 .1 .1 .1 .1 .1 .0) T.the-row, (mut-slice-tells (named 10) (κs .1 .1 .1 .1 .1 .1 .1 .1 .1 .1 .0) u8, tt)))))))))))))
@@ -237,7 +237,7 @@ module _ {M : Type 1} (𝓤 : URA M) (H : Heap 𝓤) (A : Atoms 𝓤) (W : Given
   goes : AllGo 𝓤 H A W 11 (f.signature .params) (f.ended .kept) stayed
   goes = (goes-given 𝓤 H A W 11 (plain (λ _. u8)) yes, (goes-given 𝓤 H A W 11 (shrSliceOf (0 ∷ []) tt (plain (λ _. u8))) yes, (goes-given 𝓤 H A W 11 (mutSliceOf (1 ∷ []) tt (plain (λ _. u8))) yes, (goes-given 𝓤 H A W 11 (mutSliceOf (2 ∷ []) tt (plain (λ _. u16))) yes, (goes-given 𝓤 H A W 11 (mutRefTo (3 ∷ []) tt (plain (λ _. u8))) yes, (goes-given 𝓤 H A W 11 (mutSliceOf (4 ∷ []) tt (plain (λ _. u8))) yes, (goes-given 𝓤 H A W 11 (mutSliceOf (5 ∷ []) tt (plain (λ _. u16))) yes, (goes-given 𝓤 H A W 11 (mutRefTo (6 ∷ []) tt (plain (λ _. u8))) yes, (goes-given 𝓤 H A W 11 (mutSliceOf (7 ∷ []) tt (plain (λ _. u8))) yes, (goes-given 𝓤 H A W 11 (mutSliceOf (8 ∷ []) tt (plain (λ _. u16))) yes, (goes-ref 𝓤 H A W 11 9 tt (plain (λ _. T.the-row)), (goes-given 𝓤 H A W 11 (mutSliceOf (10 ∷ []) tt (plain (λ _. u8))) yes, tt))))))))))))
 
-meets : {M : Type 1} (𝓤 : URA M) (H : Heap 𝓤) (A : Atoms 𝓤) → Given 𝓤 H A → (at-mem : Memory → SProp 𝓤) (run : Routine → Fun 𝓤) (𝓣 : Tables 𝓤 H) → Triple 𝓤 (𝓣 .C #c-api·packet-by-value) (Core 𝓤 H A at-mem run)
+meets : {M : Type 1} (𝓤 : URA M) (H : Heap 𝓤) (A : Given 𝓤) → Given 𝓤 H A → (at-mem : Memory → SProp 𝓤) (run : Routine → Fun 𝓤) (𝓣 : Tables 𝓤 H) → Triple 𝓤 (𝓣 .C #c-api·packet-by-value) (Core 𝓤 H A at-mem run)
     → Meets 𝓤 H A f.signature (WpFn 𝓤 H (𝓣 .C) (𝓣 .Λ) code.function) (f.spec 𝓤 H A at-mem run)
 meets 𝓤 H A W at-mem run 𝓣 known = walk-meets 𝓤 H A f.ended stayed W (goes 𝓤 H A W at-mem run) (f.clauses 𝓤 H A at-mem run) (WpFn 𝓤 H (𝓣 .C) (𝓣 .Λ) code.function) (WpFn-mono 𝓤 H (W .laws) 𝓣 code.function)
     (walks 𝓤 H A W at-mem run (𝓣 .C) (𝓣 .Λ) (fmOf 𝓤 H (W .laws) 𝓣) known)

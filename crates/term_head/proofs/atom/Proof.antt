@@ -12,7 +12,7 @@ past-counted-requires : tie.Need-past-counted-requires
 past-counted-requires c κs = search needs
 
 returns : tie.Need-returns
-returns c = λ atoms rows. atom-cut _ _ _ _ (omega arith) _ _ _ (c .before .past-counted .ensures) (c .if1 .taken)
+returns c = λ given rows. atom-cut _ _ _ _ (omega arith) _ _ _ (c .before .past-counted .ensures) (c .if1 .taken)
 
 add-from : tie.Need-add-from
 add-from c = search needs
@@ -45,10 +45,10 @@ add-t16 c =
     omega (arith, near .0, near .1, inside)
 
 returns-2 : tie.Need-returns-2
-returns-2 c = λ atoms rows. atom-there _ _ _ _ (omega arith) _ _ _ (c .before .before .before .before .before .past-counted .ensures) (c .before .before .before .before .if1 .left) (sym (c .enum-told .given .1) ∙ c .before .before .check-text .ensures)
+returns-2 c = λ given rows. atom-there _ _ _ _ (omega arith) _ _ _ (c .before .before .before .before .before .past-counted .ensures) (c .before .before .before .before .if1 .left) (sym (c .enum-told .given .1) ∙ c .before .before .check-text .ensures)
 
 returns-3 : tie.Need-returns-3
-returns-3 c = λ atoms rows. atom-bad _ _ _ _ (omega arith) _ _ _ (c .before .before .before .before .before .before .past-counted .ensures) (c .before .before .before .before .before .if1 .left) _ (sym (c .before .k .given .1) ∙ c .before .before .before .check-text .ensures)
+returns-3 c = λ given rows. atom-bad _ _ _ _ (omega arith) _ _ _ (c .before .before .before .before .before .before .past-counted .ensures) (c .before .before .before .before .before .if1 .left) _ (sym (c .before .k .given .1) ∙ c .before .before .before .check-text .ensures)
 
 pub atom-spec : {M : Type 1} → statement M
 atom-spec =

@@ -1,7 +1,7 @@
 -- `by_tag` meets its contract. At each tag of the table, its layout.
 use Rattle.term_head.specs.Code.{fields-of}
 use Rattle.term_spec.specs.Head.{forms, form-in, fields, atom-cache-ref, atom-ext, big-ext, binary-ext, bit-binary-ext, export-ext, integer-ext, list-ext, map-ext, new-float-ext, new-reference-ext, nil-ext, pid-ext, port-ext, reference-ext, small-integer-ext, string-ext, tuple-ext}
-use Rattle.term_spec.specs.AtomList.{atoms-of}
+use Rattle.term_spec.specs.AtomList.{given-of}
 use Rattle.term_spec.specs.Text.{latin-1, utf-8, coding-of}
 use Rattle.term_spec.specs.Numbers.{signed32}
 use lib.IntN.{pos}
@@ -186,11 +186,11 @@ unfolding form-in forms
 returns-23 c = λ rows. c .no-fields5 .ensures ∙ port-head _ _ _ _ 8 4 ∙ at-tag _ _ _ _ _ 120 (c .before .match .keys23) (port-ext 8 4) refl
 
 returns-24 : tie.Need-returns-24
-unfolding form-in forms atoms-of
+unfolding form-in forms given-of
 returns-24 c = λ rows. c .reference .ensures _ refl rows ∙ at-tag _ _ _ _ _ 90 (c .before .match .keys24) (new-reference-ext 4) refl
 
 returns-25 : tie.Need-returns-25
-unfolding form-in forms atoms-of
+unfolding form-in forms given-of
 returns-25 c = λ rows. c .reference2 .ensures _ refl rows ∙ at-tag _ _ _ _ _ 114 (c .before .match .keys25) (new-reference-ext 1) refl
 
 returns-26 : tie.Need-returns-26

@@ -20,7 +20,7 @@ entry-word-requires c κs = search needs
 
 returns-2 : tie.Need-returns-2
 unfolding allowed wanted-of
-returns-2 c = λ some atoms rows. c .entry-word .ensures some atoms rows ∙ ap quick-word (head-known _ _ _ _ Any (omega arith) _ refl refl)
+returns-2 c = λ some given rows. c .entry-word .ensures some given rows ∙ ap quick-word (head-known _ _ _ _ Any (omega arith) _ refl refl)
 
 pub entry-at-spec : {M : Type 1} → statement M
 entry-at-spec =

@@ -43,23 +43,23 @@ word-of-requires-5 c κs = search needs
 
 returns : tie.Need-returns
 unfolding form-in forms coding-of
-returns c = λ _ atoms rows. c .word-of .ensures ∙ ap quick-word (c .before .atom .ensures _ rows ∙ at-tag _ _ _ _ _ 119 (c .before .before .match .keys1) (atom-ext utf-8 1) refl)
+returns c = λ _ given rows. c .word-of .ensures ∙ ap quick-word (c .before .atom .ensures _ rows ∙ at-tag _ _ _ _ _ 119 (c .before .before .match .keys1) (atom-ext utf-8 1) refl)
 
 returns-2 : tie.Need-returns-2
 unfolding form-in forms fields-of fields
-returns-2 c = λ _ atoms rows. c .word-of2 .ensures ∙ ap quick-word (c .before .integer .ensures pos rows ∙ at-tag _ _ _ _ _ 97 (c .before .before .match .keys2) small-integer-ext refl)
+returns-2 c = λ _ given rows. c .word-of2 .ensures ∙ ap quick-word (c .before .integer .ensures pos rows ∙ at-tag _ _ _ _ _ 97 (c .before .before .match .keys2) small-integer-ext refl)
 
 returns-3 : tie.Need-returns-3
 unfolding form-in forms fields-of fields
-returns-3 c = λ _ atoms rows. c .word-of3 .ensures ∙ ap quick-word (c .before .integer2 .ensures signed32 rows ∙ at-tag _ _ _ _ _ 98 (c .before .before .match .keys3) integer-ext refl)
+returns-3 c = λ _ given rows. c .word-of3 .ensures ∙ ap quick-word (c .before .integer2 .ensures signed32 rows ∙ at-tag _ _ _ _ _ 98 (c .before .before .match .keys3) integer-ext refl)
 
 returns-4 : tie.Need-returns-4
 unfolding form-in forms
-returns-4 c = λ _ atoms rows. c .word-of4 .ensures ∙ ap quick-word (c .before .binary .ensures _ rows ∙ at-tag _ _ _ _ _ 109 (c .before .before .match .keys4) binary-ext refl)
+returns-4 c = λ _ given rows. c .word-of4 .ensures ∙ ap quick-word (c .before .binary .ensures _ rows ∙ at-tag _ _ _ _ _ 109 (c .before .before .match .keys4) binary-ext refl)
 
 returns-5 : tie.Need-returns-5
 unfolding form-in forms
-returns-5 c = λ _ atoms rows. c .word-of5 .ensures ∙ ap quick-word (c .before .float .ensures _ rows ∙ at-tag _ _ _ _ _ 70 (c .before .before .match .keys5) new-float-ext refl)
+returns-5 c = λ _ given rows. c .word-of5 .ensures ∙ ap quick-word (c .before .float .ensures _ rows ∙ at-tag _ _ _ _ _ 70 (c .before .before .match .keys5) new-float-ext refl)
 
 returns-6 : tie.Need-returns-6
 returns-6 c = search needs

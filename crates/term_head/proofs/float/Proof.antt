@@ -12,7 +12,7 @@ sub-if1-2 : tie.Need-sub-if1-2
 sub-if1-2 c = search needs
 
 returns : tie.Need-returns
-returns c = λ atoms rows. float-short _ _ _ _ (omega arith) (c .if1 .taken)
+returns c = λ given rows. float-short _ _ _ _ (omega arith) (c .if1 .taken)
 
 add-big8 : tie.Need-add-big8
 add-big8 c = search needs
@@ -21,7 +21,7 @@ big8-requires : tie.Need-big8-requires
 big8-requires c κs = search needs
 
 returns-2 : tie.Need-returns-2
-returns-2 c = λ atoms rows. float-odd _ _ _ _ (omega arith) _ (c .before .before .if1 .left) (c .before .big8 .ensures .0) (c .if2 .taken)
+returns-2 c = λ given rows. float-odd _ _ _ _ (omega arith) _ (c .before .before .if1 .left) (c .before .big8 .ensures .0) (c .if2 .taken)
 
 add-t5 : tie.Need-add-t5
 add-t5 c = search needs
@@ -30,7 +30,7 @@ add-t4 : tie.Need-add-t4
 add-t4 c = search needs
 
 returns-3 : tie.Need-returns-3
-returns-3 c = λ atoms rows. float-there _ _ _ _ (omega arith) _ (c .before .before .if1 .left) (c .before .big8 .ensures .0) (c .if2 .left)
+returns-3 c = λ given rows. float-there _ _ _ _ (omega arith) _ (c .before .before .if1 .left) (c .before .big8 .ensures .0) (c .if2 .left)
 
 pub float-spec : {M : Type 1} → statement M
 float-spec =

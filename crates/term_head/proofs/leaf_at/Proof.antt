@@ -24,7 +24,7 @@ leaf-word-requires : tie.Need-leaf-word-requires
 leaf-word-requires c κs = search needs
 
 returns-3 : tie.Need-returns-3
-returns-3 c = λ some atoms rows. c .leaf-word .ensures some atoms rows ∙ ap quick-word (head-known _ _ _ _ _ (omega arith) _ (confirmed (c .before .before .may-stand .ensures) (c .before .if2 .left)) refl)
+returns-3 c = λ some given rows. c .leaf-word .ensures some given rows ∙ ap quick-word (head-known _ _ _ _ _ (omega arith) _ (confirmed (c .before .before .may-stand .ensures) (c .before .if2 .left)) refl)
 
 pub leaf-at-spec : {M : Type 1} → statement M
 leaf-at-spec =

@@ -61,35 +61,35 @@ word-of-requires-8 c κs = search needs
 
 returns : tie.Need-returns
 unfolding form-in forms fields-of fields
-returns c = λ _ atoms rows. c .word-of .ensures ∙ ap quick-word (c .before .integer .ensures pos rows ∙ at-tag _ _ _ _ _ 97 (c .before .before .match .keys1) small-integer-ext refl)
+returns c = λ _ given rows. c .word-of .ensures ∙ ap quick-word (c .before .integer .ensures pos rows ∙ at-tag _ _ _ _ _ 97 (c .before .before .match .keys1) small-integer-ext refl)
 
 returns-2 : tie.Need-returns-2
 unfolding form-in forms fields-of fields
-returns-2 c = λ _ atoms rows. c .word-of2 .ensures ∙ ap quick-word (c .before .integer2 .ensures signed32 rows ∙ at-tag _ _ _ _ _ 98 (c .before .before .match .keys2) integer-ext refl)
+returns-2 c = λ _ given rows. c .word-of2 .ensures ∙ ap quick-word (c .before .integer2 .ensures signed32 rows ∙ at-tag _ _ _ _ _ 98 (c .before .before .match .keys2) integer-ext refl)
 
 returns-3 : tie.Need-returns-3
 unfolding form-in forms
-returns-3 c = λ _ atoms rows. c .word-of3 .ensures ∙ ap quick-word (c .before .float .ensures _ rows ∙ at-tag _ _ _ _ _ 70 (c .before .before .match .keys3) new-float-ext refl)
+returns-3 c = λ _ given rows. c .word-of3 .ensures ∙ ap quick-word (c .before .float .ensures _ rows ∙ at-tag _ _ _ _ _ 70 (c .before .before .match .keys3) new-float-ext refl)
 
 returns-4 : tie.Need-returns-4
 unfolding form-in forms coding-of
-returns-4 c = λ _ atoms rows. c .word-of4 .ensures ∙ ap quick-word (c .before .atom .ensures _ rows ∙ at-tag _ _ _ _ _ 119 (c .before .before .match .keys4) (atom-ext utf-8 1) refl)
+returns-4 c = λ _ given rows. c .word-of4 .ensures ∙ ap quick-word (c .before .atom .ensures _ rows ∙ at-tag _ _ _ _ _ 119 (c .before .before .match .keys4) (atom-ext utf-8 1) refl)
 
 returns-5 : tie.Need-returns-5
 unfolding form-in forms
-returns-5 c = λ _ atoms rows. c .word-of5 .ensures ∙ ap quick-word (c .before .binary .ensures _ rows ∙ at-tag _ _ _ _ _ 109 (c .before .before .match .keys5) binary-ext refl)
+returns-5 c = λ _ given rows. c .word-of5 .ensures ∙ ap quick-word (c .before .binary .ensures _ rows ∙ at-tag _ _ _ _ _ 109 (c .before .before .match .keys5) binary-ext refl)
 
 returns-6 : tie.Need-returns-6
 unfolding form-in forms
-returns-6 c = λ _ atoms rows. c .word-of6 .ensures ∙ ap quick-word (nil-head _ _ _ _ ∙ at-tag _ _ _ _ _ 106 (c .before .match .keys6) nil-ext refl)
+returns-6 c = λ _ given rows. c .word-of6 .ensures ∙ ap quick-word (nil-head _ _ _ _ ∙ at-tag _ _ _ _ _ 106 (c .before .match .keys6) nil-ext refl)
 
 returns-7 : tie.Need-returns-7
 unfolding form-in forms
-returns-7 c = λ _ atoms rows. c .word-of7 .ensures ∙ ap quick-word (c .before .bitstring .ensures _ rows ∙ at-tag _ _ _ _ _ 77 (c .before .before .match .keys7) bit-binary-ext refl)
+returns-7 c = λ _ given rows. c .word-of7 .ensures ∙ ap quick-word (c .before .bitstring .ensures _ rows ∙ at-tag _ _ _ _ _ 77 (c .before .before .match .keys7) bit-binary-ext refl)
 
 returns-8 : tie.Need-returns-8
 unfolding form-in forms
-returns-8 c = λ _ atoms rows. c .word-of8 .ensures ∙ ap quick-word (c .before .big .ensures _ rows ∙ at-tag _ _ _ _ _ 110 (c .before .before .match .keys8) (big-ext 1) refl)
+returns-8 c = λ _ given rows. c .word-of8 .ensures ∙ ap quick-word (c .before .big .ensures _ rows ∙ at-tag _ _ _ _ _ 110 (c .before .before .match .keys8) (big-ext 1) refl)
 
 returns-9 : tie.Need-returns-9
 returns-9 c = search needs

@@ -12,7 +12,7 @@ sub-if1-2 : tie.Need-sub-if1-2
 sub-if1-2 c = search needs
 
 returns : tie.Need-returns
-returns c = λ atoms rows. list-short _ _ _ _ (omega arith) (c .if1 .taken)
+returns c = λ given rows. list-short _ _ _ _ (omega arith) (c .if1 .taken)
 
 add-big4 : tie.Need-add-big4
 add-big4 c = search needs
@@ -27,7 +27,7 @@ add-t7 : tie.Need-add-t7
 add-t7 c = search needs
 
 returns-2 : tie.Need-returns-2
-returns-2 c = λ atoms rows. list-there _ _ _ _ (omega arith) _ (c .before .if1 .left) (c .big4 .ensures .0)
+returns-2 c = λ given rows. list-there _ _ _ _ (omega arith) _ (c .before .if1 .left) (c .big4 .ensures .0)
 
 pub list-spec : {M : Type 1} → statement M
 list-spec =

@@ -14,7 +14,7 @@ shared-slice-read-result : tie.Need-shared-slice-read-result
 shared-slice-read-result c = search needs
 
 returns-2 : tie.Need-returns-2
-returns-2 c = λ e atoms rows. nil-here _ _ atoms rows (omega arith) e
+returns-2 c = λ e given rows. nil-here _ _ given rows (omega arith) e
 
 pub nil-at-spec : {M : Type 1} → statement M
 nil-at-spec = tie.close (tie.spec returns shared-slice-read-result returns-2)

@@ -29,7 +29,7 @@ word-of-requires c κs = search needs
 returns-3 : tie.Need-returns-3
 unfolding form-in forms coding-of allowed wanted-of
 returns-3 c =
-    λ _ atoms rows. c .word-of .ensures
+    λ _ given rows. c .word-of .ensures
     ∙ ap quick-word (head-known _ _ _ _ Atom (omega arith) _ (sym (atom-tag _ 119 (c .before .before .if2 .left) refl))
     (c .before .atom .ensures _ rows ∙ at-tag _ _ _ _ _ 119 (c .before .before .if2 .left) (atom-ext utf-8 1) refl))
 

@@ -12,7 +12,7 @@ sub-if1-2 : tie.Need-sub-if1-2
 sub-if1-2 c = search needs
 
 returns : tie.Need-returns
-returns c = λ atoms flags-are rows. reference-short _ _ _ _ (omega arith) _ (c .if1 .taken)
+returns c = λ given flags-are rows. reference-short _ _ _ _ (omega arith) _ (c .if1 .taken)
 
 add-big2 : tie.Need-add-big2
 add-big2 c = search needs
@@ -21,13 +21,13 @@ big2-requires : tie.Need-big2-requires
 big2-requires c κs = search needs
 
 returns-2 : tie.Need-returns-2
-returns-2 c = λ atoms flags-are rows. reference-none _ _ _ _ (omega arith) _ _ (c .before .before .if1 .left) (c .before .big2 .ensures .0) (c .if2 .taken)
+returns-2 c = λ given flags-are rows. reference-none _ _ _ _ (omega arith) _ _ (c .before .before .if1 .left) (c .before .big2 .ensures .0) (c .if2 .taken)
 
 words-most-requires : tie.Need-words-most-requires
 words-most-requires c κs = search needs
 
 returns-3 : tie.Need-returns-3
-returns-3 c = λ atoms flags-are rows. reference-many _ _ _ _ (omega arith) _ _ (c .before .before .before .before .if1 .left) (c .before .before .before .big2 .ensures .0) (c .before .before .if2 .left) _ _ flags-are (c .before .words-most .ensures) (c .if3 .taken)
+returns-3 c = λ given flags-are rows. reference-many _ _ _ _ (omega arith) _ _ (c .before .before .before .before .if1 .left) (c .before .before .before .big2 .ensures .0) (c .before .before .if2 .left) _ _ flags-are (c .before .words-most .ensures) (c .if3 .taken)
 
 add-t8 : tie.Need-add-t8
 add-t8 c = search needs
@@ -36,7 +36,7 @@ add-t7 : tie.Need-add-t7
 add-t7 c = search needs
 
 returns-4 : tie.Need-returns-4
-returns-4 c = λ atoms flags-are rows. reference-there _ _ _ _ (omega arith) _ _ (c .before .before .before .before .if1 .left) (c .before .before .before .big2 .ensures .0) (c .before .before .if2 .left) _ _ flags-are (c .before .words-most .ensures) (c .if3 .left)
+returns-4 c = λ given flags-are rows. reference-there _ _ _ _ (omega arith) _ _ (c .before .before .before .before .if1 .left) (c .before .before .before .big2 .ensures .0) (c .before .before .if2 .left) _ _ flags-are (c .before .words-most .ensures) (c .if3 .left)
 
 pub reference-spec : {M : Type 1} → statement M
 reference-spec =

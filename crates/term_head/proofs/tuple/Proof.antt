@@ -12,7 +12,7 @@ sub-if1-2 : tie.Need-sub-if1-2
 sub-if1-2 c = search needs
 
 returns : tie.Need-returns
-returns c = λ atoms rows. tuple-short _ _ _ _ (omega arith) _ (c .if1 .taken)
+returns c = λ given rows. tuple-short _ _ _ _ (omega arith) _ (c .if1 .taken)
 
 add-number : tie.Need-add-number
 add-number c = search needs
@@ -27,7 +27,7 @@ add-t10 : tie.Need-add-t10
 add-t10 c = search needs
 
 returns-2 : tie.Need-returns-2
-returns-2 c = λ atoms rows. tuple-there _ _ _ _ (omega arith) _ _ (c .before .if1 .left) (c .number .ensures)
+returns-2 c = λ given rows. tuple-there _ _ _ _ (omega arith) _ _ (c .before .if1 .left) (c .number .ensures)
 
 pub tuple-spec : {M : Type 1} → statement M
 tuple-spec =

@@ -13,8 +13,8 @@ use Rattle.map_keys.proofs.Slots.{keeps-refl, keeps-trans}
 use Rattle.term_head.specs.Code.{wanted-of}
 use Rattle.term_spec.specs.Answer.{at-offset}
 use Rattle.term_spec.specs.Reading.{each, list-tail, body, term}
-use Rattle.term_spec.specs.AtomList.{atoms-of}
-use Rattle.context.specs.Word.{count-in, capacity-in, list-in, atoms-in}
+use Rattle.term_spec.specs.AtomList.{given-of}
+use Rattle.context.specs.Word.{count-in, capacity-in, list-in, given-in}
 use Rattle.context.proofs.Words.{count-small}
 use types.Run.{miss}
 use lib.ListN.{length, drop, replicate, length-set}
@@ -501,7 +501,7 @@ read-entry-is-leaf-requires : (t : ℕ) → read-entry-lts.Need-is-leaf-requires
 read-entry-is-leaf-requires t c κs = search needs
 
 read-entry-pack-requires : (t : ℕ) → read-entry-lts.Need-pack-requires (read-entry-calls t) (read-entry-at t) read-entry.Post
-read-entry-pack-requires t c κs = let f = c .before .is-leaf .ensures (c .if1 .taken) in let w = c .before .before .entry-at .ensures (f .0) in leaf-small _ _ _ _ _ _ _ _ (c .before .before .before .before .before .before .before .before .pre .1 .0) (quick-inside _ _ _ _ (c .before .before .before .before .before .before .before .before .args .row) _ (f .0) (w (atoms-in 0 [] []) (c .before .before .before .before .before .before .before .before .args .row)))
+read-entry-pack-requires t c κs = let f = c .before .is-leaf .ensures (c .if1 .taken) in let w = c .before .before .entry-at .ensures (f .0) in leaf-small _ _ _ _ _ _ _ _ (c .before .before .before .before .before .before .before .before .pre .1 .0) (quick-inside _ _ _ _ (c .before .before .before .before .before .before .before .before .args .row) _ (f .0) (w (given-in 0 [] []) (c .before .before .before .before .before .before .before .before .args .row)))
 
 read-entry-mul-table : (t : ℕ) → read-entry-lts.Need-mul-table (read-entry-calls t) (read-entry-at t) read-entry.Post
 read-entry-mul-table t c = omega arith
@@ -519,7 +519,7 @@ read-entry-returns : (t : ℕ) → read-entry-lts.Need-returns (read-entry-calls
 read-entry-returns t c =
     let f = c .before .before .is-leaf .ensures (c .before .if1 .taken) in
     let w = c .before .before .before .entry-at .ensures (f .0) in
-    record { rows-stored = quick-leaf _ _ _ _ (c .before .before .before .before .before .before .before .before .before .args .row) _ (f .0) (w _ (c .before .before .before .before .before .before .before .before .before .args .row)) _ _ _ _ (f .1) (f .2) (f .3) (omega (arith, quick-inside _ _ _ _ (c .before .before .before .before .before .before .before .before .before .args .row) _ (f .0) (w (atoms-in 0 [] []) (c .before .before .before .before .before .before .before .before .before .args .row)), c .before .before .before .before .before .before .before .before .before .pre .1 .0 .short)) _ (c .pack .ensures); keys-kept = keeps-refl _ }
+    record { rows-stored = quick-leaf _ _ _ _ (c .before .before .before .before .before .before .before .before .before .args .row) _ (f .0) (w _ (c .before .before .before .before .before .before .before .before .before .args .row)) _ _ _ _ (f .1) (f .2) (f .3) (omega (arith, quick-inside _ _ _ _ (c .before .before .before .before .before .before .before .before .before .args .row) _ (f .0) (w (given-in 0 [] []) (c .before .before .before .before .before .before .before .before .before .args .row)), c .before .before .before .before .before .before .before .before .before .pre .1 .0 .short)) _ (c .pack .ensures); keys-kept = keeps-refl _ }
 
 read-entry-read-run-requires : (t : ℕ) → read-entry-lts.Need-read-run-requires (read-entry-calls t) (read-entry-at t) read-entry.Post
 read-entry-read-run-requires t c κs = (omega (arith, c .before .before .before .before .before .before .before .before .before .before .pre .0), (c .before .before .before .before .before .before .before .before .before .before .pre .1 .0, c .before .before .before .before .before .before .before .before .before .before .pre .1 .1))
@@ -538,7 +538,7 @@ abbrev read-pairs-Inv-loop : read-pairs-lts.InvT-loop
 read-pairs-Inv-loop msg context places lengths table₀ seen₀ at row deep count at-now₀ row-now₀ parts₀ table seen at-now row-now parts =
     Room msg (list-in context places lengths) table (capacity-in context) at-now row-now row
     × (length table ≡ length table₀)
-    × Reached (atoms-in context places lengths) (capacity-in context) deep msg places lengths at row count table₀ at-now row-now parts table seen
+    × Reached (given-in context places lengths) (capacity-in context) deep msg places lengths at row count table₀ at-now row-now parts table seen
     × Keeps seen₀ seen
 
 abbrev read-pairs-μ-loop : read-pairs-lts.MeasureT-loop
@@ -670,7 +670,7 @@ read-parts-same-length-6 : (t : ℕ) → read-parts-lts.Need-same-length-6 (read
 read-parts-same-length-6 t c = c .before .before .before .before .before .before .before .before .before .before .before .read-more .kept .1 .1 .1 .1 .1 .0 ∙ c .before .before .before .before .before .before .before .before .before .before .before .before .before .before .before .before .before .before .before .before .before .read-wanted .kept .1 .1 .1 .1 .1 .0
 
 read-parts-returns-3 : (t : ℕ) → read-parts-lts.Need-returns-3 (read-parts-calls t) (read-parts-at t) read-parts.Post
-unfolding atoms-of
+unfolding given-of
 read-parts-returns-3 t c = record { rows-stored = λ l kind later. parts-later-refused _ _ _ _ _ _ _ _ _ _ l _ _ (c .before .before .before .before .before .before .before .before .before .before .before .before .before .before .before .before .before .before .before .before .before .read-wanted .ensures .rows-stored) _ _ (c .before .before .before .before .before .before .before .before .before .before .before .before .before .before .before .next .given .1) _ _ (c .before .before .before .before .before .before .before .before .before .before .before .read-more .ensures .rows-stored) _ _ (c .before .before .before .before .before .next2 .given .1) _ (c .before .before .before .read-later .ensures l later _) _ _ _ (c .before .number3 .given .1); keys-kept = keeps-trans (c .before .before .before .before .before .before .before .before .before .before .before .before .before .before .before .before .before .before .before .before .before .read-wanted .ensures .keys-kept) (c .before .before .before .before .before .before .before .before .before .before .before .read-more .ensures .keys-kept) }
 
 read-parts-same-length-7 : (t : ℕ) → read-parts-lts.Need-same-length-7 (read-parts-calls t) (read-parts-at t) read-parts.Post
@@ -680,7 +680,7 @@ read-parts-same-length-8 : (t : ℕ) → read-parts-lts.Need-same-length-8 (read
 read-parts-same-length-8 t c = c .before .before .before .before .before .before .before .before .before .before .before .read-more .kept .1 .1 .1 .1 .1 .0 ∙ c .before .before .before .before .before .before .before .before .before .before .before .before .before .before .before .before .before .before .before .before .before .read-wanted .kept .1 .1 .1 .1 .1 .0
 
 read-parts-returns-4 : (t : ℕ) → read-parts-lts.Need-returns-4 (read-parts-calls t) (read-parts-at t) read-parts.Post
-unfolding atoms-of
+unfolding given-of
 read-parts-returns-4 t c = record { rows-stored = λ l kind later. parts-got _ _ _ _ _ _ _ _ _ _ l _ _ (c .before .before .before .before .before .before .before .before .before .before .before .before .before .before .before .before .before .before .before .before .before .read-wanted .ensures .rows-stored) _ _ (c .before .before .before .before .before .before .before .before .before .before .before .before .before .before .before .next .given .1) _ _ (c .before .before .before .before .before .before .before .before .before .before .before .read-more .ensures .rows-stored) _ _ (c .before .before .before .before .before .next2 .given .1) _ (c .before .before .before .read-later .ensures l later _) _ _ kind (c .before .next3 .given .1); keys-kept = keeps-trans (c .before .before .before .before .before .before .before .before .before .before .before .before .before .before .before .before .before .before .before .before .before .read-wanted .ensures .keys-kept) (c .before .before .before .before .before .before .before .before .before .before .before .read-more .ensures .keys-kept) }
 
 abbrev read-run-Inv-loop : read-run-lts.InvT-loop
@@ -688,8 +688,8 @@ read-run-Inv-loop msg context places lengths table₀ seen₀ at row whole deep 
     Room msg (list-in context places lengths) table (capacity-in context) at-now row-now whole
     × (length table ≡ length table₀)
     × ((s : Step) (U : List ℕ)
-    → RunDone msg more (capacity-in context) row-now whole table (each (term (atoms-in context places lengths) (capacity-in context) deep) (replicate more (wanted-of wanted)) (at-offset msg at-now row-now)) s U
-    → RunDone msg count (capacity-in context) row whole table₀ (each (term (atoms-in context places lengths) (capacity-in context) deep) (replicate count (wanted-of wanted)) (at-offset msg at row)) s U)
+    → RunDone msg more (capacity-in context) row-now whole table (each (term (given-in context places lengths) (capacity-in context) deep) (replicate more (wanted-of wanted)) (at-offset msg at-now row-now)) s U
+    → RunDone msg count (capacity-in context) row whole table₀ (each (term (given-in context places lengths) (capacity-in context) deep) (replicate count (wanted-of wanted)) (at-offset msg at row)) s U)
     × Keeps seen₀ seen
 
 abbrev read-run-μ-loop : read-run-lts.MeasureT-loop
@@ -706,7 +706,7 @@ read-run-is-leaf-requires : (t : ℕ) → read-run-lts.Need-is-leaf-requires (re
 read-run-is-leaf-requires t c κs = search needs
 
 read-run-pack-requires : (t : ℕ) → read-run-lts.Need-pack-requires (read-run-calls t) (read-run-at t) read-run.Post read-run-Inv-loop read-run-μ-loop
-read-run-pack-requires t c κs = let f = c .before .is-leaf .ensures (c .if1 .taken) in let w = c .before .before .leaf-at .ensures (f .0) in leaf-small _ _ _ _ _ _ _ _ (c .before .before .before .before .loop .inv .0) (quick-inside _ _ _ _ (c .before .before .before .before .loop .row-now) _ (f .0) (w (atoms-in 0 [] []) (c .before .before .before .before .loop .row-now)))
+read-run-pack-requires t c κs = let f = c .before .is-leaf .ensures (c .if1 .taken) in let w = c .before .before .leaf-at .ensures (f .0) in leaf-small _ _ _ _ _ _ _ _ (c .before .before .before .before .loop .inv .0) (quick-inside _ _ _ _ (c .before .before .before .before .loop .row-now) _ (f .0) (w (given-in 0 [] []) (c .before .before .before .before .loop .row-now)))
 
 read-run-mul-table : (t : ℕ) → read-run-lts.Need-mul-table (read-run-calls t) (read-run-at t) read-run.Post read-run-Inv-loop read-run-μ-loop
 read-run-mul-table t c = omega arith
@@ -728,7 +728,7 @@ read-run-loop-again t c =
     let i = c .before .before .before .before .before .loop in
     let e : i .more ≡ 0 → ⊥ = omega arith in
     let f = c .before .before .is-leaf .ensures (c .before .if1 .taken) in let w = c .before .before .before .leaf-at .ensures (f .0) in
-    let d = (quick-leaf _ _ _ _ (i .row-now) _ (f .0) (w _ (i .row-now)) _ _ _ _ (f .1) (f .2) (f .3) (omega (arith, quick-inside _ _ _ _ (i .row-now) _ (f .0) (w (atoms-in 0 [] []) (i .row-now)), i .inv .0 .short)) _ (c .pack .ensures)) in
+    let d = (quick-leaf _ _ _ _ (i .row-now) _ (f .0) (w _ (i .row-now)) _ _ _ _ (f .1) (f .2) (f .3) (omega (arith, quick-inside _ _ _ _ (i .row-now) _ (f .0) (w (given-in 0 [] []) (i .row-now)), i .inv .0 .short)) _ (c .pack .ensures)) in
     (room-after _ _ _ _ _ _ _ _ _ _ _ _ _ _ _ (i .inv .0) d refl (length-set {A = ℕ} (i .table) (i .row-now) (c .pack .result)), length-set {A = ℕ} (i .table) (i .row-now) (c .pack .result) ∙ i .inv .1, (λ s U g. i .inv .2 s U (run-more _ _ _ _ _ _ _ _ _ e _ _ _ _ s U refl d g)), i .inv .3)
 
 read-run-read-term-requires : (t : ℕ) → read-run-lts.Need-read-term-requires (read-run-calls t) (read-run-at t) read-run.Post read-run-Inv-loop read-run-μ-loop
@@ -781,8 +781,8 @@ read-tail-Inv-loop msg context places lengths table₀ seen₀ at row whole deep
     Room msg (list-in context places lengths) table (capacity-in context) at-now row-now whole
     × (length table ≡ length table₀)
     × (sum ≤ row-now)
-    × Tailed (atoms-in context places lengths) (capacity-in context) deep msg at-now row-now whole table sum
-    (PartsDone msg before (capacity-in context) row whole table₀ (list-tail (atoms-in context places lengths) (capacity-in context) deep (body (atoms-in context places lengths) (capacity-in context) deep) (drop at msg) (at-offset msg at row)))
+    × Tailed (given-in context places lengths) (capacity-in context) deep msg at-now row-now whole table sum
+    (PartsDone msg before (capacity-in context) row whole table₀ (list-tail (given-in context places lengths) (capacity-in context) deep (body (given-in context places lengths) (capacity-in context) deep) (drop at msg) (at-offset msg at row)))
     × Keeps seen₀ seen
 
 abbrev read-tail-μ-loop : read-tail-lts.MeasureT-loop
@@ -873,7 +873,7 @@ read-wanted-is-leaf-requires : (t : ℕ) → read-wanted-lts.Need-is-leaf-requir
 read-wanted-is-leaf-requires t c κs = search needs
 
 read-wanted-pack-requires : (t : ℕ) → read-wanted-lts.Need-pack-requires (read-wanted-calls t) (read-wanted-at t) read-wanted.Post
-read-wanted-pack-requires t c κs = let f = c .before .is-leaf .ensures (c .if2 .taken) in leaf-small _ _ _ _ _ _ _ _ (c .before .before .before .before .before .before .before .before .before .pre .1 .0) (quick-inside _ _ _ _ (c .before .before .before .before .before .before .before .before .before .args .row) _ (f .0) (c .before .before .node-at .ensures (f .0) (atoms-in 0 [] []) (c .before .before .before .before .before .before .before .before .before .args .row)))
+read-wanted-pack-requires t c κs = let f = c .before .is-leaf .ensures (c .if2 .taken) in leaf-small _ _ _ _ _ _ _ _ (c .before .before .before .before .before .before .before .before .before .pre .1 .0) (quick-inside _ _ _ _ (c .before .before .before .before .before .before .before .before .before .args .row) _ (f .0) (c .before .before .node-at .ensures (f .0) (given-in 0 [] []) (c .before .before .before .before .before .before .before .before .before .args .row)))
 
 read-wanted-mul-table : (t : ℕ) → read-wanted-lts.Need-mul-table (read-wanted-calls t) (read-wanted-at t) read-wanted.Post
 read-wanted-mul-table t c = omega arith
@@ -890,7 +890,7 @@ read-wanted-same-length t c = simp length-set refl
 read-wanted-returns : (t : ℕ) → read-wanted-lts.Need-returns (read-wanted-calls t) (read-wanted-at t) read-wanted.Post
 read-wanted-returns t c =
     let f = c .before .before .is-leaf .ensures (c .before .if2 .taken) in
-    let d = (quick-leaf _ _ _ _ (c .before .before .before .before .before .before .before .before .before .before .args .row) _ (f .0) (c .before .before .before .node-at .ensures (f .0) _ (c .before .before .before .before .before .before .before .before .before .before .args .row)) _ _ _ _ (f .1) (f .2) (f .3) (omega (arith, quick-inside _ _ _ _ (c .before .before .before .before .before .before .before .before .before .before .args .row) _ (f .0) (c .before .before .before .node-at .ensures (f .0) (atoms-in 0 [] []) (c .before .before .before .before .before .before .before .before .before .before .args .row)), c .before .before .before .before .before .before .before .before .before .before .pre .1 .0 .short)) _ (c .pack .ensures)) in
+    let d = (quick-leaf _ _ _ _ (c .before .before .before .before .before .before .before .before .before .before .args .row) _ (f .0) (c .before .before .before .node-at .ensures (f .0) _ (c .before .before .before .before .before .before .before .before .before .before .args .row)) _ _ _ _ (f .1) (f .2) (f .3) (omega (arith, quick-inside _ _ _ _ (c .before .before .before .before .before .before .before .before .before .before .args .row) _ (f .0) (c .before .before .before .node-at .ensures (f .0) (given-in 0 [] []) (c .before .before .before .before .before .before .before .before .before .before .args .row)), c .before .before .before .before .before .before .before .before .before .before .pre .1 .0 .short)) _ (c .pack .ensures)) in
     record { rows-stored = wanted-node _ _ _ _ _ _ _ _ _ _ _ (c .before .before .before .before .if1 .taken) d; keys-kept = keeps-refl _ }
 
 read-wanted-at-most-requires : (t : ℕ) → read-wanted-lts.Need-at-most-requires (read-wanted-calls t) (read-wanted-at t) read-wanted.Post

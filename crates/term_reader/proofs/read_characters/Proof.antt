@@ -7,10 +7,10 @@ use Rattle.term_reader.proofs.read_characters.Statement.{statement}
 use Rattle.term_reader.proofs.read_characters.Tie as tie
 
 returns : tie.Need-returns
-returns c = λ atoms m cs same near. characters-none atoms m cs _ _ _ _ _ _ _ _ _ _ same (c .if1 .taken) near (omega arith) refl
+returns c = λ given m cs same near. characters-none given m cs _ _ _ _ _ _ _ _ _ _ same (c .if1 .taken) near (omega arith) refl
 
 returns-2 : tie.Need-returns-2
-returns-2 c = λ atoms m cs same near. characters-deep atoms m cs _ _ _ _ _ _ _ _ _ _ same (c .before .if1 .left) (c .if2 .taken)
+returns-2 c = λ given m cs same near. characters-deep given m cs _ _ _ _ _ _ _ _ _ _ same (c .before .if1 .left) (c .if2 .taken)
 
 capacity-in-requires : tie.Need-capacity-in-requires
 capacity-in-requires c κs = search needs
@@ -19,7 +19,7 @@ sub-if3 : tie.Need-sub-if3
 sub-if3 c = search needs
 
 returns-3 : tie.Need-returns-3
-returns-3 c = λ atoms m cs same near. characters-full atoms m cs _ _ _ _ _ _ _ _ _ _ same (c .before .before .if2 .left) (omega arith) (omega (arith, c .before .capacity-in .ensures, c .if3 .taken))
+returns-3 c = λ given m cs same near. characters-full given m cs _ _ _ _ _ _ _ _ _ _ same (c .before .before .if2 .left) (omega arith) (omega (arith, c .before .capacity-in .ensures, c .if3 .taken))
 
 add-put-characters : tie.Need-add-put-characters
 add-put-characters c = let f = c .before .before .before .before .before .before .pre .5 (c .before .before .before .before .if1 .left) in omega arith
@@ -37,7 +37,7 @@ same-length : tie.Need-same-length
 same-length c = search needs
 
 returns-4 : tie.Need-returns-4
-returns-4 c = λ atoms m cs same near. characters-got atoms m cs _ _ _ _ _ _ _ _ _ _ same (c .before .before .before .before .before .before .if2 .left) near (omega arith) (c .before .before .before .before .before .before .before .before .before .pre .5 (c .before .before .before .before .before .before .before .if1 .left)) (c .before .before .put-characters .ensures)
+returns-4 c = λ given m cs same near. characters-got given m cs _ _ _ _ _ _ _ _ _ _ same (c .before .before .before .before .before .before .if2 .left) near (omega arith) (c .before .before .before .before .before .before .before .before .before .pre .5 (c .before .before .before .before .before .before .before .if1 .left)) (c .before .before .put-characters .ensures)
 
 pub read-characters-spec : {M : Type 1} → statement M
 read-characters-spec =
