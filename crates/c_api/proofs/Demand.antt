@@ -3,6 +3,7 @@
 -- those on packets a call of a run, as demand 2 (crate packet_spec, proofs/Demand) has it; the word call the reference's text, as a message's own words
 -- (crate packet_spec, proofs/OwnWords) have it.
 use mathlib.Core.Path.{_≡_, refl, sym, _∙_, ap, subst}
+use mathlib.Core.Bool.{true}
 use mathlib.Core.List.{List, _∷_}
 use Prim.Native.Nat.{ℕ}
 use native.Mathlib.Omega.{arith}
@@ -11,7 +12,7 @@ use contract.Monad.{fact}
 use borrow.Fn.World.{World}
 use Rattle.term_spec.specs.AtomList.{AtomList, lent-list}
 use Rattle.term_spec.specs.Message.{standalone, payload}
-use Rattle.term_spec.specs.Text.{Coding, coding-of}
+use Rattle.term_spec.specs.Connection.{flags-known}
 use Rattle.term_spec.specs.Numbers.{Under}
 use Rattle.term_spec.specs.Answer.{good}
 use Rattle.packet_spec.specs.declared.Pending.{Pending}
@@ -29,7 +30,7 @@ use Rattle.packet_spec.proofs.OwnWords as definitions
 use Rattle.c_replies.specs.declared.PacketReply.{PacketReply}
 use Rattle.c_replies.specs.declared.StateReply.{StateReply}
 use Rattle.c_replies.specs.declared.WordReply.{WordReply}
-use Rattle.c_replies.specs.Packets.{flag, flat-packet, flat-word}
+use Rattle.c_replies.specs.Packets.{flat-packet, flat-word}
 use Rattle.c_api.specs.Promises.{Read-reply, Write-reply, Packet-reply, Drop-reply, Reset-reply, Word-reply}
 use Rattle.c_api.proofs.ik_read_standalone.Reads as read-standalone
 use Rattle.c_api.proofs.ik_read_payload.Reads as read-payload
@@ -41,31 +42,31 @@ use Rattle.c_api.proofs.ik_drop as drop-call
 use Rattle.c_api.proofs.ik_reset as reset-call
 
 pub promised-ik-read-standalone : (κs : Lfts 4) (a : _) (r : _) (s : _) → read-standalone.Post κs a r s
-    → Read-reply standalone (lent-list (a .1 .0) (a .1 .1 .0 .now) (a .1 .1 .1 .0 .now)) (a .0 .now) (a .1 .1 .1 .1 .0 .now) r (s .1 .1 .1 .1 .0 .now)
+    → Read-reply (a .0) standalone (lent-list (a .1 .1 .0) (a .1 .1 .1 .0 .now) (a .1 .1 .1 .1 .0 .now)) (a .1 .0 .now) (a .1 .1 .1 .1 .1 .0 .now) r (s .1 .1 .1 .1 .1 .0 .now)
 promised-ik-read-standalone κs a r s p = p
 
 pub promised-ik-read-payload : (κs : Lfts 4) (a : _) (r : _) (s : _) → read-payload.Post κs a r s
-    → Read-reply payload (lent-list (a .1 .0) (a .1 .1 .0 .now) (a .1 .1 .1 .0 .now)) (a .0 .now) (a .1 .1 .1 .1 .0 .now) r (s .1 .1 .1 .1 .0 .now)
+    → Read-reply (a .0) payload (lent-list (a .1 .1 .0) (a .1 .1 .1 .0 .now) (a .1 .1 .1 .1 .0 .now)) (a .1 .0 .now) (a .1 .1 .1 .1 .1 .0 .now) r (s .1 .1 .1 .1 .1 .0 .now)
 promised-ik-read-payload κs a r s p = p
 
 pub promised-ik-write-standalone : (κs : Lfts 5) (a : _) (r : _) (s : _) → write-standalone.Post κs a r s
-    → Write-reply standalone (lent-list (a .1 .0) (a .1 .1 .0 .now) (a .1 .1 .1 .0 .now)) (a .0 .now) (a .1 .1 .1 .1 .0 .now) (a .1 .1 .1 .1 .1 .0 .now) r
-    (s .1 .1 .1 .1 .0 .now) (s .1 .1 .1 .1 .1 .0 .now)
+    → Write-reply (a .0) standalone (lent-list (a .1 .1 .0) (a .1 .1 .1 .0 .now) (a .1 .1 .1 .1 .0 .now)) (a .1 .0 .now) (a .1 .1 .1 .1 .1 .0 .now) (a .1 .1 .1 .1 .1 .1 .0 .now) r
+    (s .1 .1 .1 .1 .1 .0 .now) (s .1 .1 .1 .1 .1 .1 .0 .now)
 promised-ik-write-standalone κs a r s p = p
 
 pub promised-ik-write-payload : (κs : Lfts 5) (a : _) (r : _) (s : _) → write-payload.Post κs a r s
-    → Write-reply payload (lent-list (a .1 .0) (a .1 .1 .0 .now) (a .1 .1 .1 .0 .now)) (a .0 .now) (a .1 .1 .1 .1 .0 .now) (a .1 .1 .1 .1 .1 .0 .now) r
-    (s .1 .1 .1 .1 .0 .now) (s .1 .1 .1 .1 .1 .0 .now)
+    → Write-reply (a .0) payload (lent-list (a .1 .1 .0) (a .1 .1 .1 .0 .now) (a .1 .1 .1 .1 .0 .now)) (a .1 .0 .now) (a .1 .1 .1 .1 .1 .0 .now) (a .1 .1 .1 .1 .1 .1 .0 .now) r
+    (s .1 .1 .1 .1 .1 .0 .now) (s .1 .1 .1 .1 .1 .1 .0 .now)
 promised-ik-write-payload κs a r s p = p
 
 pub promised-ik-word : (κs : Lfts 2) (a : _) (r : _) (s : _) → word-call.Post κs a r s
-    → Word-reply (lent-list (a .0) (a .1 .0 .now) (a .1 .1 .0 .now)) (a .1 .1 .1 .0) r
+    → Word-reply (a .0) (lent-list (a .1 .0) (a .1 .1 .0 .now) (a .1 .1 .1 .0 .now)) (a .1 .1 .1 .1 .0) r
 promised-ik-word κs a r s p = p
 
 -- The three that lend the record by `&mut`: rt makes no `Reads` for these, so their `ensures` is named itself. At any model w it is the fact that the relation holds
 pub promised-ik-packet : (w : World) (κs : Lfts 11) (a : _) (r : _) (s : _)
     → packet-call.clauses (w .𝓤) (w .H) (w .𝓖 .A) (w .𝓜 .mem) (w .𝓡 .run) κs a .ensures tt r s
-    ≡ fact (w .𝓤) (Packet-reply (coding-of (flag (a .0))) (a .1 .0 .now)
+    ≡ fact (w .𝓤) (Packet-reply (a .0) (a .1 .0 .now)
     (memory-of (cache-of (a .1 .1 .0 .now) (a .1 .1 .1 .0 .now))
     (lent-list (a .1 .1 .1 .1 .0 .now) (a .1 .1 .1 .1 .1 .0 .now) (a .1 .1 .1 .1 .1 .1 .0 .now))
     (lent-list (a .1 .1 .1 .1 .1 .1 .1 .0 .now) (a .1 .1 .1 .1 .1 .1 .1 .1 .0 .now) (a .1 .1 .1 .1 .1 .1 .1 .1 .1 .0 .now))
@@ -78,7 +79,7 @@ pub promised-ik-packet : (w : World) (κs : Lfts 11) (a : _) (r : _) (s : _)
 promised-ik-packet w κs a r s = refl
 
 pub promised-ik-drop : (w : World) (κs : Lfts 1) (a : _) (r : _) (s : _)
-    → drop-call.clauses (w .𝓤) (w .H) (w .𝓖 .A) (w .𝓜 .mem) (w .𝓡 .run) κs a .ensures tt r s ≡ fact (w .𝓤) (Drop-reply (a .0 .now) r (s .0 .now))
+    → drop-call.clauses (w .𝓤) (w .H) (w .𝓖 .A) (w .𝓜 .mem) (w .𝓡 .run) κs a .ensures tt r s ≡ fact (w .𝓤) (Drop-reply (a .0) (a .1 .0 .now) r (s .1 .0 .now))
 promised-ik-drop w κs a r s = refl
 
 pub promised-ik-reset : (w : World) (κs : Lfts 3) (a : _) (r : _) (s : _)
@@ -87,14 +88,14 @@ pub promised-ik-reset : (w : World) (κs : Lfts 3) (a : _) (r : _) (s : _)
 promised-ik-reset w κs a r s = refl
 
 -- Each is a call of a run, so demand 2 speaks of runs of these three
-pub packet-in-run : {agreed : Coding} {packet : List ℕ} {m m′ n : Memory} {reply : PacketReply} {cs : List Call}
-    → Packet-reply agreed packet m reply m′ → Ran m′ cs n → Ran m (taking agreed packet ∷ cs) n
-packet-in-run {agreed} {packet} {m′ = m′} p rest = packet-then agreed packet (p .taken) m′ (p .called) rest
+pub packet-in-run : {flags : ℕ} {packet : List ℕ} {m m′ n : Memory} {reply : PacketReply} {cs : List Call}
+    → Packet-reply flags packet m reply m′ → Ran m′ cs n → Ran m (taking flags packet ∷ cs) n
+packet-in-run {flags} {packet} {m′ = m′} p rest = packet-then flags packet (p .taken) m′ (p .called) rest
 
-pub drop-in-run : {m n : Memory} {reply : StateReply} {p′ : Pending} {cs : List Call}
-    → Drop-reply (m .pending) reply p′ → Ran (with-state m (m .cache, p′)) cs n → Ran m (dropping ∷ cs) n
-drop-in-run {m} {n} {cs = cs} p rest =
-    drop-then (p .settled) (p .called) (subst (λ (x : Pending). Ran (with-state m (m .cache, x)) cs n) (p .record-left) rest)
+pub drop-in-run : {flags : ℕ} {m n : Memory} {reply : StateReply} {p′ : Pending} {cs : List Call}
+    → Drop-reply flags (m .pending) reply p′ → Ran (with-state m (m .cache, p′)) cs n → Ran m (dropping flags ∷ cs) n
+drop-in-run {flags} {m} {n} {cs = cs} p rest =
+    drop-then flags (p .settled) (p .called) (subst (λ (x : Pending). Ran (with-state m (m .cache, x)) cs n) (p .record-left) rest)
 
 pub reset-in-run : {m n : Memory} {reply : StateReply} {c′ : Cache} {p′ : Pending} {cs : List Call}
     → Reset-reply (m .cache) (m .pending) reply c′ p′ → Ran (with-state m (c′, p′)) cs n → Ran m (resetting ∷ cs) n
@@ -102,20 +103,20 @@ reset-in-run {m} {n} {c′ = c′} {cs = cs} p rest =
     reset-then (p .settled) c′ (p .called) (subst (λ (x : Pending). Ran (with-state m (c′, x)) cs n) (p .record-left) rest)
 
 -- After a packet that `ik_packet` took, whatever calls follow, the message's list says what its header's references say ..
-pub own-words : {agreed : Coding} {packet : List ℕ} {m m′ n : Memory} {reply : PacketReply} {cs : List Call} → Under 256 packet → All-bytes cs
-    → (p : Packet-reply agreed packet m reply m′) → Ran m′ cs n → Own-words agreed packet m (p .taken) m′ cs n
+pub own-words : {flags : ℕ} {packet : List ℕ} {m m′ n : Memory} {reply : PacketReply} {cs : List Call} → Under 256 packet → All-bytes cs
+    → (p : Packet-reply flags packet m reply m′) → Ran m′ cs n → Own-words flags packet m (p .taken) m′ cs n
 own-words v u p ran = definitions.own-words v u (p .called) ran
 
 -- .. a packet of the kind that is 1 in the reply being a plain one, its payload from the offset that is told ..
-pub plain-replied : {agreed : Coding} {packet : List ℕ} {m m′ : Memory} {reply : PacketReply} → Under 256 packet → Packet-reply agreed packet m reply m′
-    → reply .kind ≡ 1 → (rs : List Reference) × ((bs : List ℕ) × (judged agreed m packet ≡ good (plain rs (reply .offset) bs)))
+pub plain-replied : {flags : ℕ} {packet : List ℕ} {m m′ : Memory} {reply : PacketReply} → Under 256 packet → Packet-reply flags packet m reply m′
+    → reply .kind ≡ 1 → (rs : List Reference) × ((bs : List ℕ) × (judged flags m packet ≡ good (plain rs (reply .offset) bs)))
 unfolding flat-packet
-plain-replied {agreed} {packet} {m} {m′} {reply} v p k = go (p .taken .answer) refl
+plain-replied {flags} {packet} {m} {m′} {reply} v p k = go (p .taken .answer) refl
   where
     kind-is : (a : PacketAnswer) → p .taken .answer ≡ a → flat-packet a .kind ≡ 1
     kind-is a e = ap (λ (x : PacketAnswer). flat-packet x .kind) (sym e) ∙ ap (λ (x : PacketReply). x .kind) (sym (p .reply-is)) ∙ k
 
-    go : (a : PacketAnswer) → p .taken .answer ≡ a → (rs : List Reference) × ((bs : List ℕ) × (judged agreed m packet ≡ good (plain rs (reply .offset) bs)))
+    go : (a : PacketAnswer) → p .taken .answer ≡ a → (rs : List Reference) × ((bs : List ℕ) × (judged flags m packet ≡ good (plain rs (reply .offset) bs)))
     go (packets.Plain offset size) e =
         let at : reply .offset ≡ offset = ap (λ (x : PacketReply). x .offset) (p .reply-is) ∙ ap (λ (x : PacketAnswer). flat-packet x .offset) e in
         rw at (definitions.own-words v tt (p .called) ended .plain-told offset size e)
@@ -123,7 +124,7 @@ plain-replied {agreed} {packet} {m} {m′} {reply} v p k = go (p .taken .answer)
     go (packets.Complete gathered) e = let no-way : _≡_ {A = ℕ} 3 1 = kind-is _ e in absurd (omega arith)
     go (packets.Refused f) e = let no-way : _≡_ {A = ℕ} 0 1 = kind-is _ e in absurd (omega arith)
 
--- .. and on such a list `ik_word` replies, for every index, what that reference says
-pub word-replied : {list : AtomList} {rs : List Reference} {i : ℕ} {reply : WordReply} → Says list rs → Word-reply list i reply
+-- .. and on such a list `ik_word`, with flags that are known, replies, for every index, what that reference says
+pub word-replied : {flags : ℕ} {list : AtomList} {rs : List Reference} {i : ℕ} {reply : WordReply} → flags-known flags ≡ true → Says list rs → Word-reply flags list i reply
     → reply ≡ flat-word (word-answer i (own-word rs i))
-word-replied {i = i} says w = w .reply-is ∙ ap flat-word (says .stretch-said i (w .answer) (w .called))
+word-replied {flags} {i = i} known says w = w .reply-is ∙ ap flat-word (says .stretch-said flags i (w .answer) known (w .called))

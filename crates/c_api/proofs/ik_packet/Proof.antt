@@ -12,7 +12,7 @@ use base.Fml.{GName, Lft, Share, Fml, ftrue, flft, fobs, fbor, fat}
 use prog.Memory.{Memory}
 use prog.Routine.{Routine}
 use prog.Wp.{Heap, Calls, Loops, WpFn, Tables}
-use ghost.Given.{Given}
+use ghost.Atoms.{Atoms}
 use contract.Monad.{Fun, fact}
 use contract.Running.{givenOf, tables, tablesOf}
 use types.Kit.{Given, ‵, raw, _⊛_, some, later, _$_, _∵_, !, qed, by, move, keep, drop, use1, ⋆, rewrite, split, join, pick, fsplit, fsplit3, fjoin, fjoin3, feqI, suffices, frame, await, done}
@@ -43,9 +43,7 @@ use denote.Exit.{yes}
 use Rattle.packet_spec.specs.declared.Pending.{Pending}
 use Rattle.c_api.specs.declared.Received.{Received}
 use Rattle.c_replies.specs.declared.PacketReply.{PacketReply}
-use Rattle.term_spec.specs.Text.{coding-of}
 use Rattle.packet_spec.specs.Memory.{cache-of, memory-of}
-use Rattle.c_replies.specs.Packets.{flag}
 use Rattle.c_api.specs.Promises.{Packet-reply}
 use Rattle.packet_spec.proofs.Pending as T
 use Rattle.packet_spec.proofs.Pending.Laws as T′
@@ -71,7 +69,7 @@ abbrev stayed : Stays (f.ended .signature .params) (f.ended .kept)
 stayed = (given (plain (λ _. u8)) yes, (given (shrSliceOf (0 ∷ []) tt (plain (λ _. u8))) yes, (given (mutSliceOf (1 ∷ []) tt (plain (λ _. u8))) yes, (given (mutSliceOf (2 ∷ []) tt (plain (λ _. u16))) yes, (given (mutRefTo (3 ∷ []) tt (plain (λ _. u8))) yes, (given (mutSliceOf (4 ∷ []) tt (plain (λ _. u8))) yes, (given (mutSliceOf (5 ∷ []) tt (plain (λ _. u16))) yes, (given (mutRefTo (6 ∷ []) tt (plain (λ _. u8))) yes, (given (mutSliceOf (7 ∷ []) tt (plain (λ _. u8))) yes, (given (mutSliceOf (8 ∷ []) tt (plain (λ _. u16))) yes, (stay-ref (9 ∷ []) tt (plain (λ _. T.the-row)), (given (mutSliceOf (10 ∷ []) tt (plain (λ _. u8))) yes, tt))))))))))))
 
 -- the contract that the proof cites
-abbrev Core : {M : Type 1} (𝓤 : URA M) (H : Heap 𝓤) (A : Given 𝓤) (at-mem : Memory → SProp 𝓤) (run : Routine → Fun 𝓤) → Contract 𝓤
+abbrev Core : {M : Type 1} (𝓤 : URA M) (H : Heap 𝓤) (A : Atoms 𝓤) (at-mem : Memory → SProp 𝓤) (run : Routine → Fun 𝓤) → Contract 𝓤
 Core 𝓤 H A at-mem run = tripleOf 𝓤 H A g.signature (g.spec 𝓤 H A at-mem run)
 
 -- the machine values of a record, and of an answer
@@ -81,12 +79,12 @@ vals = LL.vals T.the-type T′.the-laws
 abbrev replied : PacketReply → Val
 replied a = only (LL.vals R.the-type R′.the-laws a)
 
-module _ {M : Type 1} (𝓤 : URA M) (H : Heap 𝓤) (A : Given 𝓤) (W : Given 𝓤 H A) (at-mem : Memory → SProp 𝓤) (run : Routine → Fun 𝓤) (κ₀ : Lft) (κ₁ : Lft) (κ₂ : Lft) (κ₃ : Lft) (κ₄ : Lft) (κ₅ : Lft) (κ₆ : Lft) (κ₇ : Lft) (κ₈ : Lft) (κ₉ : Lft) (κ₁₀ : Lft) (q₀ : Share) (q₁ : Share) (q₂ : Share) (q₃ : Share) (q₄ : Share) (q₅ : Share) (q₆ : Share) (q₇ : Share) (q₈ : Share) (q₉ : Share) (q₁₀ : Share) (utf8 : ℕ) (packet : RefT (List ℕ)) (places : RefT (List ℕ)) (lengths : RefT (List ℕ)) (n : RefT ℕ) (texts : RefT (List ℕ)) (sizes : RefT (List ℕ)) (count : RefT ℕ) (kept : RefT (List ℕ)) (extents : RefT (List ℕ)) (b o : ℕ) (γ : GName) (h : Pending) (gather : RefT (List ℕ)) where
+module _ {M : Type 1} (𝓤 : URA M) (H : Heap 𝓤) (A : Atoms 𝓤) (W : Given 𝓤 H A) (at-mem : Memory → SProp 𝓤) (run : Routine → Fun 𝓤) (κ₀ : Lft) (κ₁ : Lft) (κ₂ : Lft) (κ₃ : Lft) (κ₄ : Lft) (κ₅ : Lft) (κ₆ : Lft) (κ₇ : Lft) (κ₈ : Lft) (κ₉ : Lft) (κ₁₀ : Lft) (q₀ : Share) (q₁ : Share) (q₂ : Share) (q₃ : Share) (q₄ : Share) (q₅ : Share) (q₆ : Share) (q₇ : Share) (q₈ : Share) (q₉ : Share) (q₁₀ : Share) (flags : ℕ) (packet : RefT (List ℕ)) (places : RefT (List ℕ)) (lengths : RefT (List ℕ)) (n : RefT ℕ) (texts : RefT (List ℕ)) (sizes : RefT (List ℕ)) (count : RefT ℕ) (kept : RefT (List ℕ)) (extents : RefT (List ℕ)) (b o : ℕ) (γ : GName) (h : Pending) (gather : RefT (List ℕ)) where
   abbrev x : Arg
-  x = (utf8, (packet, (places, (lengths, (n, (texts, (sizes, (count, (kept, (extents, (record { ptr = (b, o); name = γ; now = h }, (gather, tt))))))))))))
+  x = (flags, (packet, (places, (lengths, (n, (texts, (sizes, (count, (kept, (extents, (record { ptr = (b, o); name = γ; now = h }, (gather, tt))))))))))))
 
   abbrev v₀ : Val
-  v₀ = vint w8 utf8
+  v₀ = vint w8 flags
 
   abbrev v₁ : Val
   v₁ = sliceVal (packet .ptr) (length (packet .now))
@@ -159,7 +157,7 @@ module _ {M : Type 1} (𝓤 : URA M) (H : Heap 𝓤) (A : Given 𝓤) (W : Given
 
   -- what `packet_by_value` is passed, and what its triple binds outside
   abbrev passed : ℕ × (RefT (List ℕ) × (RefT (List ℕ) × (RefT (List ℕ) × (RefT ℕ × (RefT (List ℕ) × (RefT (List ℕ) × (RefT ℕ × (RefT (List ℕ) × (RefT (List ℕ) × (Pending × (RefT (List ℕ) × Unit {0})))))))))))
-  passed = (utf8, (packet, (places, (lengths, (n, (texts, (sizes, (count, (kept, (extents, (h, (gather, tt))))))))))))
+  passed = (flags, (packet, (places, (lengths, (n, (texts, (sizes, (count, (kept, (extents, (h, (gather, tt))))))))))))
 
   abbrev to-core : Core 𝓤 H A at-mem run .Ghost
   to-core = (((κ₀, (κ₁, (κ₂, (κ₃, (κ₄, (κ₅, (κ₆, (κ₇, (κ₈, (κ₁₀, tt)))))))))), (q₀, (q₁, (q₂, (q₃, (q₄, (q₅, (q₆, (q₇, (q₈, (q₁₀, tt)))))))))), tt, passed, (v₀ ∷ [], (v₁ ∷ [], (v₂ ∷ [], (v₃ ∷ [], (v₄ ∷ [], (v₅ ∷ [], (v₆ ∷ [], (v₇ ∷ [], (v₈ ∷ [], (v₉ ∷ [], (vals h, (v₁₁ ∷ [], tt))))))))))))), tt)
@@ -170,14 +168,14 @@ module _ {M : Type 1} (𝓤 : URA M) (H : Heap 𝓤) (A : Given 𝓤) (W : Given
   -- what `packet_by_value` says of its result and of the memory after it
   abbrev Replied : Received → Left → Type 0
   Replied r ws =
-      Packet-reply (coding-of (flag utf8)) (packet .now)
+      Packet-reply flags (packet .now)
       (memory-of (cache-of (places .now) (lengths .now)) (lent-list (n .now) (texts .now) (sizes .now)) (lent-list (count .now) (kept .now) (extents .now)) h (gather .now))
       (r .answer)
       (memory-of (cache-of (ws .1 .1 .0) (ws .1 .1 .1 .0)) (lent-list (ws .1 .1 .1 .1 .0) (ws .1 .1 .1 .1 .1 .0) (ws .1 .1 .1 .1 .1 .1 .0)) (lent-list (ws .1 .1 .1 .1 .1 .1 .1 .0) (ws .1 .1 .1 .1 .1 .1 .1 .1 .0) (ws .1 .1 .1 .1 .1 .1 .1 .1 .1 .0)) (r .pending) (ws .1 .1 .1 .1 .1 .1 .1 .1 .1 .1 .1 .0))
 
-  goes-core : utf8 < 2 ^ 8 → ent 𝓤 (⋆ 𝓤 H A ((‵ (T.the-row .own h (vals h)) ⊛ (‵ Own₁ ⊛ (‵ Own₂ ⊛ (‵ Own₃ ⊛ (‵ Own₄ ⊛ (‵ Own₅ ⊛ (‵ Own₆ ⊛ (‵ Own₇ ⊛ (‵ Own₈ ⊛ (‵ Own₉ ⊛ (‵ Own₁₁ ⊛ (‵ (flft κ₀ q₀) ⊛ (‵ (flft κ₁ q₁) ⊛ (‵ (flft κ₂ q₂) ⊛ (‵ (flft κ₃ q₃) ⊛ (‵ (flft κ₄ q₄) ⊛ (‵ (flft κ₅ q₅) ⊛ (‵ (flft κ₆ q₆) ⊛ (‵ (flft κ₇ q₇) ⊛ (‵ (flft κ₈ q₈) ⊛ (‵ (flft κ₁₀ q₁₀) ⊛ ‵ ftrue))))))))))))))))))))) ∷ [])) (Core 𝓤 H A at-mem run .pre to-core)
+  goes-core : flags < 2 ^ 8 → ent 𝓤 (⋆ 𝓤 H A ((‵ (T.the-row .own h (vals h)) ⊛ (‵ Own₁ ⊛ (‵ Own₂ ⊛ (‵ Own₃ ⊛ (‵ Own₄ ⊛ (‵ Own₅ ⊛ (‵ Own₆ ⊛ (‵ Own₇ ⊛ (‵ Own₈ ⊛ (‵ Own₉ ⊛ (‵ Own₁₁ ⊛ (‵ (flft κ₀ q₀) ⊛ (‵ (flft κ₁ q₁) ⊛ (‵ (flft κ₂ q₂) ⊛ (‵ (flft κ₃ q₃) ⊛ (‵ (flft κ₄ q₄) ⊛ (‵ (flft κ₅ q₅) ⊛ (‵ (flft κ₆ q₆) ⊛ (‵ (flft κ₇ q₇) ⊛ (‵ (flft κ₈ q₈) ⊛ (‵ (flft κ₁₀ q₁₀) ⊛ ‵ ftrue))))))))))))))))))))) ∷ [])) (Core 𝓤 H A at-mem run .pre to-core)
   goes-core f₀ =
-      qed W ((‵ (T.the-row .own h (vals h)) ⊛ (‵ Own₁ ⊛ (‵ Own₂ ⊛ (‵ Own₃ ⊛ (‵ Own₄ ⊛ (‵ Own₅ ⊛ (‵ Own₆ ⊛ (‵ Own₇ ⊛ (‵ Own₈ ⊛ (‵ Own₉ ⊛ (‵ Own₁₁ ⊛ (‵ (flft κ₀ q₀) ⊛ (‵ (flft κ₁ q₁) ⊛ (‵ (flft κ₂ q₂) ⊛ (‵ (flft κ₃ q₃) ⊛ (‵ (flft κ₄ q₄) ⊛ (‵ (flft κ₅ q₅) ⊛ (‵ (flft κ₆ q₆) ⊛ (‵ (flft κ₇ q₇) ⊛ (‵ (flft κ₈ q₈) ⊛ (‵ (flft κ₁₀ q₁₀) ⊛ ‵ ftrue))))))))))))))))))))) ∷ []) ∵ split ! $ move ! (1 ∷ []) $ split ! $ move ! (1 ∷ []) $ split ! $ move ! (1 ∷ []) $ split ! $ move ! (1 ∷ []) $ split ! $ move ! (1 ∷ []) $ split ! $ move ! (1 ∷ []) $ split ! $ move ! (1 ∷ []) $ split ! $ move ! (1 ∷ []) $ split ! $ move ! (1 ∷ []) $ split ! $ move ! (1 ∷ []) $ split ! $ nothing ! $ move ! (1 ∷ 0 ∷ []) $ fjoin ! $ move ! (11 ∷ 0 ∷ []) $ fjoin ! $ move ! (2 ∷ 0 ∷ []) $ fjoin ! $ move ! (2 ∷ 0 ∷ []) $ fjoin ! $ move ! (2 ∷ 0 ∷ []) $ fjoin ! $ move ! (2 ∷ 0 ∷ []) $ fjoin ! $ move ! (2 ∷ 0 ∷ []) $ fjoin ! $ move ! (2 ∷ 0 ∷ []) $ fjoin ! $ move ! (2 ∷ 0 ∷ []) $ fjoin ! $ move ! (2 ∷ 0 ∷ []) $ fjoin ! $ move ! (2 ∷ 0 ∷ []) $ fjoin ! $ owned ! u8 (Is u8) (uint-makes 𝓤 H A W w8) utf8 _ (refl, f₀) $ fjoin ! $ move ! (1 ∷ 0 ∷ []) $ join ! $ frame ! $ done !
+      qed W ((‵ (T.the-row .own h (vals h)) ⊛ (‵ Own₁ ⊛ (‵ Own₂ ⊛ (‵ Own₃ ⊛ (‵ Own₄ ⊛ (‵ Own₅ ⊛ (‵ Own₆ ⊛ (‵ Own₇ ⊛ (‵ Own₈ ⊛ (‵ Own₉ ⊛ (‵ Own₁₁ ⊛ (‵ (flft κ₀ q₀) ⊛ (‵ (flft κ₁ q₁) ⊛ (‵ (flft κ₂ q₂) ⊛ (‵ (flft κ₃ q₃) ⊛ (‵ (flft κ₄ q₄) ⊛ (‵ (flft κ₅ q₅) ⊛ (‵ (flft κ₆ q₆) ⊛ (‵ (flft κ₇ q₇) ⊛ (‵ (flft κ₈ q₈) ⊛ (‵ (flft κ₁₀ q₁₀) ⊛ ‵ ftrue))))))))))))))))))))) ∷ []) ∵ split ! $ move ! (1 ∷ []) $ split ! $ move ! (1 ∷ []) $ split ! $ move ! (1 ∷ []) $ split ! $ move ! (1 ∷ []) $ split ! $ move ! (1 ∷ []) $ split ! $ move ! (1 ∷ []) $ split ! $ move ! (1 ∷ []) $ split ! $ move ! (1 ∷ []) $ split ! $ move ! (1 ∷ []) $ split ! $ move ! (1 ∷ []) $ split ! $ nothing ! $ move ! (1 ∷ 0 ∷ []) $ fjoin ! $ move ! (11 ∷ 0 ∷ []) $ fjoin ! $ move ! (2 ∷ 0 ∷ []) $ fjoin ! $ move ! (2 ∷ 0 ∷ []) $ fjoin ! $ move ! (2 ∷ 0 ∷ []) $ fjoin ! $ move ! (2 ∷ 0 ∷ []) $ fjoin ! $ move ! (2 ∷ 0 ∷ []) $ fjoin ! $ move ! (2 ∷ 0 ∷ []) $ fjoin ! $ move ! (2 ∷ 0 ∷ []) $ fjoin ! $ move ! (2 ∷ 0 ∷ []) $ fjoin ! $ move ! (2 ∷ 0 ∷ []) $ fjoin ! $ owned ! u8 (Is u8) (uint-makes 𝓤 H A W w8) flags _ (refl, f₀) $ fjoin ! $ move ! (1 ∷ 0 ∷ []) $ join ! $ frame ! $ done !
 
   exits : (r : Received) → Is R.the-row (r .answer) (replied (r .answer) ∷ []) → (ws : Left) → Replied r ws
       → ent 𝓤 (⋆ 𝓤 H A (‵ (fobs γ (T.the-row .coded .code (r .pending))) ∷ ‵ (fbor κ₉ (Body (mem T.the-row) b o γ)) ∷ ‵ (flft κ₉ q₉) ∷ (‵ (flft κ₀ q₀) ⊛ (‵ (flft κ₁ q₁) ⊛ (‵ (flft κ₂ q₂) ⊛ (‵ (flft κ₃ q₃) ⊛ (‵ (flft κ₄ q₄) ⊛ (‵ (flft κ₅ q₅) ⊛ (‵ (flft κ₆ q₆) ⊛ (‵ (flft κ₇ q₇) ⊛ (‵ (flft κ₈ q₈) ⊛ (‵ (flft κ₁₀ q₁₀) ⊛ ‵ ftrue)))))))))) ∷ ‵ (lasts g.ended (κ₀, (κ₁, (κ₂, (κ₃, (κ₄, (κ₅, (κ₆, (κ₇, (κ₈, (κ₁₀, tt)))))))))) passed ws) ∷ [])) (Post (replied (r .answer)))
@@ -187,7 +185,7 @@ module _ {M : Type 1} (𝓤 : URA M) (H : Heap 𝓤) (A : Given 𝓤) (W : Given
       says ! e $ move ! (3 ∷ []) $ split ! $ move ! (1 ∷ []) $ split ! $ move ! (1 ∷ []) $ split ! $ move ! (1 ∷ []) $ split ! $ move ! (1 ∷ []) $ split ! $ move ! (1 ∷ []) $ split ! $ move ! (1 ∷ []) $ split ! $ move ! (1 ∷ []) $ split ! $ move ! (1 ∷ []) $ split ! $ move ! (1 ∷ []) $ split ! $ move ! (1 ∷ []) $ move ! (1 ∷ 0 ∷ []) $ join ! $ move ! (12 ∷ 0 ∷ []) $ join ! $ move ! (1 ∷ 0 ∷ []) $ join ! $ move ! (1 ∷ 0 ∷ []) $ join ! $ move ! (1 ∷ 0 ∷ []) $ join ! $ move ! (1 ∷ 0 ∷ []) $ join ! $ move ! (1 ∷ 0 ∷ []) $ join ! $ move ! (1 ∷ 0 ∷ []) $ join ! $ move ! (1 ∷ 0 ∷ []) $ join ! $ move ! (1 ∷ 0 ∷ []) $ join ! $ move ! (1 ∷ 0 ∷ []) $ join ! $ frame ! $ move ! (2 ∷ []) $ fsplit ! $ move ! (1 ∷ []) $ fsplit ! $ move ! (1 ∷ []) $ fsplit ! $ move ! (1 ∷ []) $ fsplit ! $ move ! (1 ∷ []) $ fsplit ! $ move ! (1 ∷ []) $ fsplit ! $ move ! (1 ∷ []) $ fsplit ! $ move ! (1 ∷ []) $ fsplit ! $ move ! (1 ∷ []) $ fsplit ! $ move ! (1 ∷ []) $ fsplit ! $ move ! (1 ∷ []) $ fsplit ! $ move ! (1 ∷ []) $ fsplit ! $ move ! (1 ∷ []) $ move ! (1 ∷ 0 ∷ []) $ fjoin ! $ move ! (1 ∷ []) $ drop ! $ move ! (11 ∷ 12 ∷ []) $ feqI ! (List Val) (vptr b o ∷ []) (vptr b o ∷ []) refl $ fjoin3 ! $ fjoin ! $ move ! (1 ∷ 0 ∷ []) $ fjoin ! $ move ! (1 ∷ 0 ∷ []) $ fjoin ! $ move ! (1 ∷ 0 ∷ []) $ fjoin ! $ move ! (1 ∷ 0 ∷ []) $ fjoin ! $ move ! (1 ∷ 0 ∷ []) $ fjoin ! $ move ! (1 ∷ 0 ∷ []) $ fjoin ! $ move ! (1 ∷ 0 ∷ []) $ fjoin ! $ move ! (1 ∷ 0 ∷ []) $ fjoin ! $ move ! (1 ∷ 0 ∷ []) $ fjoin ! $ move ! (1 ∷ 0 ∷ []) $ fjoin ! $ owned ! R.the-row (Is R.the-row) (LL.makes R.the-type R′.the-plain 𝓤 H A) (r .answer) _ small $ move ! (1 ∷ 0 ∷ []) $ done !
 
   module _ (C : Calls 𝓤 H) (Λ : Loops 𝓤 H) (fm : FmC 𝓤 H (W .laws) C) (known : Triple 𝓤 (C #c-api·packet-by-value) (Core 𝓤 H A at-mem run)) where
-    walk : utf8 < 2 ^ 8 → Is (ShrSlice (named 0) κ₀ u8) packet (v₁ ∷ []) → Is (MutSlice (named 1) κ₁ u8) places (v₂ ∷ []) → Is (MutSlice (named 2) κ₂ u16) lengths (v₃ ∷ []) → Is (MutSlice (named 4) κ₄ u8) texts (v₅ ∷ []) → Is (MutSlice (named 5) κ₅ u16) sizes (v₆ ∷ []) → Is (MutSlice (named 7) κ₇ u8) kept (v₈ ∷ []) → Is (MutSlice (named 8) κ₈ u16) extents (v₉ ∷ []) → Is (MutSlice (named 10) κ₁₀ u8) gather (v₁₁ ∷ []) → ent 𝓤 (onEntry 𝓤 H A f.signature (κ₀, (κ₁, (κ₂, (κ₃, (κ₄, (κ₅, (κ₆, (κ₇, (κ₈, (κ₉, (κ₁₀, tt))))))))))) (q₀, (q₁, (q₂, (q₃, (q₄, (q₅, (q₆, (q₇, (q₈, (q₉, (q₁₀, tt))))))))))) x at) (WpFn 𝓤 H C Λ code.function (v₀ ∷ v₁ ∷ v₂ ∷ v₃ ∷ v₄ ∷ v₅ ∷ v₆ ∷ v₇ ∷ v₈ ∷ v₉ ∷ vptr b o ∷ v₁₁ ∷ []) Post)
+    walk : flags < 2 ^ 8 → Is (ShrSlice (named 0) κ₀ u8) packet (v₁ ∷ []) → Is (MutSlice (named 1) κ₁ u8) places (v₂ ∷ []) → Is (MutSlice (named 2) κ₂ u16) lengths (v₃ ∷ []) → Is (MutSlice (named 4) κ₄ u8) texts (v₅ ∷ []) → Is (MutSlice (named 5) κ₅ u16) sizes (v₆ ∷ []) → Is (MutSlice (named 7) κ₇ u8) kept (v₈ ∷ []) → Is (MutSlice (named 8) κ₈ u16) extents (v₉ ∷ []) → Is (MutSlice (named 10) κ₁₀ u8) gather (v₁₁ ∷ []) → ent 𝓤 (onEntry 𝓤 H A f.signature (κ₀, (κ₁, (κ₂, (κ₃, (κ₄, (κ₅, (κ₆, (κ₇, (κ₈, (κ₉, (κ₁₀, tt))))))))))) (q₀, (q₁, (q₂, (q₃, (q₄, (q₅, (q₆, (q₇, (q₈, (q₉, (q₁₀, tt))))))))))) x at) (WpFn 𝓤 H C Λ code.function (v₀ ∷ v₁ ∷ v₂ ∷ v₃ ∷ v₄ ∷ v₅ ∷ v₆ ∷ v₇ ∷ v₈ ∷ v₉ ∷ vptr b o ∷ v₁₁ ∷ []) Post)
     walk f₀ p₁ p₂ p₃ p₅ p₆ p₈ p₉ p₁₁ =
         qed W ((‵ (flft κ₀ q₀) ⊛ (‵ (flft κ₁ q₁) ⊛ (‵ (flft κ₂ q₂) ⊛ (‵ (flft κ₃ q₃) ⊛ (‵ (flft κ₄ q₄) ⊛ (‵ (flft κ₅ q₅) ⊛ (‵ (flft κ₆ q₆) ⊛ (‵ (flft κ₇ q₇) ⊛ (‵ (flft κ₈ q₈) ⊛ (‵ (flft κ₉ q₉) ⊛ (‵ (flft κ₁₀ q₁₀) ⊛ ‵ ftrue))))))))))) ∷ ‵ (owns (u8 ∷ ShrSlice (named 0) κ₀ u8 ∷ MutSlice (named 1) κ₁ u8 ∷ MutSlice (named 2) κ₂ u16 ∷ MutRef (named 3) κ₃ u8 ∷ MutSlice (named 4) κ₄ u8 ∷ MutSlice (named 5) κ₅ u16 ∷ MutRef (named 6) κ₆ u8 ∷ MutSlice (named 7) κ₇ u8 ∷ MutSlice (named 8) κ₈ u16 ∷ MutRef (named 9) κ₉ T.the-row ∷ MutSlice (named 10) κ₁₀ u8 ∷ []) x at) ∷ []) ∵ enter ! C Λ code.function (v₀ ∷ v₁ ∷ v₂ ∷ v₃ ∷ v₄ ∷ v₅ ∷ v₆ ∷ v₇ ∷ v₈ ∷ v₉ ∷ vptr b o ∷ v₁₁ ∷ []) _ $
         alloc1 ! (λ l₀. alloc1 ! (λ l₁. alloc1 ! (λ l₂. alloc1 ! (λ l₃. alloc1 ! (λ l₄. alloc1 ! (λ l₅. alloc1 ! (λ l₆. alloc1 ! (λ l₇. alloc1 ! (λ l₈. alloc1 ! (λ l₉. alloc1 ! (λ l₁₀. alloc1 ! (λ l₁₁. alloc1 ! (λ l₁₂. alloc1 ! (λ l₁₃. alloc1 ! (λ l₁₄. alloc1 ! (λ l₁₅. alloc1 ! (λ l₁₆. alloc1 ! (λ l₁₇. alloc1 ! (λ l₁₈. alloc1 ! (λ l₁₉. alloc1 ! (λ l₂₀. alloc1 ! (λ l₂₁. alloc1 ! (λ l₂₂. alloc1 ! (λ l₂₃. alloc1 ! (λ l₂₄. alloc1 ! (λ l₂₅. alloc1 ! (λ l₂₆. alloc1 ! (λ l₂₇. alloc1 ! (λ l₂₈. alloc1 ! (λ l₂₉. alloc1 ! (λ l₃₀. alloc0 ! $ params1 ! $ pass1 ! (init ! 58 refl (tt, record { fits = f₀ })) $ pass1 ! (init ! 56 refl (tt, (tt, (record { fits = p₁ .0 .1 .0 }, tt)))) $ pass1 ! (init ! 54 refl (tt, (tt, (record { fits = p₂ .0 .1 .0 }, tt)))) $ pass1 ! (init ! 52 refl (tt, (tt, (record { fits = p₃ .0 .1 .0 }, tt)))) $ pass1 ! (init ! 50 refl (tt, tt)) $ pass1 ! (init ! 48 refl (tt, (tt, (record { fits = p₅ .0 .1 .0 }, tt)))) $ pass1 ! (init ! 46 refl (tt, (tt, (record { fits = p₆ .0 .1 .0 }, tt)))) $ pass1 ! (init ! 44 refl (tt, tt)) $ pass1 ! (init ! 42 refl (tt, (tt, (record { fits = p₈ .0 .1 .0 }, tt)))) $ pass1 ! (init ! 40 refl (tt, (tt, (record { fits = p₉ .0 .1 .0 }, tt)))) $ pass1 ! (init ! 38 refl (tt, tt)) $ pass1 ! (init ! 36 refl (tt, (tt, (record { fits = p₁₁ .0 .1 .0 }, tt)))) $ pass0 ! $
@@ -228,7 +226,7 @@ module _ {M : Type 1} (𝓤 : URA M) (H : Heap 𝓤) (A : Given 𝓤) (W : Given
         move ! (65 ∷ 66 ∷ []) $ free1 ! $ move ! (63 ∷ 64 ∷ []) $ free1 ! $ move ! (61 ∷ 62 ∷ []) $ free1 ! $ move ! (59 ∷ 60 ∷ []) $ free1 ! $ move ! (57 ∷ 58 ∷ []) $ free1 ! $ move ! (55 ∷ 56 ∷ []) $ free1 ! $ move ! (53 ∷ 54 ∷ []) $ free1 ! $ move ! (51 ∷ 52 ∷ []) $ free1 ! $ move ! (49 ∷ 50 ∷ []) $ free1 ! $ move ! (47 ∷ 48 ∷ []) $ free1 ! $ move ! (45 ∷ 46 ∷ []) $ free1 ! $ move ! (43 ∷ 44 ∷ []) $ free1 ! $ move ! (41 ∷ 42 ∷ []) $ free1 ! $ move ! (39 ∷ 40 ∷ []) $ free1 ! $ move ! (37 ∷ 38 ∷ []) $ free1 ! $ move ! (35 ∷ 36 ∷ []) $ free1 ! $ move ! (33 ∷ 34 ∷ []) $ free1 ! $ move ! (31 ∷ 32 ∷ []) $ free1 ! $ move ! (29 ∷ 30 ∷ []) $ free1 ! $ move ! (27 ∷ 28 ∷ []) $ free1 ! $ move ! (25 ∷ 26 ∷ []) $ free1 ! $ move ! (23 ∷ 24 ∷ []) $ free1 ! $ move ! (21 ∷ 22 ∷ []) $ free1 ! $ move ! (19 ∷ 20 ∷ []) $ free1 ! $ move ! (17 ∷ 18 ∷ []) $ free1 ! $ move ! (15 ∷ 16 ∷ []) $ free1 ! $ move ! (13 ∷ 14 ∷ []) $ free1 ! $ move ! (11 ∷ 12 ∷ []) $ free1 ! $ move ! (9 ∷ 10 ∷ []) $ free1 ! $ move ! (7 ∷ 8 ∷ []) $ free1 ! $ move ! (5 ∷ 6 ∷ []) $ free1 ! $ free0 ! $
         keep ! (0 ∷ 1 ∷ 2 ∷ 3 ∷ 4 ∷ []) $ by ! (exits r (parts .0) ws e)))))))))))))))))))))))))))))))))))))))
 
-module _ {M : Type 1} (𝓤 : URA M) (H : Heap 𝓤) (A : Given 𝓤) (W : Given 𝓤 H A) (at-mem : Memory → SProp 𝓤) (run : Routine → Fun 𝓤) where
+module _ {M : Type 1} (𝓤 : URA M) (H : Heap 𝓤) (A : Atoms 𝓤) (W : Given 𝓤 H A) (at-mem : Memory → SProp 𝓤) (run : Routine → Fun 𝓤) where
   walks : (C : Calls 𝓤 H) (Λ : Loops 𝓤 H) → FmC 𝓤 H (W .laws) C → Triple 𝓤 (C #c-api·packet-by-value) (Core 𝓤 H A at-mem run) → Walks 𝓤 H A f.ended stayed (WpFn 𝓤 H C Λ code.function) (f.clauses 𝓤 H A at-mem run)
   walks C Λ fm known =
       walked 𝓤 H A f.ended stayed (f.clauses 𝓤 H A at-mem run) (WpFn 𝓤 H C Λ code.function) (λ κs. (uint-vals w8, (slice-vals, (slice-vals, (slice-vals, (ptr-vals, (slice-vals, (slice-vals, (ptr-vals, (slice-vals, (slice-vals, (ptr-vals, (slice-vals, tt))))))))))))) (λ κs. (uint-tells w8, (shr-slice-tells (named 0) (κs .0) u8, (mut-slice-tells (named 1) (κs .1 .0) u8, (mut-slice-tells (named 2) (κs .1 .1 .0) u16, (mut-tells (named 3) (κs .1 .1 .1 .0) u8, (mut-slice-tells (named 4) (κs .1 .1 .1 .1 .0) u8, (mut-slice-tells (named 5) (κs .1 .1 .1 .1 .1 .0) u16, (mut-tells (named 6) (κs .1 .1 .1 .1 .1 .1 .0) u8, (mut-slice-tells (named 7) (κs .1 .1 .1 .1 .1 .1 .1 .0) u8, (mut-slice-tells (named 8) (κs .1 .1 .1 .1 .1 .1 .1 .1 .0) u16, (mut-tells (named 9) (κs .1 .1 .1 .1 .1 .1 .1 .1 .1 .0) T.the-row, (mut-slice-tells (named 10) (κs .1 .1 .1 .1 .1 .1 .1 .1 .1 .1 .0) u8, tt)))))))))))))
@@ -237,7 +235,7 @@ module _ {M : Type 1} (𝓤 : URA M) (H : Heap 𝓤) (A : Given 𝓤) (W : Given
   goes : AllGo 𝓤 H A W 11 (f.signature .params) (f.ended .kept) stayed
   goes = (goes-given 𝓤 H A W 11 (plain (λ _. u8)) yes, (goes-given 𝓤 H A W 11 (shrSliceOf (0 ∷ []) tt (plain (λ _. u8))) yes, (goes-given 𝓤 H A W 11 (mutSliceOf (1 ∷ []) tt (plain (λ _. u8))) yes, (goes-given 𝓤 H A W 11 (mutSliceOf (2 ∷ []) tt (plain (λ _. u16))) yes, (goes-given 𝓤 H A W 11 (mutRefTo (3 ∷ []) tt (plain (λ _. u8))) yes, (goes-given 𝓤 H A W 11 (mutSliceOf (4 ∷ []) tt (plain (λ _. u8))) yes, (goes-given 𝓤 H A W 11 (mutSliceOf (5 ∷ []) tt (plain (λ _. u16))) yes, (goes-given 𝓤 H A W 11 (mutRefTo (6 ∷ []) tt (plain (λ _. u8))) yes, (goes-given 𝓤 H A W 11 (mutSliceOf (7 ∷ []) tt (plain (λ _. u8))) yes, (goes-given 𝓤 H A W 11 (mutSliceOf (8 ∷ []) tt (plain (λ _. u16))) yes, (goes-ref 𝓤 H A W 11 9 tt (plain (λ _. T.the-row)), (goes-given 𝓤 H A W 11 (mutSliceOf (10 ∷ []) tt (plain (λ _. u8))) yes, tt))))))))))))
 
-meets : {M : Type 1} (𝓤 : URA M) (H : Heap 𝓤) (A : Given 𝓤) → Given 𝓤 H A → (at-mem : Memory → SProp 𝓤) (run : Routine → Fun 𝓤) (𝓣 : Tables 𝓤 H) → Triple 𝓤 (𝓣 .C #c-api·packet-by-value) (Core 𝓤 H A at-mem run)
+meets : {M : Type 1} (𝓤 : URA M) (H : Heap 𝓤) (A : Atoms 𝓤) → Given 𝓤 H A → (at-mem : Memory → SProp 𝓤) (run : Routine → Fun 𝓤) (𝓣 : Tables 𝓤 H) → Triple 𝓤 (𝓣 .C #c-api·packet-by-value) (Core 𝓤 H A at-mem run)
     → Meets 𝓤 H A f.signature (WpFn 𝓤 H (𝓣 .C) (𝓣 .Λ) code.function) (f.spec 𝓤 H A at-mem run)
 meets 𝓤 H A W at-mem run 𝓣 known = walk-meets 𝓤 H A f.ended stayed W (goes 𝓤 H A W at-mem run) (f.clauses 𝓤 H A at-mem run) (WpFn 𝓤 H (𝓣 .C) (𝓣 .Λ) code.function) (WpFn-mono 𝓤 H (W .laws) 𝓣 code.function)
     (walks 𝓤 H A W at-mem run (𝓣 .C) (𝓣 .Λ) (fmOf 𝓤 H (W .laws) 𝓣) known)

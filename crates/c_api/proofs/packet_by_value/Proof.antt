@@ -4,9 +4,6 @@ use borrow.Author.Needs.{needs}
 use Rattle.c_api.proofs.packet_by_value.Statement.{statement}
 use Rattle.c_api.proofs.packet_by_value.Tie as tie
 
-agreed-requires : tie.Need-agreed-requires
-agreed-requires c κs = search needs
-
 take-packet-requires : tie.Need-take-packet-requires
 take-packet-requires c κs = search needs
 
@@ -37,10 +34,10 @@ same-length-7 c = search needs
 returns : tie.Need-returns
 returns c =
     let e = c .before .before .before .before .before .before .before .before .before .before .before .before .before .before .before .before .take-packet .ensures in
-    packet-replied (c .before .before .before .before .before .before .before .before .before .before .before .before .before .before .before .before .before .before .before .before .before .before .before .before .before .before .agreed .ensures) e (c .flat-packet .ensures)
+    packet-replied e (c .flat-packet .ensures)
 
 pub packet-by-value-spec : {M : Type 1} → statement M
 packet-by-value-spec =
     tie.close
     (tie.spec
-    agreed-requires take-packet-requires flat-packet-requires same-length same-length-2 same-length-3 same-length-4 same-length-5 same-length-6 same-length-7 returns)
+    take-packet-requires flat-packet-requires same-length same-length-2 same-length-3 same-length-4 same-length-5 same-length-6 same-length-7 returns)
