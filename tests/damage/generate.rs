@@ -232,7 +232,7 @@ impl Encoder<'_> {
 
     /// Pids, ports, references, exports: old layouts where the fields are small enough.
     fn identifier(&mut self, value: &Value) {
-        let old = self.r.one_in(2);
+        let old = self.r.one_in(2) && !value.is_newer();
         match value {
             Value::Pid { node, id, serial, creation } => {
                 let old = old && *creation < 4;

@@ -6,7 +6,7 @@ use crate::twin::Twin;
 use border::WordReply;
 use second::looks::{self, Index};
 use second::text::AtomList;
-use second::Refusal;
+use second::{Connection, Refusal};
 
 #[derive(Clone, Copy)]
 pub struct ListTwin<'a> {
@@ -36,16 +36,16 @@ impl<'a> ListTwin<'a> {
         format!("n {n} places ({}) {} lengths ({}) {told_lengths:?}", places.len(), hex(used), lengths.len())
     }
 
-    fn word(&self, index: usize, tally: &mut Tally) {
-        let got = border::word(&self.guarded(), index);
+    fn word(&self, flags: u8, index: usize, tally: &mut Tally) {
+        let got = border::word(flags, &self.guarded(), index);
         let list = self.other();
-        let word = looks::word(&list, Index(index as u64));
+        let word = looks::word(Connection { flags }, &list, Index(index as u64));
         let expected = match &word {
             Ok(text) => WordReply { start: 32 * index as u64, length: text.len() as u64, ..WordReply::default() },
             Err(Refusal { number, place }) => WordReply { refusal: (*number).into(), place: *place, ..WordReply::default() },
         };
-        tally.met(Call::Word, expected.refusal);
-        let told = || format!("index {index}: {got:?}, not {expected:?}; {}", self.told());
+        tally.met(Call::Word, flags, expected.refusal);
+        let told = || format!("flags {flags} index {index}: {got:?}, not {expected:?}; {}", self.told());
         tally.check(Call::Word, got == expected, told);
         let answered = list.texts.get(got.start as usize..).and_then(|rest| rest.get(..got.length as usize));
         let same = answered == Some(word.as_deref().unwrap_or_default().as_bytes());
@@ -53,10 +53,10 @@ impl<'a> ListTwin<'a> {
     }
 
     /// The words of a reference, of one among the first, which are made false, and of indices at n and past it.
-    pub fn words(&self, r: &mut Random, tally: &mut Tally) {
+    pub fn words(&self, r: &mut Random, flags: u8, tally: &mut Tally) {
         let n = usize::from(self.n);
         for index in [r.below(n.max(1)), r.below(4), n, n + 1, 254, 255, 256, u32::MAX as usize, usize::MAX] {
-            self.word(index, tally);
+            self.word(flags, index, tally);
         }
         tally.check(Call::Word, self.is_kept(), || format!("the list changed: {}", self.told()));
     }

@@ -3,8 +3,10 @@
 //!
 //! damage [CASES] [SEED] [FIRST]: the cases FIRST, FIRST + 1, .. of a seed; the last line is 'N passed, M failed'.
 
+mod flags;
 mod generate;
 mod headers;
+mod identifiers;
 mod lists;
 mod memory;
 mod messages;

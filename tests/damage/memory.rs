@@ -7,7 +7,7 @@ use crate::tally::{hex, Call, Tally};
 use crate::twin::Twin;
 use border::{Guarded, PacketReply, Pending, StateReply};
 use second::packets::{self, Answer, Cache, ListOut, Record};
-use second::Refusal;
+use second::{Connection, Refusal};
 
 pub const CACHE_BYTES: usize = 65_536;
 pub const CACHE_PLACES: usize = 2_048;
@@ -155,7 +155,7 @@ impl Memory {
     }
 
     /// A packet taken by both; the answer.
-    pub fn packet(&mut self, utf8: u8, packet: &Twin<u8>, tally: &mut Tally) -> PacketReply {
+    pub fn packet(&mut self, flags: u8, packet: &Twin<u8>, tally: &mut Tally) -> PacketReply {
         let before = self.other_record;
         let mut lent = border::Lent {
             cache: self.cache.guarded_mut(),
@@ -165,7 +165,7 @@ impl Memory {
             record: &mut self.record[0],
             gather: self.gather.guarded_mut(),
         };
-        let got = border::packet(utf8, packet.guarded(), &mut lent);
+        let got = border::packet(flags, packet.guarded(), &mut lent);
         let mut lent = packets::Lent {
             cache: Cache { texts: self.cache.other_mut(), lengths: self.cache_lengths.other_mut() },
             plain: self.plain.other(),
@@ -173,21 +173,21 @@ impl Memory {
             record: &mut self.other_record,
             gather: self.gather.other_mut(),
         };
-        let expected = packet_answer(packets::packet(&mut lent, utf8 != 0, packet.other()));
-        tally.met(Call::Packet, expected.refusal);
-        let told = || format!("{got:?}, {expected:?} expected; utf8 {utf8} {before:?} packet {}", hex(packet.other()));
+        let expected = packet_answer(packets::packet(Connection { flags }, &mut lent, packet.other()));
+        tally.met(Call::Packet, flags, expected.refusal);
+        let told = || format!("{got:?}, {expected:?} expected; flags {flags} {before:?} packet {}", hex(packet.other()));
         tally.check(Call::Packet, got == expected, told);
         self.compare(Call::Packet, tally, &told);
         tally.check(Call::Packet, packet.guarded() == packet.other(), || format!("the packet changed; {}", told()));
         expected
     }
 
-    pub fn drop_pending(&mut self, tally: &mut Tally) -> bool {
+    pub fn drop_pending(&mut self, flags: u8, tally: &mut Tally) -> bool {
         let before = self.other_record;
-        let got = border::drop_pending(&mut self.record[0]);
-        let expected = done(packets::drop_pending(&mut self.other_record));
-        tally.met(Call::Drop, expected.refusal);
-        let told = || format!("{got:?}, {expected:?} expected; {before:?}");
+        let got = border::drop_pending(flags, &mut self.record[0]);
+        let expected = done(packets::drop_pending(Connection { flags }, &mut self.other_record));
+        tally.met(Call::Drop, flags, expected.refusal);
+        let told = || format!("{got:?}, {expected:?} expected; flags {flags} {before:?}");
         tally.check(Call::Drop, got == expected, told);
         self.compare(Call::Drop, tally, &told);
         expected.refusal == 0
@@ -197,7 +197,7 @@ impl Memory {
         let got = border::reset(self.cache.guarded_mut(), self.cache_lengths.guarded_mut(), &mut self.record[0]);
         let mut cache = Cache { texts: self.cache.other_mut(), lengths: self.cache_lengths.other_mut() };
         let expected = done(packets::reset(&mut cache, &mut self.other_record));
-        tally.met(Call::Reset, expected.refusal);
+        tally.met_without_flags(Call::Reset, expected.refusal);
         let sizes = (self.cache.other().len(), self.cache_lengths.other().len());
         let told = || format!("{got:?}, {expected:?} expected; cache {sizes:?}");
         tally.check(Call::Reset, got == expected, told);

@@ -1,29 +1,42 @@
 //! Messages: valid ones of every shape, damaged ones, and the atom lists that they are read with.
 
+use crate::flags;
 use crate::generate::Encoded;
 use crate::headers::{self, Header};
 use crate::lists::ListTwin;
 use crate::random::Random;
 use crate::tally::Tally;
-use crate::terms::{self, Input, Room};
+use crate::terms::{self, Input, Made, Room};
 use crate::twin::Twin;
-use crate::{mutate, shapes, values};
-use border::Form;
+use crate::values::Value;
+use crate::{identifiers, mutate, shapes, values};
+use border::{format, Form};
 
 const MESSAGE_MOST: usize = 140_000;
+/// A longer message is refused.
+const LONG: usize = 65_536;
 const LIST_BYTES: usize = 8_160;
 const LIST_PLACES: usize = 255;
 /// How many lists of texts there are to choose from.
 const LISTS: usize = 64;
 
-/// A message, and how many rows it has where it was made to be accepted.
+/// A message, and what it was made to be, where it was made to be accepted.
 pub struct Message {
     pub bytes: Vec<u8>,
-    rows: Option<usize>,
+    made: Option<Made>,
 }
 
-/// A valid term with the texts of a list, small mostly, and its rows where it is one of few parts and surely accepted.
-fn term(r: &mut Random, texts: &[String], before: usize) -> (Encoded, Option<usize>) {
+/// A value, small mostly.
+fn value(r: &mut Random, texts: &[String]) -> Value {
+    if r.one_in(50) {
+        return values::identifier_keys(r);
+    }
+    let size = r.pick(&[1, 2, 4, 8, 12, 30]);
+    values::value(r, texts, size)
+}
+
+/// A term with the texts of a list, small mostly, and what it was made to be where it has few parts and was made to be accepted.
+fn term(r: &mut Random, texts: &[String], before: usize) -> (Encoded, Option<Made>) {
     let large = match r.below(4000) {
         0 if r.one_in(12) => shapes::most_keys(r),
         0 => shapes::many_keys(r),
@@ -34,10 +47,11 @@ fn term(r: &mut Random, texts: &[String], before: usize) -> (Encoded, Option<usi
         141..=180 => shapes::long_atom(r),
         181..=210 => shapes::some_keys(r, texts),
         211..=216 => shapes::growing(r, texts),
+        217..=400 => identifiers::term(r, texts),
         _ => {
-            let size = r.pick(&[1, 2, 4, 8, 12, 30]);
-            let value = values::value(r, texts, size);
-            return (shapes::encoded(r, texts, &value), value.keys_differ().then(|| value.rows()));
+            let value = value(r, texts);
+            let made = Made { rows: value.rows(), newer: value.has_newer() };
+            return (shapes::encoded(r, texts, &value), value.keys_differ().then_some(made));
         }
     };
     (large, None)
@@ -49,18 +63,18 @@ pub fn message(r: &mut Random, form: Form, texts: &[String]) -> Message {
     if form == Form::Standalone {
         out.tag(131);
     }
-    let mut rows = Some(0);
+    let mut made = Some(Made::default());
     let terms = if form == Form::Payload && r.one_in(2) { 2 } else { 1 };
     for _ in 0..terms {
         let (term, more) = term(r, texts, out.bytes.len());
         out.append(&term);
-        rows = rows.zip(more).map(|(rows, more)| rows + more);
+        made = made.zip(more).map(|(made, more)| Made { rows: made.rows + more.rows, newer: made.newer || more.newer });
     }
     if r.below(5) > 1 {
         mutate::damage(r, &mut out);
-        rows = None;
+        made = None;
     }
-    Message { bytes: out.bytes, rows }
+    Message { bytes: out.bytes, made }
 }
 
 /// An atom list as a header left it, and its texts.
@@ -98,7 +112,7 @@ fn taken(header: &Header) -> Option<List> {
         record: &mut border::Pending::default(),
         gather: &mut vec![0; 65_536],
     };
-    let answer = border::packet(1, &packet, &mut lent);
+    let answer = border::packet(format::BOTH, &packet, &mut lent);
     let whole = answer.refusal == 0 && usize::from(n) == header.texts.len();
     whole.then(|| List { places, lengths, texts: header.texts.clone() })
 }
@@ -123,7 +137,7 @@ impl Messages {
         }
     }
 
-    /// One message with one list, compared.
+    /// One message with one list, compared; now and then again with other flags.
     pub fn case(&mut self, r: &mut Random, tally: &mut Tally) {
         let list = &self.lists[r.below(LISTS)];
         self.places.hold(&list.places);
@@ -133,25 +147,36 @@ impl Messages {
             (n, texts) = (0, &[]);
         }
         let form = r.pick(&[Form::Standalone, Form::Payload]);
-        let mut made = message(r, form, texts);
-        self.message.hold(&made.bytes);
+        let Message { bytes, mut made } = message(r, form, texts);
+        let mut flags = flags::any(r);
+        if bytes.len() > LONG && r.one_in(4) {
+            flags = flags::unknown(r);
+        }
+        self.message.hold(&bytes);
         if r.one_in(8) {
-            made.rows = None;
+            made = None;
             falsify(r, &mut n, &mut self.places, &mut self.lengths);
         }
         if r.one_in(40) {
-            made.rows = None;
+            made = None;
             missize(r, &mut self.places, &mut self.lengths);
+            if r.one_in(3) {
+                flags = flags::unknown(r);
+            }
         }
         let Messages { message, places, lengths, room, .. } = self;
-        let list = ListTwin { n, places, lengths };
-        terms::compare(r, &Input { form, message, list, rows: made.rows }, room, tally);
+        let input = Input { flags, form, message, list: ListTwin { n, places, lengths }, made };
+        terms::compare(r, &input, room, tally);
+        if r.one_in(5) {
+            let flags = flags::other(r, flags);
+            terms::compare(r, &Input { flags, ..input }, room, tally);
+        }
     }
 
-    /// An accepted payload with the list that goes with it.
-    pub fn payload(&mut self, r: &mut Random, payload: &[u8], list: ListTwin, tally: &mut Tally) {
+    /// An accepted payload with the list that goes with it, read with its packet's flags.
+    pub fn payload(&mut self, r: &mut Random, flags: u8, payload: &[u8], list: ListTwin, tally: &mut Tally) {
         self.message.hold(payload);
-        let input = Input { form: Form::Payload, message: &self.message, list, rows: None };
+        let input = Input { flags, form: Form::Payload, message: &self.message, list, made: None };
         terms::compare(r, &input, &mut self.room, tally);
     }
 }

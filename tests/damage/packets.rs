@@ -1,5 +1,6 @@
 //! Sessions: many packets over one memory, plain ones and fragments, damaged ones among them; a refusal does not end a session.
 
+use crate::flags;
 use crate::generate::{Encoded, Role};
 use crate::headers::{self, Header};
 use crate::memory::{self, Memory};
@@ -17,7 +18,10 @@ const PACKET_MOST: usize = 260_000;
 /// What a session knows of itself as a sender.
 #[derive(Default)]
 struct Sender {
-    utf8: u8,
+    /// the flags agreed on
+    flags: u8,
+    /// whether they change from call to call
+    changing: bool,
     /// the places that were filled, with their texts
     known: Vec<(usize, String)>,
     /// the fragments still to come, in order
@@ -59,11 +63,24 @@ fn payload(r: &mut Random, texts: &[String]) -> Vec<u8> {
 }
 
 impl Sender {
+    /// The flags of a call: those agreed on, save now and then other ones, unknown ones among them.
+    fn flags(&mut self, r: &mut Random) -> u8 {
+        if self.changing {
+            self.flags = flags::any(r);
+        }
+        match r.below(40) {
+            0 => flags::unknown(r),
+            1 => flags::any(r),
+            _ => self.flags,
+        }
+    }
+
     fn header(&self, r: &mut Random) -> Header {
+        let utf8 = flags::is_utf8(self.flags);
         if r.one_in(6) {
-            headers::faulty(r, &self.known, self.utf8 != 0)
+            headers::faulty(r, &self.known, utf8)
         } else {
-            headers::valid(r, &self.known, self.utf8 != 0)
+            headers::valid(r, &self.known, utf8)
         }
     }
 
@@ -162,12 +179,12 @@ impl Sessions {
         if !r.one_in(20) {
             self.memory.reset(tally);
         }
-        let mut sender = Sender { utf8: r.pick(&[0, 1, 1, 1, 2, 255]), ..Sender::default() };
+        let mut sender = Sender { flags: flags::known(r), changing: r.one_in(8), ..Sender::default() };
         for _ in 0..r.between(3, 16) {
             match r.below(40) {
                 0 | 1 => self.drop_pending(r, &mut sender, tally),
                 2 => self.reset(r, &mut sender, tally),
-                3 | 4 => self.falsify(r, &sender, tally),
+                3 | 4 => self.falsify(r, &mut sender, tally),
                 5 => self.with_false_record(r, &mut sender, messages, tally),
                 6 => self.with_wrong_size(r, &mut sender, messages, tally),
                 _ => self.send(r, &mut sender, messages, tally),
@@ -175,12 +192,14 @@ impl Sessions {
         }
     }
 
+    /// A drop, one in four with an unknown flag, now and then of a false record.
     fn drop_pending(&mut self, r: &mut Random, sender: &mut Sender, tally: &mut Tally) {
+        let flags = if r.one_in(4) { flags::unknown(r) } else { sender.flags(r) };
         let kept = self.memory.record();
         if r.one_in(8) {
             self.memory.set_record(Record { gathered: 65_537, ..kept });
         }
-        if self.memory.drop_pending(tally) {
+        if self.memory.drop_pending(flags, tally) {
             sender.queue.clear();
         } else {
             self.memory.set_record(kept);
@@ -199,7 +218,7 @@ impl Sessions {
     }
 
     /// A filled place emptied, given a length over 32, or a text that is none; a list false; or odd leftovers in the record.
-    fn falsify(&mut self, r: &mut Random, sender: &Sender, tally: &mut Tally) {
+    fn falsify(&mut self, r: &mut Random, sender: &mut Sender, tally: &mut Tally) {
         let place = match sender.known.len() {
             0 => r.below(memory::CACHE_PLACES),
             count => sender.known[r.below(count)].0,
@@ -218,7 +237,8 @@ impl Sessions {
             }
             _ => (),
         }
-        self.words(r, tally);
+        let flags = sender.flags(r);
+        self.words(r, flags, tally);
     }
 
     /// A packet while the record is false, or gathered up to the end.
@@ -234,17 +254,22 @@ impl Sessions {
 
     fn with_wrong_size(&mut self, r: &mut Random, sender: &mut Sender, messages: &mut Messages, tally: &mut Tally) {
         self.memory.wrong_size(r);
-        self.send(r, sender, messages, tally);
+        let flags = if r.one_in(3) { flags::unknown(r) } else { sender.flags(r) };
+        self.send_with(r, flags, sender, messages, tally);
         self.memory.right_sizes();
     }
 
-    /// One packet, the words of both lists after it, and its payload read where there is one.
     fn send(&mut self, r: &mut Random, sender: &mut Sender, messages: &mut Messages, tally: &mut Tally) {
+        let flags = sender.flags(r);
+        self.send_with(r, flags, sender, messages, tally);
+    }
+
+    /// One packet with these flags, the words of both lists after it, and its payload read where there is one.
+    fn send_with(&mut self, r: &mut Random, flags: u8, sender: &mut Sender, messages: &mut Messages, tally: &mut Tally) {
         let step = sender.step(r);
-        let agreed = if r.one_in(20) { r.pick(&[0, 1]) } else { sender.utf8 };
         self.packet.hold(&step.packet.bytes);
-        let answer = self.memory.packet(agreed, &self.packet, tally);
-        self.words(r, tally);
+        let answer = self.memory.packet(flags, &self.packet, tally);
+        self.words(r, flags, tally);
         sender.sent.push(step.packet.bytes.clone());
         if answer.refusal != 0 {
             return;
@@ -254,14 +279,14 @@ impl Sessions {
             _ => (self.memory.gather.other().get(..answer.gathered as usize), &self.memory.pending),
         };
         if let (1 | 3, Some(payload)) = (answer.kind, payload) {
-            messages.payload(r, payload, list.twin(), tally);
+            messages.payload(r, flags, payload, list.twin(), tally);
         }
         sender.accepted(step, answer.kind);
     }
 
     /// Words by both lists.
-    fn words(&self, r: &mut Random, tally: &mut Tally) {
-        self.memory.plain.twin().words(r, tally);
-        self.memory.pending.twin().words(r, tally);
+    fn words(&self, r: &mut Random, flags: u8, tally: &mut Tally) {
+        self.memory.plain.twin().words(r, flags, tally);
+        self.memory.pending.twin().words(r, flags, tally);
     }
 }

@@ -102,16 +102,36 @@ fn keys(r: &mut Random, count: usize) -> Encoded {
     out
 }
 
-/// Some tens of pairs with tuples as keys, in all encodings.
+/// What the keys of a map are: tuples with a number, or identifiers that differ in their highest bits or last word alone.
+#[derive(Clone, Copy)]
+enum Keys {
+    Tuples,
+    Ids,
+    Serials,
+    Words,
+}
+
+/// The key of a number below 64.
+fn numbered(keys: Keys, number: u32) -> Value {
+    let (node, high) = (String::from("k"), number << 26);
+    match keys {
+        Keys::Tuples => Value::Tuple(vec![Value::Atom(node), values::whole(number.into())]),
+        Keys::Ids => Value::Pid { node, id: high, serial: 0, creation: 1 },
+        Keys::Serials => Value::Pid { node, id: 0, serial: high, creation: 1 },
+        Keys::Words => Value::Reference { node, creation: 1, words: vec![7, 7, 7, 7, number] },
+    }
+}
+
+/// Some tens of pairs, their keys in all encodings.
 pub fn some_keys(r: &mut Random, texts: &[String]) -> Encoded {
     let count = r.between(10, 60);
     let equal = if r.one_in(2) { r.between(1, count - 1) } else { count };
+    let keys = r.pick(&[Keys::Tuples, Keys::Ids, Keys::Serials, Keys::Words]);
     let mut out = counted(116, count);
     for i in 0..count {
-        let number = if i == equal { r.below(i) } else { i } as i128;
-        let key = Value::Tuple(vec![Value::Atom("k".into()), values::whole(number)]);
-        out.append(&encoded(r, texts, &key));
-        out.append(&encoded(r, texts, &values::whole(number)));
+        let number = if i == equal { r.below(i) } else { i } as u32;
+        out.append(&encoded(r, texts, &numbered(keys, number)));
+        out.append(&encoded(r, texts, &values::whole(number.into())));
     }
     out
 }

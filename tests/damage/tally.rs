@@ -1,5 +1,7 @@
 //! What the run met, and what disagreed.
 
+use crate::flags;
+
 /// The calls, by what they do.
 #[derive(Clone, Copy, Debug, PartialEq)]
 pub enum Call {
@@ -28,6 +30,10 @@ pub struct Tally {
     /// for each call the answers of this case, a bit each (bit 0: accepted)
     met: [u32; CALLS.len()],
     cases_met: [[u64; NUMBERS]; CALLS.len()],
+    /// for each call how often it accepted with each known byte of flags, and how often it was asked with an unknown flag
+    by_flags: [[u64; flags::KNOWN + 1]; CALLS.len()],
+    /// how many messages with newer identifiers were refused for them, and accepted
+    newer: [u64; 2],
     pub calls: u64,
     case_failed: bool,
     shown: u64,
@@ -47,7 +53,8 @@ impl Tally {
     pub fn new(seed: u64) -> Tally {
         let met = [0; CALLS.len()];
         let cases_met = [[0; NUMBERS]; CALLS.len()];
-        Tally { seed, case: 0, met, cases_met, calls: 0, case_failed: false, shown: 0, passed: 0, failed: 0 }
+        let by_flags = [[0; flags::KNOWN + 1]; CALLS.len()];
+        Tally { seed, case: 0, met, cases_met, by_flags, newer: [0; 2], calls: 0, case_failed: false, shown: 0, passed: 0, failed: 0 }
     }
 
     pub fn begin(&mut self, case: u64) {
@@ -66,8 +73,21 @@ impl Tally {
         self.failed += u64::from(self.case_failed);
     }
 
-    /// An answer of a call: 0 accepted, or the refusal.
-    pub fn met(&mut self, call: Call, refusal: u64) {
+    /// An answer of a call with these flags: 0 accepted, or the refusal.
+    pub fn met(&mut self, call: Call, flags: u8, refusal: u64) {
+        self.met_without_flags(call, refusal);
+        if refusal == 0 || !flags::is_known(flags) {
+            self.by_flags[call as usize][usize::from(flags).min(flags::KNOWN)] += 1;
+        }
+    }
+
+    /// A message with newer identifiers and no other fault.
+    pub fn met_newer(&mut self, accepted: bool) {
+        self.newer[usize::from(accepted)] += 1;
+    }
+
+    /// An answer of the call that takes no flags.
+    pub fn met_without_flags(&mut self, call: Call, refusal: u64) {
         self.calls += 1;
         self.met[call as usize] |= 1 << refusal.min(NUMBERS as u64 - 1);
     }
@@ -84,8 +104,20 @@ impl Tally {
         }
     }
 
-    /// Whether every answer was met that a call can give, by the call's own list in document 01.
-    pub fn unmet(&self) -> Vec<(Call, usize)> {
+    /// What was not met: answers that a call can give, by its own list in document 01; flags; newer identifiers.
+    pub fn unmet(&self) -> Vec<String> {
+        let mut unmet = self.unmet_answers();
+        for (call, counts) in CALLS.iter().zip(&self.by_flags).filter(|(call, _)| **call != Call::Reset) {
+            let flags = (0..counts.len()).filter(|flags| counts[*flags] == 0);
+            unmet.extend(flags.map(|flags| format!("{call:?} with flags {flags}")));
+        }
+        if self.newer.contains(&0) {
+            unmet.push(format!("newer identifiers refused and accepted: {:?}", self.newer));
+        }
+        unmet
+    }
+
+    fn unmet_answers(&self) -> Vec<String> {
         let terms: &[usize] = &[0, 1, 2, 3, 4, 5, 6, 7, 8, 9, 10, 12, 13, 14];
         let mut unmet = Vec::new();
         for call in CALLS {
@@ -99,7 +131,7 @@ impl Tally {
                 Call::Word => &[0, 6, 13, 14],
             };
             let counts = &self.cases_met[call as usize];
-            unmet.extend(answers.iter().filter(|n| counts[**n] == 0).map(|n| (call, *n)));
+            unmet.extend(answers.iter().filter(|n| counts[**n] == 0).map(|n| format!("{call:?} {n}")));
         }
         unmet
     }
@@ -118,5 +150,12 @@ impl Tally {
             self.cases_met.iter().for_each(|counts| print!("{:>10}", counts[number]));
             println!();
         }
+        println!("calls accepted with flags 0 to {}, and calls with an unknown flag", flags::KNOWN - 1);
+        for flags in 0..=flags::KNOWN {
+            print!("{flags:>6}");
+            self.by_flags.iter().for_each(|counts| print!("{:>10}", counts[flags]));
+            println!();
+        }
+        println!("messages refused for newer identifiers {}, accepted with them {}", self.newer[0], self.newer[1]);
     }
 }

@@ -1,5 +1,6 @@
 //! One message through reading, writing and asking, in both implementations.
 
+use crate::flags;
 use crate::lists::ListTwin;
 use crate::random::Random;
 use crate::tally::{hex, Call, Tally};
@@ -7,7 +8,8 @@ use crate::twin::Twin;
 use border::{Form, MarkReply, NumberReply, ReadReply, TextReply, WordReply, WriteReply};
 use second::looks::{self, Stretch};
 use second::terms::Reading;
-use second::{canon, terms, Refusal};
+use second::text::AtomList;
+use second::{canon, terms, Connection, Refusal};
 
 const ROWS_MOST: usize = 8_192;
 /// Most words of a lent table, and most bytes of a lent output.
@@ -16,26 +18,50 @@ const OUTPUT_MOST: usize = 300_000;
 /// A longer refused message is not searched for the rows that it needs.
 const SEARCHED_MOST: usize = 2_000;
 
-/// A message and an atom list, as each implementation is lent them.
+/// What a message was made to be.
+#[derive(Clone, Copy, Default)]
+pub struct Made {
+    /// how many rows it has
+    pub rows: usize,
+    /// whether it has identifiers that are taken with V4_NC alone
+    pub newer: bool,
+}
+
+/// The connection's flags, a message and an atom list, as each implementation is lent them.
+#[derive(Clone, Copy)]
 pub struct Input<'a> {
+    pub flags: u8,
     pub form: Form,
     pub message: &'a Twin<u8>,
     pub list: ListTwin<'a>,
-    /// how many rows it has, where it was made to be accepted
-    pub rows: Option<usize>,
+    /// where it was made to be accepted, with the flags that it needs
+    pub made: Option<Made>,
 }
 
-impl Input<'_> {
-    fn other_form(&self) -> terms::Form {
-        match self.form {
+impl<'a> Input<'a> {
+    /// As the proved calls take it.
+    fn guarded(&self) -> (u8, Form, &'a [u8], border::AtomList<'a>) {
+        (self.flags, self.form, self.message.guarded(), self.list.guarded())
+    }
+
+    /// As the second implementation takes it.
+    fn other(&self) -> (Connection, terms::Form, &'a [u8], AtomList<'a>) {
+        let form = match self.form {
             Form::Standalone => terms::Form::Standalone,
             Form::Payload => terms::Form::Payload,
-        }
+        };
+        (Connection { flags: self.flags }, form, self.message.other(), self.list.other())
+    }
+
+    /// Read by the second implementation with so many rows.
+    fn reading(&self, rows: usize) -> Result<Reading, Refusal> {
+        let (connection, form, message, list) = self.other();
+        terms::read(connection, form, message, &list, rows)
     }
 
     /// The input in words, for a disagreement.
     fn told(&self) -> String {
-        format!("{:?} message {} {}", self.form, hex(self.message.other()), self.list.told())
+        format!("flags {} {:?} message {} {}", self.flags, self.form, hex(self.message.other()), self.list.told())
     }
 }
 
@@ -88,8 +114,7 @@ fn rows_needed(input: &Input, reading: &Result<Reading, Refusal>) -> usize {
     }
     while fewest < enough {
         let rows = (fewest + enough) / 2;
-        let answer = terms::read(input.other_form(), input.message.other(), &input.list.other(), rows);
-        if answer.is_err_and(|other| other == *refused) {
+        if input.reading(rows).is_err_and(|other| other == *refused) {
             enough = rows;
         } else {
             fewest = rows + 1;
@@ -98,12 +123,31 @@ fn rows_needed(input: &Input, reading: &Result<Reading, Refusal>) -> usize {
     fewest
 }
 
+/// A message that was made to be accepted is, save for an unknown flag (14) or for newer identifiers without V4_NC (4).
+fn as_made(input: &Input, made: Made, reading: &Result<Reading, Refusal>, tally: &mut Tally) {
+    let is_known = flags::is_known(input.flags);
+    let refusal = match (is_known, made.newer && !flags::is_v4_nc(input.flags)) {
+        (false, _) => 14,
+        (true, true) => 4,
+        (true, false) => 0,
+    };
+    if made.newer && is_known {
+        tally.met_newer(refusal == 0);
+    }
+    let same = match reading {
+        Ok(reading) => refusal == 0 && reading.rows.len() == made.rows,
+        Err(refused) => refused.number == refusal,
+    };
+    tally.check(Call::Read, same, || format!("made to give {refusal} and {} rows; {}", made.rows, input.told()));
+}
+
 /// Compares every call on the input.
 pub fn compare(r: &mut Random, input: &Input, room: &mut Room, tally: &mut Tally) {
-    let reading = terms::read(input.other_form(), input.message.other(), &input.list.other(), ROWS_MOST);
+    let reading = input.reading(ROWS_MOST);
     let rows = rows_needed(input, &reading);
-    let as_made = input.rows.is_none() || reading.is_ok() && input.rows == Some(rows);
-    tally.check(Call::Read, as_made, || format!("made to be accepted with {:?} rows; {}", input.rows, input.told()));
+    if let Some(made) = input.made {
+        as_made(input, made, &reading, tally);
+    }
     let table = table_length(r, rows);
     read(r, input, table, room, tally);
     let scratch = if r.one_in(4) { table_length(r, rows) } else { rows + r.below(3) };
@@ -114,7 +158,7 @@ pub fn compare(r: &mut Random, input: &Input, room: &mut Room, tally: &mut Tally
         let offset = offset_to_ask(r, &reading, input.message.other().len());
         text_and_mark(input, &reading, offset, tally);
     }
-    input.list.words(r, tally);
+    input.list.words(r, input.flags, tally);
     let kept = input.message.guarded() == input.message.other() && input.list.is_kept();
     tally.check(Call::Read, kept, || format!("a message or list changed: {}", input.told()));
 }
@@ -122,13 +166,14 @@ pub fn compare(r: &mut Random, input: &Input, room: &mut Room, tally: &mut Tally
 /// Reading: the answer and every word of the table.
 fn read(r: &mut Random, input: &Input, rows: usize, room: &mut Room, tally: &mut Tally) {
     room.table.garbage(r, rows);
-    let got = border::read(input.form, input.message.guarded(), &input.list.guarded(), room.table.guarded_mut());
-    let other = terms::read_into(input.other_form(), input.message.other(), &input.list.other(), room.table.other_mut());
-    let expected = match other {
+    let (flags, form, message, list) = input.guarded();
+    let got = border::read(flags, form, message, &list, room.table.guarded_mut());
+    let (connection, form, message, list) = input.other();
+    let expected = match terms::read_into(connection, form, message, &list, room.table.other_mut()) {
         Ok((terms, rows)) => ReadReply { terms: terms as u64, rows: rows as u64, ..ReadReply::default() },
         Err(Refusal { number, place }) => ReadReply { refusal: number.into(), place, ..ReadReply::default() },
     };
-    tally.met(Call::Read, expected.refusal);
+    tally.met(Call::Read, flags, expected.refusal);
     tally.check(Call::Read, got == expected, || format!("table {rows}: {got:?}, not {expected:?}; {}", input.told()));
     let same = room.table.same();
     tally.check(Call::Read, same, || format!("table {rows} differs, {expected:?}; {}", input.told()));
@@ -136,18 +181,19 @@ fn read(r: &mut Random, input: &Input, rows: usize, room: &mut Room, tally: &mut
 
 /// Writing: the answer, every byte of the output, every word of the scratch table.
 fn write(r: &mut Random, input: &Input, rows: usize, room: &mut Room, tally: &mut Tally) {
-    let form = input.other_form();
-    let whole = canon::canonical(form, input.message.other(), &input.list.other(), rows);
+    let (connection, other_form, other_message, other_list) = input.other();
+    let whole = canon::canonical(connection, other_form, other_message, &other_list, rows);
     let length = output_length(r, whole.as_ref().map_or(30, Vec::len)).min(OUTPUT_MOST);
     room.table.garbage(r, rows);
     room.output.garbage(r, length);
-    let got = border::write(input.form, input.message.guarded(), &input.list.guarded(), room.table.guarded_mut(), room.output.guarded_mut());
-    let other = canon::write_into(form, input.message.other(), &input.list.other(), room.table.other_mut(), room.output.other_mut());
-    let expected = match other {
+    let (flags, form, message, list) = input.guarded();
+    let got = border::write(flags, form, message, &list, room.table.guarded_mut(), room.output.guarded_mut());
+    let (table, output) = (room.table.other_mut(), room.output.other_mut());
+    let expected = match canon::write_into(connection, other_form, other_message, &other_list, table, output) {
         Ok(length) => WriteReply { terms: terms_of(input), length: length as u64, ..WriteReply::default() },
         Err(Refusal { number, place }) => WriteReply { refusal: number.into(), place, ..WriteReply::default() },
     };
-    tally.met(Call::Write, expected.refusal);
+    tally.met(Call::Write, flags, expected.refusal);
     let told = |what: &str| format!("{what}, scratch {rows} output {length}: {got:?}, {expected:?} expected; {}", input.told());
     tally.check(Call::Write, got == expected, || told("answer"));
     let same = (room.table.same(), room.output.same());
@@ -157,8 +203,7 @@ fn write(r: &mut Random, input: &Input, rows: usize, room: &mut Room, tally: &mu
 
 /// How many terms an accepted message has.
 fn terms_of(input: &Input) -> u64 {
-    let reading = terms::read(input.other_form(), input.message.other(), &input.list.other(), ROWS_MOST);
-    reading.map_or(0, |reading| reading.terms.len() as u64)
+    input.reading(ROWS_MOST).map_or(0, |reading| reading.terms.len() as u64)
 }
 
 fn row_to_ask(r: &mut Random, rows: usize) -> usize {
@@ -171,15 +216,16 @@ fn row_to_ask(r: &mut Random, rows: usize) -> usize {
 }
 
 fn number(input: &Input, row: usize, tally: &mut Tally) {
-    let got = border::number(input.form, input.message.guarded(), &input.list.guarded(), row);
-    let other = looks::number(input.other_form(), input.message.other(), &input.list.other(), row as u64);
-    let expected = match other {
+    let (flags, form, message, list) = input.guarded();
+    let got = border::number(flags, form, message, &list, row);
+    let (connection, form, message, list) = input.other();
+    let expected = match looks::number(connection, form, message, &list, row as u64) {
         Ok(looks::Number::Whole(integer)) => NumberReply { kind: 1, integer, ..NumberReply::default() },
         Ok(looks::Number::Float(bits)) => NumberReply { kind: 2, real: f64::from_bits(bits), ..NumberReply::default() },
         Ok(looks::Number::Neither) => NumberReply::default(),
         Err(Refusal { number, place }) => NumberReply { refusal: number.into(), place, ..NumberReply::default() },
     };
-    tally.met(Call::Number, expected.refusal);
+    tally.met(Call::Number, flags, expected.refusal);
     tally.check(Call::Number, got == expected, || format!("row {row}: {got:?}, not {expected:?}; {}", input.told()));
 }
 
@@ -208,30 +254,30 @@ fn stretch(reading: &Result<Reading, Refusal>, offset: usize) -> TextReply {
 
 /// The word of an atom reference is where its text is.
 fn same_word(input: &Input, index: u8, text: TextReply, tally: &mut Tally) {
-    let word = border::word(&input.list.guarded(), index.into());
+    let word = border::word(input.flags, &input.list.guarded(), index.into());
     let expected = WordReply { start: text.start, length: text.length, ..WordReply::default() };
     tally.check(Call::Word, word == expected, || format!("index {index}: {word:?}, not {expected:?}; {}", input.told()));
 }
 
 fn text_and_mark(input: &Input, reading: &Result<Reading, Refusal>, offset: usize, tally: &mut Tally) {
-    let (message, list) = (input.message.guarded(), input.list.guarded());
-    let (got_text, got) = (border::text(input.form, message, &list, offset), border::mark(input.form, message, &list, offset));
-    let other = looks::mark(input.other_form(), input.message.other(), &input.list.other(), offset as u64);
-    let expected = match other {
+    let (flags, form, message, list) = input.guarded();
+    let (got_text, got) = (border::text(flags, form, message, &list, offset), border::mark(flags, form, message, &list, offset));
+    let (connection, form, message, list) = input.other();
+    let expected = match looks::mark(connection, form, message, &list, offset as u64) {
         Ok(looks::Mark::Latin1) => MarkReply { mark: 1, ..MarkReply::default() },
         Ok(looks::Mark::Utf8) => MarkReply { mark: 2, ..MarkReply::default() },
         Err(Refusal { number, place }) => MarkReply { refusal: number.into(), place, ..MarkReply::default() },
     };
-    tally.met(Call::Mark, expected.refusal);
+    tally.met(Call::Mark, flags, expected.refusal);
     tally.check(Call::Mark, got == expected, || format!("offset {offset}: {got:?}, not {expected:?}; {}", input.told()));
     let expected = stretch(reading, offset);
-    let other = looks::text(input.other_form(), input.message.other(), &input.list.other(), offset as u64);
+    let other = looks::text(connection, form, message, &list, offset as u64);
     let agrees = match other {
         Stretch::Empty => got_text.length == 0,
         Stretch::Message { start, length } => got_text == TextReply { from: 1, start: start as u64, length: length as u64 },
         Stretch::List { start, length } => got_text == TextReply { from: 2, start: start as u64, length: length as u64 },
     };
-    tally.met(Call::Text, if expected.from == 0 { got.refusal } else { 0 });
+    tally.met(Call::Text, flags, if expected.from == 0 { got.refusal } else { 0 });
     if got_text.from == 2 {
         same_word(input, message[offset + 1], got_text, tally);
     }

@@ -2,6 +2,13 @@
 
 use crate::random::Random;
 
+/// Without V4_NC, IDs and Serials of pids are below these, and references have so many words at most.
+const OLD_IDS: u32 = 1 << 15;
+const OLD_SERIALS: u32 = 1 << 13;
+const OLD_WORDS: usize = 3;
+/// With V4_NC.
+const WORDS_MOST: usize = 5;
+
 #[derive(Clone, Debug, PartialEq)]
 pub enum Value {
     /// digits least first, none of them a high zero
@@ -48,6 +55,20 @@ impl Value {
             Value::Map(pairs) => pairs.iter().flat_map(|(key, value)| [key, value]).collect(),
             _ => Vec::new(),
         }
+    }
+
+    /// Whether it is a pid or reference that is taken with V4_NC alone.
+    pub fn is_newer(&self) -> bool {
+        match self {
+            Value::Pid { id, serial, .. } => *id >= OLD_IDS || *serial >= OLD_SERIALS,
+            Value::Reference { words, .. } => words.len() > OLD_WORDS,
+            _ => false,
+        }
+    }
+
+    /// Whether it or a part of it is.
+    pub fn has_newer(&self) -> bool {
+        self.is_newer() || self.parts().iter().any(|part| part.has_newer())
     }
 
     /// How many terms it has: itself, its parts, nodes, and an export's three.
@@ -126,7 +147,7 @@ pub fn text(r: &mut Random) -> String {
     (0..count).map(|_| r.pick(&characters[..usable])).collect()
 }
 
-fn atom_text(r: &mut Random, texts: &[String]) -> String {
+pub fn atom_text(r: &mut Random, texts: &[String]) -> String {
     if texts.is_empty() || r.one_in(3) {
         return text(r);
     }
@@ -162,16 +183,39 @@ fn creation(r: &mut Random) -> u32 {
     }
 }
 
+/// A number of 32 bits at an end that some tag has for it, beside one, or any.
+pub fn around(r: &mut Random) -> u32 {
+    let end = 1 << r.pick(&[13, 15, 16, 18, 28, 31]);
+    match r.below(8) {
+        0 => u32::MAX - r.below(2) as u32,
+        1 => r.below(3) as u32,
+        2 => r.next() as u32,
+        _ => end + r.below(3) as u32 - 1,
+    }
+}
+
+/// A pid; one in three is wide in its ID or in its Serial.
+fn pid(r: &mut Random, node: String) -> Value {
+    let (mut id, mut serial) = (under(r, OLD_IDS.into()) as u32, under(r, OLD_SERIALS.into()) as u32);
+    match r.below(6) {
+        0 => id = around(r),
+        1 => serial = around(r),
+        _ => (),
+    }
+    Value::Pid { node, id, serial, creation: creation(r) }
+}
+
 fn identifier(r: &mut Random, texts: &[String]) -> Value {
     let node = atom_text(r, texts);
     match r.below(4) {
-        0 => Value::Pid { node, id: under(r, 1 << 15) as u32, serial: under(r, 1 << 13) as u32, creation: creation(r) },
+        0 => pid(r, node),
         1 => {
             let id = if r.one_in(3) { r.next() >> r.below(40) } else { under(r, 1 << 28) };
             Value::Port { node, id, creation: creation(r) }
         }
         2 => {
-            let mut words: Vec<u32> = (0..r.between(1, 3)).map(|_| under(r, 1 << 32) as u32).collect();
+            let most = if r.one_in(3) { WORDS_MOST } else { OLD_WORDS };
+            let mut words: Vec<u32> = (0..r.between(1, most)).map(|_| under(r, 1 << 32) as u32).collect();
             if r.one_in(2) {
                 words[0] = under(r, 1 << 18) as u32;
             }
@@ -209,10 +253,38 @@ fn list(r: &mut Random, texts: &[String], size: usize) -> Value {
     Value::List(elements, Some(Box::new(tail)))
 }
 
+/// A pid among few that differ in one high bit.
+fn pid_key(r: &mut Random) -> Value {
+    let mut high = || r.pick(&[0, 0, 0, 1 << 13, 1 << 15, 1 << 16, 1 << 31]);
+    Value::Pid { node: String::new(), id: 1 + high(), serial: high(), creation: 0 }
+}
+
+/// A reference among few that differ in their last word, or in how many they have.
+fn reference_key(r: &mut Random) -> Value {
+    let mut words = vec![0; r.between(1, WORDS_MOST - 1)];
+    words.push(r.pick(&[0, 1, 1 << 16, 1 << 31]));
+    Value::Reference { node: String::new(), creation: 0, words }
+}
+
+/// A map whose keys are such pids or references, alone or in tuples.
+pub fn identifier_keys(r: &mut Random) -> Value {
+    let make = r.pick(&[pid_key, reference_key]);
+    let in_tuples = r.one_in(3);
+    let mut pairs: Vec<(Value, Value)> = Vec::new();
+    for i in 0..r.between(2, 8) {
+        let key = if in_tuples { Value::Tuple(vec![whole(5), make(r)]) } else { make(r) };
+        let known = pairs.iter().any(|(earlier, _)| *earlier == key);
+        if !known || r.one_in(20) {
+            pairs.push((key, whole(i as i128)));
+        }
+    }
+    Value::Map(pairs)
+}
+
 /// A key: from few values, so that equal ones and nearly equal ones meet.
 fn key(r: &mut Random, texts: &[String], size: usize) -> Value {
     let word = |r: &mut Random| r.below(2) as u32;
-    match r.below(9) {
+    match r.below(11) {
         0 => whole(r.below(3) as i128),
         1 => Value::Float(r.pick(&[0, 1 << 63, 0x3ff0 << 48])),
         2 => Value::Bits(vec![0x80; r.below(2)], 8),
@@ -221,6 +293,8 @@ fn key(r: &mut Random, texts: &[String], size: usize) -> Value {
         5 => Value::Tuple(vec![whole(r.below(2) as i128); r.below(3)]),
         6 => Value::Reference { node: String::new(), creation: word(r), words: vec![word(r); r.between(1, 3)] },
         7 => Value::Port { node: "a".into(), id: r.below(2) as u64, creation: word(r) },
+        8 => pid_key(r),
+        9 => reference_key(r),
         _ => value(r, texts, size),
     }
 }
