@@ -209,14 +209,14 @@ stored-length text {D} {E} {r} s =
 
 -- the line at the start of the buffer, with the bench's list, rows and output
 pub bench-line : (m : List ℕ) {places lengths D E : List ℕ} {rows room r : ℕ} → places ≡ replicate 8160 0 → lengths ≡ replicate 255 0 → rows ≡ 8192 → room ≡ 65536
-    → Stored (line-of (write standalone (lent-list 0 places lengths) rows room m)) D r E → Stored (line-of (bench-answer m)) D r E × Counts r E
+    → Stored (line-of (write 3 standalone (lent-list 0 places lengths) rows room m)) D r E → Stored (line-of (bench-answer m)) D r E × Counts r E
 unfolding bench-answer
 bench-line m {places} {lengths} {D} {E} {rows} {room} {r} p l n o s =
-    let w : write standalone (lent-list 0 places lengths) rows room m ≡ bench-answer m =
-    ap (λ (x : List ℕ). write standalone (lent-list 0 x lengths) rows room m) p
-    ∙ ap (λ (x : List ℕ). write standalone (lent-list 0 (replicate 8160 0) x) rows room m) l
-    ∙ ap (λ (k : ℕ). write standalone empty-list k room m) n
-    ∙ ap (λ (k : ℕ). write standalone empty-list 8192 k m) o in
+    let w : write 3 standalone (lent-list 0 places lengths) rows room m ≡ bench-answer m =
+    ap (λ (x : List ℕ). write 3 standalone (lent-list 0 x lengths) rows room m) p
+    ∙ ap (λ (x : List ℕ). write 3 standalone (lent-list 0 (replicate 8160 0) x) rows room m) l
+    ∙ ap (λ (k : ℕ). write 3 standalone empty-list k room m) n
+    ∙ ap (λ (k : ℕ). write 3 standalone empty-list 8192 k m) o in
     let fits : r ≤ length D = s .inside in
-    let size : length E ≡ length D = stored-length (line-of (write standalone (lent-list 0 places lengths) rows room m)) s in
+    let size : length E ≡ length D = stored-length (line-of (write 3 standalone (lent-list 0 places lengths) rows room m)) s in
     (subst (λ (a : Answer Written). Stored (line-of a) D r E) w s, counts r E (omega arith))

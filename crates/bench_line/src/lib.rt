@@ -79,6 +79,8 @@ fn put_refused(dst: &mut [u8], number: usize, place: usize) -> usize
     put_text(dst, d, b"\n")
 }
 
+const BOTH_FLAGS: u8 = connection::UTF8 + connection::V4_NC;
+
 // The line of what writing answers with both flags on and these lent.
 fn put_answer(
     msg: &[u8],
@@ -91,9 +93,7 @@ fn put_answer(
     requires { ⌜ 2 * length (now output) + 50 ≤ length (now dst) ⌝ }
     ensures { λ r. ⌜ Stored (line-of (write 3 standalone (lent-list 0 (now (places .entry)) (now (lengths .entry))) (length (now (scratch .entry))) (length (now (output .entry))) (now (msg .entry)))) (now (dst .entry)) r (now (dst .exit)) ⌝ }
 {
-    let connection = Connection {
-        flags: connection::UTF8 + connection::V4_NC,
-    };
+    let connection = Connection { flags: BOTH_FLAGS };
     match writer::write_standalone(connection, msg, 0, places, lengths, scratch, output) {
         WriteAnswer::Written { terms, length } => put_ok(dst, &output[..length]),
         WriteAnswer::Refused(r) => put_refused(dst, octets::wide(r.number), r.place),

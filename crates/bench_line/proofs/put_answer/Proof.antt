@@ -24,7 +24,7 @@ slice-reshare-prefix-put-ok c =
     let x = c .before .before .terms .given in
     let a = c .before .before .before .before .before .before .before .before .before .before .before .before .before .before .before .before .before .args in
     let list = lent-list 0 (a .places .now) (a .lengths .now) in
-    let wrote = write standalone list (length (a .scratch .now)) (length (a .output .now)) (a .msg .now) in
+    let wrote = write 3 standalone list (length (a .scratch .now)) (length (a .output .now)) (a .msg .now) in
     let is = sym (x .1) ∙ w .ensures .write-answered in
     let fits = answer-fits wrote (a .output .now) _ is (w .ensures .output-left) in
     fits
@@ -35,7 +35,7 @@ slice-aggregate-put-ok c =
     let x = c .before .before .before .terms .given in
     let a = c .before .before .before .before .before .before .before .before .before .before .before .before .before .before .before .before .before .before .args in
     let list = lent-list 0 (a .places .now) (a .lengths .now) in
-    let wrote = write standalone list (length (a .scratch .now)) (length (a .output .now)) (a .msg .now) in
+    let wrote = write 3 standalone list (length (a .scratch .now)) (length (a .output .now)) (a .msg .now) in
     let is = sym (x .1) ∙ w .ensures .write-answered in
     let fits = answer-fits wrote (a .output .now) _ is (w .ensures .output-left) in
     front _ _ fits
@@ -46,14 +46,14 @@ put-ok-requires c κs =
     let x = c .before .before .before .terms .given in
     let a = c .before .before .before .before .before .before .before .before .before .before .before .before .before .before .before .before .before .before .args in
     let list = lent-list 0 (a .places .now) (a .lengths .now) in
-    let wrote = write standalone list (length (a .scratch .now)) (length (a .output .now)) (a .msg .now) in
+    let wrote = write 3 standalone list (length (a .scratch .now)) (length (a .output .now)) (a .msg .now) in
     let is = sym (x .1) ∙ w .ensures .write-answered in
     let fits = answer-fits wrote (a .output .now) _ is (w .ensures .output-left) in
-    let after = w .last .1 .1 .1 .1 .1 .0 in
+    let after = w .last .1 .1 .1 .1 .1 .1 .0 in
     let n = x .0 .1 .0 in
     let there : n ≡ length (take n after) = front n after fits in
     let few : n ≤ length after = fits in
-    let same : length after ≡ length (a .output .now) = w .kept .1 .1 .1 .1 .1 .0 in
+    let same : length after ≡ length (a .output .now) = w .kept .1 .1 .1 .1 .1 .1 .0 in
     let room : 2 * length (a .output .now) + 50 ≤ length (a .dst .now) = c .before .before .before .before .before .before .before .before .before .before .before .before .before .before .before .before .before .before .pre in
     let enough : 2 * length (take n after) + 4 ≤ length (a .dst .now) = omega arith in
     enough
@@ -82,7 +82,7 @@ returns c =
     let x = c .before .before .before .before .before .before .terms .given in
     let a = c .before .before .before .before .before .before .before .before .before .before .before .before .before .before .before .before .before .before .before .before .before .args in
     let list = lent-list 0 (a .places .now) (a .lengths .now) in
-    let wrote = write standalone list (length (a .scratch .now)) (length (a .output .now)) (a .msg .now) in
+    let wrote = write 3 standalone list (length (a .scratch .now)) (length (a .output .now)) (a .msg .now) in
     let is = sym (x .1) ∙ w .ensures .write-answered in
     answer-good wrote (a .output .now) _ is (w .ensures .output-left) (c .before .before .put-ok .ensures)
 
@@ -101,7 +101,7 @@ returns-2 c =
     let x = c .before .before .before .before .before .before .r .given in
     let a = c .before .before .before .before .before .before .before .before .before .before .before .before .before .before .before .before .before .before .before .before .before .args in
     let list = lent-list 0 (a .places .now) (a .lengths .now) in
-    answer-refused (write standalone list (length (a .scratch .now)) (length (a .output .now)) (a .msg .now)) (c .before .before .before .wide .ensures .0) (sym (x .1) ∙ w .ensures .write-answered) (c .before .before .put-refused .ensures)
+    answer-refused (write 3 standalone list (length (a .scratch .now)) (length (a .output .now)) (a .msg .now)) (c .before .before .before .wide .ensures .0) (sym (x .1) ∙ w .ensures .write-answered) (c .before .before .put-refused .ensures)
 
 pub put-answer-spec : {M : Type 1} → statement M
 put-answer-spec =

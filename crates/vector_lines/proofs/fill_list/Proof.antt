@@ -7,7 +7,7 @@ use Rattle.vector_lines.proofs.fill_list.Statement.{statement}
 use Rattle.vector_lines.proofs.fill_list.Tie as tie
 
 abbrev Inv-loop : tie.InvT-loop
-Inv-loop case places₀ lengths₀ count at₀ k₀ places lengths at k = (k ≤ count) × (at ≤ 8 + 258 * k) × (length places ≡ length places₀) × (length lengths ≡ length lengths₀)
+Inv-loop case places₀ lengths₀ count at₀ k₀ places lengths at k = (k ≤ count) × (at ≤ 9 + 258 * k) × (length places ≡ length places₀) × (length lengths ≡ length lengths₀)
 
 abbrev μ-loop : tie.MeasureT-loop
 μ-loop case places₀ lengths₀ count at₀ k₀ places lengths at k = count - k
