@@ -87,20 +87,6 @@ static void word_is(uint8_t flags, struct list l, size_t index, unsigned refusal
     SAME(a.length, length);
 }
 
-static void packet_refused(struct memory m, uint8_t flags, const uint8_t *packet, size_t size, unsigned refusal, unsigned place)
-{
-    struct memory before = copy_of(m);
-    struct ik_packet_reply a = take(m, flags, lend_copy(packet, size), size);
-    SAME(a.refusal, refusal);
-    SAME(a.place, place);
-    SAME(a.kind, 0);
-    SAME(a.offset, 0);
-    SAME(a.length, 0);
-    SAME(a.due, 0);
-    SAME(a.gathered, 0);
-    SAME(differing(m, before), 0);
-}
-
 static void drop_refused(uint8_t flags, struct ik_pending p, unsigned refusal)
 {
     struct ik_pending *lent = lend_copy(&p, sizeof p);

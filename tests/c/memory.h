@@ -85,4 +85,19 @@ static inline void place_is(struct memory m, int places, size_t place, const cha
 /* The ids of a fragment. */
 #define IDS(sequence, fragment) 0, 0, 0, 0, 0, 0, 0, sequence, 0, 0, 0, 0, 0, 0, 0, fragment
 
+/* A packet that is refused so, and changes nothing. */
+static inline void packet_refused(struct memory m, uint8_t flags, const uint8_t *packet, size_t size, unsigned refusal, unsigned place)
+{
+    struct memory before = copy_of(m);
+    struct ik_packet_reply a = take(m, flags, lend_copy(packet, size), size);
+    SAME(a.refusal, refusal);
+    SAME(a.place, place);
+    SAME(a.kind, 0);
+    SAME(a.offset, 0);
+    SAME(a.length, 0);
+    SAME(a.due, 0);
+    SAME(a.gathered, 0);
+    SAME(differing(m, before), 0);
+}
+
 #endif

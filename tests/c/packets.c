@@ -49,23 +49,9 @@ static void list_is(struct memory m, int n, size_t count, const char *const *tex
     CHECK(all(lengths(m, n + 2) + count, 2 * (IK_LIST_PLACES - count), 0));
 }
 
-static void refused(struct memory m, uint8_t flags, const uint8_t *packet, size_t size, unsigned refusal, unsigned place)
-{
-    struct memory before = copy_of(m);
-    struct ik_packet_reply a = take(m, flags, lend_copy(packet, size), size);
-    SAME(a.refusal, refusal);
-    SAME(a.place, place);
-    SAME(a.kind, 0);
-    SAME(a.offset, 0);
-    SAME(a.length, 0);
-    SAME(a.due, 0);
-    SAME(a.gathered, 0);
-    SAME(differing(m, before), 0);
-}
-
 static void fresh_refused(uint8_t flags, const uint8_t *packet, size_t size, unsigned refusal, unsigned place)
 {
-    refused(ready_memory(), flags, packet, size, refusal, place);
+    packet_refused(ready_memory(), flags, packet, size, refusal, place);
     CHECK(guards_stand());
 }
 
@@ -153,10 +139,10 @@ static void refused_headers(void)
     fresh_refused(1, BYTES(131, 68, 2, 0x08, 0, 7, 1, 'a', 8), 21, 1);
     m = ready_memory();
     lengths(m, CACHE_LENGTHS)[7] = 33;
-    refused(m, 1, BYTES(131, 68, 1, 0, 7), 14, 0);
+    packet_refused(m, 1, BYTES(131, 68, 1, 0, 7), 14, 0);
     lengths(m, CACHE_LENGTHS)[7] = 1, bytes(m, CACHE)[32 * 7] = 128;
-    refused(m, 1, BYTES(131, 68, 1, 0, 7), 14, 0);
-    refused(m, 1, BYTES(131, 68, 2, 0x80, 0, 7, 7, 0), 14, 0);
+    packet_refused(m, 1, BYTES(131, 68, 1, 0, 7), 14, 0);
+    packet_refused(m, 1, BYTES(131, 68, 2, 0x80, 0, 7, 7, 0), 14, 0);
     plain_is(take(m, 1, BYTES(131, 68, 1, 0x08, 7, 0)), 6, 0);
     CHECK(guards_stand());
 }
@@ -167,26 +153,26 @@ static void long_payloads(void)
     packet[0] = 131, packet[1] = 68;
     struct memory m = ready_memory();
     plain_is(take(m, 1, packet, 3 + 65536), 3, 65536);
-    refused(m, 1, packet, 3 + 65537, 12, 0);
+    packet_refused(m, 1, packet, 3 + 65537, 12, 0);
     CHECK(guards_stand());
     const uint8_t start[] = {131, 69, IDS(9, 2), 0};
     memcpy(packet, start, sizeof start);
     packet[sizeof start] = 0x11;
     m = ready_memory();
-    refused(m, 1, packet, sizeof start + 65537, 12, 0);
+    packet_refused(m, 1, packet, sizeof start + 65537, 12, 0);
     pending_is(take(m, 1, packet, sizeof start + 65536), 1, 65536);
     record_is(m, 9, 1, 65536);
     SAME(*bytes(m, GATHER), 0x11);
     CHECK(all(bytes(m, GATHER) + 1, 65535, 0));
-    refused(m, 1, BYTES(131, 70, IDS(9, 1), 5), 12, 0);
+    packet_refused(m, 1, BYTES(131, 70, IDS(9, 1), 5), 12, 0);
     pending_is(take(m, 1, BYTES(131, 70, IDS(9, 1))), 0, 65536);
     record_is(m, 0, 0, 0);
     CHECK(guards_stand());
     /* after 12 the sequence stays pending, so no other starts; a drop ends it */
     m = ready_memory();
     pending_is(take(m, 1, packet, sizeof start + 65536), 1, 65536);
-    refused(m, 1, BYTES(131, 70, IDS(9, 1), 5), 12, 0);
-    refused(m, 1, BYTES(131, 69, IDS(8, 1), 0, 106), 26, 0);
+    packet_refused(m, 1, BYTES(131, 70, IDS(9, 1), 5), 12, 0);
+    packet_refused(m, 1, BYTES(131, 69, IDS(8, 1), 0, 106), 26, 0);
     SAME(drop(m).refusal, 0);
     pending_is(take(m, 1, BYTES(131, 69, IDS(8, 1), 0, 106)), 0, 1);
     SAME(*bytes(m, GATHER), 106);
@@ -197,11 +183,11 @@ static void long_payloads(void)
 static void fragments(void)
 {
     struct memory m = ready_memory(), before = copy_of(m);
-    refused(m, 1, BYTES(131, 70, IDS(7, 2), 97), 25, 0);
-    refused(m, 1, BYTES(131, 70, IDS(7, 0), 97), 24, 0);
-    refused(m, 1, BYTES(131, 69, IDS(7, 0), 0), 24, 0);
-    refused(m, 1, BYTES(131, 69, 0, 0, 0), 2, 0);
-    refused(m, 1, BYTES(131, 69, IDS(7, 3)), 2, 0);
+    packet_refused(m, 1, BYTES(131, 70, IDS(7, 2), 97), 25, 0);
+    packet_refused(m, 1, BYTES(131, 70, IDS(7, 0), 97), 24, 0);
+    packet_refused(m, 1, BYTES(131, 69, IDS(7, 0), 0), 24, 0);
+    packet_refused(m, 1, BYTES(131, 69, 0, 0, 0), 2, 0);
+    packet_refused(m, 1, BYTES(131, 69, IDS(7, 3)), 2, 0);
     pending_is(take(m, 1, BYTES(131, 69, IDS(7, 3), 1, 0x08, 5, 2, 'o', 'k', 104, 2)), 2, 2);
     record_is(m, 7, 2, 2);
     list_is(m, PENDING_N, TEXTS("ok"));
@@ -209,10 +195,10 @@ static void fragments(void)
     CHECK(memcmp(m.at[GATHER], (const uint8_t[]){104, 2}, 2) == 0);
     CHECK(all(bytes(m, GATHER) + 2, 65534, 0xa5));
     SAME(differing(m, before), PENDING_LIST | WHOLE_CACHE | 1 << RECORD | 1 << GATHER);
-    refused(m, 1, BYTES(131, 69, IDS(8, 2), 0), 26, 0);
-    refused(m, 1, BYTES(131, 70, IDS(8, 2), 82, 0), 25, 0);
-    refused(m, 1, BYTES(131, 70, IDS(7, 1), 82, 0), 24, 0);
-    refused(m, 1, BYTES(131, 70, IDS(7, 3), 82, 0), 24, 0);
+    packet_refused(m, 1, BYTES(131, 69, IDS(8, 2), 0), 26, 0);
+    packet_refused(m, 1, BYTES(131, 70, IDS(8, 2), 82, 0), 25, 0);
+    packet_refused(m, 1, BYTES(131, 70, IDS(7, 1), 82, 0), 24, 0);
+    packet_refused(m, 1, BYTES(131, 70, IDS(7, 3), 82, 0), 24, 0);
     /* a plain packet between takes the place over; the pending list keeps its text */
     plain_is(take(m, 1, BYTES(131, 68, 1, 0x08, 5, 2, 'n', 'o', 82, 0)), 8, 2);
     before = copy_of(m);
@@ -229,7 +215,7 @@ static void fragments(void)
     struct ik_write_reply w = ik_write_payload(BOTH, m.at[GATHER], 6, *bytes(m, PENDING_N), m.at[PENDING_PLACES], IK_LIST_BYTES, m.at[PENDING_LENGTHS], IK_LIST_PLACES, scratch, 3, output, 16);
     SAME(w.length, 9);
     CHECK(memcmp(output, (const uint8_t[]){131, 104, 2, 119, 2, 'o', 'k', 97, 9}, 9) == 0);
-    refused(m, 1, BYTES(131, 70, IDS(7, 1), 97, 9), 25, 0);
+    packet_refused(m, 1, BYTES(131, 70, IDS(7, 1), 97, 9), 25, 0);
     CHECK(guards_stand());
 
     /* a start that is whole */
@@ -251,7 +237,7 @@ static void wrong_sizes(void)
             m.count[i] += more;
             m.at[i] = lend(m.count[i] * width[i], 0xa5);
             record(m)->gathered = 70000; /* 13 comes before 14 */
-            refused(m, 1, NULL, 0, 13, 0);
+            packet_refused(m, 1, NULL, 0, 13, 0);
             struct memory before = copy_of(m);
             struct ik_state_reply a = reset(m);
             if (i == CACHE || i == CACHE_LENGTHS) {
@@ -278,7 +264,7 @@ static void drops_and_resets(void)
     SAME(a.refusal, 14);
     SAME(a.place, 0);
     record_is(m, 8, 4, 65537);
-    refused(m, 1, BYTES(130), 14, 0);
+    packet_refused(m, 1, BYTES(130), 14, 0);
     record(m)->gathered = 65536;
     a = drop(m);
     SAME(a.refusal, 0);
@@ -323,7 +309,7 @@ static void extremes(void)
     SAME(lengths(m, CACHE_LENGTHS)[255], IK_CACHE_EMPTY);
     /* the same place named again by the last: 22 there, and nothing changes */
     packet[131 + 3 * 254] = 0;
-    refused(m, 1, packet, sizeof packet, 22, 254);
+    packet_refused(m, 1, packet, sizeof packet, 22, 254);
 
     /* FragmentId 2^64 - 1: then 2^64 - 2 is due; an empty fragment; a single fragment is complete at once */
     m = ready_memory();
