@@ -20,4 +20,5 @@ pub mod Promises
 pub mod Demands
 pub mod Lists
 pub mod BadTexts
+pub mod Widening
 pub mod Cases

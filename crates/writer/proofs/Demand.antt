@@ -1,5 +1,5 @@
 -- Demand 3 over the calls `write_standalone`, `write_payload`, `read_standalone` and `read_payload`: their promises are the relations `Write-call` and `Read-call`, and
--- what any calls by these relations come to is `Demand-3` (term_spec/specs/Demands). `No-long-list` and `Bad-texts` (term_spec/specs/Lists, BadTexts) are said of the same relations.
+-- what any calls by these relations come to is `Demand-3` (term_spec/specs/Demands). `No-long-list`, `Bad-texts` and `Only-widens` (term_spec/specs/Lists, BadTexts, Widening) are said of the same relations.
 use Prim.Native.Nat.{ℕ}
 use contract.Lifetimes.{Lfts}
 use Rattle.term_spec.specs.Term.{Term}
@@ -9,9 +9,11 @@ use Rattle.term_spec.specs.Promises.{Read-call, Write-call}
 use Rattle.term_spec.specs.Demands.{Accepted-term, Demand-3}
 use Rattle.term_spec.specs.Lists.{No-long-list}
 use Rattle.term_spec.specs.BadTexts.{Bad-texts}
+use Rattle.term_spec.specs.Widening.{Only-widens}
 use Rattle.term_spec.proofs.Demand as definitions
 use Rattle.term_spec.proofs.Lists as lists
 use Rattle.term_spec.proofs.BadTexts as texts
+use Rattle.term_spec.proofs.Widening as widening
 use Rattle.reader.proofs.read_standalone.Reads as read-standalone
 use Rattle.reader.proofs.read_payload.Reads as read-payload
 use Rattle.writer.proofs.write_standalone.Reads as write-standalone
@@ -47,3 +49,7 @@ no-long-list = lists.no-long-list
 -- Of the same calls: where they refuse with 5, the place is the bad byte of an atom's text
 pub bad-texts : Bad-texts
 bad-texts = texts.bad-texts
+
+-- Of the same calls: V4_NC only widens what they accept
+pub only-widens : Only-widens
+only-widens = widening.only-widens
