@@ -182,13 +182,10 @@ static void sizes_before_unknown(uint8_t flags)
         CHECK(guards_stand());
     }
     for (int i = 0; i < BUFFERS; i++) {
-        if (i == PLAIN_N || i == PENDING_N || i == RECORD)
+        if (!has_size(i))
             continue;
         for (int more = -1; more <= 1; more += 2) {
-            struct memory m = ready_memory();
-            m.count[i] += more;
-            m.at[i] = lend(m.count[i] * width[i], 0xa5);
-            packet_refused(m, flags, BYTES(131, 68, 0, 97, 5), 13, 0);
+            packet_refused(of_wrong_size(i, more), flags, BYTES(131, 68, 0, 97, 5), 13, 0);
             CHECK(guards_stand());
         }
     }

@@ -40,6 +40,21 @@ static inline struct memory ready_memory(void)
     return m;
 }
 
+/* Whether a call judges the size of buffer i: the two counts and the record have none. */
+static inline int has_size(int i)
+{
+    return i != PLAIN_N && i != PENDING_N && i != RECORD;
+}
+
+/* Memory made ready, buffer i of `more` elements more than its size. */
+static inline struct memory of_wrong_size(int i, int more)
+{
+    struct memory m = ready_memory();
+    m.count[i] += more;
+    m.at[i] = lend(m.count[i] * width[i], 0xa5);
+    return m;
+}
+
 static inline struct memory copy_of(struct memory m)
 {
     for (int i = 0; i < BUFFERS; i++)

@@ -230,12 +230,10 @@ static void fragments(void)
 static void wrong_sizes(void)
 {
     for (int i = 0; i < BUFFERS; i++) {
-        if (i == PLAIN_N || i == PENDING_N || i == RECORD)
+        if (!has_size(i))
             continue;
         for (int more = -1; more <= 1; more += 2) {
-            struct memory m = ready_memory();
-            m.count[i] += more;
-            m.at[i] = lend(m.count[i] * width[i], 0xa5);
+            struct memory m = of_wrong_size(i, more);
             record(m)->gathered = 70000; /* 13 comes before 14 */
             packet_refused(m, 1, NULL, 0, 13, 0);
             struct memory before = copy_of(m);

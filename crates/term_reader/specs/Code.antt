@@ -10,15 +10,15 @@ use lib.Seq.{sets}
 use Rattle.term_spec.specs.Tree.{_▹▹_, count, size, sizes, Each-node, Each-nodes}
 use Rattle.term_spec.specs.Term.{Label, list, map}
 use Rattle.term_spec.specs.Answer.{_>>=_, Answer, good, refused, Position, at-offset, Reading, done}
-use Rattle.term_spec.specs.Head.{Given, Wanted, any, an-atom, an-arity, Head, parts, characters, elements, pairs, Later, later}
+use Rattle.term_spec.specs.Head.{Given, Wanted, any, an-atom, an-arity, Head, parts, characters, elements, pairs, Later, later, term-head}
 use Rattle.term_spec.specs.AtomList.{AtomList, of-size}
 use Rattle.term_spec.specs.Reading.{Located, bytes-left, each, run, entries, string, list-tail, opening, body, term}
 use Rattle.term_spec.specs.Message.{Terms}
 use Rattle.term_spec.specs.Rows.{tree-rows, rows, kind-of, pack, row-words, Placed}
 use Rattle.term_head.specs.declared.Head as code
 use Rattle.term_head.specs.declared.Later as code-later
-use Rattle.term_head.specs.Code.{kind-later, later-of, head-at}
-use Rattle.term_head.specs.Quick.{Told}
+use Rattle.term_head.specs.Code.{kind-later, later-of, head-at, head-of}
+use Rattle.term_head.specs.Quick.{Told, quick-word}
 use Rattle.map_keys.specs.KeySet.{Keeps}
 use Rattle.term_reader.specs.declared.Step.{Step}
 use Rattle.term_reader.specs.declared.Step.the-variants as step
@@ -122,6 +122,15 @@ abbrev pub PartsDone : List ℕ → ℕ → ℕ → ℕ → ℕ → List ℕ →
 PartsDone m before cap row whole =
     Done (λ e next end. parts-of.Got next end (before + count (e .0)) (kind-of (e .1))) parts-of.Refused (λ e. sizes (e .0)) (λ e. row-words (rows (whole-of whole) row (e .0)))
     (λ e. Each-nodes (Placed 65536) (e .0)) m cap row
+
+-- this word says the head of the term at an offset
+abbrev pub Quick-at : List ℕ → Given → Wanted → ℕ → ℕ → Type 0
+Quick-at m given wanted at word = (rows : ℕ) → word ≡ quick-word (head-of (term-head given wanted (at-offset m at rows)))
+
+-- a 107 at `place` with any `count` characters, whatever else is given
+abbrev pub Characters-read : ℕ → ℕ → ℕ → ℕ → ℕ → ℕ → ℕ → ℕ → List ℕ → Parts → List ℕ → Type 0
+Characters-read cap left place count next before row whole T r T′ =
+    (given : Given) (m cs : List ℕ) → length cs ≡ count → next ≤ length m → PartsDone m before cap row whole T (inner given cap left place (characters cs) (at-offset m next row)) r T′
 
 -- What the functions that read promise. Of the message m they read with these flags and this atom list, room for cap rows and `left` levels, from the offset `at` and the row `row` on,
 -- as parts of `whole`; they store rows in the table T and remember keys in S. T′ and S′ are the two after it

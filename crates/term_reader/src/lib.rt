@@ -6,17 +6,13 @@ use term_spec::kinds;
 use term_spec::refusals;
 ghost use mathlib.Core.Path.{_≡_};
 ghost use mathlib.Core.Bool.{true};
-ghost use mathlib.Core.List.{List};
-ghost use Prim.Native.Nat.{ℕ, _+_, _/_, _%_, _≤_, _<_, min};
+ghost use Prim.Native.Nat.{_+_, _/_, _%_, _≤_, _<_, min};
 ghost use lib.ListN.{length, replicate};
 ghost use lib.Seq.{sets};
-ghost use Rattle.term_spec.specs.Head as head-spec;
-ghost use Rattle.term_spec.specs.Head.{any, characters, elements, pairs, term-head};
-ghost use Rattle.term_spec.specs.Answer.{at-offset};
+ghost use Rattle.term_spec.specs.Head.{any, characters, elements, pairs};
 ghost use Rattle.context.specs.Word.{capacity-in, list-in, given-in};
-ghost use Rattle.term_head.specs.Code.{wanted-of, head-of};
-ghost use Rattle.term_head.specs.Quick.{quick-word};
-ghost use Rattle.term_reader.specs.Code.{asked, character-words, Room, Head-read, Last-at, inner, PartsDone, Term-read, Run-read, Body-read, Inner-read, Parts-read, Many-read, Tail-read, Last-read, Common-read};
+ghost use Rattle.term_head.specs.Code.{wanted-of};
+ghost use Rattle.term_reader.specs.Code.{asked, character-words, Room, Head-read, Last-at, Quick-at, Characters-read, Term-read, Run-read, Body-read, Inner-read, Parts-read, Many-read, Tail-read, Last-read, Common-read};
 
 // Of the parts that are wanted, so many are atoms at most.
 const WANTED_ATOMS: usize = 2;
@@ -123,7 +119,7 @@ fn read_quick(
     wanted: Wanted,
     word: usize,
 ) -> Step
-    requires { ⌜ Room (now msg) (list-in context (now places) (now lengths)) (now table) (capacity-in context) at row whole × (word ≡ 0 → ⊥) × ((rows : ℕ) → word ≡ quick-word (head-of (term-head (given-in context (now places) (now lengths)) (wanted-of wanted) (at-offset (now msg) at rows)))) ⌝ }
+    requires { ⌜ Room (now msg) (list-in context (now places) (now lengths)) (now table) (capacity-in context) at row whole × (word ≡ 0 → ⊥) × Quick-at (now msg) (given-in context (now places) (now lengths)) (wanted-of wanted) at word ⌝ }
     requires { ⌜ 0 < length (now seen) ⌝ }
     ensures { λ r. ⌜ Term-read (now (msg .entry)) (given-in context (now (places .entry)) (now (lengths .entry))) (capacity-in context) left at row whole (now (table .entry)) (now (seen .entry)) (wanted-of wanted) r (now (table .exit)) (now (seen .exit)) ⌝ }
 {
@@ -642,7 +638,7 @@ fn read_characters(
     before: usize,
 ) -> Parts
     requires { ⌜ (capacity-in context ≤ 8192) × (capacity-in context ≤ length (now table)) × (row ≤ capacity-in context) × (whole ≤ row) × (before ≤ row) × ((count ≡ 0 → ⊥) → place + 3 + count ≤ 65536) ⌝ }
-    ensures { λ r. ⌜ ((given : head-spec.Given) (m cs : List ℕ) → length cs ≡ count → next ≤ length m → PartsDone m before (capacity-in context) row whole (now (table .entry)) (inner given (capacity-in context) deep place (characters cs) (at-offset m next row)) r (now (table .exit))) ⌝ }
+    ensures { λ r. ⌜ Characters-read (capacity-in context) deep place count next before row whole (now (table .entry)) r (now (table .exit)) ⌝ }
 {
     if count == 0 {
         return Parts::Got {

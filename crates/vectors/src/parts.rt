@@ -1,4 +1,6 @@
 // What the lines of `ask` and `word` are made of.
+ghost use mathlib.Core.Path.{_≡_};
+ghost use lib.ListN.{getD};
 ghost use Rattle.io.specs.Counts.{Counts};
 use connection::Connection;
 use term_spec::Refusal;
@@ -7,7 +9,9 @@ use vector_lines::put_decimal;
 use vector_lines::put_word;
 
 // The connection record of a case.
-pub fn connection(case: &[u8]) -> Connection {
+pub fn connection(case: &[u8]) -> Connection
+    ensures { λ r. ⌜ r .flags ≡ getD (now (case .entry)) 7 0 ⌝ }
+{
     Connection {
         flags: vector_lines::connection_flags(case),
     }
