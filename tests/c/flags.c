@@ -582,18 +582,33 @@ static void sizes(uint8_t utf8)
 
 /* ---- keys */
 
-/* A map of two keys, their values a binary of so many bytes; the second is refused by 7, also if its node has another tag, or it is not. */
+/* 131 and a map of two keys in this order, their values a binary of so many zeros. */
+static size_t put_map(uint8_t *to, const struct term *first, const struct term *second, unsigned value)
+{
+    const struct term *keys[] = {first, second};
+    size_t size = 6;
+    memcpy(to, (const uint8_t[]){131, 116, 0, 0, 0, 2}, size);
+    for (int i = 0; i < 2; i++) {
+        memcpy(to + size, keys[i]->bytes, keys[i]->size), size += keys[i]->size;
+        memcpy(to + size, (const uint8_t[]){109, 0, 0, (uint8_t)(value >> 8), (uint8_t)value}, 5), size += 5;
+        memset(to + size, 0, value), size += value;
+    }
+    return size;
+}
+
+/* Whether the bytes of a come before those of b, neither of which begins with the other. */
+static int comes_before(const struct term *a, const struct term *b)
+{
+    return memcmp(a->bytes, b->bytes, a->size < b->size ? a->size : b->size) < 0;
+}
+
+/* A map of two keys; the second is refused by 7, also if its node has another tag, or it is not, and then they are written in order. */
 static void two_keys(uint8_t utf8, struct term a, struct term b, unsigned value, int equal)
 {
-    uint8_t bytes[4096] = {131, 116, 0, 0, 0, 2};
-    const uint8_t head[] = {109, 0, 0, (uint8_t)(value >> 8), (uint8_t)value};
-    size_t size = 6, later = 6 + a.size + sizeof head + value;
-    for (int i = 0; i < 2; i++) {
-        const struct term *key = i ? &b : &a;
-        memcpy(bytes + size, key->bytes, key->size), size += key->size;
-        memcpy(bytes + size, head, sizeof head), size += sizeof head + value;
-    }
-    struct due due = {0, 0, 1, 7, bytes, size};
+    uint8_t bytes[4096], canonical[4096];
+    size_t size = put_map(bytes, &a, &b, value), later = 6 + a.size + 5 + value;
+    put_map(canonical, comes_before(&a, &b) ? &a : &b, comes_before(&a, &b) ? &b : &a, value);
+    struct due due = {0, 0, 1, 7, canonical, size};
     if (equal)
         due = REFUSED(7, later);
     all_calls(utf8 | IK_V4_NC, STANDALONE, lend_message(bytes, size, empty_list(), 7), due);

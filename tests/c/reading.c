@@ -1,12 +1,5 @@
 /* ik_read_standalone, ik_read_payload, and the accessors of a row. */
-#include "messages.h"
-
-static struct ik_read_reply read_into(enum form form, const uint8_t *bytes, size_t size, struct list l, uint64_t *table, size_t rows)
-{
-    struct ik_read_reply a = (form == STANDALONE ? ik_read_standalone : ik_read_payload)(BOTH, bytes, size, LIST(l), table, rows);
-    met[form] |= bit(a.refusal);
-    return a;
-}
+#include "answers.h"
 
 /* A message from its byte `skip` on. */
 static void reads(const struct message *m, enum form form, size_t skip)
@@ -35,28 +28,6 @@ static void each_message(void)
     }
 }
 
-struct row { unsigned kind, offset, whole, parts, size; }; /* whole: the row plus 1, or 0 */
-
-static void check_rows(enum form form, const uint8_t *bytes, size_t size, const struct row *rows, size_t count)
-{
-    uint64_t *table = lend(8 * 32, 0xa5);
-    struct ik_read_reply a = read_into(form, lend_copy(bytes, size), size, three_texts(), table, 32);
-    SAME(a.refusal, 0);
-    SAME(a.rows, count);
-    for (size_t i = 0; i < count; i++) {
-        SAME(ik_row_kind(table[i]), rows[i].kind);
-        SAME(ik_row_offset(table[i]), rows[i].offset);
-        SAME(ik_row_whole(table[i]), rows[i].whole ? rows[i].whole - 1 : IK_NO_WHOLE);
-        SAME(ik_row_parts(table[i]), rows[i].parts);
-        SAME(ik_row_size(table[i]), rows[i].size);
-        SAME(table[i] >> 61, 0);
-    }
-    CHECK(all(table + count, 8 * (32 - count), 0));
-    CHECK(guards_stand());
-}
-
-#define ROWS(...) (const struct row[]){__VA_ARGS__}, sizeof((const struct row[]){__VA_ARGS__}) / sizeof(struct row)
-
 static void rows_of_each_kind(void)
 {
     check_rows(STANDALONE, BYTES(131, 104, 2, 97, 7, 106), ROWS({IK_KIND_TUPLE, 1, 0, 2, 3}, {IK_KIND_INTEGER, 3, 1, 0, 1}, {IK_KIND_LIST, 5, 1, 0, 1}));
@@ -77,18 +48,6 @@ static void rows_of_each_kind(void)
     check_rows(PAYLOAD, BYTES(104, 1, 106, 104, 1, 82, 0), ROWS({IK_KIND_TUPLE, 0, 0, 1, 2}, {IK_KIND_LIST, 2, 1, 0, 1}, {IK_KIND_TUPLE, 3, 0, 1, 2}, {IK_KIND_ATOM, 5, 3, 0, 1}));
 }
 
-static void refused_at(enum form form, const uint8_t *bytes, size_t size, struct list l, size_t rows, unsigned refusal, unsigned place)
-{
-    uint64_t *table = lend(8 * rows, 0xa5);
-    struct ik_read_reply a = read_into(form, bytes, size, l, table, rows);
-    SAME(a.refusal, refusal);
-    SAME(a.place, place);
-    SAME(a.terms, 0);
-    SAME(a.rows, 0);
-    CHECK(all(table, 8 * rows, 0));
-    CHECK(guards_stand());
-}
-
 static void limits(void)
 {
     uint8_t *bytes = malloc(70000);
@@ -101,11 +60,11 @@ static void limits(void)
     SAME(a.rows, 64);
     CHECK(guards_stand());
     size = nested_tuples(bytes, 65);
-    refused_at(STANDALONE, lend_copy(bytes, size), size, empty_list(), 8192, 8, 129);
-    refused_at(PAYLOAD, lend_copy(bytes + 1, size - 1), size - 1, empty_list(), 8192, 8, 128);
-    refused_at(STANDALONE, lend_copy(bytes, size), size, empty_list(), 63, 9, 127);
-    refused_at(PAYLOAD, lend_copy(bytes + 1, size - 1), size - 1, empty_list(), 63, 9, 126);
-    refused_at(STANDALONE, lend_copy(bytes, size), size, empty_list(), 0, 9, 1);
+    read_refused(STANDALONE, lend_copy(bytes, size), size, empty_list(), 8192, 8, 129);
+    read_refused(PAYLOAD, lend_copy(bytes + 1, size - 1), size - 1, empty_list(), 8192, 8, 128);
+    read_refused(STANDALONE, lend_copy(bytes, size), size, empty_list(), 63, 9, 127);
+    read_refused(PAYLOAD, lend_copy(bytes + 1, size - 1), size - 1, empty_list(), 63, 9, 126);
+    read_refused(STANDALONE, lend_copy(bytes, size), size, empty_list(), 0, 9, 1);
     size = wide_tuple(bytes, 8191);
     table = lend(8 * 9000, 0xa5);
     a = read_into(STANDALONE, lend_copy(bytes, size), size, empty_list(), table, 9000);
@@ -117,7 +76,7 @@ static void limits(void)
     CHECK(all(table + 8192, 8 * (9000 - 8192), 0));
     CHECK(guards_stand());
     size = wide_tuple(bytes, 8192);
-    refused_at(STANDALONE, lend_copy(bytes, size), size, empty_list(), 9000, 9, 6 + 8191);
+    read_refused(STANDALONE, lend_copy(bytes, size), size, empty_list(), 9000, 9, 6 + 8191);
     memset(bytes, 0, 70000);
     const uint8_t binary[] = {131, 109, 0, 0, 255, 250};
     memcpy(bytes, binary, sizeof binary);
@@ -125,12 +84,12 @@ static void limits(void)
     SAME(a.refusal, 0);
     SAME(a.rows, 1);
     CHECK(guards_stand());
-    refused_at(STANDALONE, lend_copy(bytes, 65537), 65537, empty_list(), 10, 12, 0);
-    refused_at(PAYLOAD, lend_copy(bytes + 1, 65537), 65537, empty_list(), 10, 12, 0);
+    read_refused(STANDALONE, lend_copy(bytes, 65537), 65537, empty_list(), 10, 12, 0);
+    read_refused(PAYLOAD, lend_copy(bytes + 1, 65537), 65537, empty_list(), 10, 12, 0);
     bytes[0] = 130;
-    refused_at(STANDALONE, lend_copy(bytes, 65537), 65537, empty_list(), 10, 12, 0);
+    read_refused(STANDALONE, lend_copy(bytes, 65537), 65537, empty_list(), 10, 12, 0);
     bytes[0] = 131, bytes[1] = 100, bytes[2] = 1, bytes[3] = 0; /* 256 characters */
-    refused_at(STANDALONE, lend_copy(bytes, 260), 260, empty_list(), 10, 5, 4 + IK_CHARACTERS_MOST);
+    read_refused(STANDALONE, lend_copy(bytes, 260), 260, empty_list(), 10, 5, 4 + IK_CHARACTERS_MOST);
     free(bytes);
 }
 
@@ -164,7 +123,7 @@ static void keys_of_map(unsigned count, unsigned step)
     const unsigned earlier[] = {0, (count - 1) / 2, count - 2};
     for (int i = 0; i < 3; i++) {
         size = map_of_integers(bytes, count, step, earlier[i]);
-        refused_at(STANDALONE, lend_copy(bytes, size), size, empty_list(), 8192, 7, 6 * count);
+        read_refused(STANDALONE, lend_copy(bytes, size), size, empty_list(), 8192, 7, 6 * count);
     }
     free(bytes);
 }
@@ -182,18 +141,18 @@ static void lists(void)
 {
     struct list l;
     for (int i = 0; i < 4; i++) {
-        refused_at(STANDALONE, BYTES(131, 97, 5), list_of_wrong_size(i), 10, 13, 0);
-        refused_at(PAYLOAD, BYTES(97, 5), list_of_wrong_size(i), 10, 13, 0);
+        read_refused(STANDALONE, BYTES(131, 97, 5), list_of_wrong_size(i), 10, 13, 0);
+        read_refused(PAYLOAD, BYTES(97, 5), list_of_wrong_size(i), 10, 13, 0);
     }
     l = list_of_wrong_size(0);
-    refused_at(STANDALONE, lend(65537, 1), 65537, l, 10, 13, 0);
-    refused_at(STANDALONE, BYTES(131, 82, 0), empty_list(), 10, 6, 1);
+    read_refused(STANDALONE, lend(65537, 1), 65537, l, 10, 13, 0);
+    read_refused(STANDALONE, BYTES(131, 82, 0), empty_list(), 10, 6, 1);
     l = three_texts(), l.lengths[1] = 33;
-    refused_at(STANDALONE, BYTES(131, 104, 1, 82, 1), l, 10, 14, 0);
+    read_refused(STANDALONE, BYTES(131, 104, 1, 82, 1), l, 10, 14, 0);
     l = three_texts(), l.lengths[1] = 65535;
-    refused_at(STANDALONE, BYTES(131, 82, 1), l, 10, 14, 0);
+    read_refused(STANDALONE, BYTES(131, 82, 1), l, 10, 14, 0);
     l = three_texts(), l.lengths[1] = 1; /* half a character */
-    refused_at(PAYLOAD, BYTES(82, 1), l, 10, 14, 0);
+    read_refused(PAYLOAD, BYTES(82, 1), l, 10, 14, 0);
     l = three_texts(), l.lengths[1] = 33; /* a place that is not asked for */
     CHECK(read_into(STANDALONE, BYTES(131, 82, 0), l, lend(8, 1), 1).refusal == 0);
     CHECK(guards_stand());

@@ -1,40 +1,5 @@
 /* ik_write_standalone, ik_write_payload. */
-#include "messages.h"
-
-static struct ik_write_reply write_to(enum form form, const uint8_t *bytes, size_t size, struct list l, uint64_t *scratch, size_t rows, uint8_t *output, size_t room)
-{
-    struct ik_write_reply a = (form == STANDALONE ? ik_write_standalone : ik_write_payload)(BOTH, bytes, size, LIST(l), scratch, rows, output, room);
-    met[form] |= bit(a.refusal);
-    return a;
-}
-
-/* The output with exactly enough room, with more, and with one byte less. */
-static void writes(enum form form, const uint8_t *bytes, size_t size, unsigned terms, size_t rows, const uint8_t *canonical, size_t length)
-{
-    for (size_t more = 0; more < 2; more++) {
-        uint64_t *scratch = lend(8 * (rows + more), 0xa5);
-        uint8_t *output = lend(length + 10 * more, 0x5a);
-        struct ik_write_reply a = write_to(form, lend_copy(bytes, size), size, three_texts(), scratch, rows + more, output, length + 10 * more);
-        SAME(a.refusal, 0);
-        SAME(a.place, 0);
-        SAME(a.terms, terms);
-        SAME(a.length, length);
-        CHECK(memcmp(output, canonical, length) == 0);
-        CHECK(all(output + length, 10 * more, 0x5a));
-        CHECK(all(scratch, 8 * (rows + more), 0));
-        CHECK(guards_stand());
-    }
-    uint64_t *scratch = lend(8 * rows, 0xa5);
-    uint8_t *output = lend(length - 1, 0x5a);
-    struct ik_write_reply a = write_to(form, lend_copy(bytes, size), size, three_texts(), scratch, rows, output, length - 1);
-    SAME(a.refusal, 11);
-    SAME(a.place, 0);
-    SAME(a.terms, 0);
-    SAME(a.length, 0);
-    CHECK(all(output, length - 1, 0x5a));
-    CHECK(all(scratch, 8 * rows, 0));
-    CHECK(guards_stand());
-}
+#include "answers.h"
 
 static void canonical_forms(void)
 {
@@ -67,23 +32,9 @@ static void canonical_forms(void)
     writes(PAYLOAD, BYTES(98, 0, 0, 0, 5, 104, 1, 82, 0), 2, 3, BYTES(131, 97, 5, 131, 104, 1, 119, 2, 'o', 'k'));
 }
 
-static void refused_at(enum form form, const uint8_t *bytes, size_t size, struct list l, size_t rows, unsigned refusal, unsigned place)
-{
-    uint64_t *scratch = lend(8 * rows, 0xa5);
-    uint8_t *output = lend(1000, 0x5a);
-    struct ik_write_reply a = write_to(form, bytes, size, l, scratch, rows, output, 1000);
-    SAME(a.refusal, refusal);
-    SAME(a.place, place);
-    SAME(a.terms, 0);
-    SAME(a.length, 0);
-    CHECK(all(output, 1000, 0x5a));
-    CHECK(all(scratch, 8 * rows, 0));
-    CHECK(guards_stand());
-}
-
 static void refused_message(enum form form, const uint8_t *bytes, size_t size, unsigned refusal, unsigned place)
 {
-    refused_at(form, bytes, size, three_texts(), 100, refusal, place);
+    write_refused(form, bytes, size, three_texts(), 100, refusal, place);
 }
 
 int main(void)
@@ -92,24 +43,24 @@ int main(void)
     canonical_forms();
     each_refused(refused_message);
     for (int i = 0; i < 4; i++) {
-        refused_at(STANDALONE, BYTES(131, 97, 5), list_of_wrong_size(i), 10, 13, 0);
-        refused_at(PAYLOAD, BYTES(97, 5), list_of_wrong_size(i), 10, 13, 0);
+        write_refused(STANDALONE, BYTES(131, 97, 5), list_of_wrong_size(i), 10, 13, 0);
+        write_refused(PAYLOAD, BYTES(97, 5), list_of_wrong_size(i), 10, 13, 0);
     }
     size_t size = nested_tuples(bytes, 65);
-    refused_at(STANDALONE, lend_copy(bytes, size), size, empty_list(), 8192, 8, 129);
-    refused_at(PAYLOAD, lend_copy(bytes + 1, size - 1), size - 1, empty_list(), 8192, 8, 128);
-    refused_at(STANDALONE, lend_copy(bytes, size), size, empty_list(), 2, 9, 5);
-    refused_at(PAYLOAD, lend_copy(bytes + 1, size - 1), size - 1, empty_list(), 2, 9, 4);
-    refused_at(STANDALONE, BYTES(131, 97, 5), empty_list(), 0, 9, 1);
+    write_refused(STANDALONE, lend_copy(bytes, size), size, empty_list(), 8192, 8, 129);
+    write_refused(PAYLOAD, lend_copy(bytes + 1, size - 1), size - 1, empty_list(), 8192, 8, 128);
+    write_refused(STANDALONE, lend_copy(bytes, size), size, empty_list(), 2, 9, 5);
+    write_refused(PAYLOAD, lend_copy(bytes + 1, size - 1), size - 1, empty_list(), 2, 9, 4);
+    write_refused(STANDALONE, BYTES(131, 97, 5), empty_list(), 0, 9, 1);
     struct list l = three_texts();
     l.lengths[0] = 33;
-    refused_at(STANDALONE, BYTES(131, 82, 0), l, 10, 14, 0);
+    write_refused(STANDALONE, BYTES(131, 82, 0), l, 10, 14, 0);
     l = three_texts();
     l.lengths[0] = 33;
-    refused_at(PAYLOAD, BYTES(82, 0), l, 10, 14, 0);
+    write_refused(PAYLOAD, BYTES(82, 0), l, 10, 14, 0);
     memset(bytes, 0, 70000);
-    refused_at(STANDALONE, lend_copy(bytes, 65537), 65537, empty_list(), 10, 12, 0);
-    refused_at(PAYLOAD, lend_copy(bytes, 65537), 65537, empty_list(), 10, 12, 0);
+    write_refused(STANDALONE, lend_copy(bytes, 65537), 65537, empty_list(), 10, 12, 0);
+    write_refused(PAYLOAD, lend_copy(bytes, 65537), 65537, empty_list(), 10, 12, 0);
     /* 10 comes before 11 */
     struct ik_write_reply a = write_to(STANDALONE, BYTES(131, 97, 5, 0), three_texts(), lend(8, 0), 1, lend(0, 0), 0);
     SAME(a.refusal, 10);

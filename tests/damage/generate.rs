@@ -1,7 +1,7 @@
 //! Values encoded as the papers lay them out, in every encoding that the format has for them, chosen at random.
 
 use crate::random::Random;
-use crate::values::Value;
+use crate::values::{Pairs, Value};
 
 /// What stands at a place of a message, for those who damage it.
 #[derive(Clone, Copy, Debug, PartialEq)]
@@ -24,10 +24,21 @@ pub struct Mark {
     pub width: usize,
 }
 
+/// What a message is refused for, and where.
+#[derive(Clone, Copy, Debug, PartialEq)]
+pub enum Fault {
+    /// an identifier that is taken with V4_NC alone
+    Newer(usize),
+    /// a key that an earlier one equals
+    EqualKey(usize),
+}
+
 #[derive(Clone, Debug, Default)]
 pub struct Encoded {
     pub bytes: Vec<u8>,
     pub marks: Vec<Mark>,
+    /// in the order in which reading meets them
+    pub faults: Vec<Fault>,
 }
 
 impl Encoded {
@@ -53,6 +64,10 @@ impl Encoded {
         let start = self.bytes.len();
         self.bytes.extend_from_slice(&other.bytes);
         self.marks.extend(other.marks.iter().map(|mark| Mark { at: mark.at + start, ..*mark }));
+        self.faults.extend(other.faults.iter().map(|fault| match fault {
+            Fault::Newer(at) => Fault::Newer(at + start),
+            Fault::EqualKey(at) => Fault::EqualKey(at + start),
+        }));
     }
 }
 
@@ -85,14 +100,7 @@ impl Encoder<'_> {
             Value::Tuple(elements) => self.tuple(elements),
             Value::List(elements, tail) => self.list(elements, tail.as_deref()),
             Value::Bits(bytes, kept) => self.bits(bytes, *kept),
-            Value::Map(pairs) => {
-                self.out.tag(116);
-                self.out.number(Role::Length, pairs.len() as u64, 4);
-                for (key, value) in pairs {
-                    self.term(key);
-                    self.term(value);
-                }
-            }
+            Value::Map(Pairs(pairs)) => self.map(pairs),
             _ => self.identifier(value),
         }
     }
@@ -199,6 +207,20 @@ impl Encoder<'_> {
         }
     }
 
+    /// A key is judged after its parts and before its value.
+    fn map(&mut self, pairs: &[(Value, Value)]) {
+        self.out.tag(116);
+        self.out.number(Role::Length, pairs.len() as u64, 4);
+        for (i, (key, value)) in pairs.iter().enumerate() {
+            let at = self.out.bytes.len();
+            self.term(key);
+            if pairs[..i].iter().any(|(earlier, _)| earlier == key) {
+                self.out.faults.push(Fault::EqualKey(at));
+            }
+            self.term(value);
+        }
+    }
+
     /// 109 or a 77 of 8 bits for a binary; a 77 with any low bits for others.
     fn bits(&mut self, bytes: &[u8], kept: u8) {
         let length = bytes.len() as u64;
@@ -233,6 +255,9 @@ impl Encoder<'_> {
     /// Pids, ports, references, exports: old layouts where the fields are small enough.
     fn identifier(&mut self, value: &Value) {
         let old = self.r.one_in(2) && !value.is_newer();
+        if value.is_newer() {
+            self.out.faults.push(Fault::Newer(self.out.bytes.len()));
+        }
         match value {
             Value::Pid { node, id, serial, creation } => {
                 let old = old && *creation < 4;

@@ -8,6 +8,7 @@ mod generate;
 mod headers;
 mod identifiers;
 mod lists;
+mod maps;
 mod memory;
 mod messages;
 mod mutate;

@@ -5,22 +5,25 @@ use crate::generate::Encoded;
 use crate::headers::{self, Header};
 use crate::lists::ListTwin;
 use crate::random::Random;
-use crate::tally::Tally;
+use crate::tally::{Call, Tally};
 use crate::terms::{self, Input, Made, Room};
 use crate::twin::Twin;
 use crate::values::Value;
-use crate::{identifiers, mutate, shapes, values};
+use crate::{identifiers, maps, mutate, shapes, values};
 use border::{format, Form};
 
 const MESSAGE_MOST: usize = 140_000;
 /// A longer message is refused.
 const LONG: usize = 65_536;
+const DEPTH_MOST: usize = 64;
 const LIST_BYTES: usize = 8_160;
 const LIST_PLACES: usize = 255;
 /// How many lists of texts there are to choose from.
 const LISTS: usize = 64;
+/// One message in so many has a twin.
+const TWINS_SHARE: usize = 20;
 
-/// A message, and what it was made to be, where it was made to be accepted.
+/// A message, and what it was made to be where that is known.
 pub struct Message {
     pub bytes: Vec<u8>,
     made: Option<Made>,
@@ -28,19 +31,22 @@ pub struct Message {
 
 /// A value, small mostly.
 fn value(r: &mut Random, texts: &[String]) -> Value {
-    if r.one_in(50) {
-        return values::identifier_keys(r);
+    match r.below(50) {
+        0 => values::identifier_keys(r),
+        1..=4 => maps::value(r, texts),
+        _ => {
+            let size = r.pick(&[1, 2, 4, 8, 12, 30]);
+            values::value(r, texts, size)
+        }
     }
-    let size = r.pick(&[1, 2, 4, 8, 12, 30]);
-    values::value(r, texts, size)
 }
 
-/// A term with the texts of a list, small mostly, and what it was made to be where it has few parts and was made to be accepted.
-fn term(r: &mut Random, texts: &[String], before: usize) -> (Encoded, Option<Made>) {
+/// A term with the texts of a list, small mostly, and how many rows it has where that is known.
+fn term(r: &mut Random, texts: &[String], before: usize) -> (Encoded, Option<usize>) {
     let large = match r.below(4000) {
-        0 if r.one_in(12) => shapes::most_keys(r),
-        0 => shapes::many_keys(r),
-        1..=12 => shapes::many_rows(r),
+        0 | 1 => shapes::most_keys(r),
+        2 => shapes::many_keys(r),
+        3..=12 => shapes::many_rows(r),
         13..=40 => shapes::many_bytes(r, before),
         41..=120 => shapes::deep(r, texts),
         121..=140 => shapes::wide(r, texts),
@@ -50,31 +56,72 @@ fn term(r: &mut Random, texts: &[String], before: usize) -> (Encoded, Option<Mad
         217..=400 => identifiers::term(r, texts),
         _ => {
             let value = value(r, texts);
-            let made = Made { rows: value.rows(), newer: value.has_newer() };
-            return (shapes::encoded(r, texts, &value), value.keys_differ().then_some(made));
+            return (shapes::encoded(r, texts, &value), rows_of(&value));
         }
     };
     (large, None)
 }
 
-/// A message of that form: 131 and a term, or one or two terms; damaged as often as not.
-pub fn message(r: &mut Random, form: Form, texts: &[String]) -> Message {
+/// What a message is before its first term.
+fn opened(form: Form) -> Encoded {
     let mut out = Encoded::default();
     if form == Form::Standalone {
         out.tag(131);
     }
-    let mut made = Some(Made::default());
-    let terms = if form == Form::Payload && r.one_in(2) { 2 } else { 1 };
-    for _ in 0..terms {
+    out
+}
+
+/// How many terms a message has.
+fn terms_in(r: &mut Random, form: Form) -> usize {
+    if form == Form::Payload && r.one_in(2) {
+        2
+    } else {
+        1
+    }
+}
+
+/// How many rows a value has where it is not too deep.
+fn rows_of(value: &Value) -> Option<usize> {
+    (value.depth() <= DEPTH_MOST).then(|| value.rows())
+}
+
+/// The message, and what it was made to be where it is not over a limit.
+fn made_of(out: Encoded, rows: Option<usize>) -> Message {
+    let known = rows.filter(|rows| *rows <= shapes::ROWS_MOST && out.bytes.len() <= LONG);
+    Message { bytes: out.bytes, made: known.map(|rows| Made { rows, faults: out.faults }) }
+}
+
+/// A message of that form: 131 and a term, or one or two terms; damaged as often as not.
+pub fn message(r: &mut Random, form: Form, texts: &[String]) -> Message {
+    let mut out = opened(form);
+    let mut rows = Some(0);
+    for _ in 0..terms_in(r, form) {
         let (term, more) = term(r, texts, out.bytes.len());
         out.append(&term);
-        made = made.zip(more).map(|(made, more)| Made { rows: made.rows + more.rows, newer: made.newer || more.newer });
+        rows = rows.zip(more).map(|(rows, more)| rows + more);
     }
     if r.below(5) > 1 {
         mutate::damage(r, &mut out);
-        made = None;
+        rows = None;
     }
-    Message { bytes: out.bytes, made }
+    made_of(out, rows)
+}
+
+/// A message of these values.
+fn message_of(r: &mut Random, form: Form, texts: &[String], values: &[Value]) -> Message {
+    let mut out = opened(form);
+    values.iter().for_each(|value| out.append(&shapes::encoded(r, texts, value)));
+    made_of(out, values.iter().map(rows_of).sum())
+}
+
+/// Values in other orders of their maps' pairs; now and then changed, one of them at least.
+fn twins_of(r: &mut Random, values: &[Value]) -> Vec<Value> {
+    let mut twins: Vec<Value> = values.iter().map(|value| maps::turned(r, value)).collect();
+    if r.one_in(4) {
+        let at = r.below(twins.len());
+        twins[at] = maps::altered(r, &twins[at]);
+    }
+    twins
 }
 
 /// An atom list as a header left it, and its texts.
@@ -137,17 +184,52 @@ impl Messages {
         }
     }
 
-    /// One message with one list, compared; now and then again with other flags.
-    pub fn case(&mut self, r: &mut Random, tally: &mut Tally) {
+    /// Lends a list, or none of its texts; the texts that are lent.
+    fn lend_list(&mut self, r: &mut Random) -> Vec<String> {
         let list = &self.lists[r.below(LISTS)];
         self.places.hold(&list.places);
         self.lengths.hold(&list.lengths);
-        let (mut n, mut texts) = (list.texts.len() as u8, &list.texts[..]);
         if r.one_in(3) {
-            (n, texts) = (0, &[]);
+            return Vec::new();
         }
+        list.texts.clone()
+    }
+
+    pub fn case(&mut self, r: &mut Random, tally: &mut Tally) {
+        if r.one_in(TWINS_SHARE) {
+            self.twins(r, tally);
+        } else {
+            self.one(r, tally);
+        }
+    }
+
+    /// A message and a twin of it, in other encodings, compared; what is written of both is the same where they mean the same.
+    fn twins(&mut self, r: &mut Random, tally: &mut Tally) {
+        let texts = self.lend_list(r);
+        let (form, flags) = (r.pick(&[Form::Standalone, Form::Payload]), flags::any(r));
+        let values: Vec<Value> = (0..terms_in(r, form)).map(|_| maps::value(r, &texts)).collect();
+        let twins = twins_of(r, &values);
+        let Messages { message, places, lengths, room, .. } = self;
+        let [one, other] = [&values, &twins].map(|values| {
+            let Message { bytes, made } = message_of(r, form, &texts, values);
+            message.hold(&bytes);
+            let list = ListTwin { n: texts.len() as u8, places, lengths };
+            let input = Input { flags, form, message, list, made: made.as_ref() };
+            terms::compare(r, &input, room, tally);
+            terms::whole(&input, room, tally)
+        });
+        let same = values == twins;
+        tally.met_twins(same);
+        let right = if same { one == other } else { one != other || one.is_none() };
+        tally.check(Call::Write, right, || format!("{values:?}, {twins:?}: {one:?}, {other:?}"));
+    }
+
+    /// One message with one list, compared; now and then again with other flags.
+    fn one(&mut self, r: &mut Random, tally: &mut Tally) {
+        let texts = self.lend_list(r);
+        let mut n = texts.len() as u8;
         let form = r.pick(&[Form::Standalone, Form::Payload]);
-        let Message { bytes, mut made } = message(r, form, texts);
+        let Message { bytes, mut made } = message(r, form, &texts);
         let mut flags = flags::any(r);
         if bytes.len() > LONG && r.one_in(4) {
             flags = flags::unknown(r);
@@ -165,7 +247,7 @@ impl Messages {
             }
         }
         let Messages { message, places, lengths, room, .. } = self;
-        let input = Input { flags, form, message, list: ListTwin { n, places, lengths }, made };
+        let input = Input { flags, form, message, list: ListTwin { n, places, lengths }, made: made.as_ref() };
         terms::compare(r, &input, room, tally);
         if r.one_in(5) {
             let flags = flags::other(r, flags);

@@ -126,7 +126,7 @@ impl Sender {
     fn wrong_fragment(&self, r: &mut Random) -> Step {
         if !self.sent.is_empty() && r.one_in(2) {
             let bytes = self.sent[r.below(self.sent.len())].clone();
-            return alone(Encoded { bytes, marks: Vec::new() });
+            return alone(Encoded { bytes, ..Encoded::default() });
         }
         if self.queue.len() > 1 && r.one_in(2) {
             return alone(self.queue[r.between(1, self.queue.len() - 1)].clone());

@@ -5,7 +5,7 @@ use crate::random::Random;
 use crate::values::{self, Value};
 
 const MESSAGE_MOST: usize = 65_536;
-const ROWS_MOST: usize = 8_192;
+pub const ROWS_MOST: usize = 8_192;
 
 /// A number at an end, one or two before or after it.
 fn about(r: &mut Random, end: usize) -> usize {
@@ -67,7 +67,7 @@ fn characters(count: usize) -> Encoded {
 /// Lists of one element, each the tail of the one before, the last tail a 107.
 fn joined(r: &mut Random, count: usize) -> Encoded {
     let links = r.below(count);
-    let mut out = Encoded { bytes: [108, 0, 0, 0, 1, 106].repeat(links), marks: Vec::new() };
+    let mut out = Encoded { bytes: [108, 0, 0, 0, 1, 106].repeat(links), ..Encoded::default() };
     out.append(&characters(count - links));
     out
 }
@@ -85,12 +85,15 @@ pub fn many_keys(r: &mut Random) -> Encoded {
     keys(r, count)
 }
 
-/// Pairs with integers as keys; often one of the last equals another, in another encoding.
+/// Pairs with integers as keys, rising, falling or mixed; often one of the last equals another, in another encoding.
 fn keys(r: &mut Random, count: usize) -> Encoded {
     let mut out = counted(116, count);
     let equal = if r.one_in(2) { count - 1 - r.below(3) } else { count };
+    let order = r.below(3);
     for i in 0..count {
-        let key = if i == equal { i / 2 } else { i } as u64;
+        let number = if i == equal { i / 2 } else { i };
+        // Each number below 65,536 is met once: 40,503 is odd.
+        let key = [number, count - number, number * 40_503 % 65_536][order] as u64;
         if i == equal || r.one_in(8) {
             out.bytes.extend([111, 0, 0, 0, 3, 0, key as u8, (key >> 8) as u8, 0]);
         } else {
@@ -144,7 +147,7 @@ pub fn many_bytes(r: &mut Random, before: usize) -> Encoded {
         1 => filled(77, size - 6, &[r.between(1, 8) as u8]),
         2 => filled(111, size - 6, &[1]),
         3 => {
-            let mut out = Encoded { bytes: [108, 0, 0, 0, 0].repeat(size / 5), marks: Vec::new() };
+            let mut out = Encoded { bytes: [108, 0, 0, 0, 0].repeat(size / 5), ..Encoded::default() };
             out.append(&filled(r.pick(&[106, 3]), size % 5, &[]));
             out.bytes.truncate(size);
             out

@@ -34,6 +34,10 @@ pub struct Tally {
     by_flags: [[u64; flags::KNOWN + 1]; CALLS.len()],
     /// how many messages with newer identifiers were refused for them, and accepted
     newer: [u64; 2],
+    /// how many messages were refused for equal keys that were made so
+    equal_keys: u64,
+    /// how many messages had a twin that means the same, and one that does not
+    twins: [u64; 2],
     pub calls: u64,
     case_failed: bool,
     shown: u64,
@@ -54,7 +58,21 @@ impl Tally {
         let met = [0; CALLS.len()];
         let cases_met = [[0; NUMBERS]; CALLS.len()];
         let by_flags = [[0; flags::KNOWN + 1]; CALLS.len()];
-        Tally { seed, case: 0, met, cases_met, by_flags, newer: [0; 2], calls: 0, case_failed: false, shown: 0, passed: 0, failed: 0 }
+        Tally {
+            seed,
+            case: 0,
+            met,
+            cases_met,
+            by_flags,
+            newer: [0; 2],
+            equal_keys: 0,
+            twins: [0; 2],
+            calls: 0,
+            case_failed: false,
+            shown: 0,
+            passed: 0,
+            failed: 0,
+        }
     }
 
     pub fn begin(&mut self, case: u64) {
@@ -81,9 +99,18 @@ impl Tally {
         }
     }
 
-    /// A message with newer identifiers and no other fault.
-    pub fn met_newer(&mut self, accepted: bool) {
-        self.newer[usize::from(accepted)] += 1;
+    /// A message as it was made, with newer identifiers or not: 0 accepted, or the refusal.
+    pub fn met_made(&mut self, newer: bool, refusal: u64) {
+        match refusal {
+            0 => self.newer[1] += u64::from(newer),
+            4 => self.newer[0] += 1,
+            7 => self.equal_keys += 1,
+            _ => (),
+        }
+    }
+
+    pub fn met_twins(&mut self, same: bool) {
+        self.twins[usize::from(!same)] += 1;
     }
 
     /// An answer of the call that takes no flags.
@@ -104,7 +131,7 @@ impl Tally {
         }
     }
 
-    /// What was not met: answers that a call can give, by its own list in document 01; flags; newer identifiers.
+    /// What was not met: answers that a call can give, by its own list in document 01; flags; newer identifiers; equal keys; twins.
     pub fn unmet(&self) -> Vec<String> {
         let mut unmet = self.unmet_answers();
         for (call, counts) in CALLS.iter().zip(&self.by_flags).filter(|(call, _)| **call != Call::Reset) {
@@ -113,6 +140,9 @@ impl Tally {
         }
         if self.newer.contains(&0) {
             unmet.push(format!("newer identifiers refused and accepted: {:?}", self.newer));
+        }
+        if self.equal_keys == 0 || self.twins.contains(&0) {
+            unmet.push(format!("equal keys {}, twins that mean the same, and others {:?}", self.equal_keys, self.twins));
         }
         unmet
     }
@@ -157,5 +187,6 @@ impl Tally {
             println!();
         }
         println!("messages refused for newer identifiers {}, accepted with them {}", self.newer[0], self.newer[1]);
+        println!("messages refused for equal keys as made {}, twins that mean the same and others {:?}", self.equal_keys, self.twins);
     }
 }

@@ -1,6 +1,7 @@
 //! One message through reading, writing and asking, in both implementations.
 
 use crate::flags;
+use crate::generate::Fault;
 use crate::lists::ListTwin;
 use crate::random::Random;
 use crate::tally::{hex, Call, Tally};
@@ -11,6 +12,7 @@ use second::terms::Reading;
 use second::text::AtomList;
 use second::{canon, terms, Connection, Refusal};
 
+const MESSAGE_MOST: usize = 65_536;
 const ROWS_MOST: usize = 8_192;
 /// Most words of a lent table, and most bytes of a lent output.
 const TABLE_MOST: usize = 10_000;
@@ -19,12 +21,25 @@ const OUTPUT_MOST: usize = 300_000;
 const SEARCHED_MOST: usize = 2_000;
 
 /// What a message was made to be.
-#[derive(Clone, Copy, Default)]
+#[derive(Default)]
 pub struct Made {
     /// how many rows it has
     pub rows: usize,
-    /// whether it has identifiers that are taken with V4_NC alone
-    pub newer: bool,
+    pub faults: Vec<Fault>,
+}
+
+impl Made {
+    /// The refusal and its place; 0 and 0 where it is accepted.
+    fn answer(&self, flags: u8) -> (u64, u64) {
+        if !flags::is_known(flags) {
+            return (14, 0);
+        }
+        let refused = self.faults.iter().find_map(|fault| match *fault {
+            Fault::Newer(at) => (!flags::is_v4_nc(flags)).then_some((4, at as u64)),
+            Fault::EqualKey(at) => Some((7, at as u64)),
+        });
+        refused.unwrap_or_default()
+    }
 }
 
 /// The connection's flags, a message and an atom list, as each implementation is lent them.
@@ -34,8 +49,8 @@ pub struct Input<'a> {
     pub form: Form,
     pub message: &'a Twin<u8>,
     pub list: ListTwin<'a>,
-    /// where it was made to be accepted, with the flags that it needs
-    pub made: Option<Made>,
+    /// where it was not damaged
+    pub made: Option<&'a Made>,
 }
 
 impl<'a> Input<'a> {
@@ -69,11 +84,19 @@ impl<'a> Input<'a> {
 pub struct Room {
     table: Twin<u64>,
     output: Twin<u8>,
+    /// as much as any message needs
+    most_rows: Vec<u64>,
+    most_output: Vec<u8>,
 }
 
 impl Room {
     pub fn new() -> Room {
-        Room { table: Twin::new(TABLE_MOST), output: Twin::new(OUTPUT_MOST) }
+        Room {
+            table: Twin::new(TABLE_MOST),
+            output: Twin::new(OUTPUT_MOST),
+            most_rows: vec![0; ROWS_MOST],
+            most_output: vec![0; OUTPUT_MOST],
+        }
     }
 }
 
@@ -123,22 +146,16 @@ fn rows_needed(input: &Input, reading: &Result<Reading, Refusal>) -> usize {
     fewest
 }
 
-/// A message that was made to be accepted is, save for an unknown flag (14) or for newer identifiers without V4_NC (4).
-fn as_made(input: &Input, made: Made, reading: &Result<Reading, Refusal>, tally: &mut Tally) {
-    let is_known = flags::is_known(input.flags);
-    let refusal = match (is_known, made.newer && !flags::is_v4_nc(input.flags)) {
-        (false, _) => 14,
-        (true, true) => 4,
-        (true, false) => 0,
-    };
-    if made.newer && is_known {
-        tally.met_newer(refusal == 0);
-    }
+/// A message answers what it was made to answer.
+fn as_made(input: &Input, made: &Made, reading: &Result<Reading, Refusal>, tally: &mut Tally) {
+    let answer = made.answer(input.flags);
+    let newer = made.faults.iter().any(|fault| matches!(fault, Fault::Newer(_)));
+    tally.met_made(newer, answer.0);
     let same = match reading {
-        Ok(reading) => refusal == 0 && reading.rows.len() == made.rows,
-        Err(refused) => refused.number == refusal,
+        Ok(reading) => answer == (0, 0) && reading.rows.len() == made.rows,
+        Err(refused) => answer == (refused.number.into(), refused.place),
     };
-    tally.check(Call::Read, same, || format!("made to give {refusal} and {} rows; {}", made.rows, input.told()));
+    tally.check(Call::Read, same, || format!("made to give {answer:?} and {} rows; {}", made.rows, input.told()));
 }
 
 /// Compares every call on the input.
@@ -199,6 +216,24 @@ fn write(r: &mut Random, input: &Input, rows: usize, room: &mut Room, tally: &mu
     let same = (room.table.same(), room.output.same());
     tally.check(Call::Write, same.0, || told("scratch differs"));
     tally.check(Call::Write, same.1, || told("output differs"));
+}
+
+/// The rows and the canonical form that the proved calls find, if they accept; written again, the form stays.
+pub fn whole(input: &Input, room: &mut Room, tally: &mut Tally) -> Option<(u64, Vec<u8>)> {
+    let (flags, form, message, list) = input.guarded();
+    let (rows, output) = (&mut room.most_rows[..], &mut room.most_output[..]);
+    let read = border::read(flags, form, message, &list, rows);
+    let written = border::write(flags, form, message, &list, rows, output);
+    if written.refusal != 0 {
+        return None;
+    }
+    let canonical = output[..written.length as usize].to_vec();
+    if written.terms == 1 && canonical.len() <= MESSAGE_MOST {
+        let again = border::write(flags, Form::Standalone, &canonical, &list, rows, output);
+        let same = again == written && output[..canonical.len()] == canonical[..];
+        tally.check(Call::Write, same, || format!("{again:?}, not as it was: {}", hex(&canonical)));
+    }
+    Some((read.rows, canonical))
 }
 
 /// How many terms an accepted message has.

@@ -1,5 +1,6 @@
 //! Made-up values: what a message is to mean, before it is encoded.
 
+use crate::maps;
 use crate::random::Random;
 
 /// Without V4_NC, IDs and Serials of pids are below these, and references have so many words at most.
@@ -23,7 +24,7 @@ pub enum Value {
     List(Vec<Value>, Option<Box<Value>>),
     /// bytes, and how many bits of the last one count (8: a binary, also for no bytes)
     Bits(Vec<u8>, u8),
-    Map(Vec<(Value, Value)>),
+    Map(Pairs),
     Pid {
         node: String,
         id: u32,
@@ -47,12 +48,31 @@ pub enum Value {
     },
 }
 
+/// The pairs of a map in the order in which they are encoded, which carries nothing.
+#[derive(Clone, Debug)]
+pub struct Pairs(pub Vec<(Value, Value)>);
+
+impl PartialEq for Pairs {
+    /// Each pair is met once in the other map, also where keys are equal.
+    fn eq(&self, other: &Pairs) -> bool {
+        let mut left: Vec<&(Value, Value)> = other.0.iter().collect();
+        let mut meets = |pair| left.iter().position(|own| *own == pair).map(|at| left.swap_remove(at)).is_some();
+        self.0.len() == other.0.len() && self.0.iter().all(|pair| meets(pair))
+    }
+}
+
+impl Pairs {
+    pub fn has_key(&self, key: &Value) -> bool {
+        self.0.iter().any(|(own, _)| own == key)
+    }
+}
+
 impl Value {
     fn parts(&self) -> Vec<&Value> {
         match self {
             Value::Tuple(elements) => elements.iter().collect(),
             Value::List(elements, tail) => elements.iter().chain(tail.as_deref()).collect(),
-            Value::Map(pairs) => pairs.iter().flat_map(|(key, value)| [key, value]).collect(),
+            Value::Map(pairs) => pairs.0.iter().flat_map(|(key, value)| [key, value]).collect(),
             _ => Vec::new(),
         }
     }
@@ -66,9 +86,14 @@ impl Value {
         }
     }
 
-    /// Whether it or a part of it is.
-    pub fn has_newer(&self) -> bool {
-        self.is_newer() || self.parts().iter().any(|part| part.has_newer())
+    pub fn depth(&self) -> usize {
+        let own = usize::from(self.has_named_parts());
+        1 + self.parts().iter().map(|part| part.depth()).max().unwrap_or(own)
+    }
+
+    /// Whether it has a node, or a module.
+    fn has_named_parts(&self) -> bool {
+        matches!(self, Value::Pid { .. } | Value::Port { .. } | Value::Reference { .. } | Value::Export { .. })
     }
 
     /// How many terms it has: itself, its parts, nodes, and an export's three.
@@ -79,15 +104,6 @@ impl Value {
             _ => 1,
         };
         own + self.parts().iter().map(|part| part.rows()).sum::<usize>()
-    }
-
-    /// Whether no map in it has two equal keys.
-    pub fn keys_differ(&self) -> bool {
-        let own = match self {
-            Value::Map(pairs) => pairs.iter().enumerate().all(|(i, (key, _))| pairs[..i].iter().all(|(earlier, _)| earlier != key)),
-            _ => true,
-        };
-        own && self.parts().iter().all(|part| part.keys_differ())
     }
 }
 
@@ -270,19 +286,18 @@ fn reference_key(r: &mut Random) -> Value {
 pub fn identifier_keys(r: &mut Random) -> Value {
     let make = r.pick(&[pid_key, reference_key]);
     let in_tuples = r.one_in(3);
-    let mut pairs: Vec<(Value, Value)> = Vec::new();
+    let mut pairs = Pairs(Vec::new());
     for i in 0..r.between(2, 8) {
         let key = if in_tuples { Value::Tuple(vec![whole(5), make(r)]) } else { make(r) };
-        let known = pairs.iter().any(|(earlier, _)| *earlier == key);
-        if !known || r.one_in(20) {
-            pairs.push((key, whole(i as i128)));
+        if !pairs.has_key(&key) || r.one_in(20) {
+            pairs.0.push((key, whole(i as i128)));
         }
     }
     Value::Map(pairs)
 }
 
 /// A key: from few values, so that equal ones and nearly equal ones meet.
-fn key(r: &mut Random, texts: &[String], size: usize) -> Value {
+pub fn key(r: &mut Random, texts: &[String], size: usize) -> Value {
     let word = |r: &mut Random| r.below(2) as u32;
     match r.below(11) {
         0 => whole(r.below(3) as i128),
@@ -299,26 +314,21 @@ fn key(r: &mut Random, texts: &[String], size: usize) -> Value {
     }
 }
 
-/// Pairs, now and then with a key that an earlier one equals, or a map with its pairs turned round.
+/// Pairs, now and then with a key that an earlier one equals, its maps in other orders.
 fn map(r: &mut Random, texts: &[String], size: usize) -> Value {
     let count = r.below(size.min(5) + 1);
-    let mut pairs: Vec<(Value, Value)> = Vec::new();
+    let mut pairs = Pairs(Vec::new());
     for _ in 0..count {
         let mut new = key(r, texts, size / (count + 1));
-        let known = pairs.iter().any(|(key, _)| *key == new);
-        if known && !r.one_in(20) {
+        if pairs.has_key(&new) && !r.one_in(20) {
             continue;
         }
-        if !pairs.is_empty() && r.one_in(30) {
-            new = pairs[r.below(pairs.len())].0.clone();
+        if !pairs.0.is_empty() && r.one_in(30) {
+            let earlier = r.below(pairs.0.len());
+            new = maps::turned(r, &pairs.0[earlier].0);
         }
         let value = value(r, texts, size / (count + 1));
-        pairs.push((new, value));
-    }
-    if pairs.len() == 2 && r.one_in(4) {
-        let turned = pairs.iter().rev().cloned().collect();
-        let (one, other) = (Value::Map(pairs), Value::Map(turned));
-        return Value::Map(vec![(one, whole(1)), (other, whole(2))]);
+        pairs.0.push((new, value));
     }
     Value::Map(pairs)
 }
@@ -335,17 +345,28 @@ pub fn value(r: &mut Random, texts: &[String], size: usize) -> Value {
     }
 }
 
-/// A part put `levels` deep into tuples, lists, tails and maps.
+/// A part put `levels` deep into tuples, into maps of two pairs, or into tuples, lists, tails and maps.
 pub fn nested(r: &mut Random, inmost: Value, levels: usize) -> Value {
-    let mixed = r.one_in(2);
+    let sort = r.below(5);
+    let map = |pairs: &[(&Value, &Value)]| Value::Map(Pairs(pairs.iter().map(|(key, value)| ((*key).clone(), (*value).clone())).collect()));
+    // An atom that no value has.
+    let (beside, two) = (Value::Atom("beside".into()), whole(2));
     let mut value = inmost;
     for _ in 0..levels {
-        value = match if mixed { r.below(6) } else { 0 } {
+        let layer = match sort {
+            0 | 1 => 0,
+            2 => r.between(6, 8),
+            _ => r.below(10),
+        };
+        value = match layer {
             0 | 1 => Value::Tuple(vec![value]),
             2 => Value::List(vec![value], None),
             3 if !matches!(value, Value::List(..)) => Value::List(vec![whole(1)], Some(Box::new(value))),
-            4 => Value::Map(vec![(value, whole(2))]),
-            5 => Value::Map(vec![(whole(3), value)]),
+            4 => map(&[(&value, &two)]),
+            5 => map(&[(&two, &value)]),
+            6 => map(&[(&value, &two), (&beside, &two)]),
+            7 => map(&[(&beside, &two), (&value, &two)]),
+            8 => map(&[(&beside, &value), (&two, &two)]),
             _ => Value::Tuple(vec![whole(300), value]),
         };
     }

@@ -1,6 +1,6 @@
-%% Canonical bytes as a value (see encodings), and values made alike where the node sees no difference.
+%% Canonical bytes as a value (see encodings), a value as canonical bytes, and values made alike where the node sees no difference.
 -module(canonical).
--export([value/1, of_term/1, why_same/2, find/2, all/2, after_atom/1]).
+-export([value/1, of_term/1, bytes/1, parts/2, why_same/2, find/2, all/2, after_atom/1]).
 
 %% The value of one canonical standalone term.
 value(<<131, Bytes/binary>>) -> {Value, <<>>} = term(Bytes), Value.
@@ -67,17 +67,58 @@ reference(Count, Bytes) ->
     <<Words:Size/binary, After/binary>> = Rest,
     {{ref, Node, [Word || <<Word:32>> <= Words], Creation}, After}.
 
+%% The canonical standalone term of a value.
+bytes(Value) -> <<131, (form(Value))/binary>>.
+
+form({int, N}) when N >= 0, N < 256 -> <<97, N>>;
+form({int, N}) when N >= -(1 bsl 31), N < 1 bsl 31 -> <<98, N:32>>;
+form({int, N}) ->
+    Digits = binary:encode_unsigned(abs(N), little),
+    Sign = case N < 0 of true -> 1; false -> 0 end,
+    joined([sized({110, 8}, {111, 32}, byte_size(Digits)), Sign, Digits]);
+form({float, Bits}) -> <<70, Bits:64>>;
+form({atom, Text}) ->
+    Utf8 = unicode:characters_to_binary(Text),
+    joined([sized({119, 8}, {118, 16}, byte_size(Utf8)), Utf8]);
+form({tuple, Values}) -> joined([sized({104, 8}, {105, 32}, length(Values)) | forms(Values)]);
+form({list, [], nil}) -> <<106>>;
+form({list, Values, nil}) ->
+    case [N || {int, N} <- Values, N >= 0, N < 256] of
+        Bytes when length(Bytes) =:= length(Values), length(Bytes) < 65536 -> joined([<<107, (length(Bytes)):16>>, Bytes]);
+        _ -> joined([<<108, (length(Values)):32>>, forms(Values), 106])
+    end;
+form({list, Values, Tail}) -> joined([<<108, (length(Values)):32>>, forms(Values), form(Tail)]);
+form({bits, Bits}) when is_binary(Bits) -> <<109, (byte_size(Bits)):32, Bits/binary>>;
+form({bits, Bits}) ->
+    Last = bit_size(Bits) rem 8,
+    <<77, (byte_size(Bits)):32, Last, Bits/bitstring, 0:(8 - Last)>>;
+form({map, Pairs}) ->
+    Rising = lists:keysort(1, [{form(Key), Value} || {Key, Value} <- Pairs]),
+    joined([<<116, (length(Pairs)):32>>, [[Key, form(Value)] || {Key, Value} <- Rising]]);
+form({pid, Node, Id, Serial, Creation}) -> joined([88, form({atom, Node}), <<Id:32, Serial:32, Creation:32>>]);
+form({port, Node, Id, Creation}) when Id < 1 bsl 28 -> joined([89, form({atom, Node}), <<Id:32, Creation:32>>]);
+form({port, Node, Id, Creation}) -> joined([120, form({atom, Node}), <<Id:64, Creation:32>>]);
+form({ref, Node, Words, Creation}) -> joined([<<90, (length(Words)):16>>, form({atom, Node}), <<Creation:32>>, [<<Word:32>> || Word <- Words]]);
+form({export, Module, Function, Arity}) -> joined([113, form({atom, Module}), form({atom, Function}), 97, Arity]).
+
+forms(Values) -> [form(Value) || Value <- Values].
+joined(Parts) -> iolist_to_binary(Parts).
+
+%% A tag and a size, in the first width if it holds the size.
+sized({Tag, Width}, _, Size) when Size < 1 bsl Width -> <<Tag, Size:Width>>;
+sized(_, {Tag, Width}, Size) -> <<Tag, Size:Width>>.
+
 %% The bytes after an atom with any of its tags.
 after_atom(<<Tag, Size:16, _:Size/binary, Rest/binary>>) when Tag =:= 100; Tag =:= 118 -> Rest;
 after_atom(<<Tag, Size, _:Size/binary, Rest/binary>>) when Tag =:= 115; Tag =:= 119 -> Rest;
 after_atom(<<82, _, Rest/binary>>) -> Rest.
 
-%% The value with what the reasons name taken away: the sign of the float zero, zero words at a reference's end, the order of pairs.
+%% The value with what the reasons name taken away: the sign of the float zero, zero words at a reference's end; pairs in one order.
 alike(Reasons, Value) -> here(Reasons, parts(fun(Part) -> alike(Reasons, Part) end, Value)).
 
 here(Reasons, Value = {float, 16#8000000000000000}) -> given(zero_sign, Reasons, {float, 0}, Value);
 here(Reasons, Value = {ref, Node, Words, Creation}) -> given(zero_words, Reasons, {ref, Node, without_zeros(Words), Creation}, Value);
-here(Reasons, Value = {map, Pairs}) -> given(map_order, Reasons, {map, lists:sort(Pairs)}, Value);
+here(_, {map, Pairs}) -> {map, lists:sort(Pairs)};
 here(_, Value) -> Value.
 
 given(Reason, Reasons, Changed, Value) ->
@@ -88,16 +129,16 @@ given(Reason, Reasons, Changed, Value) ->
 
 without_zeros(Words) -> lists:reverse(lists:dropwhile(fun(Word) -> Word =:= 0 end, lists:reverse(Words))).
 
+%% The value with each part as the function gives it.
 parts(Fun, {tuple, Values}) -> {tuple, lists:map(Fun, Values)};
 parts(Fun, {list, Values, nil}) -> {list, lists:map(Fun, Values), nil};
 parts(Fun, {list, Values, Tail}) -> {list, lists:map(Fun, Values), Fun(Tail)};
 parts(Fun, {map, Pairs}) -> {map, [{Fun(Key), Fun(Value)} || {Key, Value} <- Pairs]};
 parts(_, Value) -> Value.
 
-%% The one reason, or all of them together, that makes two different values alike; none where they stay different, or never were.
-why_same(Value, Value) -> none;
+%% The one reason, or both, that makes two different values alike; none where they stay different, or mean the same.
 why_same(A, B) ->
-    Tries = [{zero_sign, [zero_sign]}, {zero_words, [zero_words]}, {map_order, [map_order]}, {several, [zero_sign, zero_words, map_order]}],
+    Tries = [{none, []}, {zero_sign, [zero_sign]}, {zero_words, [zero_words]}, {several, [zero_sign, zero_words]}],
     case [Name || {Name, Reasons} <- Tries, alike(Reasons, A) =:= alike(Reasons, B)] of
         [Name | _] -> Name;
         [] -> none

@@ -1,6 +1,6 @@
 %% The differences between the papers and the node that the papers themselves make: each with its clause and a test that the reason holds.
 -module(differences).
--export([list/0, node_only/4, ours_only/1, same_on_node/2]).
+-export([list/0, node_only/4, ours_only/1, same_on_node/2, other_bytes/2]).
 
 %% Name, what differs, the clause of document 01 or of a change request.
 list() ->
@@ -24,8 +24,9 @@ list() ->
      {own_closes, "the node closes a connection on which others of its own come", "as there"},
      {zero_sign, "0.0 =:= -0.0, as keys too", "70: the meaning is the 64 bits, so the two zeros differ"},
      {zero_words, "the node ignores zero words at a reference's end, in keys too", "90: words; nothing says that zero words carry nothing"},
-     {map_order, "the node's maps have no order, in keys too", "116: the same when their pairs do, in the same order"},
-     {several, "more than one of the last three", "as there"}].
+     {several, "both of these", "as there"},
+     {pair_order, "the node writes pairs in an order of its own: by its order of terms, over 32 pairs by a hash",
+      "#103: the writer puts pairs in rising byte order of the key's canonical form"}].
 
 %% The node reads these bytes as Term, of which it used so many; we refuse them with V4_NC on. The reason's name, or none.
 node_only({refused, Number, Place}, Bytes, Term, Used) ->
@@ -86,3 +87,10 @@ equal_keys([Key | Rest]) ->
 
 %% Two canonical forms differ though the node finds the terms =:=. The reason's name, or none.
 same_on_node(A, B) -> canonical:why_same(canonical:value(A), canonical:value(B)).
+
+%% The canonical form differs from the node's own writing of the term. The reason's name, or none.
+other_bytes(Output, Own) ->
+    case canonical:bytes(canonical:value(Own)) of
+        Output -> pair_order;
+        Ordered -> same_on_node(Output, Ordered)
+    end.

@@ -17,11 +17,21 @@ inner(Depth) ->
     pick:weighted([{2, fun() -> {tuple, values(Depth, length_for(Depth))} end},
                    {2, fun() -> {list, values(Depth, length_for(Depth)), nil} end},
                    {1, fun() -> {list, values(Depth, pick:range(1, 4)), no_list(Depth)} end},
-                   {2, fun() -> {map, distinct([{value(Depth - 1), value(Depth - 1)} || _ <- lists:seq(1, pick:range(0, 5))])} end}]).
+                   {2, fun() -> {map, distinct(pairs(Depth))} end}]).
 
 values(Depth, Count) -> pick:some(Count, fun() -> value(Depth) end).
 length_for(0) -> pick:weighted([{30, fun() -> pick:range(0, 6) end}, {1, fun() -> pick:range(250, 260) end}]);
 length_for(_) -> pick:range(0, 5).
+
+pairs(0) -> pick:weighted([{15, fun() -> pairs(0, pick:range(0, 5)) end}, {1, fun many_pairs/0}]);
+pairs(Depth) -> pairs(Depth, pick:range(0, 5)).
+pairs(Depth, Count) -> [{value(Depth - 1), value(Depth - 1)} || _ <- lists:seq(1, Count)].
+
+%% Over 32 pairs the node keeps a map by a hash, which in OTP 25 reads past a reference of one word, so that it is not found: no key here is one.
+many_pairs() -> [Pair || Pair = {Key, _} <- pairs(0, pick:range(33, 48)), not is_one_word(Key)].
+
+is_one_word({ref, _, [_], _}) -> true;
+is_one_word(_) -> false.
 
 no_list(Depth) ->
     case value(Depth) of

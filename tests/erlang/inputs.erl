@@ -102,10 +102,12 @@ equal_keys() ->
     Map = fun(A, B) -> [<<116, 2:32>>, Pair(A), Pair(B)] end,
     One = {{int, 1}, {int, 2}},
     Two = {{int, 3}, {int, 4}},
+    Both = fun(Bits, Words) -> {tuple, [{float, Bits}, {ref, "a@b", Words, 1}]} end,
     [fun() -> Key = encodings:value(1), Map(Key, Key) end,
      fun() -> Map({float, 0}, {float, 1 bsl 63}) end,
      fun() -> Map({map, [One, Two]}, {map, [Two, One]}) end,
      fun() -> Map({ref, "a@b", [7], 1}, {ref, "a@b", [7, 0], 1}) end,
+     fun() -> Map(Both(0, [7]), Both(1 bsl 63, [7, 0])) end,
      fun() -> Map({int, 1}, {float, 16#3ff0000000000000}) end].
 
 limit() -> (pick:one_of([fun deep/0, fun deep/0, fun deep/0, fun many_rows/0, fun long/0, fun long_output/0, fun compressed/0]))().

@@ -1,6 +1,6 @@
 %% Standalone terms through the writer and the reader, against the node's own binary_to_term and term_to_binary.
 -module(term_tests).
--export([run/1, parts/0, say_differences/0, own_bytes/2, without/4, differs_for/1]).
+-export([run/1, parts/0, say_differences/0, on_node/1, own_bytes/2, without/4, differs_for/1]).
 
 -define(OWN, "terms of the node's term_to_binary").
 -define(OURS, "terms of our generator").
@@ -27,7 +27,7 @@ run(Program) ->
     pick:seed(3),
     [pair(Drive, pick_pair()) || _ <- lists:seq(1, 5000)],
     tally:say(?PAIRS, io_lib:format("~b equal, ~b different for both", [tally:count({note, same}), tally:count({note, different})])),
-    tally:say(?VALUES, "each is accepted, and its canonical form has that value"),
+    tally:say(?VALUES, "each is accepted, and its canonical form is that of the value"),
     tally:say(?BAD_BYTES, "a text goes wrong where refusal 5 says"),
     [layout(Drive, Layout) || Layout <- wide:layouts()],
     tally:say(?ENDS, "tags 88 and 90 widen with V4_NC, 103 and 114 do not"),
@@ -138,17 +138,18 @@ same_term(Output, Term) ->
 own_bytes(Output, Term) ->
     case term_to_binary(Term, [{minor_version, 2}]) of
         Output -> true;
-        Own -> differs_for(differences:same_on_node(Output, Own))
+        Own -> differs_for(differences:other_bytes(Output, Own))
     end.
 
 differs_for(none) -> false;
 differs_for(Name) -> tally:difference(Name).
 
-%% Two encodings of one value, of a value and one changed in a place, or of a message and its changed bytes.
+%% Two encodings of one value, its maps in two orders, of a value and one changed in a place, or of a message and its changed bytes.
 pick_pair() ->
     Value = encodings:value(pick:range(0, 3)),
     First = encodings:standalone(Value),
-    {Value, First, pick:one_of([encodings:standalone(Value), encodings:standalone(values:altered(Value)), inputs:changed_bytes(First)])}.
+    Other = pick:one_of([Value, values:altered(Value)]),
+    {Value, First, pick:one_of([encodings:standalone(values:turned(Other)), encodings:standalone(values:turned(Other)), inputs:changed_bytes(First)])}.
 
 pair(Drive, Pair = {_, First, Second}) -> tally:guard(?PAIRS, {First, Second}, false, fun() -> compared(Drive, Pair) end).
 
@@ -162,7 +163,7 @@ compared(Drive, {Value, First, Second}) ->
     end.
 
 %% The output of an encoding is that of the value that was encoded.
-value_kept({ok, Output}, Value, Bytes) -> tally:check(?VALUES, canonical:value(Output) =:= Value, {Bytes, Output, Value});
+value_kept({ok, Output}, Value, Bytes) -> tally:check(?VALUES, canonical:bytes(Value) =:= Output, {Bytes, Output, Value});
 value_kept(Refused, _, Bytes) -> tally:failed(?VALUES, {Bytes, Refused}).
 
 alike(Output, Another, First, Second) ->

@@ -1,11 +1,19 @@
-%% Values (see encodings) changed in one place, so that they mean something else, or the same to the node alone.
+%% Values (see encodings) with the pairs of maps in other orders, which mean the same, and values changed in one place, so that they mean
+%% something else, or the same to the node alone.
 -module(values).
--export([altered/1]).
+-export([altered/1, turned/1]).
+
+%% At any depth.
+turned(Value) ->
+    case canonical:parts(fun turned/1, Value) of
+        {map, Pairs} -> {map, pick:shuffle(Pairs)};
+        Other -> Other
+    end.
 
 altered({tuple, Values = [_ | _]}) -> pick:one_of([{tuple, in_one(Values)}, {list, Values, nil}, {tuple, tl(Values)}]);
 altered({list, Values = [_ | _], Tail}) -> pick:one_of([{list, in_one(Values), Tail}, {tuple, Values}, {list, lists:reverse(Values), Tail}]);
 altered({list, [], nil}) -> pick:one_of([{tuple, []}, {bits, <<>>}, {atom, ""}, {map, []}]);
-altered({map, Pairs = [_ | _]}) -> pick:one_of([{map, pick:shuffle(Pairs)}, {map, in_one(Pairs)}, {map, tl(Pairs)}]);
+altered({map, Pairs = [_ | _]}) -> pick:one_of([{map, in_one(Pairs)}, {map, tl(Pairs)}]);
 altered({Key, Value}) when is_tuple(Key) -> {Key, altered(Value)};
 altered({int, N}) -> pick:one_of([{int, N + 1}, {int, -N}, {int, N bxor (1 bsl pick:range(0, 70))}]);
 altered({float, Bits}) -> {float, Bits bxor pick:one_of([1, 1 bsl 63])};

@@ -1,5 +1,6 @@
-%% Makes the messages that are measured, the same in every run: small messages as a picking floor sends them, and for each
-%% kind of term one message of any size up to 65,536 bytes and 8,192 rows. A file holds messages, each after its length in 4 bytes.
+%% Makes the messages that are measured, the same in every run: small messages as a picking floor sends them, for each kind of term one
+%% message of any size up to 65,536 bytes and 8,192 rows, and the keys that are the dearest to tell apart or to put in order, in a message of
+%% 4 KB and in the largest. A file holds messages, each after its length in 4 bytes.
 -module(corpus).
 -export([make/1]).
 
@@ -12,6 +13,7 @@
 make(Dir) ->
     [write(Dir, ["small-", Name], [message(F, I) || I <- lists:seq(1, ?EACH)]) || {Name, F} <- small()],
     [write(Dir, io_lib:format("size-~s-~b", [Name, KB]), [sized(Kind, 1024 * KB)]) || {Name, Kind} <- kinds(), KB <- sizes(Kind)],
+    [write(Dir, io_lib:format("worst-~s-~b", [Name, KB]), [sized(Kind, 1024 * KB)]) || {Name, Kind} <- worst(), KB <- [4, 64]],
     [write(Dir, ["packet-", Name], packets(N, Flag)) || {Name, N, Flag} <- headers()],
     write(Dir, "packet-4-fragments", lists:append([fragments(I) || I <- lists:seq(1, ?EACH div 4)])),
     ok.
@@ -46,7 +48,8 @@ pid(I) -> binary_to_term(<<131, (pid_bytes(I))/binary>>).
 reference(I) -> binary_to_term(<<131, (reference_bytes(I))/binary>>).
 
 %% ---- kinds of one message: a run of elements {run, tag, width of the number field, element I, what ends it, rows of an element}, a map of
-%% keys {map, key I of N}, or bytes {filled, tag, fields after the length, byte}
+%% keys {map, key I of N, rows of a key}, bytes {filled, tag, fields after the length, byte} or {string, tag}, a binary in maps
+%% {in_maps, pairs of each}, or two maps as keys
 
 kinds() ->
     [{"small-integers", list(1, fun(I) -> <<97, I>> end)},
@@ -67,15 +70,35 @@ kinds() ->
      {"references", list(2, fun reference_bytes/1)},
      {"exports", list(4, fun(I) -> <<113, (atom_bytes(I rem 200))/binary, (atom_bytes(I rem 7))/binary, 97, (I rem 9)>> end)},
      {"small-maps", list(9, fun small_map/1)},
+     {"maps-of-8", list(17, fun(I) -> map_of(8, I) end)},
+     {"maps-of-32", list(65, fun(I) -> map_of(32, I) end)},
      {"64-deep", list(63, fun(I) -> [binary:copy(<<104, 1>>, 62), <<97, I>>] end)},
      {"joined-tails", {run, <<>>, 0, fun(I) -> <<108, 1:32, 98, (I * 31):32>> end, <<106>>, 1}},
-     {"keys-upward", map(fun(_, I) -> <<98, I:32>> end)},
-     {"keys-downward", map(fun(N, I) -> <<98, (N - I):32>> end)},
-     {"keys-binary", map(fun(_, I) -> <<109, 8:32, I:64>> end)},
-     {"keys-atom", map(fun(_, I) -> atom_bytes(I) end)}].
+     {"keys-upward", map(1, fun(_, I) -> <<98, I:32>> end)},
+     {"keys-downward", map(1, fun(N, I) -> <<98, (N - I):32>> end)},
+     {"keys-mixed", map(1, fun(_, I) -> <<98, (mixed_up(I)):32>> end)},
+     {"keys-binary", map(1, fun(_, I) -> <<109, 8:32, I:64>> end)},
+     {"keys-atom", map(1, fun(_, I) -> atom_bytes(I) end)},
+     {"keys-atom-mixed", map(1, fun(_, I) -> atom_bytes(mixed_up(I)) end)},
+     {"keys-creation", map(2, fun(_, I) -> <<88, 119, 1, "n", 1:32, 1:32, (mixed_up(I)):32>> end)}].
+
+%% Keys of one hash, keys that are long or deep, and keys that are maps.
+worst() ->
+    [{"halves-of-one-sum", map(1, fun(_, I) -> <<110, 8, 0, (mixed_up(I)):32/little, (100000 - mixed_up(I)):32/little>> end)},
+     {"maps-of-one-size", map(5, fun(_, I) -> [<<116, 2:32, 97, 1, 97, 2>>, <<98, (mixed_up(I)):32, 106>>] end)},
+     {"maps-turned", map(89, fun(_, I) -> turned_map(I) end)},
+     {"two-maps-turned", two_maps},
+     {"key-63-deep", {in_maps, 1}},
+     {"key-63-deep-of-two", {in_maps, 2}}].
 
 list(Rows, Element) -> {run, <<108>>, 4, fun(I) -> iolist_to_binary(Element(I)) end, <<106>>, Rows}.
-map(Key) -> {map, Key}.
+map(Rows, Key) -> {map, fun(N, I) -> iolist_to_binary(Key(N, I)) end, Rows}.
+
+%% 44 pairs, of which the last has another value in each map, and the others begin with another.
+turned_map(I) -> [<<116, 44:32>>, [<<97, ((I * 17 + K) rem 43), 106>> || K <- lists:seq(1, 43)], <<97, 43, 98, I:32>>].
+
+%% Each number below 8,191, which is a prime, from another one.
+mixed_up(I) -> I * 3571 rem 8191.
 
 pid_bytes(I) -> <<88, ?NODE_NAME/binary, (I rem 32768):32, (I rem 100):32, 7:32>>.
 reference_bytes(I) -> <<90, 3:16, ?NODE_NAME/binary, 7:32, (I rem 262144):32, 11:32, 12:32>>.
@@ -83,6 +106,7 @@ atom_bytes(I) -> iolist_to_binary([119, 8, io_lib:format("atom~4..0b", [I])]).
 %% characters of two, three and four bytes, then digits
 utf8_bytes(I) -> iolist_to_binary([119, 13, <<16#436/utf8, 16#4E2D/utf8, 16#1F600/utf8>>, io_lib:format("~4..0b", [I])]).
 small_map(I) -> [<<116, 4:32>>, [[atom_bytes(K), <<98, (I * K):32>>] || K <- [1, 2, 3, 4]]].
+map_of(N, I) -> [<<116, N:32>>, [[atom_bytes(mixed_up(I * N + K)), <<98, (I * K):32>>] || K <- lists:seq(1, N)]].
 
 %% The largest message of the kind with at most so many bytes and at most 8,192 rows.
 sized({filled, Tag, Fixed, Byte}, Bytes) ->
@@ -91,10 +115,21 @@ sized({filled, Tag, Fixed, Byte}, Bytes) ->
 sized({string, Tag}, Bytes) ->
     N = min(Bytes - 4, ?ROWS_MOST - 1),
     <<131, Tag, N:16, << <<(I rem 256)>> || I <- lists:seq(1, N) >>/binary>>;
-sized({map, Key}, Bytes) ->
+sized({map, Key, Rows}, Bytes) ->
     Size = byte_size(Key(0, 0)) + 2,
-    N = min((Bytes - 6) div Size, (?ROWS_MOST - 1) div 2),
+    N = min((Bytes - 6) div Size, (?ROWS_MOST - 1) div (Rows + 1)),
     iolist_to_binary([131, 116, <<N:32>>, [[Key(N, I), 97, I rem 256] || I <- lists:seq(1, N)]]);
+%% 63 maps, each the key of the next, of one pair or with another pair before it.
+sized({in_maps, Pairs}, Bytes) ->
+    Before = binary:copy(<<116, Pairs:32, (binary:copy(<<97, 1, 106>>, Pairs - 1))/binary>>, 63),
+    N = Bytes - 1 - byte_size(Before) - 5 - 63,
+    <<131, Before/binary, 109, N:32, (binary:copy(<<65>>, N))/binary, (binary:copy(<<106>>, 63))/binary>>;
+%% The second has the pairs of the first, turned round, but for the value of one.
+sized(two_maps, Bytes) ->
+    N = min((Bytes - 18) div 14, (?ROWS_MOST - 5) div 4),
+    Pair = fun(I, Value) -> <<98, I:32, 97, Value>> end,
+    Second = [Pair(1, 0) | [Pair(I, 1) || I <- lists:seq(2, N)]],
+    iolist_to_binary([<<131, 116, 2:32, 116, N:32>>, [Pair(I, 1) || I <- lists:seq(1, N)], 106, <<116, N:32>>, lists:reverse(Second), 106]);
 sized({run, Tag, Width, Element, Last, Rows}, Bytes) ->
     Room = Bytes - 1 - byte_size(Tag) - Width - byte_size(Last),
     N = min(Room div byte_size(Element(1)), (?ROWS_MOST - 1) div Rows),

@@ -296,6 +296,10 @@ static void measure_file(const char *corpus, const char *written, const char *na
         return;
     }
     settle_terms(name, written);
+    if (strncmp(name, "worst-", 6) == 0) {
+        measure_and_print(name, (struct work[]){{read_exact, 0, 0}, {write_exact, 0, 0}}, 2);
+        return;
+    }
     measure_and_print(name, (struct work[]){{read_exact, 0, 0}, {read_full, 0, 0}, {read_libei, 0, 0}, {write_exact, 0, 0},
                                             {write_full, 0, 0}, {write_libei, 0, 0}, {number_last, 0, 0}, {text_last, 0, 0},
                                             {mark_last, 0, 0}}, 9);

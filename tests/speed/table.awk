@@ -16,6 +16,12 @@ $1 ~ /^packet-/ {
     next
 }
 
+$1 ~ /^worst-/ {
+    if (first_pass) worst_keys[++worst_count] = $1
+    best(read_exact, $4); best(write_exact, $5)
+    next
+}
+
 {
     best(read_exact, $4); best(read_full, $5); best(read_libei, $6)
     best(write_exact, $7); best(write_full, $8); best(write_libei, $9)
@@ -77,6 +83,14 @@ function each_line(what,    i) {
     for (i = 1; i <= kind_count; i++) line(what, "large-" kinds[i], name_of(kinds[i], largest[kinds[i]]))
 }
 
+# A message of 4 KB and the largest one, whose line also says how much dearer its bytes are.
+function worst_line(n, before,    read_ns, write_ns) {
+    read_ns = read_exact[n] / bytes[n]; write_ns = write_exact[n] / bytes[n]
+    printf "%-28s %7.0f %10.0f %10.0f %9.2f %9.2f", n, bytes[n], read_exact[n], write_exact[n], read_ns, write_ns
+    if (before) printf " %9.2f %9.2f", read_ns * bytes[before] / read_exact[before], write_ns * bytes[before] / write_exact[before]
+    printf "\n"
+}
+
 # Nanoseconds a byte from 1 KB up to the largest size, which may be smaller than its heading: 8,192 rows end it.
 function size_line(kind, time, what,    size, n, first, last, growth) {
     printf "%-22s", kind
@@ -100,7 +114,8 @@ function sizes(what, time,    i) {
 }
 
 END {
-    limit["libei"] = 1; limit["erlang"] = 0.5; limit["questions"] = 3; limit["Reading"] = limit["Writing"] = 2
+    # Writing puts keys in order: 12 times as many take 1.4 times as many comparisons each; all with all would be 12 times.
+    limit["libei"] = 1; limit["erlang"] = 0.5; limit["questions"] = 3; limit["Reading"] = 2; limit["Writing"] = 3
     print "Reading, nanoseconds a message"
     printf "%-22s %7s %10s %10s %10s %10s %9s %9s %9s\n", "corpus", "bytes", "ours", "ours 8192", "libei", "b_to_term", "/libei", "/b_to_t", "8192/libei"
     each_line("reading")
@@ -119,6 +134,9 @@ END {
     printf "ik_reset: %.0f\n", reset["reset"]
     sizes("Reading", read_exact)
     sizes("Writing", write_exact)
+    print "\nThe dearest keys (docs/API.md, Cost), outside the aims: nanoseconds a message, then a byte, then how much dearer a byte of the largest is, each reading and writing"
+    printf "%-28s %7s %10s %10s %9s %9s %9s %9s\n", "keys", "bytes", "reading", "writing", "ns/byte", "ns/byte", "growth", "growth"
+    for (i = 1; i <= worst_count; i++) worst_line(worst_keys[i], i % 2 ? "" : worst_keys[i - 1])
     printf "\nno slower than libei: %d of %d; at least twice as fast as binary_to_term: %d of %d; questions on small messages at most 3 times reading: %d of %d\n", \
         held["libei"], seen["libei"], held["erlang"], seen["erlang"], held["questions"], seen["questions"]
     bent_all = (bent["Reading"] == "" ? "" : " reading" bent["Reading"]) (bent["Writing"] == "" ? "" : " writing" bent["Writing"])

@@ -1,8 +1,10 @@
-"""Questions by each of the flags, for the verb `ask`.
+"""Questions by each of the flags and of maps in each order, for the verb `ask`.
 
 The answers follow from #109 by construction: an unknown flag is 14 at 0 after 13 and before everything else, and the text is empty; a term that V4_NC alone lets in is
-4 at its tag without it. None comes from the code of this repository.
+4 at its tag without it. By #103 a row's position follows from the bytes as they came. None comes from the code of this repository.
 """
+from itertools import permutations
+
 from lines import BOTH, V4_NC, Case, big
 
 NODE = b'\x77\1n'
@@ -47,6 +49,30 @@ def newer():
                 yield refused(form, front + term, 4, len(front), flags)
 
 
+def in_order(form, front, terms):
+    """Terms after `front`, which has the first row and no atom: each is its bytes, its number's answer, and whether it is an atom of one character by 119."""
+    message, numbers, atoms = front, ['neither'], []
+    for data, number, is_atom in terms:
+        atoms += [len(message)] if is_atom else []
+        message, numbers = message + data, numbers + [number]
+    offsets = range(len(message) + 2)
+    texts = ['message,%d,1' % (i + 2) if i in atoms else 'empty' for i in offsets]
+    marks = ['utf8' if i in atoms else 'refused,4,%d' % i for i in offsets]
+    return Case(form, message, ' '.join(numbers + ['neither'] * 2 + texts + marks), rows=len(numbers) + 2, room=len(offsets))
+
+
+def turned():
+    """Rows and offsets go by the bytes, whichever pair is written first; keys that differ only in order are the message's refusal."""
+    node, real = (NODE, 'neither', True), (b'\x46\x3f\xf0' + bytes(6), 'float,%d' % (0x3ff0 << 48), False)
+    pairs = [((b'\x61\2', 'whole,2', False), node), (node, (b'\x61\1', 'whole,1', False)), (real, (b'\x62' + b'\xff' * 4, 'whole,-1', False))]
+    for form, front in (('s', b'\x83'), ('p', b'')):
+        for order in permutations(pairs):
+            yield in_order(form, front + b'\x74' + big(4, 3), sum(order, ()))
+        one, other = (b'\x74' + big(4, 2) + first + second for first, second in permutations((b'\x61\1\x6a', b'\x61\2' + NODE)))
+        yield refused(form, front + b'\x74' + big(4, 2) + one + b'\x6a' + other + b'\x6a', 7, len(front) + 5 + len(one) + 1, BOTH)
+
+
 def asks():
     yield from unknown()
     yield from newer()
+    yield from turned()

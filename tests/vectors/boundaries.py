@@ -1,5 +1,7 @@
-"""Cases at the ends of document 01's rules, of #101's for 5's place and of #109's for the flags, built so that the answer follows from how they are built; the comment
-beside each says by which rule. Both flags are on where none are said."""
+"""Cases at the ends of document 01's rules, of #101's for 5's place, of #103's for keys that differ only in order and of #109's for the flags, built so that the answer
+follows from how they are built; the comment beside each says by which rule. Both flags are on where none are said."""
+from itertools import permutations
+
 from lines import V4_NC, Case, big
 from rows import rows_of, shown
 
@@ -58,6 +60,11 @@ def map_of(*parts):
     return b'\x74' + big(4, len(parts) // 2) + b''.join(parts)
 
 
+def turned(*parts):
+    """The same map, its last pair first."""
+    return map_of(*[part for at in range(len(parts) - 2, -1, -2) for part in parts[at:at + 2]])
+
+
 NIL, NODE, EMPTY = b'\x6a', atom(b'a'), b'\x6c' + big(4, 0)
 
 
@@ -83,7 +90,7 @@ class Book:
 
 def boundaries():
     book = Book()
-    for add in (depth, row_limits, texts, tags, field_rules, identifier_fields, lists, keys, atom_lists, messages, unknown_flags):
+    for add in (depth, row_limits, texts, tags, field_rules, identifier_fields, lists, keys, turned_keys, turned_parts, orders, atom_lists, messages, unknown_flags):
         add(book)
     return book.cases
 
@@ -481,7 +488,7 @@ def keys(book):
         [tuple_of(small(1), NODE), b'\x69\0\0\0\2' + b'\x6e\1\0\1' + b'\x52\0'],
         [tuple_of(), b'\x69\0\0\0\0'],
         [map_of(), map_of()],
-        [map_of(small(1), NIL, small(2), NODE), map_of(b'\x62\0\0\0\1', text_list(b''), b'\x6e\1\0\2', b'\x52\0')],
+        [map_of(small(1), NIL, small(2), NODE), map_of(b'\x62\0\0\0\1', text_list(b''), b'\x6e\1\0\2', b'\x52\0'), map_of(small(2), NODE, small(1), NIL)],
         [b'\x46\x3f\xf0' + bytes(6), b'\x46\x3f\xf0' + bytes(6)],
         # with V4_NC
         [b'\x58' + NODE + big(4, 2 ** 31 + 7) + big(4, 8) + big(4, 3), b'\x58\x52\0' + big(4, 2 ** 31 + 7) + big(4, 8) + big(4, 3)],
@@ -499,7 +506,7 @@ def keys(book):
     # Keys that differ in meaning, all in one map; and each two of them in a map.
     different = [group[-1] for group in groups] + [
         b'\x46\x80\0' + bytes(6), b'\x46' + bytes(8), list_of(small(1)), list_of(list_of(small(1))), list_of(small(1), tail=tuple_of()), tuple_of(small(1)),
-        map_of(small(2), NODE, small(1), NIL), binary(b'\xa0'), bits(4, b'\xa0'), bits(2, b'\xa0'), binary(b'\1\2'), atom(b'b'), atom(b'aa'), small(255),
+        map_of(small(2), NIL, small(1), NODE), binary(b'\xa0'), bits(4, b'\xa0'), bits(2, b'\xa0'), binary(b'\1\2'), atom(b'b'), atom(b'aa'), small(255),
         b'\x62\0\0\1\0', b'\x6e\2\1\0\1', b'\x5a\0\1' + NODE + big(4, 2) + big(4, 7), b'\x5a\0\2' + NODE + big(4, 3) + big(4, 7) + bytes(4),
         b'\x5a\0\2' + NODE + big(4, 3) + bytes(4) + big(4, 7), b'\x59' + NODE + big(4, 8) + big(4, 3), b'\x58' + NODE + big(4, 8) + big(4, 7) + big(4, 3),
         b'\x71' + NODE + NODE + small(2), b'\x71' + NODE + atom(b'\xe9', 115) + small(3), tuple_of(NIL), map_of(NIL, NIL), tuple_of(tuple_of()),
@@ -529,6 +536,150 @@ def keys(book):
             many = b''.join(head + big(4, step * k) + end + NIL for k in range(70))
             book.accepted(b'\x74' + big(4, 70) + many, count=211)
             book.refused(7, 1 + 5 + len(many), b'\x74' + big(4, 71) + many + head + big(4, step * 69) + end + NIL)
+
+
+LISTED = {'n': 1, 'places': ((1, b'a'),)}
+ONE = (small(1), NIL, small(2), NODE)
+# The map of these pairs in one order and in the other, its parts in other layouts too.
+SAME = (
+    map_of(*ONE), turned(*ONE), turned(b'\x62\0\0\0\1', text_list(b''), b'\x6e\1\0\2', atom(b'a', 115)),
+    turned(b'\x6e\2\0\1\0', EMPTY + NIL, b'\x62\0\0\0\2', atom(b'a', 118)), turned(EMPTY + b'\x6f\0\0\0\1\0\1', NIL, EMPTY * 2 + small(2), b'\x52\0'))
+# Maps that are not that one, nor one another: by a value, a key, the values' places, a pair more or fewer, a key that is a float.
+OTHER = (
+    turned(small(1), NIL, small(2), atom(b'b')), turned(small(1), small(0), small(2), NODE), turned(small(1), NIL, small(3), NODE),
+    turned(small(0), NIL, small(2), NODE), turned(small(1), NODE, small(2), NIL), turned(small(1), small(2), NIL, NODE), turned(*ONE, small(3), NIL),
+    turned(small(1), NIL), turned(small(2), NODE), turned(), turned(b'\x46\x3f\xf0' + bytes(6), NIL, small(2), NODE), tuple_of(*ONE), list_of(*ONE))
+# What holds a part, in two layouts: tuples, proper lists, an improper list and its tail, the values and the keys of maps.
+HOLDERS = (
+    (lambda part: tuple_of(part), lambda part: b'\x69\0\0\0\1' + part),
+    (lambda part: tuple_of(small(9), part, NIL), lambda part: tuple_of(b'\x62\0\0\0\x09', EMPTY + part, text_list(b''))),
+    (lambda part: list_of(part, NODE), lambda part: list_of(EMPTY + part, tail=list_of(atom(b'a', 100)))),
+    (lambda part: list_of(small(9), part), lambda part: list_of(small(9), tail=list_of(part, tail=EMPTY + text_list(b'')))),
+    (lambda part: list_of(part, tail=small(9)), lambda part: list_of(part, tail=b'\x6e\1\0\x09')),
+    (lambda part: list_of(small(9), tail=part), lambda part: list_of(small(9), tail=EMPTY + part)),
+    (lambda part: map_of(small(9), part), lambda part: map_of(b'\x6e\1\0\x09', part)),
+    (lambda part: map_of(small(9), part, NIL, NODE), lambda part: map_of(NIL, NODE, small(9), EMPTY + part)),
+    (lambda part: map_of(part, small(9)), lambda part: map_of(EMPTY + part, small(9))),
+    (lambda part: map_of(part, NODE, small(9), NIL), lambda part: map_of(b'\x62\0\0\0\x09', NIL, part, atom(b'a', 118))))
+
+
+def equal(book, first, second):
+    """As two keys of a map: 7 at the later one's first byte."""
+    book.refused(7, 1 + 5 + len(first) + 1, map_of(first, NIL, second, NIL), **LISTED)
+
+
+def turned_keys(book):
+    # Maps mean the same when they hold the same pairs, in any order: as keys 7, whichever comes later.
+    for i, first in enumerate(SAME):
+        for j, second in enumerate(SAME):
+            if i != j:
+                equal(book, first, second)
+    # The later key's first byte is that of its 108 of length 0, where one stands before it.
+    for wraps in (1, 3):
+        equal(book, SAME[0], EMPTY * wraps + SAME[1])
+        equal(book, EMPTY * wraps + SAME[1], SAME[0])
+    # The same pairs but one: another key. All of them in a map; and then one more that is the first of them turned.
+    different = (SAME[0],) + OTHER
+    body = b''.join(key + NIL for key in different)
+    book.accepted(b'\x74' + big(4, len(different)) + body)
+    for key in SAME[1:]:
+        book.refused(7, 1 + 5 + len(body), b'\x74' + big(4, len(different) + 1) + body + key + NIL, **LISTED)
+    for key in OTHER:
+        book.accepted(map_of(key, NIL, SAME[0], NIL))
+        book.accepted(map_of(SAME[1], NIL, key, NIL))
+    # No pair is lost in the others: keys and values exchanged, between pairs and within one.
+    exchanged = [map_of(small(a), small(b), small(c), small(d)) for a, b, c, d in ((1, 1, 2, 2), (1, 2, 2, 1), (3, 3, 4, 4), (1, 3, 2, 4), (1, 4, 2, 3), (3, 1, 4, 2), (4, 1, 3, 2))]
+    book.accepted(map_of(*[part for key in exchanged for part in (key, NIL)]))
+    # What else tells keys apart does in a map that is a key: the two zeros, 1 and 1.0, words 7 and 7,0.
+    apart = [b'\x46' + bytes(8), b'\x46\x80' + bytes(7), small(1), b'\x46\x3f\xf0' + bytes(6), b'\x5a\0\1' + NODE + big(4, 3) + big(4, 7),
+             b'\x5a\0\2' + NODE + big(4, 3) + big(4, 7) + bytes(4)]
+    for first, second in zip(apart[::2], apart[1::2]):
+        book.accepted(map_of(map_of(first, NIL, NODE, NIL), NIL, map_of(NODE, NIL, second, NIL), NIL))
+        book.accepted(map_of(map_of(NIL, first, NODE, NIL), NIL, map_of(NODE, NIL, NIL, second), NIL))
+        equal(book, map_of(first, second, second, first), map_of(second, first, first, second))
+    # 7 is judged before the later key's value is read, and after all of that key: with a row fewer it is 9 at the key's last part.
+    pair, place = map_of(SAME[0], NIL, SAME[1], NIL), 1 + 5 + len(SAME[0]) + 1
+    for value in (b'', b'\x63', b'\x61', b'\x77\1\xff', SAME[0], map_of(SAME[0], NIL, SAME[1], NIL)):
+        book.refused(7, place, map_of(SAME[0], NIL, SAME[1], value))
+    book.refused(7, place, pair, rows=12)
+    book.refused(9, place + len(SAME[1]) - 1, pair, rows=11)
+    book.refused(2, place + len(SAME[1]) - 1, pair[:-2])
+    book.refused(3, place + len(SAME[1]) - 1, pair[:-2] + b'\x63')
+    # In the second term of a payload, and as a value, a part, a tail of other terms.
+    book.refused(7, place, NIL + pair, form='p')
+    book.refused(7, place - 1, pair + NIL, form='p')
+    book.refused(7, place + 5 + 2, map_of(small(1), pair))
+    book.refused(7, place + 2, tuple_of(pair, pair))
+    book.refused(7, place + 7, list_of(small(1), tail=pair))
+    book.accepted(SAME[0] + SAME[1], form='p', count=10)
+    book.accepted(map_of(small(1), SAME[0], small(2), SAME[1]), count=13)
+    book.accepted(map_of(SAME[0], SAME[1], small(2), SAME[1]), count=17)
+
+
+def turned_parts(book):
+    # At any depth: the maps stand in tuples, lists, tails, values and keys of the keys, one, two and three deep, in two layouts.
+    for i, outer in enumerate(HOLDERS):
+        for key in SAME[1:]:
+            equal(book, outer[0](SAME[0]), outer[1](key))
+            equal(book, outer[1](key), outer[0](SAME[0]))
+        book.accepted(map_of(*[part for k, key in enumerate((SAME[0],) + OTHER) for part in (outer[k % 2](key), NIL)]))
+        for j, middle in enumerate(HOLDERS):
+            key, other = SAME[1 + (i + j) % 4], OTHER[(3 * i + j) % 11]
+            equal(book, outer[0](middle[0](SAME[0])), outer[1](middle[1](key)))
+            if (i + j) % 2:
+                book.accepted(map_of(outer[0](middle[0](SAME[0])), NIL, outer[1](middle[1](other)), NIL))
+            else:
+                inner = HOLDERS[(3 * i + 7 * j + i // 5) % 10]
+                equal(book, outer[1](middle[0](inner[0](SAME[0]))), outer[0](middle[1](inner[1](key))))
+    # Lists and tuples keep their order.
+    for two in (tuple_of, list_of, lambda first, second: list_of(first, tail=second)):
+        book.accepted(map_of(two(SAME[0], OTHER[0]), NIL, two(OTHER[0], SAME[1]), NIL))
+        equal(book, two(SAME[0], OTHER[0]), two(SAME[1], OTHER[0]))
+    # Two such keys in a key are refused there, at the later of the two, before the outer keys are compared.
+    pair, later = map_of(SAME[0], NIL, SAME[1], NIL), 5 + len(SAME[0]) + 1
+    for before in (map_of(SAME[0], NIL), map_of(SAME[0], NIL, small(3), NIL), tuple_of(SAME[1]), small(1)):
+        book.refused(7, 1 + 5 + len(before) + 1 + later, map_of(before, NIL, pair, NIL))
+        book.refused(7, 1 + 5 + later, map_of(pair, NIL, before, NIL))
+    for hold, layout in HOLDERS:
+        front = hold(pair).index(pair)
+        book.refused(7, 1 + 5 + front + later, map_of(hold(pair), NIL, hold(pair), NIL))
+        book.refused(7, 1 + 5 + 3 + front + later, map_of(small(1), NIL, hold(pair), NIL))
+        book.refused(7, 1 + front + later, hold(map_of(SAME[0], NIL, EMPTY + SAME[1], NIL)))
+    # Turned at every level: of 61 maps that each are a key of the one before, or a value, the inmost's parts have depth 64.
+    for outer in (HOLDERS[7], HOLDERS[9]):
+        first, second, other = SAME[0], SAME[1], OTHER[0]
+        for _ in range(61):
+            first, second, other = outer[0](first), outer[1](second), outer[1](other)
+        equal(book, first, second)
+        equal(book, second, first)
+        book.accepted(map_of(first, NIL, other, NIL))
+        book.refused(8, 1 + 2 + 5 + first.index(SAME[0]) + 5, tuple_of(map_of(first, NIL, second, NIL)))
+
+
+def orders(book):
+    # Three pairs in each of their six orders: two keys of a map are equal; a map alone is accepted in any, its rows in the order of its bytes.
+    three = [map_of(*sum(order, ())) for order in permutations(((small(1), NIL), (NODE, small(5)), (tuple_of(), NODE)))]
+    for first in three:
+        book.accepted(first, count=7)
+        for second in three:
+            equal(book, first, second)
+    # Of 5 and 40 pairs, the last first, and in a mixed order; with one other value, or one other key, they are different keys.
+    for count in (5, 40):
+        pairs = [(small(k), small(k // 2)) for k in range(count)]
+        straight, mixed = sum(pairs, ()), sum((pairs[7 * k % count] for k in range(count)), ())
+        equal(book, map_of(*straight), turned(*straight))
+        equal(book, turned(*straight), map_of(*mixed))
+        equal(book, map_of(*mixed), map_of(*straight))
+        for k in (0, count // 2, count - 1):
+            for other in ((small(k), small(200)), (small(200), small(k // 2))):
+                changed = turned(*sum(pairs[:k] + [other] + pairs[k + 1:], ()))
+                book.accepted(map_of(map_of(*straight), NIL, changed, NIL), count=1 + 2 * (2 * count + 1) + 2)
+    # Of many keys that are maps the last is one of the others, turned.
+    many = [(small(k), NIL, small(k + 1), NIL) for k in range(40)]
+    body = b''.join(map_of(*key) + NIL for key in many)
+    book.accepted(b'\x74' + big(4, 40) + body, count=1 + 40 * 6)
+    for k in (0, 20, 39):
+        book.refused(7, 1 + 5 + len(body), b'\x74' + big(4, 41) + body + turned(*many[k]) + NIL)
 
 
 def atom_lists(book):

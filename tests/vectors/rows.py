@@ -89,6 +89,32 @@ def walk(data, at, whole, rows):
     return end
 
 
+def shape(form, data):
+    """The kinds of an accepted message's terms and which is part of which; equal for two messages just if the rows of one, its pairs put in another order, are
+    the other's."""
+    rows, terms = rows_of(form, data)[1], []
+    parts = [[] for row in rows]
+    for (kind, at, whole), mine in zip(reversed(rows), reversed(parts)):
+        mine.reverse()                                              # they came last first
+        inner = sorted(zip(mine[::2], mine[1::2])) if kind == 'map' else mine
+        (terms if whole is None else parts[whole]).append((kind, tuple(inner)))
+    return terms[::-1]
+
+
+def rises(form, canonical):
+    """Whether the keys of every map of a canonical form rise in byte order: a key's bytes end where its value's tag stands."""
+    rows = rows_of(form, canonical)[1]
+    offsets = [[] for row in rows]
+    for kind, at, whole in rows:
+        if whole is not None:
+            offsets[whole].append(at)
+    for (kind, at, whole), mine in zip(rows, offsets):
+        keys = [canonical[start:end] for start, end in zip(mine[::2], mine[1::2])]
+        if kind == 'map' and not all(a < b for a, b in zip(keys, keys[1:])):
+            return False
+    return True
+
+
 def shown(form, data):
     """The line for an accepted message."""
     terms, rows = rows_of(form, data)

@@ -1,7 +1,10 @@
+pub mod Alike
 pub mod Compare
+pub mod Unordered
 pub mod Steps
 pub mod Slots
 pub mod Hashes
+pub mod Hashed
 pub mod InTable
 pub mod KeySet
 pub mod Accepted

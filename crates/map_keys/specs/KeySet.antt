@@ -1,9 +1,10 @@
 -- The hash set of keys: each is inserted in the first empty slot from its hash on. A slot is 0 (empty) or the row of a key plus 1.
 -- About the code alone, proved against the definitions of term_spec: nothing here has to be believed.
 use mathlib.Core.Path.{_≡_}
-use mathlib.Core.Bool.{Bool, false}
+use mathlib.Core.Bool.{Bool, true, false, cond}
 use mathlib.Core.List.{List, [], _∷_}
 use Prim.Native.Nat.{ℕ, zero, suc, _+_, _*_, _-_, _/_, _%_, _<_}
+use lib.Dec.{eqb, leb}
 use lib.ListN.{length, getD}
 use Rattle.term_spec.specs.Rows.{kind-in, offset-in, parts-in, size-in}
 use Rattle.row_fields.specs.Found.{content-of}
@@ -24,40 +25,54 @@ pub record Keeps (L L′ : List ℕ) : Type 0 where
   pub as-many : length L′ ≡ length L
   pub occupied : (i : ℕ) → (getD L i 0 ≡ 0 → ⊥) → getD L′ i 0 ≡ getD L i 0
 
--- hashes of terms, over the words of their rows
+-- a row of a map of two pairs or more, whose order says nothing
+unfoldable pub has-pairs : ℕ → Bool
+has-pairs w = cond (eqb (kind-in w) 9) (leb 4 (parts-in w)) false
+
+-- how many rows of a term are hashed at most, by its size
+unfoldable pub hashed-rows : ℕ → ℕ
+hashed-rows n = cond (leb n 16) n 16
+
+-- hashes of terms, over the words of their rows: up to the first map of two pairs or more, with its own row
 module _ (m places lengths : List ℕ) where
   -- what a row says: its kind, its number of parts and its own fields
   unfoldable pub hash-row : ℕ → ℕ → ℕ
   hash-row h w =
       hash-contents m places (mix h (16 * parts-in w + term-kind (kind-in w))) (content-of m places lengths (kind-in w) (offset-in w))
 
-  unfoldable pub hash-all : ℕ → List ℕ → ℕ
-  hash-all h [] = h
-  hash-all h (w ∷ ws) = hash-all (hash-row h w) ws
+  -- of at most n words
+  unfoldable pub hash-words : ℕ → ℕ → List ℕ → ℕ
+  hash-words zero h ws = h
+  hash-words (suc n) h [] = h
+  hash-words (suc n) h (w ∷ ws) = cond (has-pairs w) (hash-row h w) (hash-words n (hash-row h w) ws)
 
   -- equal keys of two maps get two hashes: each map's start from the row of its first key; the step at the end and the half that is taken part keys that differ in their last byte alone
   unfoldable pub hash-row-words : ℕ → List ℕ → ℕ
-  hash-row-words first ws = mix (hash-all (mix 0 first) ws) 0 / 65536
+  hash-row-words first ws = mix (hash-words (hashed-rows (length ws)) (mix 0 first) ws) 0 / 65536
 
   -- the same of the n rows of a table from a on
   unfoldable pub hash-rows : List ℕ → ℕ → ℕ → ℕ → ℕ
   hash-rows T h zero a = h
-  hash-rows T h (suc n) a = hash-rows T (hash-row h (getD T a 0)) n (a + 1)
+  hash-rows T h (suc n) a = cond (has-pairs (getD T a 0)) (hash-row h (getD T a 0)) (hash-rows T (hash-row h (getD T a 0)) n (a + 1))
 
   -- of the term at a row, as a key of the map whose first key is at the row `first`
   unfoldable pub term-hash : List ℕ → ℕ → ℕ → ℕ
-  term-hash T first row = mix (hash-rows T (mix 0 first) (size-in (getD T row 0)) row) 0 / 65536
+  term-hash T first row = mix (hash-rows T (mix 0 first) (hashed-rows (size-in (getD T row 0))) row) 0 / 65536
 
   -- the key is absent: an empty slot comes from the hash h on, and no row in the slots before it means the same
-  unfoldable pub Absent : List ℕ → ℕ → List ℕ → ℕ → Type 0
-  Absent T key L h =
-      (d : ℕ) × (d < length L) × (slot L h d ≡ 0) × ((e : ℕ) → e < d → same-terms-raw m places lengths T key (slot L h e - 1) ≡ false)
+  unfoldable pub Absent : List ℕ → ℕ → ℕ → List ℕ → ℕ → Type 0
+  Absent T levels key L h =
+      (d : ℕ) × (d < length L) × (slot L h d ≡ 0) × ((e : ℕ) → e < d → same-terms-raw m places lengths T levels key (slot L h e - 1) ≡ false)
 
-  module _ (T : List ℕ) (first key : ℕ) (L : List ℕ) where
-    -- the set contains the keys at which among-steps looks, in n steps from the row `at` on
+  module _ (T : List ℕ) (levels first key : ℕ) (L : List ℕ) where
+    -- the set contains the keys at which among-steps looks, in n steps from the row `at` on, and those that are the same as this one have its hash
     unfoldable pub Contains-from : ℕ → ℕ → Type 0
     Contains-from zero at = Unit {0}
-    Contains-from (suc n) at = at < key → Contains L (term-hash T first at) at × Contains-from n (at + pair-size T at)
+    Contains-from (suc n) at =
+        at < key
+        → Contains L (term-hash T first at) at
+        × (same-terms-raw m places lengths T levels key at ≡ true → term-hash T first key ≡ term-hash T first at)
+        × Contains-from n (at + pair-size T at)
 
     -- the set contains each key before the row `key`
     abbrev pub Contains-before : Type 0
@@ -66,5 +81,5 @@ module _ (m places lengths : List ℕ) where
     -- what a call promises that inserts the key unless it equals an earlier one: the answer, whether it does, and the slots after it
     pub record Contains-or-insert (answer : Bool) (L′ : List ℕ) : Type 0 where
       pub slots-kept : Keeps L L′
-      pub judged : Contains-before → answer ≡ among-rows m places lengths T first key
+      pub judged : Contains-before → answer ≡ among-rows m places lengths T levels first key
       pub inserted : answer ≡ false → Contains L′ (term-hash T first key) key

@@ -1,2 +1,3 @@
+pub mod Alike
 pub mod Compare
 pub mod KeySet

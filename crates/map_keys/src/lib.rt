@@ -1,11 +1,11 @@
 // Terms compared by their rows, whatever their encoding, and the hash set of a map's keys.
 ghost use mathlib.Core.Path.{_≡_};
-ghost use mathlib.Core.Bool.{false};
-ghost use Prim.Native.Nat.{_+_, _%_, _<_};
+ghost use mathlib.Core.Bool.{false, cond};
+ghost use Prim.Native.Nat.{_+_, _*_, _%_, _≤_, _<_};
 ghost use lib.ListN.{length, getD};
 ghost use Rattle.row_fields.specs.Meaning.{term-kind};
-ghost use Rattle.map_keys.specs.Compare.{same-fields, same-row, same-rows, pair-size, same-terms-raw, among-rows};
-ghost use Rattle.map_keys.specs.KeySet.{Contains, Keeps, hash-row, term-hash, Absent, Contains-before, Contains-or-insert};
+ghost use Rattle.map_keys.specs.Compare.{same-fields, same-row, pair-size, parts-alike, pair-among, pairs-among, same-terms-raw, among-rows};
+ghost use Rattle.map_keys.specs.KeySet.{Contains, Keeps, has-pairs, hashed-rows, hash-row, term-hash, Absent, Contains-before, Contains-or-insert};
 use octets::wide16;
 use row::kind_in;
 use row::offset_in;
@@ -16,6 +16,9 @@ use row_compare::mix;
 use row_compare::same_content;
 use row_fields::content_at;
 use term_spec::kinds;
+
+// How many rows of a key are hashed at most.
+const HASHED_ROWS: usize = 16;
 
 // The row at an index of the table as its word, 0 past its end.
 pub fn row_at(table: &[u64], i: usize) -> u64
@@ -77,48 +80,6 @@ fn same_row(msg: &[u8], places: &[u8], lengths: &[u16], v: u64, w: u64) -> bool
     )
 }
 
-// The n rows from a on, and those from b on.
-fn same_rows(
-    msg: &[u8],
-    places: &[u8],
-    lengths: &[u16],
-    table: &[u64],
-    n: usize,
-    a: usize,
-    b: usize,
-) -> bool
-    requires { ⌜ (a + n < 4611686018427387904) × (b + n < 4611686018427387904) ⌝ }
-    ensures { λ r. ⌜ r ≡ same-rows (same-row (now (msg .entry)) (now (places .entry)) (now (lengths .entry))) (now (table .entry)) n a b ⌝ }
-{
-    let mut i = 0usize;
-    while i < n {
-        let v = row_at(table, a + i);
-        let w = row_at(table, b + i);
-        if !same_row(msg, places, lengths, v, w) {
-            return false;
-        }
-        i += 1;
-    }
-    true
-}
-
-// Whether the terms whose rows start at a and b mean the same.
-fn same_terms(msg: &[u8], places: &[u8], lengths: &[u16], table: &[u64], a: usize, b: usize) -> bool
-    ensures { λ r. ⌜ r ≡ same-terms-raw (now (msg .entry)) (now (places .entry)) (now (lengths .entry)) (now (table .entry)) a b ⌝ }
-{
-    if table.len() <= a {
-        return false;
-    }
-    if table.len() <= b {
-        return false;
-    }
-    let n = size_in(table[a]);
-    if n != size_in(table[b]) {
-        return false;
-    }
-    same_rows(msg, places, lengths, table, n, a, b)
-}
-
 // How many rows the term at a row and the next one have.
 fn pair_size(table: &[u64], at: usize) -> usize
     requires { ⌜ at < 4611686018427387904 ⌝ }
@@ -129,23 +90,145 @@ fn pair_size(table: &[u64], at: usize) -> usize
     k + v
 }
 
+// Whether the n terms from the row a on mean the same as those from the row b on, in turn. `levels` bounds how deep the comparison goes.
+fn parts_alike(
+    msg: &[u8],
+    places: &[u8],
+    lengths: &[u16],
+    table: &[u64],
+    levels: usize,
+    n: usize,
+    a: usize,
+    b: usize,
+) -> bool
+    requires { ⌜ (a + 32768 * n < 4611686018427387904) × (b + 32768 * n < 4611686018427387904) ⌝ }
+    ensures { λ r. ⌜ r ≡ parts-alike (now (table .entry)) (same-terms-raw (now (msg .entry)) (now (places .entry)) (now (lengths .entry)) (now (table .entry)) levels) n a b ⌝ }
+{
+    let mut i = a;
+    let mut j = b;
+    let mut left = n;
+    while 0 < left {
+        if !same_terms(msg, places, lengths, table, levels, i, j) {
+            return false;
+        }
+        i += size_in(row_at(table, i));
+        j += size_in(row_at(table, j));
+        left -= 1;
+    }
+    true
+}
+
+// Whether the pair at the row `key` is one of the n pairs from the row b on: the first that has its key has its value. Each is compared once, since keys may be maps themselves.
+fn pair_among(
+    msg: &[u8],
+    places: &[u8],
+    lengths: &[u16],
+    table: &[u64],
+    levels: usize,
+    n: usize,
+    key: usize,
+    b: usize,
+) -> bool
+    requires { ⌜ (key < 4611686018427387904) × (b + 32768 * n < 4611686018427387904) ⌝ }
+    ensures { λ r. ⌜ r ≡ pair-among (now (table .entry)) (same-terms-raw (now (msg .entry)) (now (places .entry)) (now (lengths .entry)) (now (table .entry)) levels) n key b ⌝ }
+{
+    let mut at = b;
+    let mut left = n;
+    while 0 < left {
+        if same_terms(msg, places, lengths, table, levels, key, at) {
+            let value = key + size_in(row_at(table, key));
+            let other = at + size_in(row_at(table, at));
+            return same_terms(msg, places, lengths, table, levels, value, other);
+        }
+        at += pair_size(table, at);
+        left -= 1;
+    }
+    false
+}
+
+// Whether each of the n pairs from the row a on is one of the n from the row b on.
+fn pairs_among(
+    msg: &[u8],
+    places: &[u8],
+    lengths: &[u16],
+    table: &[u64],
+    levels: usize,
+    n: usize,
+    a: usize,
+    b: usize,
+) -> bool
+    requires { ⌜ (a + 32768 * n < 4611686018427387904) × (b + 32768 * n < 4611686018427387904) ⌝ }
+    ensures { λ r. ⌜ r ≡ pairs-among (now (table .entry)) (same-terms-raw (now (msg .entry)) (now (places .entry)) (now (lengths .entry)) (now (table .entry)) levels) n a n b ⌝ }
+{
+    let mut at = a;
+    let mut left = n;
+    while 0 < left {
+        if !pair_among(msg, places, lengths, table, levels, n, at, b) {
+            return false;
+        }
+        at += pair_size(table, at);
+        left -= 1;
+    }
+    true
+}
+
+// Whether the terms whose rows start at a and b mean the same, down to so many levels: a map's pairs in any order, other parts in turn.
+fn same_terms(
+    msg: &[u8],
+    places: &[u8],
+    lengths: &[u16],
+    table: &[u64],
+    levels: usize,
+    a: usize,
+    b: usize,
+) -> bool
+    ensures { λ r. ⌜ r ≡ same-terms-raw (now (msg .entry)) (now (places .entry)) (now (lengths .entry)) (now (table .entry)) levels a b ⌝ }
+{
+    if levels == 0 {
+        return false;
+    }
+    if table.len() <= a {
+        return false;
+    }
+    if table.len() <= b {
+        return false;
+    }
+    let v = table[a];
+    let w = table[b];
+    if size_in(v) != size_in(w) {
+        return false;
+    }
+    if !same_row(msg, places, lengths, v, w) {
+        return false;
+    }
+    let n = parts_in(v);
+    if n == 0 {
+        return true;
+    }
+    if kind_in(v) == kinds::MAP {
+        return pairs_among(msg, places, lengths, table, levels - 1, n / 2, a + 1, b + 1);
+    }
+    parts_alike(msg, places, lengths, table, levels - 1, n, a + 1, b + 1)
+}
+
 // Whether the term at the row `key` means the same as a key of the pairs from the row `first` on.
 fn key_among(
     msg: &[u8],
     places: &[u8],
     lengths: &[u16],
     table: &[u64],
+    levels: usize,
     first: usize,
     key: usize,
 ) -> bool
-    ensures { λ r. ⌜ r ≡ among-rows (now (msg .entry)) (now (places .entry)) (now (lengths .entry)) (now (table .entry)) first key ⌝ }
+    ensures { λ r. ⌜ r ≡ among-rows (now (msg .entry)) (now (places .entry)) (now (lengths .entry)) (now (table .entry)) levels first key ⌝ }
 {
     if table.len() <= key {
         return false;
     }
     let mut at = first;
     while at < key {
-        if same_terms(msg, places, lengths, table, key, at) {
+        if same_terms(msg, places, lengths, table, levels, key, at) {
             return true;
         }
         let step = pair_size(table, at);
@@ -168,6 +251,29 @@ fn hash_row(msg: &[u8], places: &[u8], lengths: &[u16], h: u64, w: u64) -> u64
     hash_content(msg, places, sum, own)
 }
 
+// How many rows of a term of that size are hashed at most.
+fn hashed_rows(size: usize) -> usize
+    ensures { λ r. ⌜ (r ≡ hashed-rows size) × (r ≤ 16) ⌝ }
+{
+    if size <= HASHED_ROWS {
+        return size;
+    }
+    HASHED_ROWS
+}
+
+// Of the n rows that come after a row, how many are hashed: none after a map of two pairs or more, whose order says nothing.
+fn rows_left(w: u64, n: usize) -> usize
+    ensures { λ r. ⌜ (r ≡ cond (has-pairs w) 0 n) × (r ≤ n) ⌝ }
+{
+    if kind_in(w) != kinds::MAP {
+        return n;
+    }
+    if parts_in(w) < 4 {
+        return n;
+    }
+    0
+}
+
 // The hash of the term at a row, as a key of the map whose first key is at the row `first`.
 fn term_hash(
     msg: &[u8],
@@ -180,12 +286,14 @@ fn term_hash(
     requires { ⌜ row < 4611686018427387904 ⌝ }
     ensures { λ r. ⌜ r ≡ term-hash (now (msg .entry)) (now (places .entry)) (now (lengths .entry)) (now (table .entry)) first row ⌝ }
 {
-    let n = size_in(row_at(table, row));
+    let mut left = hashed_rows(size_in(row_at(table, row)));
     let mut h = mix(0, first as u64);
-    let mut i = 0usize;
-    while i < n {
-        h = hash_row(msg, places, lengths, h, row_at(table, row + i));
-        i += 1;
+    let mut at = row;
+    while 0 < left {
+        let w = row_at(table, at);
+        h = hash_row(msg, places, lengths, h, w);
+        left = rows_left(w, left - 1);
+        at += 1;
     }
     (mix(h, 0) / 65536) as usize
 }
@@ -208,11 +316,12 @@ fn probe(
     lengths: &[u16],
     table: &[u64],
     slots: &[u16],
+    levels: usize,
     key: usize,
     hash: usize,
 ) -> bool
     requires { ⌜ 0 < length (now slots) ⌝ }
-    ensures { λ r. ⌜ (r ≡ false → Absent (now (msg .entry)) (now (places .entry)) (now (lengths .entry)) (now (table .entry)) key (now (slots .entry)) hash) ⌝ }
+    ensures { λ r. ⌜ (r ≡ false → Absent (now (msg .entry)) (now (places .entry)) (now (lengths .entry)) (now (table .entry)) levels key (now (slots .entry)) hash) ⌝ }
 {
     let n = slots.len();
     let mut i = hash % n;
@@ -222,7 +331,7 @@ fn probe(
         if entry == 0 {
             return false;
         }
-        if same_terms(msg, places, lengths, table, key, entry - 1) {
+        if same_terms(msg, places, lengths, table, levels, key, entry - 1) {
             return true;
         }
         i = next_slot(i, n);
@@ -256,34 +365,36 @@ fn contains(
     lengths: &[u16],
     table: &[u64],
     slots: &[u16],
+    levels: usize,
     first: usize,
     key: usize,
     hash: usize,
 ) -> bool
     requires { ⌜ (0 < length (now slots)) × (hash ≡ term-hash (now msg) (now places) (now lengths) (now table) first key) ⌝ }
-    ensures { λ r. ⌜ (Contains-before (now (msg .entry)) (now (places .entry)) (now (lengths .entry)) (now (table .entry)) first key (now (slots .entry)) → r ≡ among-rows (now (msg .entry)) (now (places .entry)) (now (lengths .entry)) (now (table .entry)) first key) ⌝ }
+    ensures { λ r. ⌜ (Contains-before (now (msg .entry)) (now (places .entry)) (now (lengths .entry)) (now (table .entry)) levels first key (now (slots .entry)) → r ≡ among-rows (now (msg .entry)) (now (places .entry)) (now (lengths .entry)) (now (table .entry)) levels first key) ⌝ }
 {
-    if !probe(msg, places, lengths, table, slots, key, hash) {
+    if !probe(msg, places, lengths, table, slots, levels, key, hash) {
         return false;
     }
-    key_among(msg, places, lengths, table, first, key)
+    key_among(msg, places, lengths, table, levels, first, key)
 }
 
-// Whether the key at the row `key` means the same as a key of the pairs from the row `first` on; if not, it is inserted.
+// Whether the key at the row `key`, of at most so many levels, means the same as a key of the pairs from the row `first` on; if not, it is inserted.
 pub fn contains_or_insert(
     msg: &[u8],
     places: &[u8],
     lengths: &[u16],
     table: &[u64],
     slots: &mut [u16],
+    levels: usize,
     first: usize,
     key: usize,
 ) -> bool
     requires { ⌜ (0 < length (now slots)) × (key < 65535) ⌝ }
-    ensures { λ r. ⌜ Contains-or-insert (now (msg .entry)) (now (places .entry)) (now (lengths .entry)) (now (table .entry)) first key (now (slots .entry)) r (now (slots .exit)) ⌝ }
+    ensures { λ r. ⌜ Contains-or-insert (now (msg .entry)) (now (places .entry)) (now (lengths .entry)) (now (table .entry)) levels first key (now (slots .entry)) r (now (slots .exit)) ⌝ }
 {
     let hash = term_hash(msg, places, lengths, table, first, key);
-    if contains(msg, places, lengths, table, slots, first, key, hash) {
+    if contains(msg, places, lengths, table, slots, levels, first, key, hash) {
         return true;
     }
     insert(slots, hash, key);

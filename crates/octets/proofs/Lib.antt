@@ -5,3 +5,4 @@ pub mod Numbers
 pub mod Bits
 pub mod Widths
 pub mod Counted
+pub mod ByteOrder

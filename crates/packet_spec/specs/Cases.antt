@@ -2,18 +2,20 @@
 use mathlib.Core.Path.{_≡_}
 use mathlib.Core.List.{List, [], _∷_}
 use Prim.Native.Nat.{ℕ}
-use native.Mathlib.Decide.{ℕ-discrete}
 use lib.ListN.{take, replicate}
 use Rattle.term_spec.specs.Numbers.{big-endian, in-bytes, little-endian, digits-within, digits, signed32, with-sign}
 use Rattle.term_spec.specs.Text.{coding-of, holds, lines, marker, first, emit, decode, check, is-character, encode, encodes}
-use Rattle.term_spec.specs.Equal.{list-discrete, integer-discrete, term-discrete, same, among}
+use Rattle.term_spec.specs.Order.{compare-numbers, compare-lists, numbers-of, compare}
+use Rattle.term_spec.specs.Pairs.{put-in, in-order, arranged-parts, arranged}
+use Rattle.term_spec.specs.Meaning.{pair-before}
+use Rattle.term_spec.specs.Equal.{same, among}
 use Rattle.term_spec.specs.Connection.{coding-agreed, v4-nc, flags-known}
 use Rattle.term_spec.specs.Answer.{Answer, good, refused, bytes, number}
 use Rattle.term_spec.specs.Head.{forms, form-in, form-or, form, text-or, finite, bits-rule, clear-low, bits-meaning, fields, term-head, creation-rule, id-words, words-rule, limits, later}
 use Rattle.term_spec.specs.Reading.{opening, each, run, entries, row, string, list-tail, contents, body, one-term}
 use Rattle.term_spec.specs.AtomList.{of-size, place-length, place-bytes, place-text, given-of, empty-list}
 use Rattle.term_spec.specs.Message.{payload, ending, version, standalone-term, payload-terms, read}
-use Rattle.term_spec.specs.Canonical.{big-bytes, integer-bytes, atom-bytes, tuple-bytes, port-bytes, words-bytes, small, all-small, list-bytes, term-bytes, canonical, canonical-standalone, standalones}
+use Rattle.term_spec.specs.Canonical.{big-bytes, integer-bytes, atom-bytes, tuple-bytes, port-bytes, words-bytes, small, all-small, list-bytes, term-bytes, bytes-of, key-before, canonical, canonical-standalone, standalones}
 use Rattle.term_spec.specs.Writing.{Written, written, write}
 use Rattle.packet_spec.specs.declared.Pending.{Pending}
 use Rattle.packet_spec.specs.Memory.{Memory, cache-of-size, memory-of-size, record-true, none-pending, empty-cache, text-if, held-as, Held, held, text}
@@ -103,7 +105,7 @@ seen-of a b c m =
     }
 
 unfoldable pub example : Seen
-unfolding then ℕ-discrete in-bytes little-endian digits-within digits signed32 with-sign is-character list-discrete integer-discrete term-discrete same among forms form-in form-or form finite bits-rule clear-low bits-meaning fields term-head creation-rule id-words words-rule v4-nc limits later opening each run entries row string list-tail contents body one-term place-length place-bytes place-text given-of big-bytes integer-bytes atom-bytes tuple-bytes port-bytes words-bytes small all-small list-bytes term-bytes canonical canonical-standalone standalones ending standalone-term payload-terms read written write
+unfolding then in-bytes little-endian digits-within digits signed32 with-sign is-character compare-numbers compare-lists numbers-of compare put-in in-order arranged-parts arranged pair-before same among forms form-in form-or form finite bits-rule clear-low bits-meaning fields term-head creation-rule id-words words-rule v4-nc limits later opening each run entries row string list-tail contents body one-term place-length place-bytes place-text given-of big-bytes integer-bytes atom-bytes tuple-bytes port-bytes words-bytes small all-small list-bytes term-bytes bytes-of key-before canonical canonical-standalone standalones ending standalone-term payload-terms read written write
 example =
     let m : Memory = then fresh filling in
     let n : Memory = then m first-packet in

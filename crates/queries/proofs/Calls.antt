@@ -13,7 +13,7 @@ use Rattle.term_spec.specs.Text.{Coding, latin-1, utf-8}
 use Rattle.term_spec.specs.Answer.{Answer, good, refused}
 use Rattle.term_spec.specs.Answers.{read-answer, number-answer, mark-case, mark-answer}
 use Rattle.term_spec.specs.AtomList.{AtomList, place-length, given-of}
-use Rattle.term_spec.specs.Message.{Framing, Terms, meanings, read}
+use Rattle.term_spec.specs.Message.{Framing, Terms, all-as-read, read}
 use Rattle.term_spec.specs.Rows.{rows, table-after}
 use Rattle.term_spec.specs.Look.{float-bits, number-at, row-number, number-in, atom-at, Stretch, of-message, of-list, text-of, atom-text, text-in, text-bytes, stretch-bytes}
 use Rattle.term_spec.specs.declared.ReadAnswer.{ReadAnswer}
@@ -72,7 +72,7 @@ exact flags framing list m under row bits e = go (read flags framing list 8192 m
     go : (o : Answer Terms) → read flags framing list 8192 m ≡ o → row-number row o ≡ good (float-bits bits) → (bits < 2 ^ 64) × (toBits binary64 (ofBits binary64 bits) ≡ bits)
     go (good ts) f g =
         let is : number-at row (rows option.none 0 ts) ≡ float-bits bits = cc in
-        let k = bits-answered flags ts (allowed-valid flags (meanings ts) (accepted-message flags framing list 8192 m under ts f .known .all-allowed)) row bits is in
+        let k = bits-answered flags ts (allowed-valid flags (all-as-read ts) (accepted-message flags framing list 8192 m under ts f .known .all-allowed)) row bits is in
         (k .0, float-exact bits (k .0) (k .1))
     go (refused n p) f g = let no-way : _≡_ {A = ℕ} 0 1 = cc in absurd (omega arith)
 

@@ -15,8 +15,8 @@ use Rattle.term_spec.specs.Answer.{good, refused}
 use Rattle.term_spec.specs.Answers.{read-answer, number-case}
 use Rattle.term_spec.specs.Head.{finite}
 use Rattle.term_spec.specs.AtomList.{AtomList, given-of}
-use Rattle.term_spec.specs.Reading.{Offset, tag-at, character-at, Located, meaning}
-use Rattle.term_spec.specs.Message.{Terms, meanings}
+use Rattle.term_spec.specs.Reading.{Offset, tag-at, character-at, Located, as-read}
+use Rattle.term_spec.specs.Message.{Terms, all-as-read}
 use Rattle.term_spec.specs.Rows.{Row, tree-rows, rows, kind-of, kind-at, offset-of, kind-in, offset-in, word, row-words, table-after, Here}
 use Rattle.term_spec.specs.Look.{float-bits, neither, number-of, number-at, atom-at, text-of, atom-text}
 use Rattle.term_spec.specs.declared.NumberAnswer.the-variants as numbers
@@ -51,10 +51,10 @@ bits-fit flags l ts h bits e = let g : Fits flags (float bits) ts = subst (λ (x
 mutual
   unfolding tree-rows Each-row
 
-  fit-tree-rows : (flags : ℕ) (whole : Option ℕ) (n : ℕ) (t : Located) → Valid flags (meaning t) → Each-row (λ r. Bits-fit (r .label)) (tree-rows whole n t)
-  fit-tree-rows flags whole n (node l ts) v = (bits-fit flags (l .0) (meanings ts) (v .0), fit-rows flags (some n) (n + 1) ts (v .1))
+  fit-tree-rows : (flags : ℕ) (whole : Option ℕ) (n : ℕ) (t : Located) → Valid flags (as-read t) → Each-row (λ r. Bits-fit (r .label)) (tree-rows whole n t)
+  fit-tree-rows flags whole n (node l ts) v = (bits-fit flags (l .0) (all-as-read ts) (v .0), fit-rows flags (some n) (n + 1) ts (v .1))
 
-  fit-rows : (flags : ℕ) (whole : Option ℕ) (n : ℕ) (ts : Terms) → Valids flags (meanings ts) → Each-row (λ r. Bits-fit (r .label)) (rows whole n ts)
+  fit-rows : (flags : ℕ) (whole : Option ℕ) (n : ℕ) (ts : Terms) → Valids flags (all-as-read ts) → Each-row (λ r. Bits-fit (r .label)) (rows whole n ts)
   fit-rows flags whole n empty v = tt
   fit-rows flags whole n (t ▹ ts) v =
       each-row-join (λ r. Bits-fit (r .label)) (tree-rows whole n t) (rows whole (n + size t) ts) (fit-tree-rows flags whole n t (v .0)) (fit-rows flags whole (n + size t) ts (v .1))
@@ -77,7 +77,7 @@ no-row : Row
 no-row = record { label = tuple; place = tag-at 0; whole = option.none; parts = 0; size = 0 }
 
 -- the bits of a float that a row of valid terms answers
-pub bits-answered : (flags : ℕ) (ts : Terms) → Valids flags (meanings ts) → (i bits : ℕ) → number-at i (rows option.none 0 ts) ≡ float-bits bits → (bits < 2 ^ 64) × (finite bits ≡ true)
+pub bits-answered : (flags : ℕ) (ts : Terms) → Valids flags (all-as-read ts) → (i bits : ℕ) → number-at i (rows option.none 0 ts) ≡ float-bits bits → (bits < 2 ^ 64) × (finite bits ≡ true)
 bits-answered flags ts v i bits e = go (leb (sizes ts) i) refl
   where
     go : (t : Bool) → leb (sizes ts) i ≡ t → (bits < 2 ^ 64) × (finite bits ≡ true)
@@ -206,7 +206,7 @@ module _ (flags : ℕ) (list : AtomList) (m : List ℕ) (ts : Terms) (few : list
       let k : i < length all = rw (length-rows option.none 0 ts) h in
       let small : Small-row r = each-row-at Small-row all i d k (held .all-small) in
       let backed : Backed-row m (min 8192 most) (given-of flags list) r = each-row-at (Backed-row m (min 8192 most) (given-of flags list)) all i d k all-backed in
-      let fit : Bits-fit (r .label) = each-row-at (λ q. Bits-fit (q .label)) all i d k (fit-rows flags option.none 0 ts (allowed-valid flags (meanings ts) (a .known .all-allowed))) in
+      let fit : Bits-fit (r .label) = each-row-at (λ q. Bits-fit (q .label)) all i d k (fit-rows flags option.none 0 ts (allowed-valid flags (all-as-read ts) (a .known .all-allowed))) in
       let w : Word-of r (word r) = word-packed r small in
       let kind : ℕ = kind-at (r .label) (r .place) in
       let c : Content = content-of m (list .places) (list .lengths) kind (offset-of (r .place)) in

@@ -27,7 +27,7 @@ use Rattle.row_fields.specs.declared.Content.{Content}
 use Rattle.row_fields.specs.declared.Content.the-variants.{Nothing, Whole, Big, Float, Text, Bytes, Bits, Pid, Port, Reference}
 use Rattle.row_fields.specs.Found.{value}
 use Rattle.row_fields.specs.Meaning.{stretch, sign, words-at, characters-of, coded, bare, label-of}
-use Rattle.row_compare.specs.Same.{same-bool, same-list, high, same-part, same-stretch, same-spelling, same-text, same-last, same-bits, same-words, numbers-of, stretch-of, text-flat, flat-of, same-numbers, source, same-texts, same-atoms, same-stretches, same-flat, same-contents}
+use Rattle.row_compare.specs.Same.{same-list, high, same-part, same-stretch, same-spelling, same-text, same-last, same-bits, same-words, numbers-of, stretch-of, text-flat, flat-of, same-numbers, source, same-texts, same-atoms, same-stretches, same-flat, same-contents}
 use Rattle.row_compare.proofs.Lists.{same-true, same-self}
 use Rattle.row_fields.proofs.Values.{under-part, big-same, little-same, little-least}
 use Rattle.row_fields.proofs.Says.{Readable, Sound}
@@ -55,13 +55,6 @@ agree-when f g = record { sure = λ e. f e .sure e; back = λ x. g x .back x }
 
 pub numbers-agree : (x y : ℕ) → Agree (eqb x y) (x ≡ y)
 numbers-agree x y = record { sure = eqb-true x y; back = eq-eqb x y }
-
-signs-agree : (a b : Bool) → Agree (same-bool a b) (a ≡ b)
-unfolding same-bool
-signs-agree true true = record { sure = λ _. refl; back = λ _. refl }
-signs-agree true false = record { sure = λ e. never e; back = λ e. sym e }
-signs-agree false true = record { sure = λ e. never e; back = λ e. e }
-signs-agree false false = record { sure = λ _. refl; back = λ _. refl }
 
 lists-agree : (xs ys : List ℕ) → Agree (same-list xs ys) (xs ≡ ys)
 lists-agree xs ys = record { sure = same-true xs ys; back = λ e. rw e (same-self ys) }
@@ -263,8 +256,8 @@ module _ (m : List ℕ) (under : Under 256 m) where
 case-of : ℕ → Flat → Content
 case-of code f =
     cond (eqb code 0) Nothing
-    (cond (eqb code 1) (Whole (f .negative) (f .first))
-    (cond (eqb code 2) (Big (f .negative) (f .start) (f .length))
+    (cond (eqb code 1) (Whole (eqb (f .second) 1) (f .first))
+    (cond (eqb code 2) (Big (eqb (f .first) 1) (f .start) (f .length))
     (cond (eqb code 3) (Float (f .first))
     (cond (eqb code 4) (Text (f .latin1) (f .listed) (f .start) (f .length))
     (cond (eqb code 5) (Bytes (f .start) (f .length))
@@ -276,8 +269,10 @@ case-of code f =
 case-is : (c : Content) → c ≡ case-of (flat-of c .code) (flat-of c)
 unfolding case-of flat-of numbers-of stretch-of text-flat
 case-is Nothing = refl
-case-is (Whole s n) = refl
-case-is (Big s i n) = refl
+case-is (Whole true n) = refl
+case-is (Whole false n) = refl
+case-is (Big true i n) = refl
+case-is (Big false i n) = refl
 case-is (Float b) = refl
 case-is (Text l p i n) = refl
 case-is (Bytes i n) = refl
@@ -353,7 +348,6 @@ merged-integer x e = go (eqb x 2) refl e
 
 pub record Numbers (a b : Flat) : Type 0 where
   pub code : a .code ≡ b .code
-  pub negative : a .negative ≡ b .negative
   pub first : a .first ≡ b .first
   pub second : a .second ≡ b .second
   pub third : a .third ≡ b .third
@@ -361,9 +355,9 @@ pub record Numbers (a b : Flat) : Type 0 where
 pub flats-agree : (m places : List ℕ) (a b : Flat) {A : Type 0} → Agree (same-stretches m places (a .code) a b) A → Agree (same-flat m places a b) (Numbers a b × A)
 unfolding same-flat same-numbers
 flats-agree m places a b p =
-    through (λ x. (record { code = x .0 .0; negative = x .0 .1 .0; first = x .0 .1 .1 .0; second = x .0 .1 .1 .1 .0; third = x .0 .1 .1 .1 .1 }, x .1))
-    (λ x. let n = x .0 in ((n .code, (n .negative, (n .first, (n .second, n .third)))), x .1))
-    (both (both (numbers-agree (a .code) (b .code)) (both (signs-agree (a .negative) (b .negative)) (both (numbers-agree (a .first) (b .first)) (both (numbers-agree (a .second) (b .second)) (numbers-agree (a .third) (b .third)))))) p)
+    through (λ x. (record { code = x .0 .0; first = x .0 .1 .0; second = x .0 .1 .1 .0; third = x .0 .1 .1 .1 }, x .1))
+    (λ x. let n = x .0 in ((n .code, (n .first, (n .second, n .third))), x .1))
+    (both (both (numbers-agree (a .code) (b .code)) (both (numbers-agree (a .first) (b .first)) (both (numbers-agree (a .second) (b .second)) (numbers-agree (a .third) (b .third))))) p)
 
 yes-agrees : Agree true (Unit {0})
 yes-agrees = record { sure = λ _. tt; back = λ _. refl }
@@ -379,15 +373,15 @@ module _ (atoms : AtomList) (m : List ℕ) (under : Under 256 m) (k k′ : ℕ) 
   -- contents of one case
 
   nothings : Goal Nothing Nothing
-  unfolding same-contents same-flat same-numbers same-stretches flat-of numbers-of same-bool label-of
+  unfolding same-contents same-flat same-numbers same-stretches flat-of numbers-of label-of
   nothings = record { sure = λ _. alike; back = λ _. refl }
 
   wholes : (s t : Bool) (n o : ℕ) → (n ≡ 0 → s ≡ false) → (o ≡ 0 → t ≡ false) → Goal (Whole s n) (Whole t o)
   unfolding same-contents flat-of numbers-of same-stretches label-of
   wholes s t n o f g =
       through
-      (λ x. ap₂ (λ (z : Bool) (y : ℕ). integer (with-sign (sign z) y)) (x .0 .negative) (x .0 .first))
-      (λ e. let w : with-sign (sign s) n ≡ with-sign (sign t) o = cc in let v = sign-magnitude s t n o f g w in (record { code = refl; negative = v .0; first = v .1; second = refl; third = refl }, tt))
+      (λ x. ap₂ (λ (z y : ℕ). integer (with-sign z y)) (x .0 .second) (x .0 .first))
+      (λ e. let w : with-sign (sign s) n ≡ with-sign (sign t) o = cc in let v = sign-magnitude s t n o f g w in (record { code = refl; first = v .1; second = ap sign (v .0); third = refl }, tt))
       (flats-agree m (atoms .places) (flat-of (Whole s n)) (flat-of (Whole t o)) yes-agrees)
 
   module _ (s t : Bool) (i n j o : ℕ) (a : Sound m (atoms .places) (Big s i n)) (b : Sound m (atoms .places) (Big t j o)) where
@@ -397,10 +391,10 @@ module _ (atoms : AtomList) (m : List ℕ) (under : Under 256 m) (k k′ : ℕ) 
         let x : 18446744073709551616 ≤ little-endian (stretch m i n) = large m under i n (a .0) (a .1) (a .2) in
         let y : 18446744073709551616 ≤ little-endian (stretch m j o) = large m under j o (b .0) (b .1) (b .2) in
         through
-        (λ x. ap₂ (λ (z : Bool) (y : ℕ). integer (with-sign (sign z) y)) (x .0 .negative) (x .1))
+        (λ x. ap₂ (λ (z y : ℕ). integer (with-sign z y)) (x .0 .first) (x .1))
         (λ e. let w : with-sign (sign s) (little-endian (stretch m i n)) ≡ with-sign (sign t) (little-endian (stretch m j o)) = cc in
         let v = sign-magnitude s t (little-endian (stretch m i n)) (little-endian (stretch m j o)) (λ z. absurd (omega arith)) (λ z. absurd (omega arith)) w in
-        (record { code = refl; negative = v .0; first = refl; second = refl; third = refl }, v .1))
+        (record { code = refl; first = ap sign (v .0); second = refl; third = refl }, v .1))
         (flats-agree m (atoms .places) (flat-of (Big s i n)) (flat-of (Big t j o))
         (digits-agree m under i n j o (a .1) (b .1) (omega (arith, a .0)) (omega (arith, b .0)) (a .2) (b .2)))
 
@@ -423,14 +417,14 @@ module _ (atoms : AtomList) (m : List ℕ) (under : Under 256 m) (k k′ : ℕ) 
   unfolding same-contents flat-of numbers-of same-stretches label-of
   floats x y =
       through (λ x. ap float (x .0 .first))
-      (λ e. (record { code = refl; negative = refl; first = cc; second = refl; third = refl }, tt))
+      (λ e. (record { code = refl; first = cc; second = refl; third = refl }, tt))
       (flats-agree m (atoms .places) (flat-of (Float x)) (flat-of (Float y)) yes-agrees)
 
   texts : (x y p q : Bool) (i n j o : ℕ) → Sound m (atoms .places) (Text x p i n) → Sound m (atoms .places) (Text y q j o) → Goal (Text x p i n) (Text y q j o)
   unfolding same-contents flat-of text-flat same-stretches same-atoms same-texts label-of
   texts x y p q i n j o a b =
       through (λ z. ap atom (z .1))
-      (λ e. (record { code = refl; negative = refl; first = refl; second = refl; third = refl }, cc))
+      (λ e. (record { code = refl; first = refl; second = refl; third = refl }, cc))
       (flats-agree m (atoms .places) (flat-of (Text x p i n)) (flat-of (Text y q j o))
       (texts-agree (source m (atoms .places) p) i n (source m (atoms .places) q) j o (a .0) (b .0) x y (a .1) (b .1)))
 
@@ -438,7 +432,7 @@ module _ (atoms : AtomList) (m : List ℕ) (under : Under 256 m) (k k′ : ℕ) 
   unfolding same-contents flat-of stretch-of same-stretches label-of
   byteses i n j o a b =
       through (λ z. ap binary (z .1))
-      (λ e. (record { code = refl; negative = refl; first = refl; second = refl; third = refl }, cc))
+      (λ e. (record { code = refl; first = refl; second = refl; third = refl }, cc))
       (flats-agree m (atoms .places) (flat-of (Bytes i n)) (flat-of (Bytes j o)) (stretch-agrees m i m j n o a b))
 
   bitses : (x y i n j o : ℕ) → i + n ≤ length m → j + o ≤ length m → Goal (Bits x i n) (Bits y j o)
@@ -447,28 +441,28 @@ module _ (atoms : AtomList) (m : List ℕ) (under : Under 256 m) (k k′ : ℕ) 
       through
       (λ z. ap₂ (λ (u : ℕ) (v : List ℕ). bitstring u v) (z .0 .first) (z .1 ∙ ap (λ (u : ℕ). clear-low u (stretch m j o)) (z .0 .first)))
       (λ e. let f : x ≡ y = cc in let g : clear-low x (stretch m i n) ≡ clear-low y (stretch m j o) = cc in
-      (record { code = refl; negative = refl; first = f; second = refl; third = refl }, g ∙ ap (λ (u : ℕ). clear-low u (stretch m j o)) (sym f)))
+      (record { code = refl; first = f; second = refl; third = refl }, g ∙ ap (λ (u : ℕ). clear-low u (stretch m j o)) (sym f)))
       (flats-agree m (atoms .places) (flat-of (Bits x i n)) (flat-of (Bits y j o)) (bits-agree m x i j n o a b))
 
   pids : (i s c j t d : ℕ) → Goal (Pid i s c) (Pid j t d)
   unfolding same-contents flat-of numbers-of same-stretches label-of
   pids i s c j t d =
       through (λ z. let n = z .0 in ap₂ (λ (u : ℕ) (v : ℕ). pid u v c) (n .first) (n .second) ∙ ap (pid j t) (n .third))
-      (λ e. (record { code = refl; negative = refl; first = cc; second = cc; third = cc }, tt))
+      (λ e. (record { code = refl; first = cc; second = cc; third = cc }, tt))
       (flats-agree m (atoms .places) (flat-of (Pid i s c)) (flat-of (Pid j t d)) yes-agrees)
 
   ports : (i c j d : ℕ) → Goal (Port i c) (Port j d)
   unfolding same-contents flat-of numbers-of same-stretches label-of
   ports i c j d =
       through (λ z. let n = z .0 in ap₂ (λ (u : ℕ) (v : ℕ). port u v) (n .first) (n .second))
-      (λ e. (record { code = refl; negative = refl; first = cc; second = cc; third = refl }, tt))
+      (λ e. (record { code = refl; first = cc; second = cc; third = refl }, tt))
       (flats-agree m (atoms .places) (flat-of (Port i c)) (flat-of (Port j d)) yes-agrees)
 
   references : (c i n d j o : ℕ) → i + 4 * n ≤ length m → j + 4 * o ≤ length m → Goal (Reference c i n) (Reference d j o)
   unfolding same-contents flat-of stretch-of same-stretches label-of
   references c i n d j o a b =
       through (λ z. ap₂ (λ (u : ℕ) (v : List ℕ). reference u v) (z .0 .first) (z .1))
-      (λ e. (record { code = refl; negative = refl; first = cc; second = refl; third = refl }, cc))
+      (λ e. (record { code = refl; first = cc; second = refl; third = refl }, cc))
       (flats-agree m (atoms .places) (flat-of (Reference c i n)) (flat-of (Reference d j o)) (words-agree m under i n j o a b))
 
   -- contents of any case
@@ -509,10 +503,10 @@ module _ (atoms : AtomList) (m : List ℕ) (under : Under 256 m) (k k′ : ℕ) 
   alike-contents Nothing b s t = one-case Nothing b 0 refl refl (λ z. omega arith) t (λ _. nothings)
   alike-contents (Whole x n) b s t =
       let f : Flat = flat-of b in
-      two-cases (Whole x n) b refl t (λ u. wholes x (f .negative) n (f .first) (s .1) (u .1)) (λ u. whole-big x (f .negative) n (f .start) (f .length) s u)
+      two-cases (Whole x n) b refl t (λ u. wholes x (eqb (f .second) 1) n (f .first) (s .1) (u .1)) (λ u. whole-big x (eqb (f .first) 1) n (f .start) (f .length) s u)
   alike-contents (Big x i n) b s t =
       let f : Flat = flat-of b in
-      two-cases (Big x i n) b refl t (λ u. big-whole (f .negative) x (f .first) i n u s) (λ u. bigs x (f .negative) i n (f .start) (f .length) s u)
+      two-cases (Big x i n) b refl t (λ u. big-whole (eqb (f .second) 1) x (f .first) i n u s) (λ u. bigs x (eqb (f .first) 1) i n (f .start) (f .length) s u)
   alike-contents (Float x) b s t = one-case (Float x) b 3 refl refl (λ z. omega arith) t (λ _. floats x (flat-of b .first))
   alike-contents (Text x p i n) b s t =
       let f : Flat = flat-of b in

@@ -6,15 +6,16 @@ use Prim.Native.Nat.{ℕ, _+_, _*_, _-_, _/_, _%_, _≤_, _<_}
 use native.Mathlib.Omega.{arith}
 use lib.Dec.{eqb, leb, ltb}
 use lib.ListN.{length, getD, take, drop}
-use borrow.Author.Tests.{eqb-true, eqb-false, eq-eqb, ne-eqb, lt-ltb, le-ltb}
+use lib.Seq.{take-take, drop-at}
+use borrow.Author.Tests.{eqb-true, eqb-false, eq-eqb, ne-eqb, lt-ltb, le-ltb, le-leb, lt-leb, leb-true}
 use Rattle.term_spec.specs.Text.{encode, encodes}
 use Rattle.term_spec.proofs.Tests.{never}
-use Rattle.octets.proofs.Parts.{part-cons}
+use Rattle.octets.proofs.Parts.{length-part, part-add, part-cons}
 use Rattle.row_compare.specs.declared.Flat.{Flat}
 use Rattle.row_fields.specs.declared.Content.{Content}
 use Rattle.row_fields.specs.Meaning.{stretch}
-use Rattle.row_compare.specs.Same.{same-list, same-part, same-stretch, same-spelling, same-text, same-last, same-bits, same-words, flat-of, source, same-texts, same-atoms, same-stretches, same-contents}
-use Rattle.row_compare.specs.Hash.{mix, mix-all, as-utf8, hash-part, hashed, hash-stretch, hash-flat, hash-contents}
+use Rattle.row_compare.specs.Same.{same-list, same-part, same-stretch, same-spelling, same-text, same-last, same-bits, same-words, flat-of, source, high, same-texts, same-atoms, same-stretches, same-contents}
+use Rattle.row_compare.specs.Hash.{mix, mix-all, as-utf8, hash-part, mix-ends, hash-ends, hashed, last-bits, hash-stretch, hash-flat, hash-contents}
 use Rattle.row_compare.proofs.Lists.{same-true, encode-low, encode-high}
 use Rattle.row_compare.proofs.Alike.{Numbers, flats-agree, self-agrees}
 
@@ -83,6 +84,39 @@ module _ (s : List ℕ) (at n : ℕ) (latin1 : Bool) where
     unfolding hash-part
     part-there r f g = rw (← e, f) g
 
+-- ---- both ends of a stretch
+
+module _ (s : List ℕ) (at n : ℕ) (inside : at + n ≤ length s) where
+  is-long : length (take n (drop at s)) ≡ n
+  is-long = length-part s at n inside
+
+  first-bytes : 64 < n → take 32 (take n (drop at s)) ≡ take 32 (drop at s)
+  first-bytes l = take-take 32 n (drop at s) (omega arith)
+
+  last-bytes : 64 < n → drop (n - 32) (take n (drop at s)) ≡ take 32 (drop (at + (n - 32)) s)
+  last-bytes l =
+      let e : n - 32 + 32 ≡ n = omega arith in
+      ap (λ (k : ℕ). drop (n - 32) (take k (drop at s))) (sym e)
+      ∙ ap (drop (n - 32)) (part-add s at (n - 32) 32)
+      ∙ drop-at (take (n - 32) (drop at s)) (take 32 (drop (at + (n - 32)) s)) (n - 32) (length-part s at (n - 32) (omega arith))
+
+module _ (s : List ℕ) (at n h : ℕ) (t : Bool) (e : t ≡ leb (at + n) (length s)) where
+  pub ends-missing : t ≡ false → h ≡ hash-ends s at n h
+  unfolding hash-ends
+  ends-missing f = rw (← e, f)
+
+  module _ (f : t ≡ true) where
+    there : at + n ≤ length s
+    there = leb-true (at + n) (length s) (sym e ∙ f)
+
+    pub ends-all : (r : ℕ) → n ≤ 64 → r ≡ mix-all h (as-utf8 false (take n (drop at s))) → r ≡ hash-ends s at n h
+    unfolding hash-ends mix-ends as-utf8
+    ends-all r l g = rw (← e, f, is-long s at n there, le-leb n 64 l) g
+
+    pub ends-two : (x y r : ℕ) → 64 < n → x ≡ mix h n → y ≡ mix-all x (as-utf8 false (take 32 (drop at s))) → r ≡ mix-all y (as-utf8 false (take 32 (drop (at + (n - 32)) s))) → r ≡ hash-ends s at n h
+    unfolding hash-ends mix-ends as-utf8
+    ends-two x y r l g i k = rw (← e, f, is-long s at n there, lt-leb n 64 l, first-bytes s at n there l, last-bytes s at n there l, ← g, ← i) k
+
 -- ---- by the case's number
 
 module _ (m : List ℕ) (code n : ℕ) where
@@ -113,19 +147,45 @@ module _ (m : List ℕ) (code n : ℕ) where
         unfolding hashed
         hashed-none nine = rw (ne-eqb code 2 two, ne-eqb code 5 five, ne-eqb code 6 six, ne-eqb code 9 nine)
 
+module _ (m : List ℕ) (bits at n : ℕ) where
+  pub last-none : n ≡ 0 → 0 ≡ last-bits m bits at n
+  unfolding last-bits
+  last-none e = rw (eq-eqb n 0 e)
+
+  module _ (some : n ≡ 0 → ⊥) (t : Bool) (e : t ≡ leb (at + n) (length m)) where
+    pub last-missing : t ≡ false → 0 ≡ last-bits m bits at n
+    unfolding last-bits
+    last-missing f = rw (ne-eqb n 0 some, ← e, f)
+
+    pub last-there : (r : ℕ) → t ≡ true → r ≡ high (getD m (at + (n - 1)) 0) bits → r ≡ last-bits m bits at n
+    unfolding last-bits
+    last-there r f g = rw (ne-eqb n 0 some, ← e, f) g
+
 module _ (m places : List ℕ) (h code : ℕ) (f : Flat) (r : ℕ) where
-  pub stretch-plain : (n : ℕ) → (code ≡ 4 → ⊥) → n ≡ hashed m code (f .length) → r ≡ hash-part m (f .start) n false h → r ≡ hash-stretch m places h code f
+  pub stretch-third : code ≡ 7 → r ≡ mix h (f .third) → r ≡ hash-stretch m places h code f
   unfolding hash-stretch
-  stretch-plain n e k p = rw (ne-eqb code 4 e, ← k) p
+  stretch-third e p = rw (eq-eqb code 7 e) p
+
+  module _ (seven : code ≡ 7 → ⊥) (four : code ≡ 4 → ⊥) (n : ℕ) (k : n ≡ hashed m code (f .length)) where
+    pub stretch-plain : (code ≡ 6 → ⊥) → r ≡ hash-ends m (f .start) n h → r ≡ hash-stretch m places h code f
+    unfolding hash-stretch
+    stretch-plain six p = rw (ne-eqb code 7 seven, ne-eqb code 4 four, ne-eqb code 6 six, ← k) p
+
+    pub stretch-bits : (x y : ℕ) → code ≡ 6 → x ≡ hash-ends m (f .start) n h → y ≡ last-bits m (f .first) (f .start) (f .length) → r ≡ mix x y → r ≡ hash-stretch m places h code f
+    unfolding hash-stretch
+    stretch-bits x y six p q g = rw (ne-eqb code 7 seven, ne-eqb code 4 four, eq-eqb code 6 six, ← k, ← p, ← q) g
 
   module _ (e : code ≡ 4) where
+    seven-not : code ≡ 7 → ⊥
+    seven-not z = omega arith
+
     pub stretch-listed : f .listed ≡ true → r ≡ hash-part places (f .start) (f .length) (f .latin1) h → r ≡ hash-stretch m places h code f
     unfolding hash-stretch
-    stretch-listed k p = rw (eq-eqb code 4 e, k) p
+    stretch-listed k p = rw (ne-eqb code 7 seven-not, eq-eqb code 4 e, k) p
 
     pub stretch-own : f .listed ≡ false → r ≡ hash-part m (f .start) (f .length) (f .latin1) h → r ≡ hash-stretch m places h code f
     unfolding hash-stretch
-    stretch-own k p = rw (eq-eqb code 4 e, k) p
+    stretch-own k p = rw (ne-eqb code 7 seven-not, eq-eqb code 4 e, k) p
 
 module _ (m places : List ℕ) (h : ℕ) (f : Flat) (r : ℕ) where
   pub flat-mixed : (x y : ℕ) → x ≡ mix h (f .first) → y ≡ mix x (f .second) → r ≡ hash-stretch m places y (f .code) f → r ≡ hash-flat m places h f
@@ -158,7 +218,20 @@ part-alike a i b j n latin1 h =
     two-parts (leb (i + n) (length a)) (leb (j + n) (length b)) (same-list (stretch a i n) (stretch b j n)) _ _ h
     (λ e. ap (λ (l : List ℕ). mix-all h (as-utf8 latin1 l)) (same-true (stretch a i n) (stretch b j n) e))
 
+ends-alike : (a : List ℕ) (i : ℕ) (b : List ℕ) (j n h : ℕ) → same-part a i b j n ≡ true → hash-ends a i n h ≡ hash-ends b j n h
+unfolding same-part hash-ends
+ends-alike a i b j n h =
+    two-parts (leb (i + n) (length a)) (leb (j + n) (length b)) (same-list (stretch a i n) (stretch b j n)) _ _ h
+    (λ e. ap (mix-ends h) (same-true (stretch a i n) (stretch b j n) e))
+
 module _ (a : List ℕ) (i n : ℕ) (b : List ℕ) (j k h : ℕ) where
+  both-ends-alike : same-stretch a i n b j k ≡ true → hash-ends a i n h ≡ hash-ends b j k h
+  unfolding same-stretch
+  both-ends-alike e =
+      let g = both-true (eqb n k) (same-part a i b j n) e in
+      let f : n ≡ k = eqb-true n k (g .0) in
+      rw (← f) (ends-alike a i b j n h (g .1))
+
   stretch-alike : (latin1 : Bool) → same-stretch a i n b j k ≡ true → hash-part a i n latin1 h ≡ hash-part b j k latin1 h
   unfolding same-stretch
   stretch-alike latin1 e =
@@ -179,8 +252,8 @@ text-alike a i n b j k h true false e = spelling-alike a i n b j k h e
 text-alike a i n b j k h false true e = sym (spelling-alike b j k a i n h e)
 text-alike a i n b j k h false false e = stretch-alike a i n b j k h false e
 
-none-hashed : (s : List ℕ) (at h : ℕ) → hash-part s at 0 false h ≡ h
-unfolding hash-part mix-all as-utf8
+none-hashed : (s : List ℕ) (at h : ℕ) → hash-ends s at 0 h ≡ h
+unfolding hash-ends mix-ends mix-all
 none-hashed s at h = go (leb (at + 0) (length s))
   where
     go : (t : Bool) → cond t h h ≡ h
@@ -188,27 +261,37 @@ none-hashed s at h = go (leb (at + 0) (length s))
     go false = refl
 
 module _ (m : List ℕ) (i n j k h : ℕ) where
-  bits-alike : (bits : ℕ) → same-bits m bits i n j k ≡ true → hash-part m i (n - 1) false h ≡ hash-part m j (k - 1) false h
+  bits-alike : (bits : ℕ) → same-bits m bits i n j k ≡ true
+      → mix (hash-ends m i (n - 1) h) (last-bits m bits i n) ≡ mix (hash-ends m j (k - 1) h) (last-bits m bits j k)
   unfolding same-bits same-last
   bits-alike bits e =
       let g = both-true (eqb n k) _ e in
       let f : n ≡ k = eqb-true n k (g .0) in
       rw (← f) (go (eqb n 0) refl (g .1))
     where
-      go : (t : Bool) → eqb n 0 ≡ t → cond t true (cond (leb (i + n) (length m)) (cond (leb (j + n) (length m)) (same-last m bits i j (n - 1)) false) false) ≡ true
-          → hash-part m i (n - 1) false h ≡ hash-part m j (n - 1) false h
-      go true z e = let f : n ≡ 0 = eqb-true n 0 z in let g : n - 1 ≡ 0 = omega arith in rw g (none-hashed m i h ∙ sym (none-hashed m j h))
-      go false z e =
-          let last = both-true (leb (j + n) (length m)) (same-last m bits i j (n - 1)) (both-true (leb (i + n) (length m)) _ e .1) .1 in
-          part-alike m i m j (n - 1) false h (both-true (same-part m i m j (n - 1)) _ last .0)
+      none : n ≡ 0 → (x : ℕ) → mix (hash-ends m x (n - 1) h) (last-bits m bits x n) ≡ mix h 0
+      none f x = let g : n - 1 ≡ 0 = omega arith in ap₂ mix (rw g (none-hashed m x h)) (sym (last-none m bits x n f))
 
-  words-alike : same-words m i n j k ≡ true → hash-part m i (hashed m 9 n) false h ≡ hash-part m j (hashed m 9 k) false h
+      last : (x : ℕ) → (n ≡ 0 → ⊥) → leb (x + n) (length m) ≡ true → last-bits m bits x n ≡ high (getD m (x + (n - 1)) 0) bits
+      last x some t = sym (last-there m bits x n some true (sym t) _ refl refl)
+
+      go : (t : Bool) → eqb n 0 ≡ t → cond t true (cond (leb (i + n) (length m)) (cond (leb (j + n) (length m)) (same-last m bits i j (n - 1)) false) false) ≡ true
+          → mix (hash-ends m i (n - 1) h) (last-bits m bits i n) ≡ mix (hash-ends m j (n - 1) h) (last-bits m bits j n)
+      go true z e = let f : n ≡ 0 = eqb-true n 0 z in none f i ∙ sym (none f j)
+      go false z e =
+          let some = eqb-false n 0 z in
+          let p = both-true (leb (i + n) (length m)) _ e in
+          let q = both-true (leb (j + n) (length m)) (same-last m bits i j (n - 1)) (p .1) in
+          let w = both-true (same-part m i m j (n - 1)) _ (q .1) in
+          ap₂ mix (ends-alike m i m j (n - 1) h (w .0)) (last i some (p .0) ∙ eqb-true _ _ (w .1) ∙ sym (last j some (q .0)))
+
+  words-alike : same-words m i n j k ≡ true → hash-ends m i (hashed m 9 n) h ≡ hash-ends m j (hashed m 9 k) h
   unfolding same-words hashed
   words-alike e =
       let g = both-true (eqb n k) _ e in
       let f : n ≡ k = eqb-true n k (g .0) in
       let l = unless-true (ltb (length m / 4) n) _ (g .1) in
-      rw (← f, l .0) (part-alike m i m j (4 * n) false h (l .1))
+      rw (← f, l .0) (ends-alike m i m j (4 * n) h (l .1))
 
 by-number : (code k : ℕ) (P : ℕ → Type 0) → P k → ((code ≡ k → ⊥) → P code) → P code
 by-number code k P p q = go (eqb code k) refl
@@ -217,20 +300,21 @@ by-number code k P p q = go (eqb code k) refl
     go true e = subst P (sym (eqb-true code k e)) p
     go false e = q (eqb-false code k e)
 
-module _ (m places : List ℕ) (h : ℕ) (a b : Flat) where
+module _ (m places : List ℕ) (h : ℕ) (a b : Flat) (one : a .first ≡ b .first) (three : a .third ≡ b .third) where
   abbrev Alike : ℕ → Type 0
   Alike code = same-stretches m places code a b ≡ true → hash-stretch m places h code a ≡ hash-stretch m places h code b
 
   stretches-alike : (code : ℕ) → Alike code
   unfolding same-stretches same-atoms same-texts hash-stretch hashed
   stretches-alike code =
-      by-number code 2 Alike (stretch-alike m (a .start) (a .length) m (b .start) (b .length) h false) λ two.
+      by-number code 2 Alike (both-ends-alike m (a .start) (a .length) m (b .start) (b .length) h) λ two.
       by-number code 4 Alike
       (text-alike (source m places (a .listed)) (a .start) (a .length) (source m places (b .listed)) (b .start) (b .length) h (a .latin1) (b .latin1)) λ four.
-      by-number code 5 Alike (stretch-alike m (a .start) (a .length) m (b .start) (b .length) h false) λ five.
-      by-number code 6 Alike (bits-alike m (a .start) (a .length) (b .start) (b .length) h (a .first)) λ six.
+      by-number code 5 Alike (both-ends-alike m (a .start) (a .length) m (b .start) (b .length) h) λ five.
+      by-number code 6 Alike (λ e. bits-alike m (a .start) (a .length) (b .start) (b .length) h (a .first) e ∙ ap (λ (x : ℕ). mix (hash-ends m (b .start) (b .length - 1) h) (last-bits m x (b .start) (b .length))) one) λ six.
+      by-number code 7 Alike (λ _. ap (mix h) three) λ seven.
       by-number code 9 Alike (words-alike m (a .start) (a .length) (b .start) (b .length) h) λ nine.
-      λ _. rw (ne-eqb code 4 four, ne-eqb code 2 two, ne-eqb code 5 five, ne-eqb code 6 six, ne-eqb code 9 nine)
+      λ _. rw (ne-eqb code 7 seven, ne-eqb code 4 four, ne-eqb code 6 six, ne-eqb code 2 two, ne-eqb code 5 five, ne-eqb code 9 nine)
       (none-hashed m (a .start) h ∙ sym (none-hashed m (b .start) h))
 
 -- contents that say the same have the same hash
@@ -241,5 +325,5 @@ hash-alike m places h a b e =
     let g : Flat = flat-of b in
     let k = flats-agree m places f g (self-agrees (same-stretches m places (f .code) f g)) .sure e in
     let n : Numbers f g = k .0 in
-    stretches-alike m places (mix (mix h (f .first)) (f .second)) f g (f .code) (k .1)
+    stretches-alike m places (mix (mix h (f .first)) (f .second)) f g (n .first) (n .third) (f .code) (k .1)
     ∙ ap₂ (λ (x c : ℕ). hash-stretch m places x c g) (ap₂ (λ (x y : ℕ). mix (mix h x) y) (n .first) (n .second)) (n .code)

@@ -1,19 +1,19 @@
 -- A number of 32 bits for a content, over what it says, not over how it is encoded: contents that say the same have the same.
 -- About the code alone, proved against the definitions of term_spec: nothing here has to be believed.
-use mathlib.Core.Bool.{Bool, false, cond}
+use mathlib.Core.Bool.{Bool, cond}
 use mathlib.Core.List.{List, [], _∷_}
 use Prim.Native.Nat.{ℕ, _+_, _*_, _-_, _/_, _%_}
 use lib.Dec.{eqb, leb, ltb}
-use lib.ListN.{length}
+use lib.ListN.{length, getD, take, drop}
 use Rattle.term_spec.specs.Text.{encodes}
 use Rattle.row_fields.specs.Meaning.{stretch}
-use Rattle.row_compare.specs.Same.{flat-of, source}
+use Rattle.row_compare.specs.Same.{flat-of, source, high}
 use Rattle.row_compare.specs.declared.Flat.{Flat}
 use Rattle.row_fields.specs.declared.Content.{Content}
 
--- a hash after one number more (the factor is that of a common random number generator), and after all of a list
+-- a hash after one number more, whose high half is added before the factor and whose low half after it (the factor is that of a common random number generator); after all of a list
 unfoldable pub mix : ℕ → ℕ → ℕ
-mix h x = (h * 22695477 + x % 4294967296 + x / 4294967296) % 4294967296
+mix h x = ((h + x / 4294967296) * 22695477 + x % 4294967296) % 4294967296
 
 unfoldable pub mix-all : ℕ → List ℕ → ℕ
 mix-all h [] = h
@@ -26,6 +26,13 @@ as-utf8 latin1 bs = cond latin1 (encodes bs) bs
 unfoldable pub hash-part : List ℕ → ℕ → ℕ → Bool → ℕ → ℕ
 hash-part s at n latin1 h = cond (leb (at + n) (length s)) (mix-all h (as-utf8 latin1 (stretch s at n))) h
 
+-- bytes: all where there are at most 64; else their number, the first 32 and the last 32
+unfoldable pub mix-ends : ℕ → List ℕ → ℕ
+mix-ends h bs = cond (leb (length bs) 64) (mix-all h bs) (mix-all (mix-all (mix h (length bs)) (take 32 bs)) (drop (length bs - 32) bs))
+
+unfoldable pub hash-ends : List ℕ → ℕ → ℕ → ℕ → ℕ
+hash-ends s at n h = cond (leb (at + n) (length s)) (mix-ends h (stretch s at n)) h
+
 -- how many bytes of a stretch that is no text count: of bits (6) all but the last, of n words (9) four times as many
 unfoldable pub hashed : List ℕ → ℕ → ℕ → ℕ
 hashed m code n =
@@ -34,10 +41,17 @@ hashed m code n =
     (cond (eqb code 6) (n - 1)
     (cond (eqb code 9) (cond (ltb (length m / 4) n) 0 (4 * n)) 0)))
 
+-- the bits that count of the last of n bytes; 0 where there is none
+unfoldable pub last-bits : List ℕ → ℕ → ℕ → ℕ → ℕ
+last-bits m bits at n = cond (eqb n 0) 0 (cond (leb (at + n) (length m)) (high (getD m (at + (n - 1)) 0) bits) 0)
+
+-- what a content says beside its first two numbers: a pid (7) its third, a text (4) and others their bytes
 unfoldable pub hash-stretch : List ℕ → List ℕ → ℕ → ℕ → Flat → ℕ
 hash-stretch m places h code f =
-    cond (eqb code 4) (hash-part (source m places (f .listed)) (f .start) (f .length) (f .latin1) h)
-    (hash-part m (f .start) (hashed m code (f .length)) false h)
+    cond (eqb code 7) (mix h (f .third))
+    (cond (eqb code 4) (hash-part (source m places (f .listed)) (f .start) (f .length) (f .latin1) h)
+    (cond (eqb code 6) (mix (hash-ends m (f .start) (hashed m code (f .length)) h) (last-bits m (f .first) (f .start) (f .length)))
+    (hash-ends m (f .start) (hashed m code (f .length)) h)))
 
 unfoldable pub hash-flat : List ℕ → List ℕ → ℕ → Flat → ℕ
 hash-flat m places h f = hash-stretch m places (mix (mix h (f .first)) (f .second)) (f .code) f

@@ -1,21 +1,18 @@
 -- Whether two contents say the same label, with the tests of the code in their order.
 -- About the code alone, proved against the definitions of term_spec: nothing here has to be believed.
 use mathlib.Core.Path.{_≡_}
-use mathlib.Core.Bool.{Bool, true, false, not, cond}
+use mathlib.Core.Bool.{Bool, true, false, cond}
 use mathlib.Core.List.{List, [], _∷_, _++_}
 use Prim.Native.Nat.{ℕ, _+_, _*_, _-_, _/_, _≤_}
 use lib.Dec.{eqb, leb, ltb}
 use lib.ListN.{length, getD, drop}
 use Rattle.term_spec.specs.Text.{encode, encodes}
 use Rattle.octets.specs.Parts.{stretch}
+use Rattle.row_fields.specs.Meaning.{sign}
 pub use Rattle.octets.specs.Parts.{source, high}
 use Rattle.row_compare.specs.declared.Flat.{Flat}
 use Rattle.row_fields.specs.declared.Content.{Content}
 use Rattle.row_fields.specs.declared.Content.the-variants.{Nothing, Whole, Big, Float, Text, Bytes, Bits, Pid, Port, Reference}
-
-unfoldable pub same-bool : Bool → Bool → Bool
-same-bool true b = b
-same-bool false b = not b
 
 unfoldable pub same-list : List ℕ → List ℕ → Bool
 same-list [] [] = true
@@ -67,38 +64,36 @@ same-bits m bits i n j k =
 unfoldable pub same-words : List ℕ → ℕ → ℕ → ℕ → ℕ → Bool
 same-words m i n j k = cond (eqb n k) (cond (ltb (length m / 4) n) false (same-part m i m j (4 * n))) false
 
--- a content as its case's number and its fields, zero and false where it has none
-unfoldable pub numbers-of : ℕ → Bool → ℕ → ℕ → ℕ → Flat
-numbers-of code negative first second third =
-    record { code = code; negative = negative; latin1 = false; listed = false; first = first; second = second; third = third; start = 0; length = 0 }
+-- a content as its case's number and its fields, zero and false where it has none; a sign is a number
+unfoldable pub numbers-of : ℕ → ℕ → ℕ → ℕ → Flat
+numbers-of code first second third =
+    record { code = code; latin1 = false; listed = false; first = first; second = second; third = third; start = 0; length = 0 }
 
-unfoldable pub stretch-of : ℕ → Bool → ℕ → ℕ → ℕ → Flat
-stretch-of code negative first start length =
-    record { code = code; negative = negative; latin1 = false; listed = false; first = first; second = 0; third = 0; start = start; length = length }
+unfoldable pub stretch-of : ℕ → ℕ → ℕ → ℕ → Flat
+stretch-of code first start length =
+    record { code = code; latin1 = false; listed = false; first = first; second = 0; third = 0; start = start; length = length }
 
 unfoldable pub text-flat : Bool → Bool → ℕ → ℕ → Flat
 text-flat latin1 listed start length =
-    record { code = 4; negative = false; latin1 = latin1; listed = listed; first = 0; second = 0; third = 0; start = start; length = length }
+    record { code = 4; latin1 = latin1; listed = listed; first = 0; second = 0; third = 0; start = start; length = length }
 
 unfoldable pub flat-of : Content → Flat
-flat-of Nothing = numbers-of 0 false 0 0 0
-flat-of (Whole negative n) = numbers-of 1 negative n 0 0
-flat-of (Big negative start n) = stretch-of 2 negative 0 start n
-flat-of (Float bits) = numbers-of 3 false bits 0 0
+flat-of Nothing = numbers-of 0 0 0 0
+flat-of (Whole negative n) = numbers-of 1 n (sign negative) 0
+flat-of (Big negative start n) = stretch-of 2 (sign negative) start n
+flat-of (Float bits) = numbers-of 3 bits 0 0
 flat-of (Text latin1 listed start n) = text-flat latin1 listed start n
-flat-of (Bytes start n) = stretch-of 5 false 0 start n
-flat-of (Bits bits start n) = stretch-of 6 false bits start n
-flat-of (Pid id serial creation) = numbers-of 7 false id serial creation
-flat-of (Port id creation) = numbers-of 8 false id creation 0
-flat-of (Reference creation start n) = stretch-of 9 false creation start n
+flat-of (Bytes start n) = stretch-of 5 0 start n
+flat-of (Bits bits start n) = stretch-of 6 bits start n
+flat-of (Pid id serial creation) = numbers-of 7 id serial creation
+flat-of (Port id creation) = numbers-of 8 id creation 0
+flat-of (Reference creation start n) = stretch-of 9 creation start n
 
 unfoldable pub same-numbers : Flat → Flat → Bool
 same-numbers a b =
     cond (eqb (a .code) (b .code))
-    (cond (same-bool (a .negative) (b .negative))
     (cond (eqb (a .first) (b .first))
     (cond (eqb (a .second) (b .second)) (eqb (a .third) (b .third)) false)
-    false)
     false)
     false
 

@@ -9,13 +9,13 @@ ghost use Prim.Native.Nat.{_+_, _≤_, _<_};
 ghost use lib.Dec.{leb};
 ghost use lib.ListN.{length, take, drop};
 ghost use Rattle.term_spec.specs.Text.{encodes};
-ghost use Rattle.row_compare.specs.Same.{same-bool, same-list, same-part, same-stretch, same-spelling, same-text, same-texts, same-last, same-bits, same-words, Spelling, numbers-of, stretch-of, text-flat, flat-of, same-numbers, same-atoms, same-stretches, same-flat, same-contents};
-ghost use Rattle.row_compare.specs.Hash.{mix, mix-all, as-utf8, hash-part, hashed, hash-stretch, hash-flat, hash-contents};
+ghost use Rattle.row_fields.specs.Meaning.{sign};
+ghost use Rattle.row_compare.specs.Same.{same-list, same-part, same-stretch, same-spelling, same-text, same-texts, same-last, same-bits, same-words, Spelling, numbers-of, stretch-of, text-flat, flat-of, same-numbers, same-atoms, same-stretches, same-flat, same-contents};
+ghost use Rattle.row_compare.specs.Hash.{mix, mix-all, as-utf8, hash-part, hash-ends, hashed, last-bits, hash-stretch, hash-flat, hash-contents};
 
-// A content as its case's number and its fields, zero and false where it has none.
+// A content as its case's number and its fields, zero and false where it has none; a sign is a number.
 pub struct Flat {
     pub code: usize,
-    pub negative: bool,
     pub latin1: bool,
     pub listed: bool,
     pub first: u64,
@@ -25,12 +25,21 @@ pub struct Flat {
     pub length: usize,
 }
 
-fn numbers_of(code: usize, negative: bool, first: u64, second: u64, third: u64) -> Flat
-    ensures { λ r. ⌜ r ≡ numbers-of code negative first second third ⌝ }
+// 1 for a negative number, else 0.
+fn sign_of(negative: bool) -> u64
+    ensures { λ r. ⌜ r ≡ sign negative ⌝ }
+{
+    if negative {
+        return 1;
+    }
+    0
+}
+
+fn numbers_of(code: usize, first: u64, second: u64, third: u64) -> Flat
+    ensures { λ r. ⌜ r ≡ numbers-of code first second third ⌝ }
 {
     Flat {
         code: code,
-        negative: negative,
         latin1: false,
         listed: false,
         first: first,
@@ -41,12 +50,11 @@ fn numbers_of(code: usize, negative: bool, first: u64, second: u64, third: u64) 
     }
 }
 
-fn stretch_of(code: usize, negative: bool, first: u64, start: usize, length: usize) -> Flat
-    ensures { λ r. ⌜ r ≡ stretch-of code negative first start length ⌝ }
+fn stretch_of(code: usize, first: u64, start: usize, length: usize) -> Flat
+    ensures { λ r. ⌜ r ≡ stretch-of code first start length ⌝ }
 {
     Flat {
         code: code,
-        negative: negative,
         latin1: false,
         listed: false,
         first: first,
@@ -62,7 +70,6 @@ fn text_flat(latin1: bool, listed: bool, start: usize, length: usize) -> Flat
 {
     Flat {
         code: codes::TEXT,
-        negative: false,
         latin1: latin1,
         listed: listed,
         first: 0,
@@ -77,40 +84,40 @@ fn flatten(c: Content) -> Flat
     ensures { λ r. ⌜ r ≡ flat-of c ⌝ }
 {
     match c {
-        Content::Nothing => numbers_of(codes::NOTHING, false, 0, 0, 0),
+        Content::Nothing => numbers_of(codes::NOTHING, 0, 0, 0),
         Content::Whole {
             negative,
             magnitude,
-        } => numbers_of(codes::WHOLE, negative, magnitude, 0, 0),
+        } => numbers_of(codes::WHOLE, magnitude, sign_of(negative), 0),
         Content::Big {
             negative,
             start,
             digits,
-        } => stretch_of(codes::BIG, negative, 0, start, digits),
-        Content::Float { bits } => numbers_of(codes::FLOAT, false, bits, 0, 0),
+        } => stretch_of(codes::BIG, sign_of(negative), start, digits),
+        Content::Float { bits } => numbers_of(codes::FLOAT, bits, 0, 0),
         Content::Text {
             latin1,
             listed,
             start,
             length,
         } => text_flat(latin1, listed, start, length),
-        Content::Bytes { start, length } => stretch_of(codes::BYTES, false, 0, start, length),
+        Content::Bytes { start, length } => stretch_of(codes::BYTES, 0, start, length),
         Content::Bits {
             bits,
             start,
             length,
-        } => stretch_of(codes::BITS, false, bits as u64, start, length),
+        } => stretch_of(codes::BITS, bits as u64, start, length),
         Content::Pid {
             id,
             serial,
             creation,
-        } => numbers_of(codes::PID, false, id, serial, creation),
-        Content::Port { id, creation } => numbers_of(codes::PORT, false, id, creation, 0),
+        } => numbers_of(codes::PID, id, serial, creation),
+        Content::Port { id, creation } => numbers_of(codes::PORT, id, creation, 0),
         Content::Reference {
             creation,
             start,
             words,
-        } => stretch_of(codes::REFERENCE, false, creation, start, words),
+        } => stretch_of(codes::REFERENCE, creation, start, words),
     }
 }
 
@@ -122,15 +129,6 @@ fn inside(s: &[u8], at: usize, n: usize) -> bool
         return false;
     }
     n <= s.len() - at
-}
-
-fn same_sign(a: bool, b: bool) -> bool
-    ensures { λ r. ⌜ r ≡ same-bool a b ⌝ }
-{
-    if a {
-        return b;
-    }
-    !b
 }
 
 // Whether the n bytes of a from i on are there and are those of b from j on.
@@ -284,9 +282,6 @@ fn same_numbers(a: Flat, b: Flat) -> bool
     if a.code != b.code {
         return false;
     }
-    if !same_sign(a.negative, b.negative) {
-        return false;
-    }
     if a.first != b.first {
         return false;
     }
@@ -361,12 +356,17 @@ const HASH_SIZE: u64 = 4294967296;
 
 const HASH_FACTOR: u64 = 22695477;
 
-// A hash after one number more.
+// Of more bytes than WHOLE_STRETCH only so many first and so many last ones count in a hash.
+const END_OF_STRETCH: usize = 32;
+
+const WHOLE_STRETCH: usize = 2 * END_OF_STRETCH;
+
+// A hash after one number more: its high half is added before the factor, its low half after it.
 pub fn mix(h: u64, x: u64) -> u64
     requires { ⌜ h < 4294967296 ⌝ }
     ensures { λ r. ⌜ (r ≡ mix h x) × (r < 4294967296) ⌝ }
 {
-    (h * HASH_FACTOR + x % HASH_SIZE + x / HASH_SIZE) % HASH_SIZE
+    ((h + x / HASH_SIZE) * HASH_FACTOR + x % HASH_SIZE) % HASH_SIZE
 }
 
 // A hash after the byte c, or after the Latin-1 character c in UTF-8.
@@ -408,6 +408,21 @@ fn hash_part(s: &[u8], at: usize, n: usize, latin1: bool, h: u64) -> u64
     mix_bytes(s, at, n, latin1, h)
 }
 
+// A hash after the n bytes of s from `at` on: where they are many, after their number and those at both ends.
+fn hash_ends(s: &[u8], at: usize, n: usize, h: u64) -> u64
+    requires { ⌜ h < 4294967296 ⌝ }
+    ensures { λ r. ⌜ (r ≡ hash-ends (now (s .entry)) at n h) × (r < 4294967296) ⌝ }
+{
+    if !inside(s, at, n) {
+        return h;
+    }
+    if n <= WHOLE_STRETCH {
+        return mix_bytes(s, at, n, false, h);
+    }
+    let begun = mix_bytes(s, at, END_OF_STRETCH, false, mix(h, n as u64));
+    mix_bytes(s, at + (n - END_OF_STRETCH), END_OF_STRETCH, false, begun)
+}
+
 // How many bytes of a stretch that is no text count in a hash.
 fn hashed(msg: &[u8], code: usize, n: usize) -> usize
     ensures { λ r. ⌜ r ≡ hashed (now (msg .entry)) code n ⌝ }
@@ -433,14 +448,34 @@ fn hashed(msg: &[u8], code: usize, n: usize) -> usize
     0
 }
 
-// A hash after the bytes that a content says.
+// The bits that count of the last of n bytes; 0 where there is none.
+fn last_bits(msg: &[u8], bits: usize, at: usize, n: usize) -> u64
+    ensures { λ r. ⌜ r ≡ last-bits (now (msg .entry)) bits at n ⌝ }
+{
+    if n == 0 {
+        return 0;
+    }
+    if !inside(msg, at, n) {
+        return 0;
+    }
+    octets::high_bits(msg[at + (n - 1)], bits) as u64
+}
+
+// A hash after what a content says beside its first two numbers.
 fn hash_stretch(msg: &[u8], places: &[u8], h: u64, code: usize, f: Flat) -> u64
     requires { ⌜ h < 4294967296 ⌝ }
     ensures { λ r. ⌜ (r ≡ hash-stretch (now (msg .entry)) (now (places .entry)) h code f) × (r < 4294967296) ⌝ }
 {
+    if code == codes::PID {
+        return mix(h, f.third);
+    }
     if code != codes::TEXT {
         let n = hashed(msg, code, f.length);
-        return hash_part(msg, f.start, n, false, h);
+        let sum = hash_ends(msg, f.start, n, h);
+        if code != codes::BITS {
+            return sum;
+        }
+        return mix(sum, last_bits(msg, f.first as usize, f.start, f.length));
     }
     if f.listed {
         return hash_part(places, f.start, f.length, f.latin1, h);

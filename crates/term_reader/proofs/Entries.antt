@@ -2,19 +2,25 @@
 use mathlib.Core.Path.{_≡_, refl, sym, ap, _∙_, subst}
 use mathlib.Core.Bool.{Bool, true, false, not}
 use mathlib.Core.List.{List, [], _∷_, append-nil}
-use Prim.Native.Nat.{ℕ, suc, _+_, _-_, _*_, _/_, _%_, _≤_, _<_}
+use Prim.Native.Nat.{ℕ, zero, suc, _+_, _-_, _*_, _/_, _%_, _≤_, _<_}
 use native.Mathlib.Omega.{arith}
-use lib.ListN.{length, getD}
+use lib.ListN.{length, getD, drop}
 use lib.Seq.{sets, length-sets}
-use Rattle.term_spec.specs.Tree.{empty, _▹_, _▹▹_, count, size, sizes, Each-node, Each-nodes}
+use Rattle.term_spec.specs.Tree.{empty, _▹_, _▹▹_, count, size, sizes, depth, Each-node, Each-nodes}
+use Rattle.term_spec.specs.Numbers.{Under}
 use Rattle.term_spec.specs.Term.{Term}
 use Rattle.term_spec.specs.Equal.{among}
 use Rattle.term_spec.specs.Answer.{Answer, good, Position, Reading, after, done, rule, at-offset}
 use Rattle.term_spec.specs.Head.{Given, Wanted, any, pairs}
 use Rattle.term_spec.specs.AtomList.{AtomList, of-size, given-of, lent-list}
-use Rattle.term_spec.specs.Reading.{Located, meaning, entries, term}
-use Rattle.term_spec.specs.Message.{Terms}
+use Rattle.term_spec.specs.Reading.{Located, as-read, meaning, entries, term}
+use Rattle.term_spec.specs.Message.{Terms, all-as-read}
 use Rattle.term_spec.specs.Rows.{Row, tree-rows, rows, kind-of, whole-code, row-words, Placed, Here}
+use Rattle.term_spec.specs.Valid.{Valid, Valids}
+use Rattle.term_spec.proofs.Heads.{for-any}
+use Rattle.term_spec.proofs.Accepted.{term-holds}
+use Rattle.term_spec.proofs.Accepted.{Found as Found-term}
+use Rattle.term_spec.proofs.Message.{list-true}
 use Rattle.term_spec.proofs.Backed.{Backeds, term-backed}
 use Rattle.term_spec.proofs.Backed as backing
 use Rattle.term_spec.proofs.RoundTrip.{join-none}
@@ -22,7 +28,7 @@ use Rattle.term_spec.proofs.Rows.{size-positive, each-nodes-join, sizes-join, c
 use Rattle.term_spec.proofs.Text.{under-all}
 use Rattle.term_spec.proofs.Words.{small-rows, sets-here, length-words-of}
 use Rattle.map_keys.specs.Compare.{among-rows}
-use Rattle.map_keys.specs.KeySet.{Contains, Keeps, hash-row-words, Contains-before, Contains-or-insert}
+use Rattle.map_keys.specs.KeySet.{Contains, Keeps, hash-row-words, term-hash, Contains-before, Contains-or-insert}
 use Rattle.map_keys.proofs.Compare.{Keys-of, no-keys, one-more-key}
 use Rattle.map_keys.proofs.InTable.{Rows-in-table, last-among}
 use Rattle.map_keys.proofs.Slots.{keeps-trans, contains-as, contains-kept}
@@ -36,16 +42,45 @@ use Rattle.term_reader.proofs.Characters.{code-of-whole}
 use Rattle.term_reader.proofs.Found.{Found, step-found, step-refused, joined-words}
 use Rattle.term_reader.proofs.Runs.{after-same, after-after, after-done}
 
--- a key past pairs is compared with each key of theirs
-abbrev pub Told : List ℕ → ℕ → Given → List ℕ → List ℕ → ℕ → Type 0
-Told m cap given places lengths first =
-    (S : List ℕ) (us : Terms) (u : Located) (ks : List Term) → Keys-of us ks → Rows-in-table m cap given S (whole-of first) first (us ▹▹ (u ▹ empty))
-    → among-rows m places lengths S first (first + sizes us) ≡ among (meaning u) ks
+under-from : (n : ℕ) (l : List ℕ) → Under 256 l → Under 256 (drop n l)
+under-from zero l u = u
+under-from (suc n) [] u = tt
+under-from (suc n) (x ∷ l) u = under-from n l (u .1)
 
-pub keys-told : (flags n : ℕ) (places lengths m : List ℕ) (cap first : ℕ) → of-size (lent-list n places lengths) ≡ true → n < 256 → ((i : ℕ) → getD m i 0 < 256)
-    → Told m cap (given-of flags (lent-list n places lengths)) places lengths first
-keys-told flags n places lengths m cap first sized few under S us u ks k h =
-    last-among flags (lent-list n places lengths) m (record { sized = sized; few = omega arith; under = under-all m (λ i _. under i) }) cap S us u k h
+-- terms that are read are valid, and have no more levels than there are
+abbrev pub Sound : Given → ℕ → ℕ → List ℕ → Type 0
+Sound given cap deep m =
+    (at row : ℕ) → row ≤ cap → (t : Located) (s : Position) → term given cap deep any (at-offset m at row) ≡ good (t, s) → Valid (given .flags) (as-read t) × (depth (as-read t) ≤ deep)
+
+pub parts-sound : (flags n : ℕ) (places lengths m : List ℕ) (cap deep : ℕ) → ((i : ℕ) → getD m i 0 < 256) → cap ≤ 8192 → Sound (given-of flags (lent-list n places lengths)) cap deep m
+parts-sound flags n places lengths m cap deep under few at row low t s e =
+    let list : AtomList = lent-list n places lengths in
+    let f : Found-term cap (given-of flags list) for-any deep row t s
+    = term-holds cap (given-of flags list) (list-true flags list) few deep for-any row (at-offset m at row)
+    (record { bytes-under = under-from at m (under-all m (λ i _. under i)); rows-are = refl }) low .known t s e in
+    (f .valid, f .deep)
+
+-- a key past pairs is compared with each key of theirs, and where the set contains theirs, those that are the same have one hash
+pub record Told (m : List ℕ) (cap : ℕ) (given : Given) (places lengths : List ℕ) (first deep : ℕ) : Type 0 where
+  pub tells : (S : List ℕ) (us : Terms) (u : Located) (ks : List Term) → Keys-of us ks → Rows-in-table m cap given S (whole-of first) first (us ▹▹ (u ▹ empty))
+      → depth (as-read u) ≤ deep → Valid (given .flags) (as-read u) → Valids (given .flags) (all-as-read us)
+      → among-rows m places lengths S deep first (first + sizes us) ≡ among (meaning u) ks
+  pub recalls : (S : List ℕ) (us : Terms) (u : Located) (L : List ℕ) → Rows-in-table m cap given S (whole-of first) first (us ▹▹ (u ▹ empty))
+      → depth (as-read u) ≤ deep → Valid (given .flags) (as-read u) → Valids (given .flags) (all-as-read us)
+      → Contains-keys m places lengths (whole-of first) first first us L → Contains-before m places lengths S deep first (first + sizes us) L
+  pub hashes : (S : List ℕ) (us : Terms) (u : Located) → Rows-in-table m cap given S (whole-of first) first (us ▹▹ (u ▹ empty))
+      → term-hash m places lengths S first (first + sizes us) ≡ hash-row-words m places lengths first (row-words (tree-rows (whole-of first) (first + sizes us) u))
+
+pub keys-told : (flags n : ℕ) (places lengths m : List ℕ) (cap first deep : ℕ) → of-size (lent-list n places lengths) ≡ true → n < 256 → ((i : ℕ) → getD m i 0 < 256)
+    → Told m cap (given-of flags (lent-list n places lengths)) places lengths first deep
+unfolding given-of
+keys-told flags n places lengths m cap first deep sized few under =
+    let list : AtomList = lent-list n places lengths in
+    record {
+      tells = λ S us u ks k h e v w. last-among flags list m (record { sized = sized; few = omega arith; under = under-all m (λ i _. under i) }) cap S deep us u k h e v w;
+      recalls = λ S us u L h e v w r. contains-before flags list m (record { sized = sized; few = omega arith; under = under-all m (λ i _. under i) }) cap us u h deep e v w r;
+      hashes = λ S us u h. hash-held flags list m (record { sized = sized; few = omega arith; under = under-all m (λ i _. under i) }) cap us u h;
+    }
 
 -- a term that was read has a row
 pub term-inside : (m : List ℕ) (cap row whole : ℕ) (T : List ℕ) (o : Answer (Located × Position)) (r : Step) (T′ : List ℕ) (next end : ℕ) → r ≡ step.Got next end
@@ -58,6 +93,11 @@ term-inside m cap row whole T o r T′ next end e d =
 one-more : (ts us : Terms) (t : Located) → ts ▹▹ (t ▹ us) ≡ (ts ▹▹ (t ▹ empty)) ▹▹ us
 one-more empty us t = refl
 one-more (u ▹ ts) us t = ap (λ (x : Terms). u ▹ x) (one-more ts us t)
+
+-- one more valid term
+valid-more : (flags : ℕ) (ts : Terms) (t : Located) → Valids flags (all-as-read ts) → Valid flags (as-read t) → Valids flags (all-as-read (ts ▹▹ (t ▹ empty)))
+valid-more flags empty t v w = (w, tt)
+valid-more flags (u ▹ ts) t v w = (v .0, valid-more flags ts t (v .1) w)
 
 -- Of a map of `all` pairs, whose parts start at the row `first` and the offset `start`; T₀ is the table before them:
 module _ (given : Given) (cap deep : ℕ) (m places lengths : List ℕ) (start first all : ℕ) (T₀ : List ℕ) where
@@ -74,6 +114,7 @@ module _ (given : Given) (cap deep : ℕ) (m places lengths : List ℕ) (start f
     pub many : parts ≡ count ts
     pub backed : Backeds m cap given ts
     pub placed : Each-nodes (Placed 65536) ts
+    pub valid : Valids (given .flags) (all-as-read ts)
 
   -- pairs are read; `more` pairs are to come, the first one's key at `at`
   pub record Before-key (at row parts : ℕ) (T L : List ℕ) : Type 0 where
@@ -113,7 +154,7 @@ module _ (given : Given) (cap deep : ℕ) (m places lengths : List ℕ) (start f
         ts = empty;
         earlier = [];
         more = all;
-        stored = record { table-is = refl; rows-are = omega arith; many = refl; backed = tt; placed = tt };
+        stored = record { table-is = refl; rows-are = omega arith; many = refl; backed = tt; placed = tt; valid = tt };
         left = omega arith;
         keys = no-keys;
         remembered = no-key;
@@ -193,7 +234,7 @@ module _ (given : Given) (cap deep : ℕ) (m places lengths : List ℕ) (start f
       part-refused k p place U (before-key i) some e = rw (i .goes, next-pair i some, step-refused _ _ _ m cap row T (Part any (at-offset m at row)) r T′ k p e d)
       part-refused k p place U (before-value i) some e = rw (i .goes, step-refused _ _ _ m cap row T (Part any (at-offset m at row)) r T′ k p e d)
 
-      module _ (list : AtomList) (room : Room m list T cap at row first) (next end : ℕ) (e : r ≡ step.Got next end) where
+      module _ (list : AtomList) (room : Room m list T cap at row first) (next end : ℕ) (e : r ≡ step.Got next end) (sound : Sound given cap deep m) where
         abbrev part : Found size (λ t. row-words (tree-rows (whole-of first) row t)) (Each-node (Placed 65536)) m cap row T (Part any (at-offset m at row)) next end T′
         part = step-found size _ _ m cap row T (Part any (at-offset m at row)) r T′ next end e d
 
@@ -210,6 +251,7 @@ module _ (given : Given) (cap deep : ℕ) (m places lengths : List ℕ) (start f
               many = omega (arith, s .many, count-join ts (t ▹ empty));
               backed = backing.joined m cap given ts (t ▹ empty) (s .backed) (b .1, tt);
               placed = each-nodes-join (Placed 65536) ts (t ▹ empty) (s .placed) (part .from, tt);
+              valid = valid-more (given .flags) ts t (s .valid) (sound at row (room .low) t (at-offset m next end) (part .is) .0);
             }
 
         -- the value of a key
@@ -232,8 +274,8 @@ module _ (given : Given) (cap deep : ℕ) (m places lengths : List ℕ) (start f
             })
 
         -- a key, which is judged, and which is among the earlier ones or not
-        module _ (i : Before-key at row parts T L) (some : parts / 2 < all) (tell : Told m cap given places lengths first)
-            (b : Bool) (L₁ L₂ : List ℕ) (kept : Keeps L L₁) (judged : Contains-or-insert m places lengths T′ first row L₁ b L₂) where
+        module _ (i : Before-key at row parts T L) (some : parts / 2 < all) (tell : Told m cap given places lengths first deep)
+            (b : Bool) (L₁ L₂ : List ℕ) (kept : Keeps L L₁) (judged : Contains-or-insert m places lengths T′ deep first row L₁ b L₂) where
           with-key : Stored (i .ts ▹▹ (part .x ▹ empty)) end (parts + 1) T′
           with-key = stored-more (i .ts) (i .stored)
 
@@ -252,16 +294,19 @@ module _ (given : Given) (cap deep : ℕ) (m places lengths : List ℕ) (start f
                 all-backed = with-key .backed;
               }
 
-          recalls-keys : Contains-before m places lengths T′ first row L₁
+          valid-key : Valid (given .flags) (as-read (part .x)) × (depth (as-read (part .x)) ≤ deep)
+          valid-key = sound at row (room .low) (part .x) (at-offset m next end) (part .is)
+
+          recalls-keys : Contains-before m places lengths T′ deep first row L₁
           recalls-keys =
-              subst (λ (k : ℕ). Contains-before m places lengths T′ first k L₁) (sym (i .stored .rows-are))
-              (contains-before m places lengths cap given (i .ts) (part .x) held (keys-kept kept (i .remembered)))
+              subst (λ (k : ℕ). Contains-before m places lengths T′ deep first k L₁) (sym (i .stored .rows-are))
+              (tell .recalls T′ (i .ts) (part .x) L₁ held (valid-key .1) (valid-key .0) (i .stored .valid) (keys-kept kept (i .remembered)))
 
           is-among : b ≡ among (meaning (part .x)) (i .earlier)
           is-among =
               judged .judged recalls-keys
-              ∙ ap (λ (k : ℕ). among-rows m places lengths T′ first k) (i .stored .rows-are)
-              ∙ tell T′ (i .ts) (part .x) (i .earlier) (i .keys) held
+              ∙ ap (λ (k : ℕ). among-rows m places lengths T′ deep first k) (i .stored .rows-are)
+              ∙ tell .tells T′ (i .ts) (part .x) (i .earlier) (i .keys) held (valid-key .1) (valid-key .0) (i .stored .valid)
 
           pub key-twice : (place : ℕ) (U : List ℕ) → b ≡ true → Map-done place (parts-of.Refused 7 at) U
           unfolding inner Done
@@ -273,7 +318,7 @@ module _ (given : Given) (cap deep : ℕ) (m places lengths : List ℕ) (start f
               let k : Located = part .x in
               let more : ℕ = i .more - 1 in
               let known : Contains L₂ (hash-row-words m places lengths first (row-words (tree-rows (whole-of first) (first + sizes ts) k))) (first + sizes ts)
-              = contains-as (hash-held m places lengths cap given ts k held) (rw (i .stored .rows-are) at (judged .inserted new)) in
+              = contains-as (tell .hashes T′ ts k held) (rw (i .stored .rows-are) at (judged .inserted new)) in
               before-value
               (record {
                 ts = ts;

@@ -13,8 +13,8 @@ use Rattle.term_spec.specs.Term.{Label, Term, integer, atom, tuple, list
 use Rattle.term_spec.specs.Equal.{among}
 use Rattle.term_spec.specs.Answer.{Answer, good, refused, Position, Reading, after, done}
 use Rattle.term_spec.specs.Head.{Given, limits, Wanted, any, an-atom, an-arity, Head, leaf, parts, characters, elements, pairs, Later, known, pid-fields, port-fields, reference-fields, old-reference-fields, later, id-words, words-rule, creation-rule}
-use Rattle.term_spec.specs.Reading.{Offset, tag-at, character-at, Located, meaning, empty-108, opening, one-term, row, body, contents, term, each, run, entries, string, list-tail}
-use Rattle.term_spec.specs.Message.{meanings}
+use Rattle.term_spec.specs.Reading.{Offset, tag-at, character-at, Located, as-read, meaning, empty-108, opening, one-term, row, body, contents, term, each, run, entries, string, list-tail}
+use Rattle.term_spec.specs.Message.{all-as-read}
 use Rattle.term_spec.specs.Numbers.{Under}
 use Rattle.term_spec.specs.Valid.{Fits, Valid, Valids, Keys, Improper, IsList}
 use Rattle.term_spec.proofs.Holds.{Holds, Fine, bind, done-holds, refused-holds, rule-holds, number-holds, next, weaken, at-rows}
@@ -131,13 +131,13 @@ ends-cons : (t : Term) {l : Label} {ts : Forest Label} → Ends l ts → Ends l 
 ends-cons t proper = proper
 ends-cons t (improper {ts = ts} h) = improper (last-cons t ts h)
 
-ends-join : (us vs : Forest (Label × Offset)) {l : Label} → Ends l (meanings vs) → Ends l (meanings (us ▹▹ vs))
+ends-join : (us vs : Forest (Label × Offset)) {l : Label} → Ends l (all-as-read vs) → Ends l (all-as-read (us ▹▹ vs))
 ends-join empty vs e = e
-ends-join (u ▹ us) vs e = ends-cons (meaning u) (ends-join us vs e)
+ends-join (u ▹ us) vs e = ends-cons (as-read u) (ends-join us vs e)
 
-last-join : (us vs : Forest (Label × Offset)) → Last-plain (meanings vs) → Last-plain (meanings (us ▹▹ vs))
+last-join : (us vs : Forest (Label × Offset)) → Last-plain (all-as-read vs) → Last-plain (all-as-read (us ▹▹ vs))
 last-join empty vs h = h
-last-join (u ▹ us) vs h = last-cons (meaning u) (meanings (us ▹▹ vs)) (last-join us vs h)
+last-join (u ▹ us) vs h = last-cons (as-read u) (all-as-read (us ▹▹ vs)) (last-join us vs h)
 
 -- what was asked for
 leaf-answers : {w : Wanted} (a : Asked w) (l : Label) → Suits a (leaf l) → Answers a (node l empty)
@@ -154,24 +154,24 @@ elsewhere for-arity h t s f g = absurd (g (s .0) (s .2))
 module _ (cap : ℕ) (given : Given) where
   -- a term is found, with r rows taken before
   pub record Found {w : Wanted} (a : Asked w) (d r : ℕ) (u : Located) (t : Position) : Type 0 where
-    pub valid : Valid (given .flags) (meaning u)
-    pub deep : depth (meaning u) ≤ d
-    pub room : r + size (meaning u) ≤ cap
-    pub fine : Fine (r + size (meaning u)) t
-    pub answers : Answers a (meaning u)
+    pub valid : Valid (given .flags) (as-read u)
+    pub deep : depth (as-read u) ≤ d
+    pub room : r + size (as-read u) ≤ cap
+    pub fine : Fine (r + size (as-read u)) t
+    pub answers : Answers a (as-read u)
 
   -- a run of parts
   pub record Founds (d r : ℕ) (us : Forest (Label × Offset)) (t : Position) : Type 0 where
-    pub valid : Valids (given .flags) (meanings us)
-    pub deep : deepest (meanings us) ≤ d
-    pub room : r + sizes (meanings us) ≤ cap
-    pub fine : Fine (r + sizes (meanings us)) t
+    pub valid : Valids (given .flags) (all-as-read us)
+    pub deep : deepest (all-as-read us) ≤ d
+    pub room : r + sizes (all-as-read us) ≤ cap
+    pub fine : Fine (r + sizes (all-as-read us)) t
 
   no-parts : {d r : ℕ} {t : Position} → r ≤ cap → Fine r t → Founds d r empty t
   no-parts h g = record { valid = tt; deep = omega arith; room = omega arith; fine = at-rows g (omega arith) }
 
   one-more : {w : Wanted} {a : Asked w} {d r : ℕ} {u : Located} {us : Forest (Label × Offset)} {s t : Position}
-      → Found a d r u s → Founds d (r + size (meaning u)) us t → Founds d r (u ▹ us) t
+      → Found a d r u s → Founds d (r + size (as-read u)) us t → Founds d r (u ▹ us) t
   one-more f fs =
       record {
         valid = (f .valid, fs .valid);
@@ -181,10 +181,10 @@ module _ (cap : ℕ) (given : Given) where
       }
 
   joined : (us : Forest (Label × Offset)) {d r : ℕ} {vs : Forest (Label × Offset)} {s t : Position}
-      → Founds d r us s → Founds d (r + sizes (meanings us)) vs t → Founds d r (us ▹▹ vs) t
+      → Founds d r us s → Founds d (r + sizes (all-as-read us)) vs t → Founds d r (us ▹▹ vs) t
   joined empty f fs = record { valid = fs .valid; deep = fs .deep; room = omega (arith, fs .room); fine = at-rows (fs .fine) (omega arith) }
   joined (u ▹ us) {d} {r} {vs} {s} {t} f fs =
-      let rest : Founds d (r + size (meaning u)) (us ▹▹ vs) t
+      let rest : Founds d (r + size (as-read u)) (us ▹▹ vs) t
       = joined us {s = s}
       (record { valid = f .valid .1; deep = omega (arith, f .deep); room = omega (arith, f .room); fine = at-rows (f .fine) (omega arith) })
       (record { valid = fs .valid; deep = fs .deep; room = omega (arith, fs .room); fine = at-rows (fs .fine) (omega arith) }) in
@@ -197,24 +197,24 @@ module _ (cap : ℕ) (given : Given) where
 
   module _ (d : ℕ) (part : Wanted → Reading Located)
       (reader : (w : Wanted) (a : Asked w) (r : ℕ) (s : Position) → Fine r s → r ≤ cap → Holds (part w s) (Found a d r)) where
-    run-holds : (n r : ℕ) (s : Position) → Fine r s → r ≤ cap → Holds (run part n s) (λ us t. Founds d r us t × (count (meanings us) ≡ n))
+    run-holds : (n r : ℕ) (s : Position) → Fine r s → r ≤ cap → Holds (run part n s) (λ us t. Founds d r us t × (count (all-as-read us) ≡ n))
     unfolding run
     run-holds zero r s g h = done-holds _ s (no-parts h g, refl)
     run-holds (suc n) r s g h =
         next (Found for-any d r) (reader any for-any r s g h) λ u t f.
-        next (λ us t. Founds d (r + size (meaning u)) us t × (count (meanings us) ≡ n)) (run-holds n (r + size (meaning u)) t (f .fine) (f .room)) λ us t fs.
+        next (λ us t. Founds d (r + size (as-read u)) us t × (count (all-as-read us) ≡ n)) (run-holds n (r + size (as-read u)) t (f .fine) (f .room)) λ us t fs.
         done-holds _ t (one-more f (fs .0), ap suc (fs .1))
 
     entries-holds : (earlier : List Term) (n r : ℕ) (s : Position) → Fine r s → r ≤ cap
-        → Holds (entries part earlier n s) (λ us t. Founds d r us t × Keys earlier (meanings us))
+        → Holds (entries part earlier n s) (λ us t. Founds d r us t × Keys earlier (all-as-read us))
     unfolding entries
     entries-holds earlier zero r s g h = done-holds _ s (no-parts h g, tt)
     entries-holds earlier (suc n) r s g h =
         next (Found for-any d r) (reader any for-any r s g h) λ k t f.
         bind (rule-holds (not (among (meaning k) earlier)) 7 (s .at) t λ e.
-        next (Found for-any d (r + size (meaning k))) (reader any for-any (r + size (meaning k)) t (f .fine) (f .room)) λ v t f′.
-        next (λ us t. Founds d (r + size (meaning k) + size (meaning v)) us t × Keys (meaning k ∷ earlier) (meanings us))
-        (entries-holds (meaning k ∷ earlier) n (r + size (meaning k) + size (meaning v)) t (f′ .fine) (f′ .room)) λ us t fs.
+        next (Found for-any d (r + size (as-read k))) (reader any for-any (r + size (as-read k)) t (f .fine) (f .room)) λ v t f′.
+        next (λ us t. Founds d (r + size (as-read k) + size (as-read v)) us t × Keys (meaning k ∷ earlier) (all-as-read us))
+        (entries-holds (meaning k ∷ earlier) n (r + size (as-read k) + size (as-read v)) t (f′ .fine) (f′ .room)) λ us t fs.
         done-holds _ t (one-more f (one-more f′ (fs .0)), (not-true (among (meaning k) earlier) e, fs .1)))
 
   -- a small integer that stands for a character
@@ -250,17 +250,17 @@ module _ (cap : ℕ) (given : Given) where
   abbrev Inner : ℕ → (ℕ → Head → Reading Located) → Type 0
   Inner d inner =
       (w : Wanted) (a : Asked w) (p : ℕ) (h : Head) (r : ℕ) (s : Position) → Sound (given .flags) h → empty-108 h ≡ false → Suits a h → Fine r s → r ≤ cap
-      → Holds (inner p h s) (λ u t. Found a d r u t × (Plain h → ¬ IsList (top (meaning u))))
+      → Holds (inner p h s) (λ u t. Found a d r u t × (Plain h → ¬ IsList (top (as-read u))))
 
   module _ (true-atoms : True-atoms given) (few : cap ≤ 8192) (d : ℕ) (inner : ℕ → Head → Reading Located) (ok-inner : Inner d inner) where
     reader : (w : Wanted) (a : Asked w) (r : ℕ) (s : Position) → Fine r s → r ≤ cap → Holds (one-term given inner w s) (Found a d r)
     unfolding one-term
     reader w a r s g h =
         bind (opening-holds given true-atoms a (s .left) s g λ p x t ok z suits g.
-        weaken (λ u t. Found a d r u t × (Plain x → ¬ IsList (top (meaning u)))) (ok-inner w a p x r t ok z suits g h) (λ u t f. f .0))
+        weaken (λ u t. Found a d r u t × (Plain x → ¬ IsList (top (as-read u)))) (ok-inner w a p x r t ok z suits g h) (λ u t f. f .0))
 
     abbrev Ending : ℕ → Forest (Label × Offset) × Label → Position → Type 0
-    Ending r e t = Founds d r (e .0) t × Ends (e .1) (meanings (e .0))
+    Ending r e t = Founds d r (e .0) t × Ends (e .1) (all-as-read (e .0))
 
     tail-holds : (bound : List ℕ) (r : ℕ) (s : Position) → Fine r s → r ≤ cap → Holds (list-tail given cap d inner bound s) (Ending r)
     unfolding list-tail
@@ -280,22 +280,22 @@ module _ (cap : ℕ) (given : Given) where
         go p (characters cs) t (a-string us) z g ih =
             next (Founds d r) (string-holds d p (p + 3) cs us r t g h) λ us t fs. done-holds _ t (fs, proper)
         go p (elements n) t a-list z g ih =
-            next (λ us t. Founds d r us t × (count (meanings us) ≡ n)) (run-holds d (one-term given inner) reader n r t g h) λ us t fs.
-            next (Ending (r + sizes (meanings us))) (ih (r + sizes (meanings us)) t (fs .0 .fine) (fs .0 .room)) λ e t es.
+            next (λ us t. Founds d r us t × (count (all-as-read us) ≡ n)) (run-holds d (one-term given inner) reader n r t g h) λ us t fs.
+            next (Ending (r + sizes (all-as-read us))) (ih (r + sizes (all-as-read us)) t (fs .0 .fine) (fs .0 .room)) λ e t es.
             done-holds _ t (joined us (fs .0) (es .0), ends-join us (e .0) (es .1))
         go p (parts ws n l) t ok z g ih =
-            next (λ u t. Found for-any d r u t × (Unit {0} → ¬ IsList (top (meaning u)))) (ok-inner any for-any p (parts ws n l) r t ok z tt g h) λ u t f.
+            next (λ u t. Found for-any d r u t × (Unit {0} → ¬ IsList (top (as-read u)))) (ok-inner any for-any p (parts ws n l) r t ok z tt g h) λ u t f.
             done-holds _ t (one-more (f .0) (no-parts (f .0 .room) (f .0 .fine)), improper (f .1 tt))
         go p (pairs n) t ok z g ih =
-            next (λ u t. Found for-any d r u t × (Unit {0} → ¬ IsList (top (meaning u)))) (ok-inner any for-any p (pairs n) r t ok z tt g h) λ u t f.
+            next (λ u t. Found for-any d r u t × (Unit {0} → ¬ IsList (top (as-read u)))) (ok-inner any for-any p (pairs n) r t ok z tt g h) λ u t f.
             done-holds _ t (one-more (f .0) (no-parts (f .0 .room) (f .0 .fine)), improper (f .1 tt))
 
     abbrev Result : {w : Wanted} → Asked w → ℕ → Head → Located → Position → Type 0
-    Result a r h u t = Found a (suc d) r u t × (Plain h → ¬ IsList (top (meaning u)))
+    Result a r h u t = Found a (suc d) r u t × (Plain h → ¬ IsList (top (as-read u)))
 
     -- a whole from its parts
     made : {w : Wanted} {a : Asked w} {r : ℕ} {us : Forest (Label × Offset)} {t : Position} (l : Label) (p : Offset)
-        → Founds d (r + 1) us t → Fits (given .flags) l (meanings us) → Answers a (node l (meanings us)) → Found a (suc d) r (node (l, p) us) t
+        → Founds d (r + 1) us t → Fits (given .flags) l (all-as-read us) → Answers a (node l (all-as-read us)) → Found a (suc d) r (node (l, p) us) t
     made l p f fits answers =
         record {
           valid = (fits, f .valid);
@@ -306,11 +306,11 @@ module _ (cap : ℕ) (given : Given) where
         }
 
     -- a list from its elements and its end
-    list-fits : (us vs : Forest (Label × Offset)) (l : Label) (r : ℕ) → r + 1 + sizes (meanings (us ▹▹ vs)) ≤ cap → 0 < count (meanings us) → Ends l (meanings vs)
-        → Fits (given .flags) l (meanings (us ▹▹ vs))
-    list-fits us vs list r room some-us proper = omega (arith, count-le-sizes (meanings (us ▹▹ vs)))
+    list-fits : (us vs : Forest (Label × Offset)) (l : Label) (r : ℕ) → r + 1 + sizes (all-as-read (us ▹▹ vs)) ≤ cap → 0 < count (all-as-read us) → Ends l (all-as-read vs)
+        → Fits (given .flags) l (all-as-read (us ▹▹ vs))
+    list-fits us vs list r room some-us proper = omega (arith, count-le-sizes (all-as-read (us ▹▹ vs)))
     list-fits empty vs improper-list r room some-us (improper h) = absurd (omega arith)
-    list-fits (u ▹ us) vs improper-list r room some-us (improper h) = (omega (arith, count-le-sizes (meanings ((u ▹ us) ▹▹ vs))), improper-cons (meaning u) (meanings (us ▹▹ vs)) (last-join us vs h))
+    list-fits (u ▹ us) vs improper-list r room some-us (improper h) = (omega (arith, count-le-sizes (all-as-read ((u ▹ us) ▹▹ vs))), improper-cons (as-read u) (all-as-read (us ▹▹ vs)) (last-join us vs h))
 
     -- over the identifiers: a node, then the later fields
     named-holds : {w : Wanted} (a : Asked w) (p : ℕ) (l : Later) (r : ℕ) (s : Position) → Suits a (parts (an-atom ∷ []) 0 l)
@@ -321,7 +321,7 @@ module _ (cap : ℕ) (given : Given) where
     named-holds a p l r s suits g less later-ok =
         next (λ us t. (u : Located) × (us ≡ u ▹ empty) × Found for-atom d (r + 1) u t)
         (next (Found for-atom d (r + 1)) (reader an-atom for-atom (r + 1) s g (omega arith)) λ u t f. done-holds _ t (u, refl, f)) λ us t f.
-        let size-one : size (meaning (f .0)) ≡ 1 = ap size (f .2 .answers .1) in
+        let size-one : size (as-read (f .0)) ≡ 1 = ap size (f .2 .answers .1) in
         next (λ x t. Names (given .flags) x × (¬ IsList x) × Fine (r + 1 + 1) t) (later-ok (r + 1 + 1) t (at-rows (f .2 .fine) (omega arith))) λ x t n.
         let founds : Founds d (r + 1) (f .0 ▹ empty) t
         = record {
@@ -330,7 +330,7 @@ module _ (cap : ℕ) (given : Given) where
           room = omega (arith, f .2 .room);
           fine = at-rows (n .2) (omega arith);
         } in
-        let fits : Fits (given .flags) x (meaning (f .0) ▹ empty) = rw (f .2 .answers .1) (n .0 (f .2 .answers .0)) in
+        let fits : Fits (given .flags) x (as-read (f .0) ▹ empty) = rw (f .2 .answers .1) (n .0 (f .2 .answers .0)) in
         rw (f .1) (done-holds (node (x, tag-at p) (f .0 ▹ empty)) t
         (made x (tag-at p) founds fits (elsewhere a _ _ suits no-atom no-byte), λ _. n .1))
       where
@@ -347,18 +347,18 @@ module _ (cap : ℕ) (given : Given) where
     unfolding contents each run later
     export-holds a p r s suits g less =
         next (λ us t. (x : Located) × (y : Located) × (z : Located) × (us ≡ x ▹ y ▹ z ▹ empty) × Founds d (r + 1) us t
-        × Answers for-atom (meaning x) × Answers for-atom (meaning y) × Answers for-arity (meaning z))
+        × Answers for-atom (as-read x) × Answers for-atom (as-read y) × Answers for-arity (as-read z))
         (next (Found for-atom d (r + 1)) (reader an-atom for-atom (r + 1) s g (omega arith)) λ x t f.
-        next (λ us t. (y : Located) × (z : Located) × (us ≡ y ▹ z ▹ empty) × Founds d (r + 1 + size (meaning x)) us t
-        × Answers for-atom (meaning y) × Answers for-arity (meaning z))
-        (next (Found for-atom d (r + 1 + size (meaning x))) (reader an-atom for-atom (r + 1 + size (meaning x)) t (f .fine) (f .room)) λ y t f′.
-        next (λ us t. (z : Located) × (us ≡ z ▹ empty) × Founds d (r + 1 + size (meaning x) + size (meaning y)) us t × Answers for-arity (meaning z))
-        (next (Found for-arity d (r + 1 + size (meaning x) + size (meaning y))) (reader an-arity for-arity _ t (f′ .fine) (f′ .room)) λ z t f″.
+        next (λ us t. (y : Located) × (z : Located) × (us ≡ y ▹ z ▹ empty) × Founds d (r + 1 + size (as-read x)) us t
+        × Answers for-atom (as-read y) × Answers for-arity (as-read z))
+        (next (Found for-atom d (r + 1 + size (as-read x))) (reader an-atom for-atom (r + 1 + size (as-read x)) t (f .fine) (f .room)) λ y t f′.
+        next (λ us t. (z : Located) × (us ≡ z ▹ empty) × Founds d (r + 1 + size (as-read x) + size (as-read y)) us t × Answers for-arity (as-read z))
+        (next (Found for-arity d (r + 1 + size (as-read x) + size (as-read y))) (reader an-arity for-arity _ t (f′ .fine) (f′ .room)) λ z t f″.
         done-holds _ t (z, refl, one-more f″ (no-parts (f″ .room) (f″ .fine)), f″ .answers)) λ us t k.
         done-holds _ t (y, k .0, ap (λ (vs : Forest (Label × Offset)). y ▹ vs) (k .1), one-more f′ (k .2), f′ .answers, k .3)) λ us t k.
         done-holds _ t (x, k .0, k .1, ap (λ (vs : Forest (Label × Offset)). x ▹ vs) (k .2), one-more f (k .3), f .answers, k .4, k .5)) λ us t k.
-        let parts-are : meanings us ≡ node (atom (k .5 .0)) empty ▹ node (atom (k .6 .0)) empty ▹ node (integer (pos (k .7 .0))) empty ▹ empty
-        = ap meanings (k .3)
+        let parts-are : all-as-read us ≡ node (atom (k .5 .0)) empty ▹ node (atom (k .6 .0)) empty ▹ node (integer (pos (k .7 .0))) empty ▹ empty
+        = ap all-as-read (k .3)
         ∙ ap₂ (λ (x : Term) (ts : Forest Label). x ▹ ts) (k .5 .1) (ap₂ (λ (y : Term) (z : Term). y ▹ z ▹ empty) (k .6 .1) (k .7 .2)) in
         rw (join-none us) (done-holds (node (export, tag-at p) us) t
         (made export (tag-at p) (k .4) (k .5 .0, k .6 .0, k .7 .0, k .7 .1, parts-are) (elsewhere a _ _ suits no-atom no-byte), λ _ x. x))
@@ -376,7 +376,7 @@ module _ (cap : ℕ) (given : Given) where
     whole-holds a p r s (a-leaf {l = l} f nl) z suits g less =
         done-holds _ s (made l (tag-at p) (no-parts (omega arith) g) f (leaf-answers a l suits), λ _. nl)
     whole-holds a p r s (a-tuple {n = n} l) z suits g less =
-        next (λ us t. Founds d (r + 1) us t × (count (meanings us) ≡ n)) (run-holds d (one-term given inner) reader n (r + 1) s g (omega arith)) λ us t fs.
+        next (λ us t. Founds d (r + 1) us t × (count (all-as-read us) ≡ n)) (run-holds d (one-term given inner) reader n (r + 1) s g (omega arith)) λ us t fs.
         done-holds _ t (
           made tuple (tag-at p) (fs .0) (omega (arith, fs .1))
               (elsewhere a _ _ suits (λ cs e. let z : _≡_ {A = ℕ} 0 1 = cc in omega arith) (λ n e. let z : _≡_ {A = ℕ} 0 1 = cc in omega arith)),
@@ -394,14 +394,14 @@ module _ (cap : ℕ) (given : Given) where
     whole-holds a p r s (a-string {cs = cs} us) z suits g less =
         next (Founds d (r + 1)) (string-holds d p (p + 3) cs us (r + 1) s g (omega arith)) λ us t fs.
         done-holds _ t (
-          made list (tag-at p) fs (omega (arith, count-le-sizes (meanings us), fs .room))
+          made list (tag-at p) fs (omega (arith, count-le-sizes (all-as-read us), fs .room))
               (elsewhere a _ _ suits (λ cs e. let z : _≡_ {A = ℕ} 0 1 = cc in omega arith) (λ n e. let z : _≡_ {A = ℕ} 0 1 = cc in omega arith)),
           λ bad. absurd bad,
         )
     whole-holds a p r s (a-list {n = zero}) z suits g less = absurd (let z : _≡_ {A = ℕ} 0 1 = cc in omega arith)
     whole-holds a p r s (a-list {n = suc n}) z suits g less =
-        next (λ us t. Founds d (r + 1) us t × (count (meanings us) ≡ suc n)) (run-holds d (one-term given inner) reader (suc n) (r + 1) s g (omega arith)) λ us t fs.
-        next (Ending (r + 1 + sizes (meanings us))) (tail-holds (t .left) (r + 1 + sizes (meanings us)) t (fs .0 .fine) (fs .0 .room)) λ e t es.
+        next (λ us t. Founds d (r + 1) us t × (count (all-as-read us) ≡ suc n)) (run-holds d (one-term given inner) reader (suc n) (r + 1) s g (omega arith)) λ us t fs.
+        next (Ending (r + 1 + sizes (all-as-read us))) (tail-holds (t .left) (r + 1 + sizes (all-as-read us)) t (fs .0 .fine) (fs .0 .room)) λ e t es.
         let all : Founds d (r + 1) (us ▹▹ e .0) t = joined us (fs .0) (es .0) in
         done-holds _ t (
           made (e .1) (tag-at p) all (list-fits us (e .0) (e .1) r (all .room) (omega (arith, fs .1)) (es .1))
@@ -409,9 +409,9 @@ module _ (cap : ℕ) (given : Given) where
           λ bad. absurd bad,
         )
     whole-holds a p r s (a-map {n = n}) z suits g less =
-        next (λ us t. Founds d (r + 1) us t × Keys [] (meanings us)) (entries-holds d (one-term given inner) reader [] n (r + 1) s g (omega arith)) λ us t fs.
+        next (λ us t. Founds d (r + 1) us t × Keys [] (all-as-read us)) (entries-holds d (one-term given inner) reader [] n (r + 1) s g (omega arith)) λ us t fs.
         done-holds _ t (
-          made map (tag-at p) (fs .0) (omega (arith, count-le-sizes (meanings us), fs .0 .room), fs .1)
+          made map (tag-at p) (fs .0) (omega (arith, count-le-sizes (all-as-read us), fs .0 .room), fs .1)
               (elsewhere a _ _ suits (λ cs e. let z : _≡_ {A = ℕ} 0 1 = cc in omega arith) (λ n e. let z : _≡_ {A = ℕ} 0 1 = cc in omega arith)),
           λ _ x. x,
         )

@@ -1,4 +1,4 @@
--- The cases P of document 01, for any known flags and any empty atom list, as a single statement: `cases`. Proved by computing what the definitions answer.
+-- The cases P of document 01, and maps in another order, for any known flags and any empty atom list, as a single statement: `cases`. Proved by computing what the definitions answer.
 use mathlib.Core.Path.{_≡_, refl, _∙_, ap}
 use mathlib.Core.Bool.{Bool, true, false}
 use mathlib.Core.List.{List, [], _∷_, _++_}
@@ -6,17 +6,19 @@ use Prim.Native.Nat.{ℕ, _*_, _≤_, min}
 use native.Mathlib.Omega.{arith}
 use lib.Dec.{leb}
 use lib.ListN.{length, replicate}
-use native.Mathlib.Decide.{ℕ-discrete}
 use Rattle.term_spec.specs.Numbers.{big-endian, in-bytes, little-endian, digits-within, digits, signed32, with-sign}
 use Rattle.term_spec.specs.Text.{holds, lines, marker, first, emit, decode, check, is-character, encode, encodes}
-use Rattle.term_spec.specs.Equal.{list-discrete, integer-discrete, term-discrete, same, among}
+use Rattle.term_spec.specs.Order.{compare-numbers, compare-lists, numbers-of, compare}
+use Rattle.term_spec.specs.Pairs.{put-in, in-order, arranged-parts, arranged}
+use Rattle.term_spec.specs.Meaning.{pair-before}
+use Rattle.term_spec.specs.Equal.{same, among}
 use Rattle.term_spec.specs.Connection.{v4-nc, flags-known}
 use Rattle.term_spec.specs.Answer.{Answer, good, refused, bytes, number}
 use Rattle.term_spec.specs.Head.{forms, form-in, form-or, form, text-or, finite, bits-rule, clear-low, bits-meaning, fields, term-head, creation-rule, id-words, words-rule, limits, later}
 use Rattle.term_spec.specs.Reading.{opening, each, run, entries, row, string, list-tail, contents, body, one-term}
 use Rattle.term_spec.specs.AtomList.{AtomList, of-size, place-length, place-bytes, place-text, given-of, empty-list, lent-list}
 use Rattle.term_spec.specs.Message.{standalone, payload, Terms, meanings, ending, version, standalone-term, payload-terms, terms-framed, result-of, first-check, read}
-use Rattle.term_spec.specs.Canonical.{big-bytes, integer-bytes, atom-bytes, tuple-bytes, port-bytes, words-bytes, small, all-small, list-bytes, term-bytes, canonical, canonical-standalone, standalones}
+use Rattle.term_spec.specs.Canonical.{big-bytes, integer-bytes, atom-bytes, tuple-bytes, port-bytes, words-bytes, small, all-small, list-bytes, term-bytes, bytes-of, key-before, canonical, canonical-standalone, standalones}
 use Rattle.term_spec.specs.Writing.{Written, written, write}
 use Rattle.term_spec.specs.Tree.{count}
 use Rattle.term_spec.specs.Rows.{rows, tree-rows, kind-of, kind-at, offset-of, whole-code, pack, word, row-words, table-after}
@@ -25,7 +27,7 @@ use Rattle.term_spec.proofs.Demand.{written-good, written-by, refused-b
 
 -- what the writer answers for a standalone term, with both flags, an empty list of zeros, 8,192 rows and 65,536 bytes of output
 unfoldable pub output : List ℕ → Answer Written
-unfolding ℕ-discrete big-endian in-bytes little-endian digits-within digits signed32 with-sign holds lines marker first emit decode check is-character encode encodes list-discrete integer-discrete term-discrete same among bytes number forms form-in form-or form text-or finite bits-rule clear-low bits-meaning fields term-head creation-rule id-words words-rule later opening each run entries row string list-tail contents body one-term of-size place-length place-bytes place-text given-of v4-nc flags-known limits big-bytes integer-bytes atom-bytes tuple-bytes port-bytes words-bytes small all-small list-bytes term-bytes canonical canonical-standalone standalones ending version standalone-term payload-terms read written write
+unfolding big-endian in-bytes little-endian digits-within digits signed32 with-sign holds lines marker first emit decode check is-character encode encodes compare-numbers compare-lists numbers-of compare put-in in-order arranged-parts arranged pair-before same among bytes number forms form-in form-or form text-or finite bits-rule clear-low bits-meaning fields term-head creation-rule id-words words-rule later opening each run entries row string list-tail contents body one-term of-size place-length place-bytes place-text given-of v4-nc flags-known limits big-bytes integer-bytes atom-bytes tuple-bytes port-bytes words-bytes small all-small list-bytes term-bytes bytes-of key-before canonical canonical-standalone standalones ending version standalone-term payload-terms read written write
 output message = write 3 standalone empty-list 8192 65536 message
 
 -- one term, and its bytes
@@ -55,6 +57,14 @@ module _ (flags : ℕ) (known : flags-known flags ≡ true) (places lengths : Li
     p13 = rw (sized, known) refl;
     deep64 = rw (sized, known) refl;
     deep65 = rw (sized, known) refl;
+    turned = rw (sized, known) refl;
+    again = rw (sized, known) refl;
+    by-bytes = rw (sized, known) refl;
+    kept = rw (sized, known) refl;
+    within = rw (sized, known) refl;
+    keys-of-maps = rw (sized, known) refl;
+    same-keys = rw (sized, known) refl;
+    deep-keys = rw (sized, known) refl;
   }
 
 -- the same cases, said in another way
@@ -73,6 +83,14 @@ said-so w r c = record {
   p13 = r _ _ _ (c .p13);
   deep64 = w _ _ (c .deep64);
   deep65 = r _ _ _ (c .deep65);
+  turned = w _ _ (c .turned);
+  again = w _ _ (c .again);
+  by-bytes = w _ _ (c .by-bytes);
+  kept = w _ _ (c .kept);
+  within = w _ _ (c .within);
+  keys-of-maps = w _ _ (c .keys-of-maps);
+  same-keys = r _ _ _ (c .same-keys);
+  deep-keys = r _ _ _ (c .deep-keys);
 }
 
 -- more than 8,192 rows are as good as 8,192

@@ -15,8 +15,10 @@ use Rattle.term_spec.specs.Answer.{Answer, good, refused}
 use Rattle.term_spec.specs.Head.{any}
 use Rattle.term_spec.specs.Reading.{Located, meaning, term}
 use Rattle.term_spec.specs.AtomList.{AtomList, of-size, given-of}
-use Rattle.term_spec.specs.Message.{Framing, standalone, Terms, meanings, ending, version, standalone-term, read}
-use Rattle.term_spec.specs.Canonical.{canonical, canonical-standalone, standalones}
+use Rattle.term_spec.specs.Message.{Framing, standalone, Terms, all-as-read, meanings, ending, version, standalone-term, read}
+use Rattle.term_spec.specs.Pairs.{arranged, all-arranged}
+use Rattle.term_spec.specs.Meaning.{pair-before, ordered, all-ordered}
+use Rattle.term_spec.specs.Canonical.{bytes-of, key-before, canonical, canonical-standalone, standalones}
 use Rattle.term_spec.specs.Writing.{Written, written, write, output-after, scratch-after}
 use Rattle.term_spec.specs.Demands.{One-of, Accepted-term, Own-output, Written-out, Refused-out, Means, Output-of, Demand-3}
 use Rattle.term_spec.specs.Rows.{table-after}
@@ -28,20 +30,31 @@ use Rattle.term_spec.specs.declared.WriteAnswer.{WriteAnswer}
 use Rattle.term_spec.proofs.Steps.{spot}
 use Rattle.term_spec.proofs.Parts.{Reads}
 use Rattle.term_spec.proofs.RoundTrip.{read-tree}
-use Rattle.term_spec.proofs.Injective.{canonical-injective}
+use Rattle.term_spec.proofs.Pairs.{size-arranged, depth-arranged}
+use Rattle.term_spec.proofs.Same.{ordered-arranged, ordered-ordered}
+use Rattle.term_spec.proofs.Arranged.{valid-arranged}
+use Rattle.term_spec.proofs.Injective.{bytes-injective}
 use Rattle.term_spec.proofs.Rows.{size-meaning}
 use Rattle.term_spec.proofs.Capacity.{enough}
 use Rattle.term_spec.proofs.Message.{Allowed, All-allowed, Accepted-message, accepted-message}
 
--- The canonical standalone term of a tree within the limits is read back, with any atom list of its size and any table of as many rows.
-read-back : (flags : ℕ) (t : Term) → flags-known flags ≡ true → Allowed flags t → (list : AtomList) → of-size list ≡ true → (lent : ℕ) → size t ≤ lent → length (canonical-standalone t) ≤ 65536
+-- What an accepted term means: a tree within the limits, its pairs in the order of meanings
+record A-meaning (flags : ℕ) (t : Term) : Type 0 where
+  pub within : Allowed flags t
+  pub in-its-order : ordered t ≡ t
+
+-- The canonical standalone term of a meaning is read back, with any atom list of its size and any table of as many rows.
+read-back : (flags : ℕ) (t : Term) → flags-known flags ≡ true → A-meaning flags t → (list : AtomList) → of-size list ≡ true → (lent : ℕ) → size t ≤ lent → length (canonical-standalone t) ≤ 65536
     → (tree : Located) × (read flags standalone list lent (canonical-standalone t) ≡ good (tree ▹ empty)) × (meaning tree ≡ t)
-unfolding read standalone-term version ending canonical-standalone given-of
+unfolding read standalone-term version ending canonical-standalone canonical given-of
 read-back flags t known a list sized lent enough short =
+    let u : Term = arranged key-before t in
     let cap : ℕ = min 8192 lent in
-    let r : Reads (given-of flags list) cap 64 any (canonical t ++ []) [] 1 0 t = read-tree (given-of flags list) cap t (a .valid-tree) 64 (a .levels) 1 0 [] (omega (arith, a .few-rows)) in
-    let e : term (given-of flags list) cap 64 any (spot 1 (canonical t) 0) ≡ good (r .tree, spot (r .end) [] (0 + size t)) = rw (append-nil (canonical t)) at (r .reads) in
-    (r .tree, rw (sized, known, le-leb _ 65536 short, e) refl, r .means)
+    let as-many : size u ≡ size t = size-arranged key-before t in
+    let r : Reads (given-of flags list) cap 64 any (bytes-of u ++ []) [] 1 0 u
+    = read-tree (given-of flags list) cap u (valid-arranged key-before flags t (a .within .valid-tree)) 64 (omega (arith, depth-arranged key-before t, a .within .levels)) 1 0 [] (omega (arith, a .within .few-rows)) in
+    let e : term (given-of flags list) cap 64 any (spot 1 (bytes-of u) 0) ≡ good (r .tree, spot (r .end) [] (0 + size u)) = rw (append-nil (bytes-of u)) at (r .reads) in
+    (r .tree, rw (sized, known, le-leb _ 65536 short, e) refl, ap ordered (r .means) ∙ ordered-arranged key-before t ∙ a .in-its-order)
 
 -- what is written where the room is enough
 pub written-good : (ts : Terms) (bs : List ℕ) → standalones (meanings ts) ≡ bs → (room : ℕ) → length bs ≤ room
@@ -58,29 +71,48 @@ writes flags framing list message ts e scratch room rows fits =
 
 written-back : (t : Term) (tree : Located) (o : Answer Terms) → o ≡ good (tree ▹ empty) → meaning tree ≡ t → (room : ℕ) → length (canonical-standalone t) ≤ room
     → written room o ≡ good (record { terms = 1; bytes = canonical-standalone t })
-unfolding standalones
+unfolding standalones all-arranged
 written-back t tree o e m room enough =
     let is : standalones (meaning tree ▹ empty) ≡ canonical-standalone t = append-nil _ ∙ ap canonical-standalone m in
     ap (written room) e ∙ written-good (tree ▹ empty) (canonical-standalone t) is room enough
 
 -- equal bytes exactly where the meanings are equal
-pub same-bytes : (flags : ℕ) (t u : Term) → Allowed flags t → Allowed flags u → (canonical-standalone t ≡ canonical-standalone u) ↔ (t ≡ u)
-unfolding canonical-standalone
-same-bytes flags t u a b =
-    (λ e. canonical-injective flags t u (a .valid-tree) (b .valid-tree) (let rest : canonical t ≡ canonical u = cc in rest), λ e. ap canonical-standalone e)
+same-bytes : (flags : ℕ) (t u : Term) → A-meaning flags t → A-meaning flags u → (canonical-standalone t ≡ canonical-standalone u) ↔ (t ≡ u)
+unfolding canonical-standalone canonical
+same-bytes flags t u a b = (
+  λ e.
+      let rest : bytes-of (arranged key-before t) ≡ bytes-of (arranged key-before u) = cc in
+      let one : arranged key-before t ≡ arranged key-before u
+      = bytes-injective flags (arranged key-before t) (arranged key-before u) (valid-arranged key-before flags t (a .within .valid-tree)) (valid-arranged key-before flags u (b .within .valid-tree)) rest in
+      sym (a .in-its-order) ∙ sym (ordered-arranged key-before t) ∙ ap ordered one ∙ ordered-arranged key-before u ∙ b .in-its-order,
+  λ e. ap canonical-standalone e,
+)
 
-one-allowed : (flags : ℕ) (t : Term) (ts : Forest Label) → All-allowed flags ts → One-of t ts → Allowed flags t
-one-allowed flags t empty a o = absurd o
-one-allowed flags t (u ▹ us) a (inl e) = subst (Allowed flags) (sym e) (a .0)
-one-allowed flags t (u ▹ us) a (inr o) = one-allowed flags t us (a .1) o
+-- what a term within the limits means is within them
+meant : (flags : ℕ) (t : Term) → Allowed flags t → A-meaning flags (ordered t)
+meant flags t a =
+    record {
+      within = record {
+        valid-tree = valid-arranged pair-before flags t (a .valid-tree);
+        levels = omega (arith, depth-arranged pair-before t, a .levels);
+        few-rows = omega (arith, size-arranged pair-before t, a .few-rows);
+      };
+      in-its-order = ordered-ordered t;
+    }
+
+one-meant : (flags : ℕ) (t : Term) (ts : Forest Label) → All-allowed flags ts → One-of t (all-ordered ts) → A-meaning flags t
+unfolding all-arranged
+one-meant flags t empty a o = absurd o
+one-meant flags t (u ▹ us) a (inl e) = subst (A-meaning flags) (sym e) (meant flags u (a .0))
+one-meant flags t (u ▹ us) a (inr o) = one-meant flags t us (a .1) o
 
 module _ (flags : ℕ) (t : Term) (a : Accepted-term flags t) where
   its-message : Accepted-message flags (a .list) 8192 (a .message) (a .terms)
   its-message = accepted-message flags (a .framing) (a .list) 8192 (a .message) (a .are-bytes) (a .terms) (a .accepted)
 
-  term-allowed : Allowed flags t
+  term-meant : A-meaning flags t
   unfolding given-of
-  term-allowed = one-allowed flags t (meanings (a .terms)) (its-message .known .all-allowed) (a .one-of-them)
+  term-meant = one-meant flags t (all-as-read (a .terms)) (its-message .known .all-allowed) (a .one-of-them)
 
 -- a term's own output stands in what is written for its message
 own-output : (t : Term) (ts : Forest Label) → One-of t ts → Own-output t ts
@@ -148,7 +180,7 @@ refused-by {output = output} number place e c =
 output-of : (flags : ℕ) (t : Term) (a : Accepted-term flags t) → Output-of flags t a
 unfolding write
 output-of flags t a =
-    let back = read-back flags t (its-message flags t a .flags-true) (term-allowed flags t a) in
+    let back = read-back flags t (its-message flags t a .flags-true) (term-meant flags t a) in
     record {
       canonical-written = λ scratch output rows fits answer s o w.
           written-by (record { terms = count (a .terms); bytes = standalones (meanings (a .terms)) })
@@ -167,5 +199,5 @@ demand-3 flags t u a b =
     record {
       first-output = output-of flags t a;
       second-output = output-of flags u b;
-      same-output = same-bytes flags t u (term-allowed flags t a) (term-allowed flags u b);
+      same-output = same-bytes flags t u (term-meant flags t a) (term-meant flags u b);
     }

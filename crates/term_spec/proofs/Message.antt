@@ -13,14 +13,14 @@ use Rattle.term_spec.specs.Term.{Label, Term}
 use Rattle.term_spec.specs.Connection.{flags-known}
 use Rattle.term_spec.specs.Answer.{Answer, good, refused, Position, Reading, after, done}
 use Rattle.term_spec.specs.Head.{Given, any}
-use Rattle.term_spec.specs.Reading.{Located, meaning, term}
+use Rattle.term_spec.specs.Reading.{Located, as-read, term}
 use Rattle.term_spec.specs.AtomList.{AtomList, of-size, given-of, place-length, place-text, place-bytes}
-use Rattle.term_spec.specs.Message.{Framing, standalone, payload, Terms, meanings, ending, result-of, first-check, standalone-term, payload-terms, terms-framed, read}
+use Rattle.term_spec.specs.Message.{Framing, standalone, payload, Terms, all-as-read, ending, result-of, first-check, standalone-term, payload-terms, terms-framed, read}
 use Rattle.term_spec.specs.Numbers.{Under}
 use Rattle.term_spec.specs.Valid.{Valid, Valids}
 use Rattle.term_spec.proofs.Steps.{spot}
 use Rattle.term_spec.proofs.Text.{utf8-spells}
-use Rattle.term_spec.proofs.Rows.{size-meaning}
+use Rattle.term_spec.proofs.Rows.{size-as-read}
 use Rattle.term_spec.proofs.Holds.{Holds, Fine, both, bind, done-holds, next, version-holds, ending-holds}
 use Rattle.term_spec.proofs.Heads.{True-atoms, for-any}
 use Rattle.term_spec.proofs.Accepted.{Found, term-holds}
@@ -43,7 +43,7 @@ allowed-valid flags (t ▹ ts) a = (a .0 .valid-tree, allowed-valid flags ts (a 
 
 -- what is known of the terms of a message, read with `cap` rows
 pub record Known (message : List ℕ) (cap : ℕ) (given : Given) (ts : Terms) : Type 0 where
-  pub all-allowed : All-allowed (given .flags) (meanings ts)
+  pub all-allowed : All-allowed (given .flags) (all-as-read ts)
   pub few : sizes ts ≤ cap
   pub all-backed : Backeds message cap given ts
 
@@ -58,17 +58,17 @@ module _ (given : Given) (true-atoms : True-atoms given) (cap : ℕ) (least : ca
   start : In-step message cap (spot 0 message 0)
   start = record { bytes-are = refl; inside = omega arith; room = omega arith }
 
-  allowed : (r : ℕ) (x : Located) (t : Position) → Outer r x t → Allowed (given .flags) (meaning x)
+  allowed : (r : ℕ) (x : Located) (t : Position) → Outer r x t → Allowed (given .flags) (as-read x)
   allowed r x t f = record { valid-tree = f .0 .valid; levels = f .0 .deep; few-rows = omega (arith, f .0 .room) }
 
   one-known : (x : Located) (t : Position) → Outer 0 x t → Known message cap given (x ▹ empty)
-  one-known x t f = record { all-allowed = (allowed 0 x t f, tt); few = omega (arith, size-meaning x, f .0 .room); all-backed = (f .1 .1, tt) }
+  one-known x t f = record { all-allowed = (allowed 0 x t f, tt); few = omega (arith, size-as-read x, f .0 .room); all-backed = (f .1 .1, tt) }
 
-  two-known : (x y : Located) (t s : Position) → Outer 0 x t → Outer (0 + size (meaning x)) y s → Known message cap given (x ▹ y ▹ empty)
+  two-known : (x y : Located) (t s : Position) → Outer 0 x t → Outer (0 + size (as-read x)) y s → Known message cap given (x ▹ y ▹ empty)
   two-known x y t s f g =
       record {
-        all-allowed = (allowed 0 x t f, (allowed (0 + size (meaning x)) y s g, tt));
-        few = omega (arith, size-meaning x, size-meaning y, g .0 .room);
+        all-allowed = (allowed 0 x t f, (allowed (0 + size (as-read x)) y s g, tt));
+        few = omega (arith, size-as-read x, size-as-read y, g .0 .room);
         all-backed = (f .1 .1, (g .1 .1, tt));
       }
 
@@ -91,7 +91,7 @@ module _ (given : Given) (true-atoms : True-atoms given) (cap : ℕ) (least : ca
           ]) t) (λ ts t. Known message cap given ts)
       go x t f [] = done-holds _ t (one-known x t f)
       go x t f (b ∷ bs) =
-          next (Outer (0 + size (meaning x))) (outer (0 + size (meaning x)) t (f .0 .fine) (f .0 .room) (f .1 .0)) λ y s g.
+          next (Outer (0 + size (as-read x))) (outer (0 + size (as-read x)) t (f .0 .fine) (f .0 .room) (f .1 .0)) λ y s g.
           bind (ending-holds (s .left) s (done-holds _ s (two-known x y t s f g)))
 
   framed-known : (framing : Framing) → Holds (terms-framed given cap framing (spot 0 message 0)) (λ ts t. Known message cap given ts)
@@ -99,7 +99,7 @@ module _ (given : Given) (true-atoms : True-atoms given) (cap : ℕ) (least : ca
   framed-known payload = payload-known
 
 -- the lent atom list holds texts of characters
-list-true : (flags : ℕ) (list : AtomList) → True-atoms (given-of flags list)
+pub list-true : (flags : ℕ) (list : AtomList) → True-atoms (given-of flags list)
 unfolding given-of place-text
 list-true flags list i cs e = go (leb (place-length list i) 32) e
   where

@@ -1,4 +1,4 @@
--- Reading the parts of a term from their canonical forms.
+-- Reading the parts of a term from their bytes.
 use mathlib.Core.Path.{_≡_, refl, ap, ap₂}
 use mathlib.Core.Bool.{Bool, true, false, cond}
 use mathlib.Core.List.{List, [], _∷_, _++_, append-assoc}
@@ -12,8 +12,9 @@ use Rattle.term_spec.specs.Tree.{Forest, node, empty, _▹_, size, sizes
 use Rattle.term_spec.specs.Term.{Label, Term, integer, float, atom, tuple, list, improper-list, binary, bitstring, map, pid, port, reference, export}
 use Rattle.term_spec.specs.Answer.{Answer, good, Position, Reading}
 use Rattle.term_spec.specs.Head.{Given, Wanted, any, Head, leaf, parts, characters, elements, pairs, term-head, form, form-in, forms, form-or, fields, later}
-use Rattle.term_spec.specs.Reading.{Offset, tag-at, character-at, Located, meaning, opening, row, body, one-term, contents, term, each, run, entries, string, list-tail}
-use Rattle.term_spec.specs.Canonical.{small, put, all-small, canonical, canonicals}
+use Rattle.term_spec.specs.Reading.{Offset, tag-at, character-at, Located, as-read, opening, row, body, one-term, contents, term, each, run, entries, string, list-tail}
+use Rattle.term_spec.specs.Meaning.{ordered}
+use Rattle.term_spec.specs.Canonical.{small, put, all-small, bytes-of, all-bytes}
 use Rattle.term_spec.specs.Valid.{Fits, Valids, Keys}
 use Rattle.term_spec.proofs.Steps.{spot}
 use Rattle.term_spec.proofs.Opening.{Opens}
@@ -65,7 +66,7 @@ module _ (given : Given) (cap : ℕ) where
     pub tree : Located
     pub end : ℕ
     pub reads : term given cap d w (spot at left r) ≡ good (tree, spot end rest (r + size t))
-    pub means : meaning tree ≡ t
+    pub means : as-read tree ≡ t
 
   -- a head and a row: then come the parts
   pub opened : (d : ℕ) {w : Wanted} {left : List ℕ} {at r : ℕ} {h : Head} {more : List ℕ} (o : Opens given w left at r h more) → r < cap
@@ -82,7 +83,7 @@ module _ (given : Given) (cap : ℕ) where
 
   -- a term that reading finds wherever there are rows for it
   abbrev pub Readable : ℕ → Term → Type 0
-  Readable d t = (at r : ℕ) (rest : List ℕ) → r + size t ≤ cap → Reads d any (canonical t ++ rest) rest at r t
+  Readable d t = (at r : ℕ) (rest : List ℕ) → r + size t ≤ cap → Reads d any (bytes-of t ++ rest) rest at r t
 
   abbrev pub All-readable : ℕ → Forest Label → Type 0
   All-readable d empty = Unit {0}
@@ -96,17 +97,17 @@ module _ (given : Given) (cap : ℕ) where
     pub means : relabels (λ l. l .0) trees ≡ ts
 
   pub run-reads : (d : ℕ) (ts : Forest Label) → All-readable d ts → (at r : ℕ) (rest : List ℕ) → r + sizes ts ≤ cap
-      → Runs d (canonicals ts ++ rest) rest at r ts
-  unfolding run canonicals
+      → Runs d (all-bytes ts ++ rest) rest at r ts
+  unfolding run all-bytes
   run-reads d empty ok at r rest h = record { trees = empty; end = at; reads = ends-in empty at rest _ _ (omega arith); means = refl }
   run-reads d (t ▹ ts) ok at r rest h =
-      let first : Reads d any (canonical t ++ (canonicals ts ++ rest)) (canonicals ts ++ rest) at r t = ok .0 at r (canonicals ts ++ rest) (omega arith) in
-      let others : Runs d (canonicals ts ++ rest) rest (first .end) (r + size t) ts = run-reads d ts (ok .1) (first .end) (r + size t) rest (omega arith) in
+      let first : Reads d any (bytes-of t ++ (all-bytes ts ++ rest)) (all-bytes ts ++ rest) at r t = ok .0 at r (all-bytes ts ++ rest) (omega arith) in
+      let others : Runs d (all-bytes ts ++ rest) rest (first .end) (r + size t) ts = run-reads d ts (ok .1) (first .end) (r + size t) rest (omega arith) in
       record {
         trees = first .tree ▹ others .trees;
         end = others .end;
         reads =
-            rw (append-assoc (canonical t) (canonicals ts) rest, first .reads, others .reads)
+            rw (append-assoc (bytes-of t) (all-bytes ts) rest, first .reads, others .reads)
             (ends-in (first .tree ▹ others .trees) (others .end) rest _ _ (omega arith));
         means = ap₂ (λ (u : Term) (us : Forest Label). u ▹ us) (first .means) (others .means);
       }
@@ -151,27 +152,27 @@ module _ (given : Given) (cap : ℕ) where
     pub means : relabels (λ l. l .0) trees ≡ ts
 
   pub entries-reads : (n d : ℕ) (earlier : List Term) (ts : Forest Label) → count ts ≡ n + n → Keys earlier ts → All-readable d ts
-      → (at r : ℕ) (rest : List ℕ) → r + sizes ts ≤ cap → Maps d earlier n (canonicals ts ++ rest) rest at r ts
-  unfolding entries canonicals
+      → (at r : ℕ) (rest : List ℕ) → r + sizes ts ≤ cap → Maps d earlier n (all-bytes ts ++ rest) rest at r ts
+  unfolding entries all-bytes
   entries-reads zero d earlier empty c ok all at r rest h =
       record { trees = empty; end = at; reads = ends-in empty at rest _ _ (omega arith); means = refl }
   entries-reads zero d earlier (k ▹ ts) c ok all at r rest h = absurd (omega arith)
   entries-reads (suc n) d earlier empty c ok all at r rest h = absurd (omega arith)
   entries-reads (suc n) d earlier (k ▹ empty) c ok all at r rest h = absurd (omega arith)
   entries-reads (suc n) d earlier (k ▹ v ▹ ts) c ok all at r rest h =
-      let after-key : List ℕ = canonical v ++ (canonicals ts ++ rest) in
-      let key : Reads d any (canonical k ++ after-key) after-key at r k = all .0 at r after-key (omega arith) in
-      let value : Reads d any after-key (canonicals ts ++ rest) (key .end) (r + size k) v
-      = all .1 .0 (key .end) (r + size k) (canonicals ts ++ rest) (omega arith) in
-      let others : Maps d (k ∷ earlier) n (canonicals ts ++ rest) rest (value .end) (r + size k + size v) ts
-      = entries-reads n d (k ∷ earlier) ts (omega arith) (ok .1) (all .1 .1) (value .end) (r + size k + size v) rest (omega arith) in
+      let after-key : List ℕ = bytes-of v ++ (all-bytes ts ++ rest) in
+      let key : Reads d any (bytes-of k ++ after-key) after-key at r k = all .0 at r after-key (omega arith) in
+      let value : Reads d any after-key (all-bytes ts ++ rest) (key .end) (r + size k) v
+      = all .1 .0 (key .end) (r + size k) (all-bytes ts ++ rest) (omega arith) in
+      let others : Maps d (ordered k ∷ earlier) n (all-bytes ts ++ rest) rest (value .end) (r + size k + size v) ts
+      = entries-reads n d (ordered k ∷ earlier) ts (omega arith) (ok .1) (all .1 .1) (value .end) (r + size k + size v) rest (omega arith) in
       record {
         trees = key .tree ▹ value .tree ▹ others .trees;
         end = others .end;
         reads =
             rw (
-              append-assoc (canonical k) (canonical v ++ canonicals ts) rest,
-              append-assoc (canonical v) (canonicals ts) rest,
+              append-assoc (bytes-of k) (bytes-of v ++ all-bytes ts) rest,
+              append-assoc (bytes-of v) (all-bytes ts) rest,
               key .reads,
               key .means,
               ok .0,

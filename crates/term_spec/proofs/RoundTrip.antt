@@ -1,4 +1,4 @@
--- Reading the canonical form of a valid term finds that term.
+-- Reading the bytes of a valid term finds that term, its maps' pairs as they stood.
 use mathlib.Core.Path.{_≡_, refl, sym, _∙_, ap, ap₂}
 use mathlib.Core.List.{List, [], _∷_, _++_, append-assoc, append-nil}
 use mathlib.Core.Option.{Option, some}
@@ -13,7 +13,8 @@ use Rattle.term_spec.specs.Term.{Label, Term, integer, float, atom, tupl
 use Rattle.term_spec.specs.Answer.{Answer, good, refused, Position, Reading}
 use Rattle.term_spec.specs.Head.{Given, limits, any, an-atom, an-arity, Head, leaf, parts, characters, elements, pairs, known, pid-fields, port-fields, reference-fields, later, Later}
 use Rattle.term_spec.specs.Reading.{tag-at, Located, opening, one-term, body, contents, each, run, string, list-tail}
-use Rattle.term_spec.specs.Canonical.{all-small, put, small, list-bytes, port-bytes, words-bytes, term-bytes, canonical, canonicals}
+use Rattle.term_spec.specs.Meaning.{ordered}
+use Rattle.term_spec.specs.Canonical.{all-small, put, small, list-bytes, port-bytes, words-bytes, term-bytes, bytes-of, all-bytes}
 use Rattle.term_spec.specs.Valid.{Fits, Valid, Valids, Keys, Values, Improper, IsList}
 use Rattle.term_spec.proofs.Rows.{sizes-join, count-join}
 use Rattle.term_spec.proofs.Steps.{spot}
@@ -50,10 +51,10 @@ split (t ▹ u ▹ v ▹ ts) h = go (split (u ▹ v ▹ ts) h)
         }
 
 -- runs put together
-pub canonicals-join : (ts us : Forest Label) → canonicals (ts ▹▹ us) ≡ canonicals ts ++ canonicals us
-unfolding canonicals
-canonicals-join empty us = refl
-canonicals-join (t ▹ ts) us = ap (λ (bs : List ℕ). canonical t ++ bs) (canonicals-join ts us) ∙ sym (append-assoc (canonical t) (canonicals ts) (canonicals us))
+pub all-bytes-join : (ts us : Forest Label) → all-bytes (ts ▹▹ us) ≡ all-bytes ts ++ all-bytes us
+unfolding all-bytes
+all-bytes-join empty us = refl
+all-bytes-join (t ▹ ts) us = ap (λ (bs : List ℕ). bytes-of t ++ bs) (all-bytes-join ts us) ∙ sym (append-assoc (bytes-of t) (all-bytes ts) (all-bytes us))
 
 pub relabels-join : {A B : Type 0} (f : A → B) (ts us : Forest A) → relabels f (ts ▹▹ us) ≡ relabels f ts ▹▹ relabels f us
 relabels-join f empty us = refl
@@ -65,19 +66,19 @@ join-none (t ▹ ts) = ap (λ us. t ▹ us) (join-none ts)
 
 -- an improper list's bytes
 improper-bytes : (ts : Forest Label) (t : Term) (rest : List ℕ)
-    → canonical (node improper-list (ts ▹▹ (t ▹ empty))) ++ rest ≡ 108 ∷ (in-bytes 4 (count ts) ++ (canonicals ts ++ (canonical t ++ rest)))
-unfolding canonical term-bytes
+    → bytes-of (node improper-list (ts ▹▹ (t ▹ empty))) ++ rest ≡ 108 ∷ (in-bytes 4 (count ts) ++ (all-bytes ts ++ (bytes-of t ++ rest)))
+unfolding bytes-of term-bytes
 improper-bytes ts t rest =
     ap₂ (λ (n : ℕ) (bs : List ℕ). 108 ∷ ((in-bytes 4 n ++ bs) ++ rest)) (omega (arith, count-join ts (t ▹ empty)))
-    (canonicals-join ts (t ▹ empty) ∙ ap (λ (bs : List ℕ). canonicals ts ++ bs) (append-nil (canonical t)))
-    ∙ ap (λ (bs : List ℕ). 108 ∷ bs) (append-assoc (in-bytes 4 (count ts)) (canonicals ts ++ canonical t) rest
-    ∙ ap (λ (bs : List ℕ). in-bytes 4 (count ts) ++ bs) (append-assoc (canonicals ts) (canonical t) rest))
+    (all-bytes-join ts (t ▹ empty) ∙ ap (λ (bs : List ℕ). all-bytes ts ++ bs) (append-nil (bytes-of t)))
+    ∙ ap (λ (bs : List ℕ). 108 ∷ bs) (append-assoc (in-bytes 4 (count ts)) (all-bytes ts ++ bytes-of t) rest
+    ∙ ap (λ (bs : List ℕ). in-bytes 4 (count ts) ++ bs) (append-assoc (all-bytes ts) (bytes-of t) rest))
 
 -- keys and values come in pairs
 mutual
   pub even : (earlier : List Term) (ts : Forest Label) → Keys earlier ts → (n : ℕ) × (count ts ≡ n + n)
   even earlier empty ok = (0, refl)
-  even earlier (k ▹ ts) ok = let o = odd (k ∷ earlier) ts (ok .1) in (suc (o .0), omega (arith, o .1))
+  even earlier (k ▹ ts) ok = let o = odd (ordered k ∷ earlier) ts (ok .1) in (suc (o .0), omega (arith, o .1))
 
   odd : (earlier : List Term) (ts : Forest Label) → Values earlier ts → (n : ℕ) × (count ts ≡ suc (n + n))
   odd earlier empty ok = absurd ok
@@ -87,32 +88,32 @@ mutual
 pub record Plainly (given : Given) (l : Label) (ts : Forest Label) (at r : ℕ) (rest : List ℕ) : Type 0 where
   pub says : Head
   pub more : List ℕ
-  pub opens : Opens given any (canonical (node l ts) ++ rest) at r says more
+  pub opens : Opens given any (bytes-of (node l ts) ++ rest) at r says more
   pub plain : Plain says
 
 plainly : (given : Given) (l : Label) (ts : Forest Label) → Fits (given .flags) l ts → ¬ IsList l → (at r : ℕ) (rest : List ℕ) → Plainly given l ts at r rest
-unfolding canonical term-bytes port-bytes
+unfolding bytes-of term-bytes port-bytes
 plainly given (integer z) ts f n at r rest = record { says = _; more = rest; opens = Opening.integer-opens given at r rest z (f .1); plain = tt }
 plainly given (float bits) ts f n at r rest = record { says = _; more = rest; opens = Opening.float-opens given at r rest bits (f .1) (f .2); plain = tt }
 plainly given (atom cs) ts f n at r rest = record { says = _; more = rest; opens = Opening.atom-opens given at r rest any-119 any-118 cs (f .1) (f .2); plain = tt }
-plainly given tuple ts f n at r rest = record { says = _; more = _; opens = Opening.tuple-opens given at r rest (count ts) (canonicals ts) f; plain = tt }
+plainly given tuple ts f n at r rest = record { says = _; more = _; opens = Opening.tuple-opens given at r rest (count ts) (all-bytes ts) f; plain = tt }
 plainly given list ts f n at r rest = absurd (n tt)
 plainly given improper-list ts f n at r rest = absurd (n tt)
 plainly given (binary bs) ts f n at r rest = record { says = _; more = rest; opens = Opening.binary-opens given at r rest bs (f .1); plain = tt }
 plainly given (bitstring bits bs) ts f n at r rest =
     record { says = _; more = rest; opens = Opening.bits-opens given at r rest bits bs (f .1) (f .2) (f .3) (f .4); plain = tt }
 plainly given map ts f n at r rest =
-    record { says = _; more = _; opens = Opening.map-opens given at r rest (count ts / 2) (canonicals ts) (omega arith); plain = tt }
+    record { says = _; more = _; opens = Opening.map-opens given at r rest (count ts / 2) (all-bytes ts) (omega arith); plain = tt }
 plainly given (pid id serial creation) ts f n at r rest = record { says = _; more = _; opens = Opening.pid-opens given at r rest _; plain = tt }
 plainly given (port id creation) ts f n at r rest =
     by-less id (2 ^ 28)
-    (λ less. record { says = parts (an-atom ∷ []) 0 (port-fields 4 4); more = (canonicals ts ++ (in-bytes 4 id ++ in-bytes 4 creation)) ++ rest; opens = rw (lt-ltb id (2 ^ 28) less) (Opening.port-opens given at r rest _); plain = tt })
-    (λ over. record { says = parts (an-atom ∷ []) 0 (port-fields 8 4); more = (canonicals ts ++ (in-bytes 8 id ++ in-bytes 4 creation)) ++ rest; opens = rw (le-ltb id (2 ^ 28) over) (Opening.long-port-opens given at r rest _); plain = tt })
+    (λ less. record { says = parts (an-atom ∷ []) 0 (port-fields 4 4); more = (all-bytes ts ++ (in-bytes 4 id ++ in-bytes 4 creation)) ++ rest; opens = rw (lt-ltb id (2 ^ 28) less) (Opening.port-opens given at r rest _); plain = tt })
+    (λ over. record { says = parts (an-atom ∷ []) 0 (port-fields 8 4); more = (all-bytes ts ++ (in-bytes 8 id ++ in-bytes 4 creation)) ++ rest; opens = rw (le-ltb id (2 ^ 28) over) (Opening.long-port-opens given at r rest _); plain = tt })
 plainly given (reference creation ws) ts f n at r rest =
     record {
       says = parts (an-atom ∷ []) 0 (reference-fields (length ws) 4);
-      more = (canonicals ts ++ (in-bytes 4 creation ++ words-bytes ws)) ++ rest;
-      opens = rw (append-assoc (in-bytes 2 (length ws)) (canonicals ts ++ (in-bytes 4 creation ++ words-bytes ws)) rest) (Opening.reference-opens given at r _ (length ws) (f .2) (f .3));
+      more = (all-bytes ts ++ (in-bytes 4 creation ++ words-bytes ws)) ++ rest;
+      opens = rw (append-assoc (in-bytes 2 (length ws)) (all-bytes ts ++ (in-bytes 4 creation ++ words-bytes ws)) rest) (Opening.reference-opens given at r _ (length ws) (f .2) (f .3));
       plain = tt;
     }
 plainly given export ts f n at r rest = record { says = _; more = _; opens = Opening.export-opens given at r rest _; plain = tt }
@@ -120,11 +121,11 @@ plainly given export ts f n at r rest = record { says = _; more = _; opens = Ope
 module _ (given : Given) (cap d : ℕ) where
   -- a tuple
   tuple-reads : (ts : Forest Label) → Fits (given .flags) tuple ts → All-readable given cap d ts → Readable given cap (suc d) (node tuple ts)
-  unfolding canonical term-bytes contents each later
+  unfolding bytes-of term-bytes contents each later
   tuple-reads ts f all at r rest h =
-      let o : Opens given any (canonical (node tuple ts) ++ rest) at r (parts [] (count ts) (known tuple)) (canonicals ts ++ rest)
-      = Opening.tuple-opens given at r rest (count ts) (canonicals ts) f in
-      let inner : Runs given cap d (canonicals ts ++ rest) rest (o .end) (r + 1) ts = run-reads given cap d ts all (o .end) (r + 1) rest (omega arith) in
+      let o : Opens given any (bytes-of (node tuple ts) ++ rest) at r (parts [] (count ts) (known tuple)) (all-bytes ts ++ rest)
+      = Opening.tuple-opens given at r rest (count ts) (all-bytes ts) f in
+      let inner : Runs given cap d (all-bytes ts ++ rest) rest (o .end) (r + 1) ts = run-reads given cap d ts all (o .end) (r + 1) rest (omega arith) in
       record {
         tree = node (tuple, tag-at at) (inner .trees);
         end = inner .end;
@@ -134,13 +135,13 @@ module _ (given : Given) (cap d : ℕ) where
 
   -- a map
   map-reads : (ts : Forest Label) → Fits (given .flags) map ts → All-readable given cap d ts → Readable given cap (suc d) (node map ts)
-  unfolding canonical term-bytes contents
+  unfolding bytes-of term-bytes contents
   map-reads ts f all at r rest h =
       let half : (n : ℕ) × (count ts ≡ n + n) = even [] ts (f .1) in
       let n : ℕ = count ts / 2 in
-      let o : Opens given any (canonical (node map ts) ++ rest) at r (pairs n) (canonicals ts ++ rest)
-      = Opening.map-opens given at r rest n (canonicals ts) (omega arith) in
-      let inner : Maps given cap d [] n (canonicals ts ++ rest) rest (o .end) (r + 1) ts
+      let o : Opens given any (bytes-of (node map ts) ++ rest) at r (pairs n) (all-bytes ts ++ rest)
+      = Opening.map-opens given at r rest n (all-bytes ts) (omega arith) in
+      let inner : Maps given cap d [] n (all-bytes ts ++ rest) rest (o .end) (r + 1) ts
       = entries-reads given cap n d [] ts (omega (arith, half .1)) (f .1) all (o .end) (r + 1) rest (omega arith) in
       record {
         tree = node (map, tag-at at) (inner .trees);
@@ -152,14 +153,14 @@ module _ (given : Given) (cap d : ℕ) where
   -- a list of elements, with 106 for its tail
   elements-read : (ts : Forest Label) → count ts ≤ 8191 → 0 < count ts → All-readable given cap d ts
       → (at r : ℕ) (rest : List ℕ) → r + size (node list ts) ≤ cap
-      → Reads given cap (suc d) any (108 ∷ ((in-bytes 4 (count ts) ++ (canonicals ts ++ (106 ∷ []))) ++ rest)) rest at r (node list ts)
+      → Reads given cap (suc d) any (108 ∷ ((in-bytes 4 (count ts) ++ (all-bytes ts ++ (106 ∷ []))) ++ rest)) rest at r (node list ts)
   unfolding contents
   elements-read ts f k all at r rest h =
-      let o : Opens given any (108 ∷ (in-bytes 4 (count ts) ++ (canonicals ts ++ (106 ∷ rest)))) at r (elements (count ts)) (canonicals ts ++ (106 ∷ rest))
-      = Opening.list-opens given at r (canonicals ts ++ (106 ∷ rest)) (count ts) (omega arith) k in
-      let inner : Runs given cap d (canonicals ts ++ (106 ∷ rest)) (106 ∷ rest) (o .end) (r + 1) ts
+      let o : Opens given any (108 ∷ (in-bytes 4 (count ts) ++ (all-bytes ts ++ (106 ∷ rest)))) at r (elements (count ts)) (all-bytes ts ++ (106 ∷ rest))
+      = Opening.list-opens given at r (all-bytes ts ++ (106 ∷ rest)) (count ts) (omega arith) k in
+      let inner : Runs given cap d (all-bytes ts ++ (106 ∷ rest)) (106 ∷ rest) (o .end) (r + 1) ts
       = run-reads given cap d ts all (o .end) (r + 1) (106 ∷ rest) (omega arith) in
-      rw (append-assoc (in-bytes 4 (count ts)) (canonicals ts ++ (106 ∷ [])) rest, append-assoc (canonicals ts) (106 ∷ []) rest)
+      rw (append-assoc (in-bytes 4 (count ts)) (all-bytes ts ++ (106 ∷ [])) rest, append-assoc (all-bytes ts) (106 ∷ []) rest)
       (record {
         tree = node (list, tag-at at) (inner .trees ▹▹ empty);
         end = inner .end + 1;
@@ -207,7 +208,7 @@ module _ (given : Given) (cap : ℕ) where
 
   list-reads : (d : ℕ) (ts : Forest Label) → Fits (given .flags) list ts → Valids (given .flags) ts → deepest ts ≤ d → All-readable given cap d ts
       → Readable given cap (suc d) (node list ts)
-  unfolding canonical term-bytes list-bytes contents string
+  unfolding bytes-of term-bytes list-bytes contents string
   list-reads d empty f ok h all at r rest k =
       let o : Opens given any (106 ∷ rest) at r (characters []) rest = Opening.nil-opens given at r rest in
       record {
@@ -220,7 +221,7 @@ module _ (given : Given) (cap : ℕ) where
   list-reads (suc d) (t ▹ ts) f ok h all at r rest k = go (all-small (t ▹ ts)) refl
     where
       go : (o : Option (List ℕ)) → all-small (t ▹ ts) ≡ o
-          → Reads given cap (suc (suc d)) any (list-bytes (suc (count ts)) o (canonicals (t ▹ ts)) ++ rest) rest at r (node list (t ▹ ts))
+          → Reads given cap (suc (suc d)) any (list-bytes (suc (count ts)) o (all-bytes (t ▹ ts)) ++ rest) rest at r (node list (t ▹ ts))
       go Option.none e = elements-read given cap (suc d) (t ▹ ts) f (omega arith) all at r rest k
       go (some cs) e = characters-read d (t ▹ ts) cs e ok h f at r rest k
 
@@ -247,14 +248,14 @@ module _ (given : Given) (cap : ℕ) where
   unfolding contents
   improper-from d ts l us few some-ts no-list fits all one at r rest k =
       let last : Term = node l us in
-      let more : List ℕ = canonicals ts ++ (canonical last ++ rest) in
+      let more : List ℕ = all-bytes ts ++ (bytes-of last ++ rest) in
       let rows : sizes (ts ▹▹ (last ▹ empty)) ≡ sizes ts + (size last + 0) = sizes-join ts (last ▹ empty) in
       let o : Opens given any (108 ∷ (in-bytes 4 (count ts) ++ more)) at r (elements (count ts)) more
       = Opening.list-opens given at r more (count ts) few some-ts in
-      let front : Runs given cap d more (canonical last ++ rest) (o .end) (r + 1) ts
-      = run-reads given cap d ts all (o .end) (r + 1) (canonical last ++ rest) (omega arith) in
+      let front : Runs given cap d more (bytes-of last ++ rest) (o .end) (r + 1) ts
+      = run-reads given cap d ts all (o .end) (r + 1) (bytes-of last ++ rest) (omega arith) in
       let p : Plainly given l us (front .end) (r + 1 + sizes ts) rest = plainly given l us fits no-list (front .end) (r + 1 + sizes ts) rest in
-      let t : Reads given cap d any (canonical last ++ rest) rest (front .end) (r + 1 + sizes ts) last
+      let t : Reads given cap d any (bytes-of last ++ rest) rest (front .end) (r + 1 + sizes ts) last
       = one (front .end) (r + 1 + sizes ts) rest (omega arith) in
       rw (improper-bytes ts last rest)
       (record {
@@ -262,7 +263,7 @@ module _ (given : Given) (cap : ℕ) where
         end = t .end;
         reads =
             opened given cap d o (omega arith)
-            ∙ rw (front .reads, tail-at d (front .end) (r + 1 + sizes ts) (body given cap d) (canonical last ++ rest) (p .more) (p .says) (t .tree) _ (p .opens) (p .plain) (t .reads))
+            ∙ rw (front .reads, tail-at d (front .end) (r + 1 + sizes ts) (body given cap d) (bytes-of last ++ rest) (p .more) (p .says) (t .tree) _ (p .opens) (p .plain) (t .reads))
             (ends-in (node (improper-list, tag-at at) (front .trees ▹▹ (t .tree ▹ empty))) (t .end) rest _ _ (omega arith));
         means =
             ap (λ (vs : Forest Label). node improper-list vs)
@@ -284,24 +285,24 @@ module _ (given : Given) (cap : ℕ) where
 
   -- an atom where one is wanted, and where anything is
   node-reads : (d : ℕ) (cs : List ℕ) → Fits (given .flags) (atom cs) empty → (at r : ℕ) (rest : List ℕ) → r < cap
-      → Reads given cap (suc d) an-atom (canonical (node (atom cs) empty) ++ rest) rest at r (node (atom cs) empty)
-  unfolding canonical term-bytes
+      → Reads given cap (suc d) an-atom (bytes-of (node (atom cs) empty) ++ rest) rest at r (node (atom cs) empty)
+  unfolding bytes-of term-bytes
   node-reads d cs f at r rest k = leaf-reads given cap d (Opening.atom-opens given at r rest atom-119 atom-118 cs (f .1) (f .2)) k
 
   arity-reads : (d n : ℕ) → n < 256 → (at r : ℕ) (rest : List ℕ) → r < cap
-      → Reads given cap (suc d) an-arity (canonical (node (integer (pos n)) empty) ++ rest) rest at r (node (integer (pos n)) empty)
-  unfolding canonical term-bytes
+      → Reads given cap (suc d) an-arity (bytes-of (node (integer (pos n)) empty) ++ rest) rest at r (node (integer (pos n)) empty)
+  unfolding bytes-of term-bytes
   arity-reads d n h at r rest k = leaf-reads given cap d (Opening.small-opens given at r rest arity-97 n h) k
 
   -- over the identifiers: a node, then the later fields
   named-reads : (d : ℕ) (l : Label) (cs : List ℕ) → Fits (given .flags) (atom cs) empty → (w : Later) (left fs rest : List ℕ) (at r : ℕ)
-      → Opens given any left at r (parts (an-atom ∷ []) 0 w) (canonical (node (atom cs) empty) ++ (fs ++ rest))
+      → Opens given any left at r (parts (an-atom ∷ []) 0 w) (bytes-of (node (atom cs) empty) ++ (fs ++ rest))
       → ((b s : ℕ) → (e : ℕ) × (later (given .flags) at w (spot b (fs ++ rest) s) ≡ good (l, spot e rest s)))
       → r + 2 ≤ cap
       → Reads given cap (suc (suc d)) any left rest at r (node l (node (atom cs) empty ▹ empty))
   unfolding contents each run
   named-reads d l cs f w left fs rest at r o after k =
-      let n : Reads given cap (suc d) an-atom (canonical (node (atom cs) empty) ++ (fs ++ rest)) (fs ++ rest) (o .end) (r + 1) (node (atom cs) empty)
+      let n : Reads given cap (suc d) an-atom (bytes-of (node (atom cs) empty) ++ (fs ++ rest)) (fs ++ rest) (o .end) (r + 1) (node (atom cs) empty)
       = node-reads d cs f (o .end) (r + 1) (fs ++ rest) (omega arith) in
       let z : (e : ℕ) × (later (given .flags) at w (spot (n .end) (fs ++ rest) (r + 1 + 1)) ≡ good (l, spot e rest (r + 1 + 1))) = after (n .end) (r + 1 + 1) in
       record {
@@ -312,12 +313,12 @@ module _ (given : Given) (cap : ℕ) where
       }
 
   -- one part's bytes among others
-  one-part : (t : Term) (fs rest : List ℕ) → (canonical t ++ [] ++ fs) ++ rest ≡ canonical t ++ (fs ++ rest)
+  one-part : (t : Term) (fs rest : List ℕ) → (bytes-of t ++ [] ++ fs) ++ rest ≡ bytes-of t ++ (fs ++ rest)
   one-part t fs rest = simp (append-nil, append-assoc)
 
   pid-reads : (d id serial creation : ℕ) (cs : List ℕ) → Fits (given .flags) (atom cs) empty → id < limits (given .flags) 4 .id → serial < limits (given .flags) 4 .serial → creation < 2 ^ 32
       → Readable given cap (suc (suc d)) (node (pid id serial creation) (node (atom cs) empty ▹ empty))
-  unfolding canonical term-bytes
+  unfolding bytes-of term-bytes
   pid-reads d id serial creation cs f h₁ h₂ h₃ at r rest k =
       let fs : List ℕ = in-bytes 4 id ++ (in-bytes 4 serial ++ in-bytes 4 creation) in
       rw (one-part (node (atom cs) empty) fs rest)
@@ -331,7 +332,7 @@ module _ (given : Given) (cap : ℕ) where
 
   port-reads : (d id creation : ℕ) (cs : List ℕ) → Fits (given .flags) (atom cs) empty → id < 2 ^ 64 → creation < 2 ^ 32
       → Readable given cap (suc (suc d)) (node (port id creation) (node (atom cs) empty ▹ empty))
-  unfolding canonical term-bytes port-bytes
+  unfolding bytes-of term-bytes port-bytes
   port-reads d id creation cs f h₁ h₂ at r rest k =
       by-less id (2 ^ 28)
       (λ less.
@@ -357,12 +358,12 @@ module _ (given : Given) (cap : ℕ) where
 
   reference-reads : (d creation : ℕ) (ws cs : List ℕ) → Fits (given .flags) (atom cs) empty → Fits (given .flags) (reference creation ws) (node (atom cs) empty ▹ empty)
       → Readable given cap (suc (suc d)) (node (reference creation ws) (node (atom cs) empty ▹ empty))
-  unfolding canonical term-bytes
+  unfolding bytes-of term-bytes
   reference-reads d creation ws cs f g at r rest k =
       let fs : List ℕ = in-bytes 4 creation ++ words-bytes ws in
-      rw (append-assoc (in-bytes 2 (length ws)) (canonical (node (atom cs) empty) ++ [] ++ fs) rest, one-part (node (atom cs) empty) fs rest)
+      rw (append-assoc (in-bytes 2 (length ws)) (bytes-of (node (atom cs) empty) ++ [] ++ fs) rest, one-part (node (atom cs) empty) fs rest)
       (named-reads d (reference creation ws) cs f (reference-fields (length ws) 4) _ fs rest at r
-      (Opening.reference-opens given at r (canonical (node (atom cs) empty) ++ (fs ++ rest)) (length ws) (g .2) (g .3))
+      (Opening.reference-opens given at r (bytes-of (node (atom cs) empty) ++ (fs ++ rest)) (length ws) (g .2) (g .3))
       (λ b s. (
         b + 4 + 4 * length ws,
         rw (append-assoc (in-bytes 4 creation) (words-bytes ws) rest)
@@ -372,11 +373,11 @@ module _ (given : Given) (cap : ℕ) where
 
   export-reads : (d : ℕ) (m f : List ℕ) (a : ℕ) → Fits (given .flags) (atom m) empty → Fits (given .flags) (atom f) empty → a < 256
       → Readable given cap (suc (suc d)) (node export (node (atom m) empty ▹ node (atom f) empty ▹ node (integer (pos a)) empty ▹ empty))
-  unfolding canonical term-bytes contents each run later
+  unfolding bytes-of term-bytes contents each run later
   export-reads d m f a okm okf h at r rest k =
-      let cm : List ℕ = canonical (node (atom m) empty) in
-      let cf : List ℕ = canonical (node (atom f) empty) in
-      let ca : List ℕ = canonical (node (integer (pos a)) empty) in
+      let cm : List ℕ = bytes-of (node (atom m) empty) in
+      let cf : List ℕ = bytes-of (node (atom f) empty) in
+      let ca : List ℕ = bytes-of (node (integer (pos a)) empty) in
       let o : Opens given any (113 ∷ (cm ++ (cf ++ (ca ++ rest)))) at r (parts (an-atom ∷ an-atom ∷ an-arity ∷ []) 0 (known export)) (cm ++ (cf ++ (ca ++ rest)))
       = Opening.export-opens given at r rest _ in
       let x : Reads given cap (suc d) an-atom (cm ++ (cf ++ (ca ++ rest))) (cf ++ (ca ++ rest)) (o .end) (r + 1) (node (atom m) empty)
@@ -410,14 +411,14 @@ module _ (given : Given) (cap : ℕ) where
 
   -- a term without parts, as anything
   plain-leaf : (d : ℕ) (l : Label) (ts : Forest Label) → ts ≡ empty
-      → ((at r : ℕ) (rest : List ℕ) → Opens given any (canonical (node l empty) ++ rest) at r (leaf l) rest)
+      → ((at r : ℕ) (rest : List ℕ) → Opens given any (bytes-of (node l empty) ++ rest) at r (leaf l) rest)
       → Readable given cap (suc d) (node l ts)
   plain-leaf d l ts e o = rw e (λ at r rest k. leaf-reads given cap d (o at r rest) (omega arith))
 
   -- a term whose parts are readable
   label-reads : (l : Label) (ts : Forest Label) → Fits (given .flags) l ts → Valids (given .flags) ts → (d : ℕ) → deepest ts ≤ d → All-readable given cap d ts
       → Readable given cap (suc d) (node l ts)
-  unfolding canonical term-bytes
+  unfolding bytes-of term-bytes
   label-reads (integer z) ts f ok d h all = plain-leaf d _ ts (f .0) (λ at r rest. Opening.integer-opens given at r rest z (f .1))
   label-reads (float bits) ts f ok d h all = plain-leaf d _ ts (f .0) (λ at r rest. Opening.float-opens given at r rest bits (f .1) (f .2))
   label-reads (atom cs) ts f ok d h all = plain-leaf d _ ts (f .0) (λ at r rest. Opening.atom-opens given at r rest any-119 any-118 cs (f .1) (f .2))
@@ -442,7 +443,7 @@ module _ (given : Given) (cap : ℕ) where
       let parts-ok : Valids (given .flags) (node (atom (f .0)) empty ▹ node (atom (f .1)) empty ▹ node (integer (pos (f .2))) empty ▹ empty) = rw (f .4) at ok in
       rw (f .4) (export-reads d (f .0) (f .1) (f .2) (parts-ok .0 .0) (parts-ok .1 .0 .0) (f .3))
 
-  -- reading the canonical form of a valid term, with levels and rows enough, finds the term
+  -- reading the bytes of a valid term, with levels and rows enough, finds the term
   mutual
     pub read-tree : (t : Term) → Valid (given .flags) t → (d : ℕ) → depth t ≤ d → Readable given cap d t
     read-tree (node l ts) v zero h = absurd (omega arith)

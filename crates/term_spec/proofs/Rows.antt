@@ -6,9 +6,11 @@ use Prim.Native.Nat.{ℕ, suc, _+_, _≤_, _<_}
 use native.Mathlib.Omega.{arith}
 use lib.ListN.{length, length-append}
 use Rattle.term_spec.specs.Tree.{Tree, Forest, node, empty, _▹_, _▹▹_, count, size, sizes, relabel, relabels, Each-node, Each-nodes}
-use Rattle.term_spec.specs.Reading.{Located, meaning}
-use Rattle.term_spec.specs.Message.{Terms, meanings}
+use Rattle.term_spec.specs.Reading.{Located, as-read, meaning}
+use Rattle.term_spec.specs.Message.{Terms, all-as-read, meanings}
+use Rattle.term_spec.specs.Meaning.{pair-before}
 use Rattle.term_spec.specs.Rows.{Row, tree-rows, rows}
+use Rattle.term_spec.proofs.Pairs.{size-arranged, sizes-arranged}
 
 -- new labels change no number of nodes and no number of trees
 module _ {A B : Type 0} (f : A → B) where
@@ -24,11 +26,17 @@ module _ {A B : Type 0} (f : A → B) where
   count-relabels empty = refl
   count-relabels (t ▹ ts) = ap suc (count-relabels ts)
 
+pub size-as-read : (t : Located) → size (as-read t) ≡ size t
+size-as-read t = size-relabel (λ l. l .0) t
+
+pub sizes-as-read : (ts : Terms) → sizes (all-as-read ts) ≡ sizes ts
+sizes-as-read ts = sizes-relabels (λ l. l .0) ts
+
 pub size-meaning : (t : Located) → size (meaning t) ≡ size t
-size-meaning t = size-relabel (λ l. l .0) t
+size-meaning t = size-arranged pair-before (as-read t) ∙ size-as-read t
 
 pub sizes-meanings : (ts : Terms) → sizes (meanings ts) ≡ sizes ts
-sizes-meanings ts = sizes-relabels (λ l. l .0) ts
+sizes-meanings ts = sizes-arranged pair-before (all-as-read ts) ∙ sizes-as-read ts
 
 -- one run after the other
 module _ {A : Type 0} where

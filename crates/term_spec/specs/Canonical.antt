@@ -1,5 +1,5 @@
 -- The canonical form of a term's meaning.
-use mathlib.Core.Bool.{cond}
+use mathlib.Core.Bool.{Bool, cond}
 use mathlib.Core.List.{List, [], _∷_, _++_}
 use mathlib.Core.Option.{Option, none, some}
 use Prim.Native.Nat.{ℕ, zero, suc, _-_, _/_, _^_}
@@ -10,6 +10,8 @@ use Rattle.term_spec.specs.Tree.{Forest, node, _▹_, count}
 use Rattle.term_spec.specs.Numbers.{in-bytes, digits}
 use Rattle.term_spec.specs.Text.{encodes}
 use Rattle.term_spec.specs.Term.{Label, Term, integer, float, atom, tuple, list, improper-list, binary, bitstring, map, pid, port, reference, export}
+use Rattle.term_spec.specs.Order.{not-greater, compare-lists}
+use Rattle.term_spec.specs.Pairs.{Pair, arranged}
 
 -- 110 up to 255 digits, else 111
 unfoldable pub big-bytes : ℕ → List ℕ → List ℕ
@@ -95,13 +97,22 @@ term-bytes (port id creation) ts parts = port-bytes id creation parts
 term-bytes (reference creation ws) ts parts = 90 ∷ (in-bytes 2 (length ws) ++ (parts ++ (in-bytes 4 creation ++ words-bytes ws)))
 term-bytes export ts parts = 113 ∷ parts
 
+-- a term's bytes, the pairs of its maps as they stand
 unfoldable mutual
-  pub canonical : Term → List ℕ
-  canonical (node l ts) = term-bytes l ts (canonicals ts)
+  pub bytes-of : Term → List ℕ
+  bytes-of (node l ts) = term-bytes l ts (all-bytes ts)
 
-  pub canonicals : Forest Label → List ℕ
-  canonicals Forest.empty = []
-  canonicals (t ▹ ts) = canonical t ++ canonicals ts
+  pub all-bytes : Forest Label → List ℕ
+  all-bytes Forest.empty = []
+  all-bytes (t ▹ ts) = bytes-of t ++ all-bytes ts
+
+-- rising byte order of the keys' bytes
+unfoldable pub key-before : Pair → Pair → Bool
+key-before p q = not-greater (compare-lists (bytes-of (p .0)) (bytes-of (q .0)))
+
+-- Pairs in rising byte order of the key's canonical form: `arranged` begins with the inmost maps, so a key's bytes are its canonical form when it is compared
+unfoldable pub canonical : Term → List ℕ
+canonical t = bytes-of (arranged key-before t)
 
 -- a canonical standalone term
 unfoldable pub canonical-standalone : Term → List ℕ

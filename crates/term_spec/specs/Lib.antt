@@ -4,10 +4,14 @@ pub mod Text
 pub mod BadByte
 pub mod Connection
 pub mod Term
+pub mod Order
+pub mod Pairs
+pub mod Meaning
 pub mod Equal
 pub mod Answer
 pub mod Head
 pub mod Reading
+pub mod Same
 pub mod AtomList
 pub mod Message
 pub mod Rows

@@ -6,6 +6,7 @@ use lib.Dec.{eqb, leb}
 use lib.ListN.{length}
 use Rattle.term_spec.specs.Tree.{Forest, empty, _▹_, relabels}
 use Rattle.term_spec.specs.Term.{Label}
+use Rattle.term_spec.specs.Meaning.{all-ordered}
 use Rattle.term_spec.specs.Connection.{flags-known}
 use Rattle.term_spec.specs.Answer.{Answer, good, refused, Position, Reading, _>>=_, _>>_, done, refuse, here}
 use Rattle.term_spec.specs.Head.{Given, any}
@@ -20,9 +21,13 @@ pub data Framing : Type 0 where
 abbrev pub Terms : Type 0
 Terms = Forest (Label × Offset)
 
+-- the terms alone
+abbrev pub all-as-read : Terms → Forest Label
+all-as-read = relabels (λ l. l .0)
+
 -- what they mean
 abbrev pub meanings : Terms → Forest Label
-meanings = relabels (λ l. l .0)
+meanings ts = all-ordered (all-as-read ts)
 
 -- Refusal 1: empty, or first byte not 131
 unfoldable pub version : Reading Unit

@@ -6,6 +6,7 @@ use lib.Dec.{ltb}
 use lib.IntN.{pos}
 use Rattle.term_spec.specs.Tree.{Tree, Forest, node, empty, _▹_, _▹▹_, relabel}
 use Rattle.term_spec.specs.Term.{Label, Term, integer, list, improper-list, map}
+use Rattle.term_spec.specs.Meaning.{ordered}
 use Rattle.term_spec.specs.Equal.{among}
 use Rattle.term_spec.specs.Answer.{good, refused, Reading, _>>=_, _>>_, done, refuse, here, rule}
 use Rattle.term_spec.specs.Head.{Given, Wanted, any, Head, parts, characters, elements, pairs, term-head, later}
@@ -18,9 +19,13 @@ pub data Offset : Type 0 where
 abbrev pub Located : Type 0
 Located = Tree (Label × Offset)
 
+-- the term alone, its maps' pairs in the order in which they came
+abbrev pub as-read : Located → Term
+as-read = relabel (λ l. l .0)
+
 -- what it means
 abbrev pub meaning : Located → Term
-meaning = relabel (λ l. l .0)
+meaning t = ordered (as-read t)
 
 -- the bytes left
 abbrev pub bytes-left : Reading (List ℕ)

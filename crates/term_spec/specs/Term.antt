@@ -1,4 +1,4 @@
--- What a term means: a tree whose nodes are labelled with the terms' own fields. Two terms mean the same where their trees are equal.
+-- Terms: trees whose nodes are labelled with the terms' own fields. Meaning says what a term means.
 use mathlib.Core.List.{List}
 use Prim.Native.Nat.{ℕ}
 use lib.IntN.{ℤ}
@@ -21,7 +21,7 @@ pub data Label : Type 0 where
   binary : List ℕ → Label
   -- tag 77: how many bits of the last byte count, 1 to 7; the bytes, the last one's lower bits zero
   bitstring : ℕ → List ℕ → Label
-  -- tag 116: parts are the first key, its value, the second key, ..
+  -- tag 116: parts are the first key, its value, the second key, ..; the order of pairs carries no meaning
   map : Label
   -- tags 88, 103: ID, Serial, Creation; the part is the node
   pid : ℕ → ℕ → ℕ → Label
@@ -31,7 +31,6 @@ pub data Label : Type 0 where
   reference : ℕ → List ℕ → Label
   -- tag 113: parts are module, function, arity
   export : Label
-  deriving Discrete as Label-discrete
 
 abbrev pub Term : Type 0
 Term = Tree Label

@@ -5,12 +5,10 @@ infixr 5 _▹_
 mutual
   pub data Tree (A : Type 0) : Type 0 where
     node : A → Forest A → Tree A
-    deriving Discrete as Tree-discrete
 
   pub data Forest (A : Type 0) : Type 0 where
     empty : Forest A
     _▹_ : Tree A → Forest A → Forest A
-    deriving Discrete as Forest-discrete
 
 module _ {A : Type 0} where
   infixr 5 _▹▹_

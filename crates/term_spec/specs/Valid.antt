@@ -1,4 +1,4 @@
--- Which trees are meanings of terms: what an accepted reading gives, and all that its canonical form needs.
+-- Which trees are terms, whatever order their pairs stand in: what an accepted reading gives, and all that its canonical form needs.
 -- For proofs alone: no promise of a public call and no demand cites it.
 use mathlib.Core.Path.{_≡_}
 use mathlib.Core.Bool.{true, false}
@@ -9,6 +9,7 @@ use lib.ListN.{length}
 use Rattle.term_spec.specs.Tree.{Forest, node, empty, _▹_, count}
 use Rattle.term_spec.specs.Numbers.{digits, Under}
 use Rattle.term_spec.specs.Term.{Label, Term, integer, float, atom, tuple, list, improper-list, binary, bitstring, map, pid, port, reference, export}
+use Rattle.term_spec.specs.Meaning.{ordered}
 use Rattle.term_spec.specs.Equal.{among}
 use Rattle.term_spec.specs.Head.{limits, finite, bits-rule, bits-meaning}
 use Rattle.term_spec.specs.Text.{Characters}
@@ -41,11 +42,11 @@ Improper (t ▹ empty) = ⊥
 Improper (t ▹ node l us ▹ empty) = ¬ IsList l
 Improper (t ▹ u ▹ v ▹ ts) = Improper (u ▹ v ▹ ts)
 
--- keys, each unlike those before it, and values
+-- keys, each with another meaning than those before it, and values
 abbrev mutual
   pub Keys : List Term → Forest Label → Type 0
   Keys earlier empty = Unit {0}
-  Keys earlier (k ▹ ts) = (among k earlier ≡ false) × Values (k ∷ earlier) ts
+  Keys earlier (k ▹ ts) = (among (ordered k) earlier ≡ false) × Values (ordered k ∷ earlier) ts
 
   pub Values : List Term → Forest Label → Type 0
   Values earlier empty = ⊥

@@ -1,20 +1,27 @@
 -- What a table says of the terms whose rows stand in it.
 use mathlib.Core.Path.{_≡_, refl, sym, _∙_, ap₂}
+use mathlib.Core.Bool.{Bool, true, false, cond}
 use mathlib.Core.List.{List}
 use mathlib.Core.Option.{some}
 use Prim.Native.Nat.{ℕ, suc, _+_, _≤_, _<_}
 use native.Mathlib.Omega.{arith}
+use lib.Dec.{eqb}
+use borrow.Author.Tests.{eqb-true}
 use lib.ListN.{length, getD}
 use Rattle.term_spec.specs.Tree.{Forest, node, _▹_, count, size, sizes, Each-node}
 use Rattle.term_spec.specs.Term.{Label, integer, float, atom, tuple, list, improper-list, binary, bitstring, map, pid, port, reference, export}
 use Rattle.term_spec.specs.Reading.{Offset, tag-at, character-at, Located}
-use Rattle.term_spec.specs.Message.{Terms, meanings}
-use Rattle.term_spec.specs.Rows.{kind-of, kind-at, offset-of, whole-code, kind-in, parts-in, size-in}
+use Rattle.term_spec.specs.Message.{Terms, all-as-read}
+use Rattle.term_spec.specs.Rows.{kind-of, kind-at, offset-of, whole-code, kind-in, whole-in, parts-in, size-in}
 use Rattle.term_spec.specs.Valid.{Fits, Improper}
 use Rattle.term_spec.proofs.Rows.{count-le-sizes, count-relabels}
 use Rattle.term_spec.proofs.Words.{Between, kind-at-range, Small-row, Word-of, row-of, first-here, others-here, parts-here, node-packed, node-below}
+use Rattle.term_spec.specs.AtomList.{AtomList}
 use Rattle.row_fields.specs.Found.{content-of}
-use Rattle.canonical_fields.specs.Sound.{content-in, label-in, Sound-word}
+use Rattle.row_fields.specs.Meaning.{bare, label-of}
+use Rattle.row_fields.specs.declared.Content.{Content}
+use Rattle.row_fields.specs.declared.Content.the-variants.{Nothing, Whole, Big, Float, Text, Bytes, Bits, Pid, Port, Reference}
+use Rattle.canonical_fields.specs.Sound.{listed-in, content-in, label-in, Sound-word}
 use Rattle.term_writer.specs.InTable.{Writable, Term-in-table, Run-in-table}
 
 -- ---- kinds and labels
@@ -51,6 +58,47 @@ kind-improper (port i c) e = absurd (omega arith)
 kind-improper (reference c ws) e = absurd (omega arith)
 kind-improper export e = absurd (omega arith)
 
+pub kind-map : (l : Label) → kind-of l ≡ 9 → l ≡ map
+unfolding kind-of
+kind-map (integer z) e = absurd (omega arith)
+kind-map (float b) e = absurd (omega arith)
+kind-map (atom cs) e = absurd (omega arith)
+kind-map tuple e = absurd (omega arith)
+kind-map list e = absurd (omega arith)
+kind-map improper-list e = absurd (omega arith)
+kind-map (binary bs) e = absurd (omega arith)
+kind-map (bitstring n bs) e = absurd (omega arith)
+kind-map map e = refl
+kind-map (pid i s c) e = absurd (omega arith)
+kind-map (port i c) e = absurd (omega arith)
+kind-map (reference c ws) e = absurd (omega arith)
+kind-map export e = absurd (omega arith)
+
+-- a map is found only where its row has its kind
+bare-map : (k : ℕ) → bare k ≡ map → k ≡ 9
+unfolding bare
+bare-map k e = go (eqb k 4) (eqb k 5) (eqb k 6) (eqb k 9) refl e
+  where
+    go : (a b c d : Bool) → eqb k 9 ≡ d → cond a tuple (cond b list (cond c improper-list (cond d map export))) ≡ map → k ≡ 9
+    go true b c d f e = let no-way : _≡_ {A = ℕ} 0 1 = cc in absurd (omega arith)
+    go false true c d f e = let no-way : _≡_ {A = ℕ} 0 1 = cc in absurd (omega arith)
+    go false false true d f e = let no-way : _≡_ {A = ℕ} 0 1 = cc in absurd (omega arith)
+    go false false false true f e = eqb-true k 9 f
+    go false false false false f e = let no-way : _≡_ {A = ℕ} 0 1 = cc in absurd (omega arith)
+
+found-map : (m : List ℕ) (atoms : AtomList) (k : ℕ) (c : Content) → label-of m atoms k c ≡ map → k ≡ 9
+unfolding label-of
+found-map m atoms k Nothing e = bare-map k e
+found-map m atoms k (Whole negative n) e = let no-way : _≡_ {A = ℕ} 0 1 = cc in absurd (omega arith)
+found-map m atoms k (Big negative start n) e = let no-way : _≡_ {A = ℕ} 0 1 = cc in absurd (omega arith)
+found-map m atoms k (Float bits) e = let no-way : _≡_ {A = ℕ} 0 1 = cc in absurd (omega arith)
+found-map m atoms k (Text latin1 listed start n) e = let no-way : _≡_ {A = ℕ} 0 1 = cc in absurd (omega arith)
+found-map m atoms k (Bytes start n) e = let no-way : _≡_ {A = ℕ} 0 1 = cc in absurd (omega arith)
+found-map m atoms k (Bits bits start n) e = let no-way : _≡_ {A = ℕ} 0 1 = cc in absurd (omega arith)
+found-map m atoms k (Pid id serial creation) e = let no-way : _≡_ {A = ℕ} 0 1 = cc in absurd (omega arith)
+found-map m atoms k (Port id creation) e = let no-way : _≡_ {A = ℕ} 0 1 = cc in absurd (omega arith)
+found-map m atoms k (Reference creation start n) e = let no-way : _≡_ {A = ℕ} 0 1 = cc in absurd (omega arith)
+
 pub tag-kind : (l : Label) (p : Offset) (k : ℕ) → k < 14 → kind-at l p ≡ k → kind-of l ≡ k
 unfolding kind-at
 tag-kind l (tag-at p) k h e = e
@@ -69,25 +117,29 @@ module _ {m places lengths T : List ℕ} where
   unfolding Each-node
   run-first {row} {t} {ts} h =
       let f : row + (size t + sizes ts) ≤ 8192 = h .run-few in
-      record { whole = h .run-whole; above = h .run-above; stands = first-here (h .run-stands); few = omega arith; nodes = h .run-nodes .0 }
+      record { whole = h .run-whole; above = h .run-above; stands = first-here (h .run-stands); few = omega arith; flags = h .run-flags; nodes = h .run-nodes .0 }
 
   pub run-others : {row : ℕ} {t : Located} {ts : Terms} → Run-in-table m places lengths T row (t ▹ ts) → Run-in-table m places lengths T (row + size t) ts
   unfolding Each-node
   run-others {row} {t} {ts} h =
       let f : row + (size t + sizes ts) ≤ 8192 = h .run-few in
       let a : whole-code (h .run-whole) ≤ row = h .run-above in
-      record { run-whole = h .run-whole; run-above = omega arith; run-stands = others-here (h .run-stands); run-few = omega arith; run-nodes = h .run-nodes .1 }
+      record { run-whole = h .run-whole; run-above = omega arith; run-stands = others-here (h .run-stands); run-few = omega arith; run-flags = h .run-flags; run-nodes = h .run-nodes .1 }
 
   module _ {row : ℕ} {l : Label × Offset} {ts : Terms} (h : Term-in-table m places lengths T row (node l ts)) where
     pub held-parts : Run-in-table m places lengths T (row + 1) ts
     unfolding Each-node whole-code
     held-parts =
         let f : row + suc (sizes ts) ≤ 8192 = h .few in
-        record { run-whole = some row; run-above = omega arith; run-stands = parts-here (h .stands); run-few = omega arith; run-nodes = h .nodes .1 }
+        record { run-whole = some row; run-above = omega arith; run-stands = parts-here (h .stands); run-few = omega arith; run-flags = h .flags; run-nodes = h .nodes .1 }
 
-    pub held-writable : Writable m places lengths l ts
+    pub held-writable : Writable m places lengths (h .flags) l ts
     unfolding Each-node
     held-writable = h .nodes .0
+
+    -- a map's row has its kind
+    pub held-map : l .0 ≡ map → kind-at (l .0) (l .1) ≡ 9
+    held-map e = found-map m (listed-in places) (kind-at (l .0) (l .1)) (content-of m places lengths (kind-at (l .0) (l .1)) (offset-of (l .1))) (held-writable .says ∙ e)
 
     pub held-below : row < length T
     held-below = node-below (h .stands)
@@ -113,6 +165,9 @@ module _ {m places lengths T : List ℕ} where
     pub held-size : size-in (getD T row 0) ≡ suc (sizes ts)
     held-size = held-packed .size-is
 
+    pub held-whole : whole-in (getD T row 0) ≡ whole-code (h .whole)
+    held-whole = held-packed .whole-is
+
     held-content : content-in m places lengths (getD T row 0) ≡ content-of m places lengths (kind-at (l .0) (l .1)) (offset-of (l .1))
     held-content = ap₂ (λ (k o : ℕ). content-of m places lengths k o) held-kind (held-packed .offset-is)
 
@@ -125,7 +180,7 @@ module _ {m places lengths T : List ℕ} where
         some-of : kind-at (l .0) (l .1) ≡ 6 → 0 < parts-in (getD T row 0)
         some-of e =
             let i : l .0 ≡ improper-list = kind-improper (l .0) (tag-kind (l .0) (l .1) 6 (omega arith) e) in
-            let n : 0 < count (meanings ts) = improper-parts (held-writable .flags) (l .0) (meanings ts) i (held-writable .fits) in
+            let n : 0 < count (all-as-read ts) = improper-parts (h .flags) (l .0) (all-as-read ts) i (held-writable .fits) in
             let c = count-relabels (λ (x : Label × Offset). x .0) ts in
             let d = held-count in
             omega arith

@@ -1,3 +1,5 @@
 pub mod InTable
+pub mod PairOrder
 pub mod Strings
 pub mod Terms
+pub mod Pairs

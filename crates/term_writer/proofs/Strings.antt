@@ -14,7 +14,7 @@ use Rattle.term_spec.specs.Tree.{Forest, node, _▹_, count, sizes}
 use Rattle.term_spec.specs.Numbers.{in-bytes}
 use Rattle.term_spec.specs.Term.{Label, integer, float, atom, tuple, list, improper-list, binary, bitstring, map, pid, port, reference, export}
 use Rattle.term_spec.specs.Reading.{Offset, Located}
-use Rattle.term_spec.specs.Message.{Terms, meanings}
+use Rattle.term_spec.specs.Message.{Terms, all-as-read}
 use Rattle.term_spec.specs.Rows.{kind-of, kind-in, parts-in}
 use Rattle.term_spec.specs.Canonical.{small, put, all-small}
 use Rattle.term_spec.specs.Valid.{Fits}
@@ -68,7 +68,7 @@ small-below (port i c) x e = let no-way : _≡_ {A = ℕ} 0 1 = cc in absurd (om
 small-below (reference c ws) x e = let no-way : _≡_ {A = ℕ} 0 1 = cc in absurd (omega arith)
 small-below export x e = let no-way : _≡_ {A = ℕ} 0 1 = cc in absurd (omega arith)
 
-no-forest : (ts : Terms) → meanings ts ≡ Forest.empty → ts ≡ Forest.empty
+no-forest : (ts : Terms) → all-as-read ts ≡ Forest.empty → ts ≡ Forest.empty
 no-forest Forest.empty e = refl
 no-forest (t ▹ ts) e = let no-way : _≡_ {A = ℕ} 0 1 = cc in absurd (omega arith)
 
@@ -103,14 +103,14 @@ module _ (m places lengths T : List ℕ) where
     pub rest : Terms
     pub rest-held : Run-in-table m places lengths T (row + i) rest
     pub rest-count : count rest ≡ n - i
-    pub same : is-some (all-small (meanings ts)) ≡ is-some (all-small (meanings rest))
+    pub same : is-some (all-small (all-as-read ts)) ≡ is-some (all-small (all-as-read rest))
 
   pub record Characters-left (row n at : ℕ) (cs O out : List ℕ) (i : ℕ) : Type 0 where
     pub rest : Terms
     pub rest-held : Run-in-table m places lengths T (row + i) rest
     pub rest-count : count rest ≡ n - i
     pub left : List ℕ
-    pub are : all-small (meanings rest) ≡ some left
+    pub are : all-small (all-as-read rest) ≡ some left
     pub stored : sets out (at + i) left ≡ sets O at cs
 
 put-some : (o : Option (List ℕ)) (x : ℕ) → is-some (put (some x) o) ≡ is-some o
@@ -118,12 +118,12 @@ unfolding is-some
 put-some none x = refl
 put-some (some cs) x = refl
 
-all-none : (ts us : Terms) (k : ℕ) → count us ≡ k → k ≡ 0 → is-some (all-small (meanings ts)) ≡ is-some (all-small (meanings us)) → true ≡ is-some (all-small (meanings ts))
+all-none : (ts us : Terms) (k : ℕ) → count us ≡ k → k ≡ 0 → is-some (all-small (all-as-read ts)) ≡ is-some (all-small (all-as-read us)) → true ≡ is-some (all-small (all-as-read ts))
 unfolding all-small is-some
 all-none ts Forest.empty k c z e = sym e
 all-none ts (t ▹ us) k c z e = absurd (omega arith)
 
-none-left : (us : Terms) (k : ℕ) (ds : List ℕ) → count us ≡ k → k ≡ 0 → all-small (meanings us) ≡ some ds → ds ≡ []
+none-left : (us : Terms) (k : ℕ) (ds : List ℕ) → count us ≡ k → k ≡ 0 → all-small (all-as-read us) ≡ some ds → ds ≡ []
 unfolding all-small
 none-left Forest.empty k ds c z e = cc
 none-left (t ▹ us) k ds c z e = absurd (omega arith)
@@ -154,7 +154,7 @@ module _ {m places lengths T : List ℕ} where
   -- a small integer has one row
   next-held : (row i : ℕ) {ts : Terms} (f : Front m places lengths T (row + i) ts) (x : ℕ) → small (f .label .0) ≡ some x → Run-in-table m places lengths T (row + (i + 1)) (f .others)
   next-held row i f x e =
-      let leaf : f .parts ≡ Forest.empty = no-forest (f .parts) (small-leaf (held-writable (f .held) .flags) (f .label .0) (meanings (f .parts)) x e (held-writable (f .held) .fits)) in
+      let leaf : f .parts ≡ Forest.empty = no-forest (f .parts) (small-leaf (f .held .flags) (f .label .0) (all-as-read (f .parts)) x e (held-writable (f .held) .fits)) in
       let z : sizes (f .parts) ≡ 0 = ap sizes leaf in
       let r : row + i + suc (sizes (f .parts)) ≡ row + (i + 1) = omega arith in
       rw r at (f .held-others)
@@ -179,23 +179,23 @@ module _ {m places lengths T : List ℕ} where
         rest-held = next-held row i f c is;
         rest-count = omega arith;
         same = s .same
-            ∙ ap (λ (us : Terms). is-some (all-small (meanings us))) (f .is)
-            ∙ ap (λ (o : Option ℕ). is-some (put o (all-small (meanings (f .others))))) is
-            ∙ put-some (all-small (meanings (f .others))) c;
+            ∙ ap (λ (us : Terms). is-some (all-small (all-as-read us))) (f .is)
+            ∙ ap (λ (o : Option ℕ). is-some (put o (all-small (all-as-read (f .others))))) is
+            ∙ put-some (all-small (all-as-read (f .others))) c;
       }
 
   pub small-stop : {row n i : ℕ} {ts : Terms} (c : ℕ) → Small-left m places lengths T row n ts i → i < n
-      → c ≡ character-code (small (label-in m places lengths (getD T (row + i) 0))) → c ≡ 256 → false ≡ is-some (all-small (meanings ts))
+      → c ≡ character-code (small (label-in m places lengths (getD T (row + i) 0))) → c ≡ 256 → false ≡ is-some (all-small (all-as-read ts))
   unfolding all-small is-some
   small-stop {row} {n} {i} {ts} c s l e is =
       let k : count (s .rest) ≡ n - i = s .rest-count in
       let f = front (row + i) (s .rest) (s .rest-held) (omega arith) in
       let nothing : small (f .label .0) ≡ none = code-none (f .label .0) (sym (e ∙ code-held f) ∙ is) in
       sym (s .same
-      ∙ ap (λ (us : Terms). is-some (all-small (meanings us))) (f .is)
-      ∙ ap (λ (o : Option ℕ). is-some (put o (all-small (meanings (f .others))))) nothing)
+      ∙ ap (λ (us : Terms). is-some (all-small (all-as-read us))) (f .is)
+      ∙ ap (λ (o : Option ℕ). is-some (put o (all-small (all-as-read (f .others))))) nothing)
 
-  pub small-end : {row n i : ℕ} {ts : Terms} → Small-left m places lengths T row n ts i → n ≤ i → true ≡ is-some (all-small (meanings ts))
+  pub small-end : {row n i : ℕ} {ts : Terms} → Small-left m places lengths T row n ts i → n ≤ i → true ≡ is-some (all-small (all-as-read ts))
   small-end {row} {n} {i} {ts} s l = all-none ts (s .rest) (n - i) (s .rest-count) (omega arith) (s .same)
 
 -- ---- characters
@@ -213,7 +213,7 @@ put-inverse (some x) none ds e = let no-way : _≡_ {A = ℕ} 0 1 = cc in absurd
 put-inverse (some x) (some es) ds e = record { first = x; others = es; first-is = refl; others-are = refl; joined = cc }
 
 module _ {m places lengths T : List ℕ} where
-  pub characters-start : (row n at : ℕ) (ts : Terms) (cs O : List ℕ) → Run-in-table m places lengths T row ts → count ts ≡ n → all-small (meanings ts) ≡ some cs
+  pub characters-start : (row n at : ℕ) (ts : Terms) (cs O : List ℕ) → Run-in-table m places lengths T row ts → count ts ≡ n → all-small (all-as-read ts) ≡ some cs
       → Characters-left m places lengths T row n at cs O O 0
   characters-start row n at ts cs O h c e =
       let f : row ≡ row + 0 = omega arith in
@@ -221,7 +221,7 @@ module _ {m places lengths T : List ℕ} where
       record { rest = ts; rest-held = rw (← f) h; rest-count = omega arith; left = cs; are = e; stored = ap (λ (k : ℕ). sets O k cs) g }
 
   module _ {row n at i : ℕ} {O out : List ℕ} (a : Some-small m places lengths T row n)
-      (inv : (ts : Terms) (cs : List ℕ) → Run-in-table m places lengths T row ts → count ts ≡ n → all-small (meanings ts) ≡ some cs
+      (inv : (ts : Terms) (cs : List ℕ) → Run-in-table m places lengths T row ts → count ts ≡ n → all-small (all-as-read ts) ≡ some cs
       → Characters-left m places lengths T row n at cs O out i) where
     pub characters-here : Characters-left m places lengths T row n at (a .characters) O out i
     characters-here = inv (a .small-terms) (a .characters) (a .small-held) (a .small-counted) (a .are-small)
@@ -237,9 +237,9 @@ module _ {m places lengths T : List ℕ} where
     at-front : Front m places lengths T (row + i) (s .rest)
     at-front = front (row + i) (s .rest) (s .rest-held) some-left
 
-    parted : Put-some (small (at-front .label .0)) (all-small (meanings (at-front .others))) (s .left)
+    parted : Put-some (small (at-front .label .0)) (all-small (all-as-read (at-front .others))) (s .left)
     unfolding all-small
-    parted = put-inverse _ _ (s .left) (sym (ap (λ (us : Terms). all-small (meanings us)) (at-front .is)) ∙ s .are)
+    parted = put-inverse _ _ (s .left) (sym (ap (λ (us : Terms). all-small (all-as-read us)) (at-front .is)) ∙ s .are)
 
     code-is : c ≡ parted .first
     unfolding character-code
@@ -266,11 +266,11 @@ module _ {m places lengths T : List ℕ} where
               ∙ s .stored;
         }
 
-  pub characters-end : {row n at i : ℕ} {cs O out : List ℕ} (ts : Terms) → Characters-left m places lengths T row n at cs O out i → n ≤ i → count ts ≡ n → all-small (meanings ts) ≡ some cs
+  pub characters-end : {row n at i : ℕ} {cs O out : List ℕ} (ts : Terms) → Characters-left m places lengths T row n at cs O out i → n ≤ i → count ts ≡ n → all-small (all-as-read ts) ≡ some cs
       → Put O at cs (at + n) out
   characters-end {row} {n} {at} {i} {cs} {O} {out} ts s l c e =
       let z : s .left ≡ [] = none-left (s .rest) (n - i) (s .left) (s .rest-count) (omega arith) (s .are) in
-      let k : length cs ≡ count (meanings ts) = small-count (meanings ts) cs e in
+      let k : length cs ≡ count (all-as-read ts) = small-count (all-as-read ts) cs e in
       let j = count-relabels (λ (x : Label × Offset). x .0) ts in
       record { past = omega arith; stored = sym (ap (λ (x : List ℕ). sets out (at + i) x) z) ∙ s .stored }
 
@@ -301,8 +301,8 @@ as-empty l ts e = go (eqb (kind-of l) 5)
     go true = small-none (count ts) (all-small ts) e
     go false = refl
 
-pub count-meanings : (ts : Terms) → count (meanings ts) ≡ count ts
-count-meanings ts = count-relabels (λ (x : Label × Offset). x .0) ts
+pub count-as-read : (ts : Terms) → count (all-as-read ts) ≡ count ts
+count-as-read ts = count-relabels (λ (x : Label × Offset). x .0) ts
 
 -- what is written as a string is a list, and its characters are its elements
 pub as-inverse : (l : Label) (ts : Forest Label) (cs : List ℕ) → as-string l ts ≡ some cs → (l ≡ list) × (some-small (count ts) (all-small ts) ≡ some cs)
@@ -333,12 +333,12 @@ module _ {m places lengths T : List ℕ} {row : ℕ} where
   pub other-kind : (k : ℕ) → k ≡ kind-in (getD T row 0) → (k ≡ 5 → ⊥) → (t : Located) → Term-in-table m places lengths T row t → false ≡ string-term t
   unfolding string-term is-some
   other-kind k e n (node l ts) h =
-      sym (ap (λ (o : Option (List ℕ)). is-some o) (as-other (l .0) (meanings ts) (λ f. n (e ∙ held-kind h ∙ held-writable h .at-tag (kind-list (l .0) f)))))
+      sym (ap (λ (o : Option (List ℕ)). is-some o) (as-other (l .0) (all-as-read ts) (λ f. n (e ∙ held-kind h ∙ held-writable h .at-tag (kind-list (l .0) f)))))
 
   pub no-elements : (n : ℕ) → n ≡ parts-in (getD T row 0) → n ≡ 0 → (t : Located) → Term-in-table m places lengths T row t → false ≡ string-term t
   unfolding string-term is-some
   no-elements n e z (node l ts) h =
-      sym (ap (λ (o : Option (List ℕ)). is-some o) (as-empty (l .0) (meanings ts) (count-meanings ts ∙ sym (held-count h) ∙ sym e ∙ z)))
+      sym (ap (λ (o : Option (List ℕ)). is-some o) (as-empty (l .0) (all-as-read ts) (count-as-read ts ∙ sym (held-count h) ∙ sym e ∙ z)))
 
   pub elements-told : (k n : ℕ) (r : Bool) → k ≡ kind-in (getD T row 0) → k ≡ 5 → n ≡ parts-in (getD T row 0) → (n ≡ 0 → ⊥)
       → Small-told m places lengths T (row + 1) n r → (t : Located) → Term-in-table m places lengths T row t → r ≡ string-term t
@@ -347,8 +347,8 @@ module _ {m places lengths T : List ℕ} {row : ℕ} where
       let c : count ts ≡ n = sym (held-count h) ∙ sym f in
       told ts (held-parts h) c
       ∙ sym (ap (λ (o : Option (List ℕ)). is-some o)
-      (as-list (l .0) (meanings ts) (tag-kind (l .0) (l .1) 5 (omega arith) (sym (held-kind h) ∙ sym e ∙ five))
-      ∙ small-some (count (meanings ts)) (all-small (meanings ts)) (λ z. any (sym c ∙ sym (count-meanings ts) ∙ z))))
+      (as-list (l .0) (all-as-read ts) (tag-kind (l .0) (l .1) 5 (omega arith) (sym (held-kind h) ∙ sym e ∙ five))
+      ∙ small-some (count (all-as-read ts)) (all-small (all-as-read ts)) (λ z. any (sym c ∙ sym (count-as-read ts) ∙ z))))
 
   term-node : (t : Located) → Term-in-table m places lengths T row t → (l : Label × Offset) × (ts : Terms) × Term-in-table m places lengths T row (node l ts)
   term-node (node l ts) h = (l, ts, h)

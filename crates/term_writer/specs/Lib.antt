@@ -1,2 +1,3 @@
 pub mod InTable
 pub mod Code
+pub mod PairOrder

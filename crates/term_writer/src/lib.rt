@@ -1,12 +1,29 @@
-// One term in canonical form, and terms one after the other: measured and written from the rows that reading made of them.
+// One term in canonical form, and terms one after the other: measured and written from the rows that reading made of them, with the order of maps' pairs in slots.
 use term_spec::kinds;
 use term_spec::tags;
+ghost use mathlib.Core.Path.{_≡_};
 ghost use Prim.Native.Nat.{_+_, _≤_, _<_};
-ghost use lib.ListN.{length};
-ghost use Rattle.term_spec.specs.Canonical.{canonical, canonicals};
-ghost use Rattle.term_writer.specs.Code.{Some-term, Some-run, Some-small, String-told, Small-told, Characters-put, String-put, Term-length, Term-put, Term-fits, Run-length, Run-put, Run-fits};
+ghost use lib.ListN.{length, getD};
+ghost use Rattle.term_spec.specs.Canonical.{canonical};
+ghost use Rattle.term_writer.specs.Code.{canonicals, Some-term, Some-run, Some-small, String-told, Small-told, Characters-put, String-put, Term-length, Term-put, Term-fits, Run-length, Run-put, Run-fits, Pairs-put, Pairs-fit, Parts-put, Parts-fit};
 
 const STRING: usize = tags::STRING_EXT as usize;
+
+// The parts of a pair: a key and its value.
+const PAIR_PARTS: usize = 2;
+
+// A map with so many parts has two pairs: fewer need no order.
+pub const ORDERED_PARTS: usize = 4;
+
+// The slot at a row, 0 past the end of them.
+pub fn slot_at(order: &[u16], row: usize) -> usize
+    ensures { λ r. ⌜ r ≡ getD (now (order .entry)) row 0 ⌝ }
+{
+    if row < order.len() {
+        return octets::wide16(order[row]);
+    }
+    0
+}
 
 // Whether the n terms whose rows begin at `row` are all integers 0 to 255.
 fn all_small(
@@ -92,7 +109,7 @@ fn put_string(
 // How many bytes the canonical form of the term at `row` has.
 fn length_term(msg: &[u8], places: &[u8], lengths: &[u16], table: &[u64], row: usize) -> usize
     requires { ⌜ Some-term (now msg) (now places) (now lengths) (now table) row ⌝ }
-    ensures { λ r. ⌜ Term-length (now (msg .entry)) (now (places .entry)) (now (lengths .entry)) (now (table .entry)) row canonical r ⌝ }
+    ensures { λ r. ⌜ Term-length (now (msg .entry)) (now (places .entry)) (now (lengths .entry)) (now (table .entry)) row r ⌝ }
 {
     let word = table[row];
     let n = row::parts_in(word);
@@ -117,7 +134,7 @@ pub fn length_run(
     n: usize,
 ) -> usize
     requires { ⌜ Some-run (now msg) (now places) (now lengths) (now table) row n ⌝ }
-    ensures { λ r. ⌜ Run-length (now (msg .entry)) (now (places .entry)) (now (lengths .entry)) (now (table .entry)) row canonicals n r ⌝ }
+    ensures { λ r. ⌜ Run-length (now (msg .entry)) (now (places .entry)) (now (lengths .entry)) (now (table .entry)) row n r ⌝ }
 {
     let mut next = row;
     let mut left = n;
@@ -136,12 +153,13 @@ pub fn write_term(
     places: &[u8],
     lengths: &[u16],
     table: &[u64],
+    order: &[u16],
     row: usize,
     out: &mut [u8],
     at: usize,
 ) -> usize
-    requires { ⌜ Term-fits (now msg) (now places) (now lengths) (now table) row canonical (length (now out)) at ⌝ }
-    ensures { λ r. ⌜ Term-put (now (msg .entry)) (now (places .entry)) (now (lengths .entry)) (now (table .entry)) row canonical (now (out .entry)) at r (now (out .exit)) ⌝ }
+    requires { ⌜ Term-fits (now msg) (now places) (now lengths) (now table) row (now order) canonical (length (now out)) at ⌝ }
+    ensures { λ r. ⌜ Term-put (now (msg .entry)) (now (places .entry)) (now (lengths .entry)) (now (table .entry)) row (now (order .entry)) canonical (now (out .entry)) at r (now (out .exit)) ⌝ }
 {
     let word = table[row];
     let n = row::parts_in(word);
@@ -152,8 +170,42 @@ pub fn write_term(
         return put_string(msg, places, lengths, table, row + 1, n, out, at);
     }
     let first = field_writer::put_before(msg, places, lengths, word, out, at);
-    let end = write_run(msg, places, lengths, table, row + 1, n, out, first);
+    let end = write_parts(msg, places, lengths, table, order, row, out, first);
     field_writer::put_after(msg, places, lengths, word, out, end)
+}
+
+// Writes the parts of the term at `row`, which is not written as a string; the offset past them.
+fn write_parts(
+    msg: &[u8],
+    places: &[u8],
+    lengths: &[u16],
+    table: &[u64],
+    order: &[u16],
+    row: usize,
+    out: &mut [u8],
+    at: usize,
+) -> usize
+    requires { ⌜ Parts-fit (now msg) (now places) (now lengths) (now table) row (now order) (length (now out)) at ⌝ }
+    ensures { λ r. ⌜ Parts-put (now (msg .entry)) (now (places .entry)) (now (lengths .entry)) (now (table .entry)) row (now (order .entry)) (now (out .entry)) at r (now (out .exit)) ⌝ }
+{
+    let word = table[row];
+    let n = row::parts_in(word);
+    if row::kind_in(word) == kinds::MAP {
+        if ORDERED_PARTS <= n {
+            return write_pairs(
+                msg,
+                places,
+                lengths,
+                table,
+                order,
+                row + 1,
+                n / PAIR_PARTS,
+                out,
+                at,
+            );
+        }
+    }
+    write_run(msg, places, lengths, table, order, row + 1, n, out, at)
 }
 
 // Writes those of the n terms whose rows begin at `row`, one after the other; the offset past them.
@@ -162,20 +214,59 @@ fn write_run(
     places: &[u8],
     lengths: &[u16],
     table: &[u64],
+    order: &[u16],
     row: usize,
     n: usize,
     out: &mut [u8],
     at: usize,
 ) -> usize
-    requires { ⌜ Run-fits (now msg) (now places) (now lengths) (now table) row canonicals n (length (now out)) at ⌝ }
-    ensures { λ r. ⌜ Run-put (now (msg .entry)) (now (places .entry)) (now (lengths .entry)) (now (table .entry)) row canonicals n (now (out .entry)) at r (now (out .exit)) ⌝ }
+    requires { ⌜ Run-fits (now msg) (now places) (now lengths) (now table) row (now order) canonicals n (length (now out)) at ⌝ }
+    ensures { λ r. ⌜ Run-put (now (msg .entry)) (now (places .entry)) (now (lengths .entry)) (now (table .entry)) row (now (order .entry)) canonicals n (now (out .entry)) at r (now (out .exit)) ⌝ }
 {
     let mut next = row;
     let mut left = n;
     let mut end = at;
     while 0 < left {
-        end = write_term(msg, places, lengths, table, next, out, end);
+        end = write_term(msg, places, lengths, table, order, next, out, end);
         next += row::size_in(table[next]);
+        left -= 1;
+    }
+    end
+}
+
+// Writes the n pairs of a map, the first one's key at `row`, in the order that their slots give; the offset past them.
+fn write_pairs(
+    msg: &[u8],
+    places: &[u8],
+    lengths: &[u16],
+    table: &[u64],
+    order: &[u16],
+    row: usize,
+    n: usize,
+    out: &mut [u8],
+    at: usize,
+) -> usize
+    requires { ⌜ Pairs-fit (now msg) (now places) (now lengths) (now table) row (now order) n (length (now out)) at ⌝ }
+    ensures { λ r. ⌜ Pairs-put (now (msg .entry)) (now (places .entry)) (now (lengths .entry)) (now (table .entry)) row (now (order .entry)) n (now (out .entry)) at r (now (out .exit)) ⌝ }
+{
+    let mut key = row;
+    let mut left = n;
+    let mut end = at;
+    while 0 < left {
+        let slot = slot_at(order, key);
+        end = write_run(
+            msg,
+            places,
+            lengths,
+            table,
+            order,
+            slot,
+            PAIR_PARTS,
+            out,
+            end,
+        );
+        let value = key + row::size_in(table[key]);
+        key = value + row::size_in(table[value]);
         left -= 1;
     }
     end

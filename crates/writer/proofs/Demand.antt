@@ -7,10 +7,12 @@ use Rattle.term_spec.specs.AtomList.{lent-list}
 use Rattle.term_spec.specs.Message.{standalone, payload}
 use Rattle.term_spec.specs.Promises.{Read-call, Write-call}
 use Rattle.term_spec.specs.Demands.{Accepted-term, Demand-3}
+use Rattle.term_spec.specs.Same.{Maps-have-no-order}
 use Rattle.term_spec.specs.Lists.{No-long-list}
 use Rattle.term_spec.specs.BadTexts.{Bad-texts}
 use Rattle.term_spec.specs.Widening.{Only-widens}
 use Rattle.term_spec.proofs.Demand as definitions
+use Rattle.term_spec.proofs.Same as same
 use Rattle.term_spec.proofs.Lists as lists
 use Rattle.term_spec.proofs.BadTexts as texts
 use Rattle.term_spec.proofs.Widening as widening
@@ -41,6 +43,10 @@ promised-read-payload κs a r s p = p
 -- For every flags and any two terms accepted with them, of one message or of two
 pub demand-3 : (flags : ℕ) (t u : Term) (a : Accepted-term flags t) (b : Accepted-term flags u) → Demand-3 flags t u a b
 demand-3 = definitions.demand-3
+
+-- What `means the same` says there: the same but for the order of pairs, at any depth
+pub maps-have-no-order : Maps-have-no-order
+maps-have-no-order = same.maps-have-no-order
 
 -- Of the same calls: no list that they read or write has more than 8,191 elements
 pub no-long-list : No-long-list

@@ -13,9 +13,9 @@ use Rattle.term_spec.specs.Text.{Checked, encodes}
 use Rattle.term_spec.specs.Term.{Label, list, bitstring}
 use Rattle.term_spec.specs.Answer.{good}
 use Rattle.term_spec.specs.Head.{Given, bits-rule, bits-meaning, clear-low}
-use Rattle.term_spec.specs.Reading.{Offset, tag-at, character-at, Located, meaning}
+use Rattle.term_spec.specs.Reading.{Offset, tag-at, character-at, Located, as-read}
 use Rattle.term_spec.specs.AtomList.{AtomList, of-size, given-of}
-use Rattle.term_spec.specs.Message.{Framing, Terms, meanings, read}
+use Rattle.term_spec.specs.Message.{Framing, Terms, all-as-read, read}
 use Rattle.term_spec.specs.Rows.{kind-of, kind-at, offset-of, whole-code, table-after}
 use Rattle.term_spec.specs.Numbers.{Under}
 use Rattle.term_spec.specs.Valid.{Fits, Valid, Valids}
@@ -101,7 +101,7 @@ module _ (m : List ℕ) (atoms : AtomList) (short : length m ≤ 65536) (fits : 
   listed-alone kind (Reference c start n) = refl
 
   module _ (flags : ℕ) (lent : Lent atoms m) (cap : ℕ) where
-    node-writable : (l : Label × Offset) (ts : Terms) → Label-at m cap (given-of flags atoms) (l .1) (l .0) → Fits flags (l .0) (meanings ts) → Writable m (atoms .places) (atoms .lengths) l ts
+    node-writable : (l : Label × Offset) (ts : Terms) → Label-at m cap (given-of flags atoms) (l .1) (l .0) → Fits flags (l .0) (all-as-read ts) → Writable m (atoms .places) (atoms .lengths) flags l ts
     node-writable l ts h f =
         let k : ℕ = kind-at (l .0) (l .1) in
         let p : ℕ = offset-of (l .1) in
@@ -111,8 +111,7 @@ module _ (m : List ℕ) (atoms : AtomList) (short : length m ≤ 65536) (fits : 
         record {
           near = omega arith;
           says = listed-alone k c ∙ s .means;
-          sound = sound-by flags k c (meanings ts) (s .sound) (rw (s .means) f);
-          flags = flags;
+          sound = sound-by flags k c (all-as-read ts) (s .sound) (rw (s .means) f);
           fits = f;
           at-tag = label-tag m cap (given-of flags atoms) (l .1) (l .0) h;
         }
@@ -120,10 +119,10 @@ module _ (m : List ℕ) (atoms : AtomList) (short : length m ≤ 65536) (fits : 
     mutual
       unfolding Each-node
 
-      tree-writable : (t : Located) → Backed m cap (given-of flags atoms) t → Valid flags (meaning t) → Each-node (Writable m (atoms .places) (atoms .lengths)) t
+      tree-writable : (t : Located) → Backed m cap (given-of flags atoms) t → Valid flags (as-read t) → Each-node (Writable m (atoms .places) (atoms .lengths) flags) t
       tree-writable (node l ts) b v = (node-writable l ts (b .0) (v .0), run-writable ts (b .1) (v .1))
 
-      run-writable : (ts : Terms) → Backeds m cap (given-of flags atoms) ts → Valids flags (meanings ts) → Each-nodes (Writable m (atoms .places) (atoms .lengths)) ts
+      run-writable : (ts : Terms) → Backeds m cap (given-of flags atoms) ts → Valids flags (all-as-read ts) → Each-nodes (Writable m (atoms .places) (atoms .lengths) flags) ts
       run-writable Forest.empty b v = tt
       run-writable (t ▹ ts) b v = (tree-writable t (b .0) (v .0), run-writable ts (b .1) (v .1))
 
@@ -149,6 +148,7 @@ read-held flags framing atoms lent m n u ts e =
       run-above = omega arith;
       run-stands = table-rows lent ts;
       run-few = omega arith;
+      run-flags = flags;
       run-nodes = run-writable m atoms (a .short) (places-few atoms (a .sized)) flags (record { sized = a .sized; few = n; under = u }) (min 8192 lent) ts (a .known .all-backed)
-          (allowed-valid flags (meanings ts) (a .known .all-allowed));
+          (allowed-valid flags (all-as-read ts) (a .known .all-allowed));
     }

@@ -1,87 +1,15 @@
 // The canonical writer: the terms of a message as standalone terms, written from the rows that reading made of them.
 use connection::Connection;
 use term_spec::ReadAnswer;
-use term_spec::Refusal;
 use term_spec::WriteAnswer;
-use term_spec::refusals;
-use term_spec::tags;
 ghost use mathlib.Core.Path.{_≡_};
 ghost use lib.ListN.{length};
 ghost use Rattle.term_spec.specs.AtomList.{lent-list};
-ghost use Rattle.term_spec.specs.Canonical.{canonical-standalone, standalones};
 ghost use Rattle.term_spec.specs.Message.{standalone, payload};
 ghost use Rattle.term_spec.specs.Promises.{Write-call};
 ghost use Rattle.term_spec.specs.Writing.{scratch-after};
-ghost use Rattle.term_writer.specs.Code.{Some-run, Term-put, Term-fits, Run-put, Run-fits};
-ghost use Rattle.writer.specs.Code.{Zero-past, Rows-written};
-
-const VERSION: usize = tags::VERSION as usize;
-
-// Writes the term at `row` as a standalone term from `at` on; the offset past it.
-fn put_standalone(
-    msg: &[u8],
-    places: &[u8],
-    lengths: &[u16],
-    table: &[u64],
-    row: usize,
-    out: &mut [u8],
-    at: usize,
-) -> usize
-    requires { ⌜ Term-fits (now msg) (now places) (now lengths) (now table) row canonical-standalone (length (now out)) at ⌝ }
-    ensures { λ r. ⌜ Term-put (now (msg .entry)) (now (places .entry)) (now (lengths .entry)) (now (table .entry)) row canonical-standalone (now (out .entry)) at r (now (out .exit)) ⌝ }
-{
-    octets::put1(out, at, VERSION);
-    term_writer::write_term(msg, places, lengths, table, row, out, at + 1)
-}
-
-// Writes the n terms of the table as standalone terms, one after the other; the offset past them.
-fn put_standalones(
-    msg: &[u8],
-    places: &[u8],
-    lengths: &[u16],
-    table: &[u64],
-    n: usize,
-    out: &mut [u8],
-) -> usize
-    requires { ⌜ Run-fits (now msg) (now places) (now lengths) (now table) 0 standalones n (length (now out)) 0 ⌝ }
-    ensures { λ r. ⌜ Run-put (now (msg .entry)) (now (places .entry)) (now (lengths .entry)) (now (table .entry)) 0 standalones n (now (out .entry)) 0 r (now (out .exit)) ⌝ }
-{
-    let mut next = 0;
-    let mut left = n;
-    let mut end = 0;
-    while 0 < left {
-        end = put_standalone(msg, places, lengths, table, next, out, end);
-        next += row::size_in(table[next]);
-        left -= 1;
-    }
-    end
-}
-
-// Writes the n terms of the table where the output has room for them.
-fn write_rows(
-    msg: &[u8],
-    places: &[u8],
-    lengths: &[u16],
-    table: &[u64],
-    n: usize,
-    out: &mut [u8],
-) -> WriteAnswer
-    requires { ⌜ Some-run (now msg) (now places) (now lengths) (now table) 0 n ⌝ }
-    ensures { λ r. ⌜ Rows-written (now (msg .entry)) (now (places .entry)) (now (lengths .entry)) (now (table .entry)) n (now (out .entry)) r (now (out .exit)) ⌝ }
-{
-    let length = n + term_writer::length_run(msg, places, lengths, table, 0, n);
-    if out.len() < length {
-        return WriteAnswer::Refused(Refusal {
-            number: refusals::OUTPUT,
-            place: 0,
-        });
-    }
-    put_standalones(msg, places, lengths, table, n, out);
-    WriteAnswer::Written {
-        terms: n,
-        length: length,
-    }
-}
+ghost use Rattle.table_writer.specs.Code.{Some-rows, Rows-written};
+ghost use Rattle.writer.specs.Code.{Zero-past};
 
 // Clears a table whose words from index `rows` on are 0.
 fn clear_rows(table: &mut [u64], rows: usize)
@@ -105,11 +33,11 @@ fn write_and_clear(
     table: &mut [u64],
     out: &mut [u8],
 ) -> WriteAnswer
-    requires { ⌜ Some-run (now msg) (now places) (now lengths) (now table) 0 n × Zero-past (now table) rows ⌝ }
-    ensures { λ r. ⌜ Rows-written (now (msg .entry)) (now (places .entry)) (now (lengths .entry)) (now (table .entry)) n (now (out .entry)) r (now (out .exit)) ⌝ }
+    requires { ⌜ Some-rows (now msg) (now places) (now lengths) (now table) n rows × Zero-past (now table) rows ⌝ }
+    ensures { λ r. ⌜ Rows-written (now (msg .entry)) (now (places .entry)) (now (lengths .entry)) (now (table .entry)) n rows (now (out .entry)) r (now (out .exit)) ⌝ }
     ensures { λ _. ⌜ now (table .exit) ≡ scratch-after (length (now (table .entry))) ⌝ }
 {
-    let answer = write_rows(msg, places, lengths, table, n, out);
+    let answer = table_writer::write_rows(msg, places, lengths, table, n, rows, out);
     clear_rows(table, rows);
     answer
 }

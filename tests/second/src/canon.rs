@@ -5,6 +5,7 @@
 use crate::terms::{self, Form, Integer, Term};
 use crate::text::AtomList;
 use crate::{refusal, Connection, Refusal};
+use std::collections::BTreeMap;
 
 /// The canonical standalone terms of a message, one after the other. Its refusals are the reader's
 /// (OP-48).
@@ -87,12 +88,12 @@ pub fn put(out: &mut Vec<u8>, term: &Term) {
             out.push(*bits);
             out.extend_from_slice(bytes);
         }
-        // "116", pairs in their order
+        // "116"; #103: "The writer puts pairs in rising byte order of the key's canonical form."
         Term::Map(pairs) => {
             out.push(116);
             number(out, pairs.len() as u64, 4);
-            for (key, value) in pairs {
-                put(out, key);
+            for (key, value) in in_rising_order(pairs) {
+                out.extend_from_slice(&key);
                 put(out, value);
             }
         }
@@ -130,6 +131,18 @@ pub fn put(out: &mut Vec<u8>, term: &Term) {
             out.extend_from_slice(&[97, *arity]);
         }
     }
+}
+
+/// Each key's canonical form (its own maps in order, OQ-103-9) with its value, by rising forms alone (OQ-103-2).
+fn in_rising_order(pairs: &BTreeMap<Term, Term>) -> Vec<(Vec<u8>, &Term)> {
+    let mut forms: Vec<(Vec<u8>, &Term)> = Vec::new();
+    for (key, value) in pairs {
+        let mut form = Vec::new();
+        put(&mut form, key);
+        forms.push((form, value));
+    }
+    forms.sort_by(|(one, _), (other, _)| one.cmp(other));
+    forms
 }
 
 /// "97 if 0..255, else 98 if it fits, else 110 up to 255 digits, else 111, with no high zero digit"

@@ -4,6 +4,7 @@
 use crate::looks::{Mark, Number, Stretch};
 use crate::text::{self, AtomList};
 use crate::{refusal, Connection, Refusal, DEPTH_MAX, MESSAGE_MAX, PLACE_BYTES, ROWS_MAX};
+use std::collections::BTreeMap;
 
 /// "A standalone term is 131, one term, end. A payload is one or two terms without 131, then end".
 #[derive(Clone, Copy, Debug, PartialEq, Eq)]
@@ -14,7 +15,7 @@ pub enum Form {
 
 /// A whole number. "High zero digits and the sign of zero carry nothing": `digits` (least first) has
 /// no high zero digit, and zero (no digits) is not negative.
-#[derive(Clone, Debug, PartialEq, Eq)]
+#[derive(Clone, Debug, PartialEq, Eq, PartialOrd, Ord)]
 pub struct Integer {
     pub negative: bool,
     pub digits: Vec<u8>,
@@ -41,8 +42,8 @@ impl Integer {
     }
 }
 
-/// What a term means. Two terms mean the same where these values are equal.
-#[derive(Clone, Debug, PartialEq, Eq)]
+/// What a term means. Two terms mean the same where these values are equal. Their order is ours and never seen.
+#[derive(Clone, Debug, PartialEq, Eq, PartialOrd, Ord)]
 pub enum Term {
     Integer(Integer),
     /// "The meaning is the 64 bits, so the two zeros differ, and 1.0 is not 1"
@@ -56,8 +57,8 @@ pub enum Term {
     /// Bytes (never none), and how many bits of the last one count, 1 to 7; "lower bits carry
     /// nothing" and are zero here.
     Bits(Vec<u8>, u8),
-    /// "Two maps mean the same when their pairs do, in the same order"
-    Map(Vec<(Term, Term)>),
+    /// #103: "two maps mean the same when they hold the same pairs, in any order, at any depth"
+    Map(BTreeMap<Term, Term>),
     Pid { node: String, id: u32, serial: u32, creation: u32 },
     /// 89, 102 and 120: "same kind as 89"
     Port { node: String, id: u64, creation: u32 },
@@ -466,21 +467,22 @@ impl<'a> Reader<'a> {
         Ok(Term::Bits(bytes, bits as u8))
     }
 
-    /// 116: "4-byte count of pairs; keys distinct in meaning."
+    /// 116: "4-byte count of pairs; keys distinct in meaning." Rows follow "from the bytes as they came" (#103).
     fn map(&mut self, at: usize, depth: usize, whole: Option<usize>) -> Result<Term, Refusal> {
         let count = self.number_field(at, 4)?;
         let row = self.open(Kind::Map, at, at, depth, whole)?;
-        let mut pairs: Vec<(Term, Term)> = Vec::new();
+        let mut pairs = BTreeMap::new();
         for _ in 0..count {
             // 7: "key equal to an earlier key", at "the later key's first byte" (of a 108 of length 0
             // before it too, OP-04). "Key equality is judged before the value is read."
             let key_at = self.at;
             let key = self.term(depth + 1, Some(row))?;
-            if pairs.iter().any(|(earlier, _)| *earlier == key) {
+            // #103: "also given for two map keys that differ only in order", at any depth of the keys (OQ-103-4).
+            if pairs.contains_key(&key) {
                 return Err(refusal(7, key_at));
             }
             let value = self.term(depth + 1, Some(row))?;
-            pairs.push((key, value));
+            pairs.insert(key, value);
         }
         self.close(row, 2 * pairs.len());
         Ok(Term::Map(pairs))

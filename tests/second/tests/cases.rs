@@ -1,5 +1,6 @@
 //! The cases of document 01, and what the outside vectors do not reach: the sizes, the orders between
-//! refusals, false state, wrong sizes, the bad bytes of texts, the flags of the connection record.
+//! refusals, false state, wrong sizes, the bad bytes of texts, the flags of the connection record, the
+//! order of a map's pairs.
 //! Everything goes through the protocol of DRIVE.md.
 
 mod model;
@@ -443,9 +444,9 @@ fn equal_keys() {
     equal(&[106], &[108, 0, 0, 0, 0, 107, 0, 0]); // OP-04: at the wrapper
     equal(&[104, 1, 97, 1], &[105, 0, 0, 0, 1, 110, 1, 0, 1]);
     equal(&[116, 0, 0, 0, 1, 97, 1, 97, 2], &[116, 0, 0, 0, 1, 98, 0, 0, 0, 1, 97, 2]);
+    equal(&[116, 0, 0, 0, 2, 97, 1, 106, 97, 2, 106], &[116, 0, 0, 0, 2, 97, 2, 106, 97, 1, 106]); // #103
     different(&[97, 1], &[70, 63, 240, 0, 0, 0, 0, 0, 0]);
     different(&[70, 0, 0, 0, 0, 0, 0, 0, 0], &[70, 128, 0, 0, 0, 0, 0, 0, 0]);
-    different(&[116, 0, 0, 0, 2, 97, 1, 106, 97, 2, 106], &[116, 0, 0, 0, 2, 97, 2, 106, 97, 1, 106]);
     different(&[90, 0, 1, 119, 0, 0, 0, 0, 0, 0, 0, 0, 7], &[90, 0, 2, 119, 0, 0, 0, 0, 0, 0, 0, 0, 7, 0, 0, 0, 0]); // OP-46
     different(&[77, 0, 0, 0, 1, 1, 128], &[77, 0, 0, 0, 1, 2, 128]);
     different(&[108, 0, 0, 0, 1, 97, 1, 97, 2], &[107, 0, 2, 1, 2]);
@@ -1060,8 +1061,8 @@ fn messages_with(atom: &[u8]) -> Vec<(&'static str, Vec<u8>, usize)> {
 
 /// Each call that reads messages answers this refusal with these flags; the text asked for is empty.
 fn refused_in_every_call(flags: u8, form: &str, message: &[u8], answer: &str) {
-    assert_eq!(read_with(flags, form, message, 40), answer, "{flags} {}", hex(message));
-    assert_eq!(write_with(flags, form, message, 40), answer, "{flags} {}", hex(message));
+    assert_eq!(read_with(flags, form, message, 60), answer, "{flags} {}", hex(message));
+    assert_eq!(write_with(flags, form, message, 60), answer, "{flags} {}", hex(message));
     let mut driver = with(flags);
     let bytes = hex(message);
     for offset in [0, 1, message.len()] {
@@ -2125,4 +2126,886 @@ fn flags_that_change_from_call_to_call() {
         assert_eq!(ask(&mut driver, "drop"), "ok");
         assert_eq!(ask(&mut driver, "get record"), "00".repeat(24));
     }
+}
+
+/// A map of these pairs, in this order.
+fn map<K: AsRef<[u8]>, V: AsRef<[u8]>>(pairs: &[(K, V)]) -> Vec<u8> {
+    let mut term = join(&[&[116], &(pairs.len() as u32).to_be_bytes()]);
+    for (key, value) in pairs {
+        term.extend(key.as_ref());
+        term.extend(value.as_ref());
+    }
+    term
+}
+
+/// A map of two pairs, and the same with its pairs turned round.
+fn both_ways(first: (&[u8], &[u8]), second: (&[u8], &[u8])) -> [Vec<u8>; 2] {
+    [map(&[first, second]), map(&[second, first])]
+}
+
+/// Every order of so many things.
+fn every_order(count: usize) -> Vec<Vec<usize>> {
+    if count == 0 {
+        return vec![Vec::new()];
+    }
+    let mut orders = Vec::new();
+    for order in every_order(count - 1) {
+        for at in 0..count {
+            let mut longer = order.clone();
+            longer.insert(at, count - 1);
+            orders.push(longer);
+        }
+    }
+    orders
+}
+
+/// Some orders of so many things: every one of up to 4, else rising, falling, turned and mixed ones.
+fn orders(count: usize) -> Vec<Vec<usize>> {
+    if count <= 4 {
+        return every_order(count);
+    }
+    let step = (count / 3..).find(|step| (2..=count).all(|d| count % d != 0 || step % d != 0)).expect("a step");
+    let turned = |by: usize| (0..count).map(|i| (i + by) % count).collect();
+    let from_both_ends = (0..count).map(|i| if i % 2 == 0 { i / 2 } else { count - 1 - i / 2 }).collect();
+    vec![
+        turned(0),
+        (0..count).rev().collect(),
+        turned(1),
+        turned(count - 1),
+        turned(count / 2),
+        from_both_ends,
+        (0..count).map(|i| i * step % count).collect(),
+        (0..count).map(|i| count - 1 - i * step % count).collect(),
+    ]
+}
+
+/// A driver with both flags on, so many rows and bytes of output.
+fn with_room(rows: usize, output: usize) -> Driver {
+    let mut driver = with(3);
+    ask(&mut driver, &format!("lend table {rows}"));
+    ask(&mut driver, &format!("lend output {output}"));
+    driver
+}
+
+/// The writer's answer on this driver for a message read with its plain list, its output in place of its length.
+fn write_on(driver: &mut Driver, form: &str, message: &[u8]) -> String {
+    let answer = ask(driver, &format!("write {form} plain {}", hex(message)));
+    match answer.strip_prefix("ok ") {
+        Some(length) => format!("ok {}", hex(&get(driver, "output")[..length.parse().expect("a number")])),
+        None => answer,
+    }
+}
+
+/// Pairs given in whatever order are written in the order of `written`, by rising keys, and again so when read again.
+fn written_in_order(driver: &mut Driver, given: &[(Vec<u8>, Vec<u8>)], written: &[(Vec<u8>, Vec<u8>)]) {
+    assert!(written.windows(2).all(|two| two[0].0 < two[1].0));
+    let term = map(written);
+    let answer = format!("ok {}", hex(&join(&[&[131], &term])));
+    for order in orders(given.len()) {
+        let pairs: Vec<(Vec<u8>, Vec<u8>)> = order.iter().map(|i| given[*i].clone()).collect();
+        assert_eq!(write_on(driver, "payload", &map(&pairs)), answer, "{}", hex(&map(&pairs)));
+    }
+    assert_eq!(write_on(driver, "payload", &term), answer);
+}
+
+/// Keys in canonical form, by rising bytes, of every kind and tag; not in the order of numbers or words.
+fn rising_keys() -> Vec<Vec<u8>> {
+    let float = |value: f64| join(&[&[70], &value.to_bits().to_be_bytes()]);
+    let integer = |value: i32| join(&[&[98], &value.to_be_bytes()]);
+    let port = |tag: u8, id: &[u8]| join(&[&[tag, 119, 1, b'n'], id, &[0; 4]]);
+    let export = |module: &[u8], arity: u8| join(&[&[113], &atom(119, module), &[119, 0, 97, arity]]);
+    vec![
+        float(0.0),
+        float(5e-324),
+        float(1.0),
+        float(2.0),
+        float(1e300),
+        float(-0.0),
+        float(-1.0),
+        vec![77, 0, 0, 0, 1, 1, 128],
+        vec![77, 0, 0, 0, 1, 2, 64],
+        vec![77, 0, 0, 0, 1, 7, 2],
+        vec![77, 0, 0, 0, 2, 1, 0, 0],
+        join(&[&[88], &atom(119, b"b"), &[255; 12]]),
+        join(&[&[88], &atom(119, b"aa"), &[0; 12]]),
+        port(89, &[0, 0, 0, 7]),
+        port(89, &[15, 255, 255, 255]),
+        reference(90, &[7]),
+        reference(90, &[8]),
+        reference(90, &[7, 0]),
+        reference(90, &[0, 0, 0, 0, 0]),
+        vec![97, 0],
+        vec![97, 10],
+        vec![97, 128],
+        vec![97, 255],
+        integer(256),
+        integer(i32::MAX),
+        integer(i32::MIN),
+        integer(-1),
+        vec![104, 0],
+        vec![104, 1, 97, 9],
+        vec![104, 1, 106],
+        vec![104, 2, 97, 1, 97, 1],
+        vec![104, 2, 97, 1, 97, 2],
+        vec![104, 2, 97, 2, 97, 1],
+        join(&[&[105, 0, 0, 1, 0], &[106; 256]]),
+        vec![106],
+        vec![107, 0, 1, 255],
+        vec![107, 0, 2, 0, 0],
+        vec![107, 0, 2, 0, 1],
+        vec![107, 0, 2, 1, 0],
+        join(&[&[107, 1, 0], &[0; 256]]),
+        vec![108, 0, 0, 0, 1, 97, 9, 97, 0],
+        vec![108, 0, 0, 0, 1, 106, 106],
+        vec![108, 0, 0, 0, 2, 97, 0, 97, 0, 97, 0],
+        vec![109, 0, 0, 0, 0],
+        vec![109, 0, 0, 0, 1, 255],
+        vec![109, 0, 0, 0, 2, 0, 0],
+        vec![110, 4, 0, 0, 0, 0, 128],           // 2^31
+        vec![110, 4, 1, 1, 0, 0, 128],           // -2^31 - 1
+        vec![110, 5, 0, 0, 0, 0, 0, 2],          // 2^33
+        vec![110, 5, 0, 1, 0, 0, 0, 1],          // 2^32 + 1
+        vec![110, 6, 0, 0, 0, 0, 0, 0, 1],       // 2^40
+        join(&[&[110, 255, 1], &[255; 255]]),
+        join(&[&[111, 0, 0, 1, 0, 0], &[1; 256]]),
+        export(b"b", 255),
+        export(b"aa", 0),
+        export(b"aa", 1),
+        map::<&[u8], &[u8]>(&[]),
+        map(&[([97, 1], [97, 9])]),
+        map(&[([97, 1], [106])]),
+        map(&[([97, 2], [97, 0])]),
+        map(&[([97, 1], [97, 0]), ([97, 3], [97, 0])]),
+        map(&[([97, 1], [97, 1]), ([97, 2], [97, 0])]),
+        atom(118, &"\u{e9}".as_bytes().repeat(128)),
+        atom(118, &"\u{1f600}".as_bytes().repeat(255)),
+        atom(119, b""),
+        atom(119, b"a"),
+        atom(119, b"b"),
+        atom(119, b"aa"),
+        atom(119, b"ab"),
+        atom(119, "\u{e9}".as_bytes()),
+        atom(119, &[b'a'; 255]),
+        port(120, &[0, 0, 0, 0, 16, 0, 0, 0]),
+    ]
+}
+
+#[test]
+fn the_order_of_keys_of_every_kind() {
+    let mut driver = with_room(1_000, 6_000);
+    let keys = rising_keys();
+    // Values fall where keys rise.
+    let pair = |i: usize| (keys[i].clone(), vec![97, 255 - i as u8]);
+    let all: Vec<(Vec<u8>, Vec<u8>)> = (0..keys.len()).map(pair).collect();
+    written_in_order(&mut driver, &all, &all);
+    for first in 0..keys.len() {
+        for second in first + 1..keys.len() {
+            let two = [pair(first), pair(second)];
+            written_in_order(&mut driver, &two, &two);
+        }
+    }
+}
+
+#[test]
+fn the_order_of_some_keys_by_name() {
+    let before = |first: &[u8], second: &[u8]| {
+        let [rising, falling] = both_ways((first, &[97, 9]), (second, &[97, 1]));
+        let message = join(&[&[131], &rising]);
+        ok(&message, &message);
+        ok(&join(&[&[131], &falling]), &message);
+    };
+    before(&[98, 0, 0, 1, 0], &[98, 255, 255, 255, 255]); // 256, -1
+    before(b"\x77\x01b", b"\x77\x02aa");
+    let long = atom(118, &"\u{10ffff}".as_bytes().repeat(64));
+    assert_eq!(long.len(), 3 + 256);
+    before(&long, &[119, 0]);
+    before(&long, b"\x77\x01a");
+    before(&long, &atom(119, &[b'a'; 255]));
+    before(&[97, 10], &[110, 6, 0, 0, 0, 0, 0, 0, 1]); // 10, 2^40
+    before(&[70, 63, 240, 0, 0, 0, 0, 0, 0], &[97, 1]); // 1.0, 1
+    before(&[70, 0, 0, 0, 0, 0, 0, 0, 0], &[70, 128, 0, 0, 0, 0, 0, 0, 0]); // 0.0, -0.0
+    // A longer form before a shorter one.
+    before(&[97, 255], &[106]);
+    before(&[98, 0, 0, 1, 0], &[106]);
+    before(&[70, 255, 239, 255, 255, 255, 255, 255, 255], &[97, 0]);
+    before(&[104, 1, 109, 0, 0, 0, 1, 7], &[104, 1, 119, 0]);
+    // The last byte of a long one decides too.
+    for length in [100, 1_000, 30_000] {
+        let binary = |last: u8| join(&[&[109], &(length as u32).to_be_bytes(), &vec![255; length - 1], &[last]]);
+        before(&binary(127), &binary(128));
+        before(&map(&[(&binary(0), [106])]), &map(&[(&binary(255), [106])]));
+    }
+}
+
+#[test]
+fn keys_are_ranked_by_their_canonical_form() {
+    let mut driver = with_room(100, 1_000);
+    let value = |i: usize| vec![97, 200 - i as u8];
+    let mut keys_in_order = |keys: &[(Vec<u8>, Vec<u8>)]| {
+        let pairs = |which: fn(&(Vec<u8>, Vec<u8>)) -> &Vec<u8>| -> Vec<(Vec<u8>, Vec<u8>)> {
+            keys.iter().enumerate().map(|(i, key)| (which(key).clone(), value(i))).collect()
+        };
+        written_in_order(&mut driver, &pairs(|key| &key.0), &pairs(|key| &key.1));
+        for first in 0..keys.len() {
+            for second in first + 1..keys.len() {
+                let [first, second] = [&keys[first], &keys[second]];
+                let two = |a: &Vec<u8>, b: &Vec<u8>| [(a.clone(), value(0)), (b.clone(), value(1))];
+                written_in_order(&mut driver, &two(&first.0, &second.0), &two(&first.1, &second.1));
+            }
+        }
+    };
+    let node = b"\x77\x01n";
+    let list = |bytes: &[u8]| {
+        let elements: Vec<u8> = bytes.iter().flat_map(|byte| [97, *byte]).collect();
+        join(&[&[108, 0, 0, 0, bytes.len() as u8], &elements, &[106]])
+    };
+    // Each key as given and as written, by rising bytes of the latter; the former often fall.
+    keys_in_order(&[
+        (vec![77, 0, 0, 0, 1, 1, 255], vec![77, 0, 0, 0, 1, 1, 128]),
+        (vec![77, 0, 0, 0, 1, 2, 127], vec![77, 0, 0, 0, 1, 2, 64]),
+        (pid(103, 9, 0), pid(88, 9, 0)),
+        (pid(88, 10, 0), pid(88, 10, 0)),
+        (join(&[&[120], node, &[0, 0, 0, 0, 0, 0, 0, 1, 0, 0, 0, 0]]), join(&[&[89], node, &[0, 0, 0, 1, 0, 0, 0, 0]])),
+        (join(&[&[102], node, &[0, 0, 0, 2, 1]]), join(&[&[89], node, &[0, 0, 0, 2, 0, 0, 0, 1]])),
+        (join(&[&[101], node, &[0, 0, 0, 7, 2]]), reference(90, &[7])),
+        (reference(114, &[8]), reference(90, &[8])),
+        (reference(90, &[1, 2]), reference(90, &[1, 2])),
+        (vec![111, 0, 0, 0, 2, 1, 0, 0], vec![97, 0]),
+        (vec![110, 2, 0, 5, 0], vec![97, 5]),
+        (vec![98, 0, 0, 0, 6], vec![97, 6]),
+        (vec![97, 200], vec![97, 200]),
+        (vec![111, 0, 0, 0, 2, 0, 0, 1], vec![98, 0, 0, 1, 0]),
+        (vec![110, 1, 1, 2], vec![98, 255, 255, 255, 254]),
+        (vec![98, 255, 255, 255, 255], vec![98, 255, 255, 255, 255]),
+        (vec![105, 0, 0, 0, 0], vec![104, 0]),
+        (vec![105, 0, 0, 0, 1, 98, 0, 0, 0, 3], vec![104, 1, 97, 3]),
+        (vec![104, 1, 97, 4], vec![104, 1, 97, 4]),
+        (vec![108, 0, 0, 0, 0, 107, 0, 0], vec![106]),
+        (list(&[9]), vec![107, 0, 1, 9]),
+        (vec![107, 0, 2, 0, 7], vec![107, 0, 2, 0, 7]),
+        (list(&[0, 8]), vec![107, 0, 2, 0, 8]),
+        (vec![77, 0, 0, 0, 0, 0], vec![109, 0, 0, 0, 0]),
+        (vec![77, 0, 0, 0, 1, 8, 3], vec![109, 0, 0, 0, 1, 3]),
+        (vec![109, 0, 0, 0, 1, 4], vec![109, 0, 0, 0, 1, 4]),
+        (atom(100, &[0xe9; 128]), atom(118, &"\u{e9}".as_bytes().repeat(128))),
+        (vec![108, 0, 0, 0, 0, 108, 0, 0, 0, 0, 119, 1, b'y'], b"\x77\x01y".to_vec()),
+        (b"\x76\0\x01z".to_vec(), b"\x77\x01z".to_vec()),
+        (b"\x77\x02aa".to_vec(), b"\x77\x02aa".to_vec()),
+        (b"\x73\x01\xe9".to_vec(), b"\x77\x02\xc3\xa9".to_vec()),
+        (b"\x64\0\x01\xea".to_vec(), b"\x77\x02\xc3\xaa".to_vec()),
+        (b"\x73\x03abc".to_vec(), b"\x77\x03abc".to_vec()),
+    ]);
+    // A key that is a map, or holds one, is ranked by its own written form: {3, 1} as 1, 3.
+    let [one_three, three_one] = both_ways((&[97, 1], &[97, 0]), (&[97, 3], &[97, 0]));
+    let [two_two, turned_two_two] = both_ways((&[97, 2], &[97, 0]), (&[98, 0, 0, 2, 0], &[97, 0]));
+    keys_in_order(&[(three_one.clone(), one_three.clone()), (two_two.clone(), two_two.clone())]);
+    keys_in_order(&[(three_one.clone(), one_three.clone()), (turned_two_two.clone(), two_two.clone())]);
+    let in_tuple = |map: &[u8]| join(&[&[104, 1], map]);
+    keys_in_order(&[(in_tuple(&three_one), in_tuple(&one_three)), (in_tuple(&turned_two_two), in_tuple(&two_two))]);
+    let in_list = |map: &[u8]| join(&[&[108, 0, 0, 0, 1], map, &[106]]);
+    keys_in_order(&[(in_list(&three_one), in_list(&one_three)), (in_list(&two_two), in_list(&two_two))]);
+    let as_key = |inner: &[u8]| map(&[(inner, [106])]);
+    keys_in_order(&[(as_key(&three_one), as_key(&one_three)), (as_key(&two_two), as_key(&two_two))]);
+    let as_value = |inner: &[u8]| map(&[(&[97, 5][..], inner)]);
+    keys_in_order(&[(as_value(&three_one), as_value(&one_three)), (as_value(&two_two), as_value(&two_two))]);
+}
+
+#[test]
+fn keys_given_by_82() {
+    // The canonical form of an 82 is its text's (OQ-103-8).
+    let mut driver = listed(6);
+    connect(&mut driver, 3);
+    for (i, text) in ["zz", "b", "three", "", "aa", "\u{e9}"].iter().enumerate() {
+        put(&mut driver, i, text.as_bytes(), text.len() as u16);
+    }
+    let texts = ["", "a", "b", "aa", "zz", "\u{e9}", "abc", "three"];
+    let written: Vec<(Vec<u8>, Vec<u8>)> =
+        (0..8).map(|i| (atom(119, texts[i].as_bytes()), vec![97, 100 - i as u8])).collect();
+    let mut given = written.clone();
+    for (i, index) in [(0, 3), (2, 1), (3, 4), (4, 0), (5, 5), (7, 2)] {
+        given[i].0 = vec![82, index];
+    }
+    written_in_order(&mut driver, &given, &written);
+    for first in 0..8 {
+        for second in first + 1..8 {
+            let two = |pairs: &[(Vec<u8>, Vec<u8>)]| [pairs[first].clone(), pairs[second].clone()];
+            written_in_order(&mut driver, &two(&given), &two(&written));
+        }
+    }
+    // Nodes, modules and functions by reference too.
+    let export = |parts: &[&[u8]]| join(&[&[113], &parts.concat(), &[97, 0]]);
+    let value = vec![106];
+    written_in_order(
+        &mut driver,
+        &[(export(&[&[82, 1], &[82, 0]]), value.clone()), (export(&[&[119, 2, b'a', b'a'], &[82, 3]]), value.clone())],
+        &[
+            (export(&[b"\x77\x01b", b"\x77\x02zz"]), value.clone()),
+            (export(&[b"\x77\x02aa", b"\x77\0"]), value.clone()),
+        ],
+    );
+    // 7 between an 82 and its text, in maps turned round.
+    let [_, by_text] = both_ways((b"\x77\x02zz", &[97, 1]), (&[97, 2], b"\x77\x01b"));
+    let [by_82, _] = both_ways((&[82, 0], &[97, 1]), (&[97, 2], &[82, 1]));
+    for (first, second) in [(&by_text, &by_82), (&by_82, &by_text)] {
+        let message = map(&[(first, [106]), (second, [106])]);
+        let answer = format!("refused 7 {}", 5 + first.len() + 1);
+        assert_eq!(ask(&mut driver, &format!("read payload plain {}", hex(&message))), answer);
+        assert_eq!(write_on(&mut driver, "payload", &message), answer);
+    }
+    // An 82 to another text is another key.
+    let [other, _] = both_ways((&[82, 4], &[97, 1]), (&[97, 2], &[82, 1]));
+    let message = map(&[(&by_text, [106]), (&other, [106])]);
+    assert_eq!(ask(&mut driver, &format!("read payload plain {}", hex(&message))), "ok 1 13");
+}
+
+#[test]
+fn turned_pairs_give_the_same_output() {
+    let pairs: [(&[u8], &[u8]); 4] = [
+        (&[97, 7], &[119, 1, b'z']),
+        (&[104, 1, 97, 1], &[97, 3]),
+        (&[109, 0, 0, 0, 1, 5], &[106]),
+        (&[119, 1, b'a'], &[97, 7]),
+    ];
+    for count in 0..=4 {
+        let written = map(&pairs[..count]);
+        let mut answers = Vec::new();
+        for order in every_order(count) {
+            let given: Vec<(&[u8], &[u8])> = order.iter().map(|i| pairs[*i]).collect();
+            ok(&join(&[&[131], &map(&given)]), &join(&[&[131], &written]));
+            // The same wherever the map stands, in both forms and in both terms of a payload.
+            let around = messages_of(&map(&given));
+            let answer: Vec<[String; 2]> =
+                around.iter().map(|(form, message, _)| [read(form, message, 40), write(form, message, 40)]).collect();
+            assert!(answer.iter().flatten().all(|answer| answer.starts_with("ok ")), "{answer:?}");
+            assert!(answer.iter().all(|[_, answer]| answer.contains(&hex(&written))), "{answer:?}");
+            answers.push(answer);
+        }
+        assert!(answers.windows(2).all(|two| two[0] == two[1]));
+    }
+}
+
+#[test]
+fn maps_within_maps_are_turned_at_any_depth() {
+    // {1: M1, {M2}: [M3 | M4], M5: 0}, each of them given both ways, and the whole in every order.
+    let pairs: [[(&[u8], &[u8]); 2]; 5] = [
+        [(&[97, 1], &[97, 5]), (&[97, 2], &[97, 4])],
+        [(&[97, 3], &[106]), (&[106], &[97, 3])],
+        [(&[106], &[97, 0]), (&[119, 0], &[97, 0])],
+        [(&[70, 0, 0, 0, 0, 0, 0, 0, 0], &[97, 1]), (&[97, 0], &[97, 0])],
+        [(b"\x77\x01b", b"\x77\x01x"), (b"\x77\x02aa", b"\x77\x01w")],
+    ];
+    let given = |turns: usize, order: &[usize]| {
+        let m: Vec<Vec<u8>> =
+            (0..5).map(|i| both_ways(pairs[i][0], pairs[i][1])[turns >> i & 1].clone()).collect();
+        let three = [
+            (vec![97, 1], m[0].clone()),
+            (join(&[&[104, 1], &m[1]]), join(&[&[108, 0, 0, 0, 1], &m[2], &m[3]])),
+            (m[4].clone(), vec![97, 0]),
+        ];
+        let outer: Vec<(Vec<u8>, Vec<u8>)> = order.iter().map(|i| three[*i].clone()).collect();
+        join(&[&[131], &map(&outer)])
+    };
+    let written = given(0, &[0, 1, 2]);
+    for turns in 0..32 {
+        for order in every_order(3) {
+            let message = given(turns, &order);
+            ok(&message, &written);
+            assert_eq!(read("standalone", &message, 30), "ok 1 30");
+            assert!(read("standalone", &message, 29).starts_with("refused 9 "));
+        }
+    }
+}
+
+#[test]
+fn sixty_four_deep() {
+    // Maps of two pairs: inwards by the value, by the key, and by one or the other in turn.
+    let inward: [fn(usize) -> bool; 3] = [|_| false, |_| true, |level| level % 2 == 0];
+    for by_key in inward {
+        let nested = |levels: usize, turned: fn(usize) -> bool, inmost: &[u8]| {
+            let mut term = inmost.to_vec();
+            for level in 0..levels {
+                let [first, second] = if by_key(level) {
+                    [(vec![97, 5], vec![106]), (term, vec![106])]
+                } else {
+                    [(vec![97, 5], term), (vec![97, 6], vec![106])]
+                };
+                term = if turned(level) { map(&[second, first]) } else { map(&[first, second]) };
+            }
+            term
+        };
+        let message = |levels: usize, turned: fn(usize) -> bool| join(&[&[131], &nested(levels, turned, &[106])]);
+        let written = message(63, |_| false);
+        for turned in [|_| false, |_| true, |level| level % 3 == 0, |level| level == 0, |level| level == 62] {
+            ok(&message(63, turned), &written);
+            assert!(bench(&message(64, turned)).starts_with("refused 8 "));
+            // As two keys of one map they are one.
+            let [first, second] = [nested(62, |_| false, &[106]), nested(62, turned, &[106])];
+            let answer = format!("refused 7 {}", 7 + first.len());
+            assert_eq!(bench(&join(&[&[131], &map(&[(&first, [106]), (&second, [106])])])), answer);
+            // But for a difference in the inmost.
+            let other = nested(62, turned, &[104, 0]);
+            let answer = bench(&join(&[&[131], &map(&[(&first, [106]), (&other, [106])])]));
+            assert!(answer.starts_with("ok "), "{answer}");
+        }
+    }
+}
+
+/// What may stand around a map within a key: bytes before it and after it.
+fn around_in_a_key() -> Vec<(Vec<u8>, Vec<u8>)> {
+    let around: [(&[u8], &[u8]); 15] = [
+        (&[], &[]),
+        (&[104, 1], &[]),
+        (&[104, 3, 97, 5], &[106]),
+        (&[105, 0, 0, 0, 2, 106], &[]),
+        (&[108, 0, 0, 0, 1], &[106]),
+        (&[108, 0, 0, 0, 3, 97, 1], &[97, 2, 106]),
+        (&[108, 0, 0, 0, 1, 97, 1], &[]),
+        (&[108, 0, 0, 0, 1, 97, 1, 108, 0, 0, 0, 1], &[107, 0, 1, 5]),
+        (&[116, 0, 0, 0, 1], &[97, 1]),
+        (&[116, 0, 0, 0, 1, 97, 1], &[]),
+        (&[116, 0, 0, 0, 2, 97, 1, 97, 2], &[97, 1]),
+        (&[116, 0, 0, 0, 2, 97, 1], &[97, 2, 106]),
+        (&[116, 0, 0, 0, 1, 104, 2, 106], &[97, 1]),
+        (&[116, 0, 0, 0, 1, 97, 1, 108, 0, 0, 0, 1, 106], &[]),
+        (&[116, 0, 0, 0, 1, 116, 0, 0, 0, 1, 104, 1, 116, 0, 0, 0, 1, 97, 1], &[106, 106]),
+    ];
+    around.iter().map(|(before, after)| (before.to_vec(), after.to_vec())).collect()
+}
+
+/// Two keys of one map that are equal, in each order: 7 at the later one.
+fn equal(first: &[u8], second: &[u8]) {
+    for (first, second) in [(first, second), (second, first)] {
+        // Judged when the key is read: before a value that is good, bad or missing, or has no row left.
+        let to_key = join(&[&[131, 116, 0, 0, 0, 2], first, &[106], second]);
+        let answer = format!("refused 7 {}", 7 + first.len());
+        for value in [&[][..], &[106], &[255]] {
+            assert_eq!(write("standalone", &join(&[&to_key, value]), 60), answer);
+        }
+        let alone = read("standalone", &join(&[&[131], first]), 60);
+        let rows: usize = alone.strip_prefix("ok 1 ").expect("rows").parse().expect("a number");
+        let message = join(&[&to_key, &[106]]);
+        assert_eq!(read("standalone", &message, 2 + 2 * rows), answer);
+        assert!(read("standalone", &message, 1 + 2 * rows).starts_with("refused 9 "));
+    }
+}
+
+/// Likewise, by each call that reads messages, wherever the map stands.
+fn equal_in_every_call(first: &[u8], second: &[u8]) {
+    equal(first, second);
+    for (first, second) in [(first, second), (second, first)] {
+        for (form, message, before) in messages_of(&map(&[(first, [106]), (second, [106])])) {
+            let answer = format!("refused 7 {}", before + 5 + first.len() + 1);
+            refused_in_every_call(3, form, &message, &answer);
+        }
+    }
+}
+
+/// Two keys of one map that are different: accepted in each order.
+fn different_keys(first: &[u8], second: &[u8]) {
+    for (first, second) in [(first, second), (second, first)] {
+        let answer = read("standalone", &join(&[&[131], &map(&[(first, [106]), (second, [106])])]), 60);
+        assert!(answer.starts_with("ok "), "{answer} {} {}", hex(first), hex(second));
+    }
+}
+
+#[test]
+fn keys_that_differ_only_in_order() {
+    let [one, turned] = both_ways((&[97, 1], &[97, 5]), (&[97, 2], &[97, 6]));
+    for (before, after) in around_in_a_key() {
+        let around = |term: &[u8]| join(&[&before, term, &after]);
+        equal_in_every_call(&around(&one), &around(&turned));
+        equal(&around(&one), &around(&one));
+        // Other widths beside the other order.
+        let [_, wide] = both_ways((&[98, 0, 0, 0, 1], &[110, 1, 0, 5]), (&[111, 0, 0, 0, 1, 0, 2], &[97, 6]));
+        equal(&around(&one), &around(&wide));
+        // Other pairs are other keys: a value, a key, values exchanged, a pair less or more.
+        let [value, turned_value] = both_ways((&[97, 1], &[97, 5]), (&[97, 2], &[97, 7]));
+        let [_, key] = both_ways((&[97, 1], &[97, 5]), (&[97, 3], &[97, 6]));
+        let [exchanged, turned_exchanged] = both_ways((&[97, 1], &[97, 6]), (&[97, 2], &[97, 5]));
+        let [_, as_value] = both_ways((&[97, 5], &[97, 1]), (&[97, 6], &[97, 2]));
+        let less = map(&[([97, 1], [97, 5])]);
+        let more = map(&[([97, 3], [97, 7]), ([97, 2], [97, 6]), ([97, 1], [97, 5])]);
+        for other in [value, turned_value, key, exchanged, turned_exchanged, as_value, less, more] {
+            different_keys(&around(&one), &around(&other));
+            different_keys(&around(&turned), &around(&other));
+        }
+    }
+    // In different places of one key, each turned or not.
+    let key = |turns: usize| {
+        let m = |bit: usize| if turns >> bit & 1 == 0 { &one } else { &turned };
+        join(&[&[104, 2], &map(&[(m(0), m(1))]), &[108, 0, 0, 0, 1], m(2), m(3)])
+    };
+    for turns in 0..16 {
+        equal(&key(0), &key(turns));
+        equal(&key(5), &key(turns));
+    }
+}
+
+#[test]
+fn keys_of_three_pairs_in_every_order() {
+    let pairs: [(&[u8], &[u8]); 3] = [(&[97, 1], &[106]), (&[106], &[97, 1]), (b"\x77\x01a", &[104, 0])];
+    let keys: Vec<Vec<u8>> = every_order(3)
+        .iter()
+        .map(|order| map(&[pairs[order[0]], pairs[order[1]], pairs[order[2]]]))
+        .collect();
+    for first in &keys {
+        for second in &keys {
+            equal(first, second);
+            // As the third key, behind another; the value of the first is its own.
+            let message = join(&[&[131, 116, 0, 0, 0, 3], first, &[97, 1, 106, 97, 2], second, &[97, 3]]);
+            refused(&message, 7, 6 + first.len() + 5);
+        }
+    }
+}
+
+#[test]
+fn the_place_of_7_behind_wrappers() {
+    // At the first 108 of length 0 before the later key (OP-04), not at what stands behind it.
+    let [one, turned] = both_ways((&[97, 1], &[97, 5]), (&[97, 2], &[97, 6]));
+    let wrapper = [108, 0, 0, 0, 0];
+    for (before, after) in around_in_a_key() {
+        let [first, second] = [&one, &turned].map(|map| join(&[&before, map, &after]));
+        let wrapped = [first.clone(), join(&[&wrapper, &first]), join(&[&wrapper, &wrapper, &first])];
+        for first in &wrapped {
+            for second in [&second, &join(&[&wrapper, &second]), &join(&[&wrapper, &wrapper, &second])] {
+                equal(first, second);
+            }
+        }
+        // Behind a wrapper within the key.
+        let inside = join(&[&before, &wrapper, &turned, &after]);
+        equal(&first, &inside);
+    }
+}
+
+#[test]
+fn a_key_that_holds_two_such_keys_is_refused_inside() {
+    let [one, turned] = both_ways((&[97, 1], &[97, 5]), (&[97, 2], &[97, 6]));
+    // {one: 1, turned: 2} is 7 at its second key; as a key, a value, or part of them too.
+    let inner = map(&[(&one, [97, 1]), (&turned, [97, 2])]);
+    let inner_turned = map(&[(&turned, [97, 2]), (&one, [97, 1])]);
+    let at = 5 + one.len() + 2;
+    for (before, after) in around_in_a_key() {
+        for inner in [&inner, &inner_turned] {
+            let key = join(&[&before, inner, &after]);
+            for (form, message, front) in messages_of(&key) {
+                refused_in_every_call(3, form, &message, &format!("refused 7 {}", front + before.len() + at));
+            }
+            // The first of two such keys: the second is never read.
+            let two = map(&[(&key, [106]), (&join(&[&before, &inner_turned, &after]), [106])]);
+            refused(&join(&[&[131], &two]), 7, 6 + before.len() + at);
+            // The later key, behind one that it would equal.
+            let good = join(&[&before, &one, &after]);
+            let two = map(&[(&good, [106]), (&key, [106])]);
+            refused(&join(&[&[131], &two]), 7, 6 + good.len() + 1 + before.len() + at);
+        }
+    }
+    // A later key that is equal so far and then cut off or bad: its own refusal, no comparison.
+    let so_far = join(&[&[131, 116, 0, 0, 0, 2], &one, &[106, 116, 0, 0, 0, 2, 97, 2, 97, 6, 97, 1]]);
+    refused(&so_far, 2, so_far.len());
+    refused(&join(&[&so_far, &[255]]), 3, so_far.len());
+}
+
+#[test]
+fn values_never_decide_the_order() {
+    let values: [&[u8]; 6] =
+        [&[70, 0, 0, 0, 0, 0, 0, 0, 0], &[97, 0], &[97, 255], &[106], &[119, 0], &[116, 0, 0, 0, 1, 97, 1, 106]];
+    let mut driver = with_room(20, 100);
+    for first in values {
+        for second in values {
+            for third in values {
+                let pairs = [(&[97, 1][..], first), (&[97, 2], second), (b"\x77\x01a", third)];
+                let pairs = pairs.map(|(key, value)| (key.to_vec(), value.to_vec()));
+                written_in_order(&mut driver, &pairs, &pairs);
+            }
+        }
+    }
+    // A value within a key is part of the key's form and does.
+    let low = map(&[([97, 1], [97, 3])]);
+    let high = map(&[([97, 1], [97, 4])]);
+    let [rising, falling] = both_ways((&low, &[97, 9]), (&high, &[97, 1]));
+    ok(&join(&[&[131], &falling]), &join(&[&[131], &rising]));
+    // A value is put in order itself, and stays with its key.
+    let [inner, turned] = both_ways((&[97, 1], &[97, 8]), (&[97, 2], &[97, 7]));
+    let [written, _] = both_ways((&[97, 3], &inner), (&[97, 4], &inner));
+    let [_, given] = both_ways((&[97, 3], &turned), (&[97, 4], &turned));
+    ok(&join(&[&[131], &given]), &join(&[&[131], &written]));
+}
+
+#[test]
+fn lists_and_tuples_keep_their_order() {
+    let orders: [&[u8]; 10] = [
+        &[104, 2, 97, 2, 97, 1],
+        &[104, 2, 97, 1, 97, 2],
+        &[107, 0, 2, 2, 1],
+        &[107, 0, 2, 1, 2],
+        &[108, 0, 0, 0, 2, 106, 97, 1, 106],
+        &[108, 0, 0, 0, 2, 97, 1, 106, 106],
+        &[108, 0, 0, 0, 1, 97, 2, 97, 1],
+        &[108, 0, 0, 0, 1, 97, 1, 97, 2],
+        &[104, 2, 106, 97, 1],
+        &[104, 2, 97, 1, 106],
+    ];
+    for (i, first) in orders.iter().enumerate() {
+        ok(&join(&[&[131], first]), &join(&[&[131], first]));
+        for (before, after) in around_in_a_key() {
+            let around = |term: &[u8]| join(&[&before, term, &after]);
+            for second in &orders[i + 1..] {
+                different_keys(&around(first), &around(second));
+            }
+        }
+    }
+    // Maps in a tuple or a list are turned, not exchanged.
+    let [one, turned_one] = both_ways((&[97, 1], &[106]), (&[97, 2], &[106]));
+    let [two, turned_two] = both_ways((&[97, 0], &[106]), (&[97, 2], &[106]));
+    ok(&join(&[&[131, 104, 2], &turned_one, &turned_two]), &join(&[&[131, 104, 2], &one, &two]));
+    let list = |first: &[u8], second: &[u8]| join(&[&[131, 108, 0, 0, 0, 2], first, second, &[106]]);
+    ok(&list(&turned_one, &turned_two), &list(&one, &two));
+    different_keys(&join(&[&[104, 2], &one, &two]), &join(&[&[104, 2], &two, &one]));
+    different_keys(&list(&one, &two)[1..], &list(&two, &one)[1..]);
+}
+
+#[test]
+fn what_else_tells_keys_apart_stays() {
+    let different: [(&[u8], &[u8]); 6] = [
+        (&[97, 1], &[70, 63, 240, 0, 0, 0, 0, 0, 0]),
+        (&[70, 0, 0, 0, 0, 0, 0, 0, 0], &[70, 128, 0, 0, 0, 0, 0, 0, 0]),
+        (&reference(90, &[7]), &reference(90, &[7, 0])),
+        (&[106], &[109, 0, 0, 0, 0]),
+        (b"\x77\x01a", &[107, 0, 1, b'a']),
+        (&[104, 0], &[116, 0, 0, 0, 0]),
+    ];
+    for (first, second) in different {
+        different_keys(first, second);
+        // As key or value of a map turned round.
+        let [as_key, turned_key] = both_ways((first, &[97, 5]), (&[97, 9], &[97, 6]));
+        let [other_key, turned_other_key] = both_ways((second, &[97, 5]), (&[97, 9], &[97, 6]));
+        let [as_value, turned_value] = both_ways((&[97, 5], first), (&[97, 9], &[97, 6]));
+        let [other_value, turned_other_value] = both_ways((&[97, 5], second), (&[97, 9], &[97, 6]));
+        equal(&as_key, &turned_key);
+        equal(&as_value, &turned_value);
+        for (one, other) in [(&other_key, &as_key), (&other_value, &as_value)] {
+            different_keys(one, other);
+        }
+        for (one, other) in [(&turned_other_key, &as_key), (&turned_other_value, &as_value)] {
+            different_keys(one, other);
+        }
+    }
+}
+
+#[test]
+fn rows_follow_from_the_bytes_as_they_came() {
+    let mut driver = with(3);
+    // {"b": [8], {1: 2.0, 0: []}: c} and the same turned at both depths.
+    let b = b"\x73\x01b".to_vec();
+    let c = b"\x77\x01c".to_vec();
+    let inner = [(vec![97, 1], vec![70, 64, 0, 0, 0, 0, 0, 0, 0]), (vec![98, 0, 0, 0, 0], vec![106])];
+    let came = map(&[(b.clone(), vec![107, 0, 1, 8]), (map(&inner), c.clone())]);
+    let turned_inner = [inner[1].clone(), inner[0].clone()];
+    let turned = map(&[(map(&turned_inner), c.clone()), (b.clone(), vec![107, 0, 1, 8])]);
+    let whole = |n: i64| format!("whole {n}");
+    let neither = "neither".to_string();
+    let float = format!("float {}", 2f64.to_bits());
+    // Of each row: kind, offset, whole; and what it answers, asked for its number.
+    let came_rows = [
+        ("map 0 -", &neither),
+        ("atom 5 0", &neither),
+        ("list 8 0", &neither),
+        ("integer 11 2", &whole(8)),
+        ("map 12 0", &neither),
+        ("integer 17 4", &whole(1)),
+        ("float 19 4", &float),
+        ("integer 28 4", &whole(0)),
+        ("list 33 4", &neither),
+        ("atom 34 0", &neither),
+    ];
+    let turned_rows = [
+        ("map 0 -", &neither),
+        ("map 5 0", &neither),
+        ("integer 10 1", &whole(0)),
+        ("list 15 1", &neither),
+        ("integer 16 1", &whole(1)),
+        ("float 18 1", &float),
+        ("atom 27 0", &neither),
+        ("atom 30 0", &neither),
+        ("list 33 0", &neither),
+        ("integer 36 8", &whole(8)),
+    ];
+    let mut outputs = Vec::new();
+    for (message, rows) in [(&came, &came_rows), (&turned, &turned_rows)] {
+        let bytes = hex(message);
+        assert_eq!(ask(&mut driver, &format!("read payload empty {bytes}")), "ok 1 10");
+        for (row, (kind, number)) in rows.iter().enumerate() {
+            assert_eq!(ask(&mut driver, &format!("kind {row}")), *kind);
+            assert_eq!(ask(&mut driver, &format!("number payload empty {row} {bytes}")), **number);
+        }
+        assert_eq!(ask(&mut driver, "kind 10"), "- - -");
+        assert_eq!(ask(&mut driver, &format!("number payload empty 10 {bytes}")), "neither");
+        // 9 is at the row's offset as the bytes came, of a character at its 107's.
+        for (row, (kind, _)) in rows.iter().enumerate() {
+            let offset = match kind.split(' ').nth(1).expect("an offset") {
+                "11" => "8",
+                "36" => "33",
+                offset => offset,
+            };
+            assert_eq!(read("payload", message, row), format!("refused 9 {offset}"));
+            assert_eq!(write("payload", message, row), format!("refused 9 {offset}"));
+        }
+        outputs.push(write("payload", message, 10));
+    }
+    assert_eq!(outputs[0], outputs[1]);
+    let inner_written = map(&[(&[97, 0][..], &[106][..]), (&[97, 1], &[70, 64, 0, 0, 0, 0, 0, 0, 0])]);
+    let written = map(&[(inner_written, c), (b"\x77\x01b".to_vec(), vec![107, 0, 1, 8])]);
+    assert_eq!(outputs[0], format!("ok {}", hex(&join(&[&[131], &written]))));
+    // Texts and marks are asked for by the offsets as they came.
+    for (message, latin1, utf8) in [(&came, 5, 34), (&turned, 30, 27)] {
+        let bytes = hex(message);
+        for offset in 0..message.len() {
+            let text = ask(&mut driver, &format!("text payload empty {offset} {bytes}"));
+            let mark = ask(&mut driver, &format!("mark payload empty {offset} {bytes}"));
+            if offset == latin1 || offset == utf8 {
+                assert_eq!(text, format!("message {} 1", offset + 2));
+                assert_eq!(mark, if offset == latin1 { "latin1" } else { "utf8" });
+            } else {
+                assert_eq!([text, mark], ["empty".to_string(), format!("refused 4 {offset}")]);
+            }
+        }
+    }
+    // A second term's rows run on.
+    let two = join(&[&turned, &came]);
+    assert_eq!(ask(&mut driver, &format!("read payload empty {}", hex(&two))), "ok 2 20");
+    assert_eq!(ask(&mut driver, "kind 11"), "atom 42 10");
+    assert_eq!(ask(&mut driver, "kind 1"), "map 5 0");
+    assert_eq!(write("payload", &two, 20), format!("ok {}", hex(&join(&[&[131], &written, &[131], &written]))));
+}
+
+#[test]
+fn room_for_turned_pairs() {
+    let [written, turned] = both_ways((&[97, 1], b"\x77\x01a"), (b"\x77\x01b", &[106]));
+    for given in [&written, &turned] {
+        let mut driver = with(3);
+        let length = written.len() + 1;
+        for room in [0, 1, length - 1] {
+            ask(&mut driver, &format!("lend output {room}"));
+            ask(&mut driver, "fill output ee");
+            assert_eq!(ask(&mut driver, &format!("write payload empty {}", hex(given))), "refused 11 0");
+            assert!(get(&mut driver, "output").iter().all(|byte| *byte == 0xee));
+        }
+        ask(&mut driver, &format!("lend output {}", length + 2));
+        ask(&mut driver, "fill output ee");
+        assert_eq!(ask(&mut driver, &format!("write payload empty {}", hex(given))), format!("ok {length}"));
+        assert_eq!(get(&mut driver, "output"), join(&[&[131], &written, &[0xee, 0xee]]));
+    }
+}
+
+#[test]
+fn large_maps() {
+    let mut driver = with(3);
+    // Integers -n/2 .. n/2 - 1 as keys, given by 98: 0 to 255 by 97, then 256 and up, then the negative ones.
+    for count in [33, 600, 4_095] {
+        let value = |i: i32| vec![97, (i * 7 % 251).unsigned_abs() as u8];
+        let wide = |i: i32| (join(&[&[98], &i.to_be_bytes()]), value(i));
+        let half = count / 2;
+        let rising: Vec<i32> = (0..count - half).chain(-half..0).collect();
+        let given: Vec<(Vec<u8>, Vec<u8>)> = rising.iter().map(|i| wide(*i)).collect();
+        let written: Vec<(Vec<u8>, Vec<u8>)> = rising
+            .iter()
+            .map(|i| u8::try_from(*i).map_or_else(|_| wide(*i), |small| (vec![97, small], value(*i))))
+            .collect();
+        written_in_order(&mut driver, &given, &written);
+        for order in orders(given.len()) {
+            let pairs: Vec<(Vec<u8>, Vec<u8>)> = order.iter().map(|i| given[*i].clone()).collect();
+            let message = map(&pairs);
+            assert_eq!(read("payload", &message, 8_192), format!("ok 1 {}", 1 + 2 * count));
+            // The last key equal to some earlier one, in another width.
+            for earlier in [0, pairs.len() / 2, pairs.len() - 2] {
+                let mut pairs = pairs.clone();
+                let last = pairs.len() - 1;
+                let digits = &pairs[earlier].0[1..];
+                let number = i32::from_be_bytes([digits[0], digits[1], digits[2], digits[3]]);
+                let size = number.unsigned_abs().to_le_bytes();
+                pairs[last].0 = join(&[&[110, 4, u8::from(number < 0)], &size]);
+                assert_eq!(read("payload", &map(&pairs), 8_192), format!("refused 7 {}", 5 + 7 * last));
+            }
+        }
+    }
+    // 4,096 keys: no row is left for the last value.
+    let key = |i: u32| join(&[&[98], &i.to_be_bytes()]);
+    let pairs: Vec<(Vec<u8>, [u8; 1])> = (0..4_096).rev().map(|i| (key(i), [106])).collect();
+    assert_eq!(read("payload", &map(&pairs), 8_192), format!("refused 9 {}", 5 + 6 * 4_096 - 1));
+}
+
+#[test]
+fn large_maps_of_keys_that_are_maps() {
+    let mut driver = with(3);
+    // Keys {i: j, 200: j} with rising i and j, written so and given turned round by every second one.
+    for count in [33usize, 1_365] {
+        let key = |i: usize, turned: bool| {
+            let [tens, ones, sevens] = [i / 40, i % 40, i % 7].map(|number| number as u8);
+            let [as_is, round] = both_ways((&[97, tens], &[97, ones]), (&[97, 200], &[97, sevens]));
+            if turned {
+                round
+            } else {
+                as_is
+            }
+        };
+        let value = |i: usize| vec![97, (255 - i % 256) as u8];
+        let written: Vec<(Vec<u8>, Vec<u8>)> = (0..count).map(|i| (key(i, false), value(i))).collect();
+        let given: Vec<(Vec<u8>, Vec<u8>)> = (0..count).map(|i| (key(i, i % 2 == 0), value(i))).collect();
+        written_in_order(&mut driver, &given, &written);
+        // The last key is the first one, turned round.
+        for order in orders(count) {
+            let mut pairs: Vec<(Vec<u8>, Vec<u8>)> = order.iter().map(|i| given[*i].clone()).collect();
+            let first = order[0];
+            pairs[count - 1].0 = key(first, first % 2 == 1);
+            let message = map(&pairs);
+            assert_eq!(read("payload", &message, 8_192), format!("refused 7 {}", 5 + 15 * (count - 1)));
+        }
+    }
+}
+
+#[test]
+fn flags_do_not_change_the_order() {
+    let [written, turned] = both_ways((b"\x77\x01b", &[97, 1]), (b"\x77\x02aa", &[97, 0]));
+    for flags in 0..=3 {
+        for given in [&written, &turned] {
+            let answer = write_with(flags, "payload", given, 5);
+            assert_eq!(answer, format!("ok {}", hex(&join(&[&[131], &written]))));
+        }
+        let two = map(&[(&written, [106]), (&turned, [106])]);
+        refused_in_every_call(flags, "payload", &two, &format!("refused 7 {}", 5 + written.len() + 1));
+    }
+    // Wider identifiers are keys like others; without the flag they are 4, before 7.
+    let [wide, wide_turned] = both_ways((&pid(88, 0x8000, 0), &[97, 1]), (&reference(90, &[1, 2, 3, 4]), &[97, 0]));
+    let two = map(&[(&wide, [106]), (&wide_turned, [106])]);
+    for flags in 0..=3 {
+        let answer = if flags >= 2 {
+            refused_in_every_call(flags, "payload", &two, &format!("refused 7 {}", 5 + wide.len() + 1));
+            format!("ok {}", hex(&join(&[&[131], &wide])))
+        } else {
+            refused_in_every_call(flags, "payload", &two, "refused 4 10");
+            "refused 4 5".to_string()
+        };
+        assert_eq!(write_with(flags, "payload", &wide_turned, 7), answer);
+    }
+}
+
+#[test]
+fn a_packet_whose_payload_is_a_turned_map() {
+    // References zz, b, aa; the payload is {zz: 1, b: 2, aa: 3}, in a plain packet and in fragments.
+    let header = join(&[&[3, 0x88, 0x08], &[1, 2], b"zz", &[2, 1], b"b", &[3, 2], b"aa"]);
+    let payload = map(&[([82, 0], [97, 1]), ([82, 1], [97, 2]), ([82, 2], [97, 3])]);
+    let in_order = map(&[(&b"\x77\x01b"[..], [97, 2]), (b"\x77\x02aa", [97, 3]), (b"\x77\x02zz", [97, 1])]);
+    let written = join(&[&[131], &in_order]);
+    let mut driver = with(3);
+    let packet = join(&[&[131, 68], &header, &payload]);
+    let answer = ask(&mut driver, &format!("packet {}", hex(&packet)));
+    assert_eq!(answer, format!("plain {} {}", 2 + header.len(), payload.len()));
+    assert_eq!(write_on(&mut driver, "payload", &payload), format!("ok {}", hex(&written)));
+    let start = fragment(69, 1, 2, &join(&[&header, &payload[..8]]));
+    assert_eq!(ask(&mut driver, &format!("packet {start}")), "pending 1 8");
+    let last = fragment(70, 1, 1, &payload[8..]);
+    assert_eq!(ask(&mut driver, &format!("packet {last}")), format!("complete {}", payload.len()));
+    let gathered = hex(&get(&mut driver, "gather")[..payload.len()]);
+    assert_eq!(ask(&mut driver, &format!("write payload pending {gathered}")), format!("ok {}", written.len()));
+    assert_eq!(get(&mut driver, "output")[..written.len()], written);
 }

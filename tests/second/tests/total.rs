@@ -1,8 +1,8 @@
 //! Damaged and made-up input in quantity: nothing panics, and what document 01 says of every answer
 //! holds (a refused reading leaves the table zero, the canonical form is its own canonical form, rows
 //! fit together, refusals of packets change nothing, a word is what its list's bytes say, a packet
-//! changes the words of its own list alone, 5 stands at the bad byte of a text, and flags change no
-//! answer but where #109 says so).
+//! changes the words of its own list alone, 5 stands at the bad byte of a text, flags change no
+//! answer but where #109 says so, and maps whose pairs stand in another order mean the same).
 
 mod model;
 
@@ -214,6 +214,8 @@ fn rows_fit_together(table: &[u8], used: usize) {
     assert!(words.iter().skip(used).all(|w| *w == [0; 5]));
     let mut parts = vec![0; used];
     let mut rows = vec![1; used];
+    // In reading order, as the bytes came.
+    assert!(words[..used].windows(2).all(|two| two[0][1] < two[1][1]));
     for (i, [kind, offset, whole, _, _]) in words.iter().take(used).enumerate().rev() {
         assert!((1..=14).contains(kind));
         if *whole > 0 {
@@ -224,6 +226,56 @@ fn rows_fit_together(table: &[u8], used: usize) {
     }
     for (i, word) in words.iter().take(used).enumerate() {
         assert_eq!([word[3], word[4]], [parts[i], rows[i]]);
+    }
+}
+
+/// The numbers of so many rows, in the order of their own; a row's place is the bytes' and may differ (OQ-103-6).
+fn numbers(driver: &mut Driver, rows: usize, form: &str, word: &str) -> Vec<String> {
+    let mut numbers: Vec<String> =
+        (0..rows).map(|row| ask(driver, &format!("number {form} plain {row} {word}"))).collect();
+    numbers.sort();
+    numbers
+}
+
+/// The end of the term in canonical form that begins here. The keys of each map in it rise.
+fn keys_rise(form: &[u8], at: usize) -> usize {
+    let number = |at: usize, width: usize| {
+        form[at..at + width].iter().fold(0, |sum, byte| sum << 8 | usize::from(*byte))
+    };
+    let parts = |count: usize, from: usize| (0..count).fold(from, |at, _| keys_rise(form, at));
+    match form[at] {
+        70 => at + 9,
+        77 => at + 6 + number(at + 1, 4),
+        88 => parts(1, at + 1) + 12,
+        89 => parts(1, at + 1) + 8,
+        90 => parts(1, at + 3) + 4 + 4 * number(at + 1, 2),
+        97 => at + 2,
+        98 => at + 5,
+        104 => parts(number(at + 1, 1), at + 2),
+        105 => parts(number(at + 1, 4), at + 5),
+        106 => at + 1,
+        107 => at + 3 + number(at + 1, 2),
+        108 => parts(number(at + 1, 4) + 1, at + 5),
+        109 => at + 5 + number(at + 1, 4),
+        110 => at + 3 + number(at + 1, 1),
+        111 => at + 6 + number(at + 1, 4),
+        113 => parts(3, at + 1),
+        118 => at + 3 + number(at + 1, 2),
+        119 => at + 2 + number(at + 1, 1),
+        120 => parts(1, at + 1) + 12,
+        116 => {
+            let mut end = at + 5;
+            let mut before: Option<&[u8]> = None;
+            for _ in 0..number(at + 1, 4) {
+                let value = keys_rise(form, end);
+                let key = &form[end..value];
+                assert!(before.is_none_or(|before| before < key), "{}", hex(form));
+                before = Some(key);
+                end = keys_rise(form, value);
+            }
+            end
+        }
+        tag => panic!("{tag} in a canonical form"),
     }
 }
 
@@ -353,18 +405,21 @@ fn made_up_messages() {
             assert_eq!(written, "refused 11 0");
             continue;
         }
-        // The canonical form of each term has the same rows and is its own canonical form.
+        // The canonical form of each term has as many rows and is its own canonical form; its keys rise.
         let canonical = output[..length].to_vec();
+        let mut end = 0;
+        while end < length {
+            assert_eq!(canonical[end], 131);
+            end = keys_rise(&canonical, end + 1);
+        }
         if counts[0] == 1 {
             let again = hex(&canonical);
             assert_eq!(ask(&mut driver, &format!("read standalone empty {again}")), answer);
             assert_eq!(ask(&mut driver, &format!("write standalone empty {again}")), written);
             assert_eq!(get(&mut driver, "output")[..length], canonical);
-            for row in 0..counts[1].min(6) {
-                assert_eq!(
-                    ask(&mut driver, &format!("number {form} plain {row} {word}")),
-                    ask(&mut driver, &format!("number standalone empty {row} {again}"))
-                );
+            if counts[1] <= 12 {
+                let came = numbers(&mut driver, counts[1], form, &word);
+                assert_eq!(numbers(&mut driver, counts[1], "standalone", &again), came);
             }
         }
         // Each atom's text and mark, asked for by its row's offset.
@@ -377,6 +432,253 @@ fn made_up_messages() {
     }
     let counts = [accepted, refused, fives, wide];
     assert!(accepted > 10_000 && refused > 5_000 && fives > 200 && wide > 500, "{counts:?}");
+}
+
+/// A term made up as a tree, so that the pairs of its maps can be put in another order.
+#[derive(Clone)]
+enum Made {
+    /// a term without maps: as given, as written, and its rows
+    Leaf(Vec<u8>, Vec<u8>, usize),
+    /// behind a 108 of length 0
+    Wrapped(Box<Made>),
+    Tuple(Vec<Made>),
+    /// one element or more, and an improper tail
+    List(Vec<Made>, Option<Box<Made>>),
+    Map(Vec<(Made, Made)>),
+}
+
+/// The writer's answer, its output in place of its length.
+fn write(driver: &mut Driver, message: &[u8]) -> Result<Vec<u8>, String> {
+    let answer = ask(driver, &format!("write payload plain {}", hex(message)));
+    let length: usize = answer.strip_prefix("ok ").ok_or(answer.clone())?.parse().expect("a number");
+    Ok(get(driver, "output")[..length].to_vec())
+}
+
+/// A leaf that is accepted alone.
+fn leaf(r: &mut Random, driver: &mut Driver) -> Made {
+    loop {
+        let mut given = Vec::new();
+        term(r, &mut given, 0);
+        if let Ok(written) = write(driver, &given) {
+            let read = ask(driver, &format!("read payload plain {}", hex(&given)));
+            let rows = read.strip_prefix("ok 1 ").expect("one term").parse().expect("a number");
+            return Made::Leaf(given, written[1..].to_vec(), rows);
+        }
+    }
+}
+
+fn made(r: &mut Random, leaves: &[Made], depth: u32) -> Made {
+    let leaf = leaves[r.below(leaves.len() as u64) as usize].clone();
+    if depth == 0 {
+        return leaf;
+    }
+    let some = |r: &mut Random, least: u64| -> Vec<Made> {
+        (0..least + r.below(3)).map(|_| made(r, leaves, depth - 1)).collect()
+    };
+    match r.below(9) {
+        0 => Made::Wrapped(Box::new(made(r, leaves, depth - 1))),
+        1 => Made::Tuple(some(r, 0)),
+        2 => Made::List(some(r, 1), None),
+        3 => {
+            let tail = made(r, leaves, depth - 1);
+            let is_list = matches!(judged(&tail, &mut 0), Ok(form) if (106..=108).contains(&form[0]));
+            Made::List(some(r, 1), Some(Box::new(tail)).filter(|_| !is_list))
+        }
+        4..=6 => {
+            let mut pairs: Vec<(Made, Made)> = Vec::new();
+            for _ in 0..r.below(4) {
+                let key = match pairs.first() {
+                    Some((earlier, _)) if r.below(8) == 0 => turned(r, earlier),
+                    _ => made(r, leaves, depth - 1),
+                };
+                pairs.push((key, made(r, leaves, depth - 1)));
+            }
+            Made::Map(pairs)
+        }
+        _ => leaf,
+    }
+}
+
+/// The same with the pairs of every map in another order.
+fn turned(r: &mut Random, term: &Made) -> Made {
+    let each = |r: &mut Random, parts: &[Made]| parts.iter().map(|part| turned(r, part)).collect();
+    match term {
+        Made::Leaf(..) => term.clone(),
+        Made::Wrapped(inner) => Made::Wrapped(Box::new(turned(r, inner))),
+        Made::Tuple(parts) => Made::Tuple(each(r, parts)),
+        Made::List(parts, tail) => {
+            Made::List(each(r, parts), tail.as_ref().map(|tail| Box::new(turned(r, tail))))
+        }
+        Made::Map(pairs) => {
+            let mut left: Vec<(Made, Made)> =
+                pairs.iter().map(|(key, value)| (turned(r, key), turned(r, value))).collect();
+            let mut mixed = Vec::new();
+            while !left.is_empty() {
+                mixed.push(left.remove(r.below(left.len() as u64) as usize));
+            }
+            Made::Map(mixed)
+        }
+    }
+}
+
+/// The bytes of a tree, pairs in its order.
+fn given(term: &Made) -> Vec<u8> {
+    let each = |parts: &[Made]| parts.iter().flat_map(given).collect::<Vec<u8>>();
+    match term {
+        Made::Leaf(given, ..) => given.clone(),
+        Made::Wrapped(inner) => [vec![108, 0, 0, 0, 0], given(inner)].concat(),
+        Made::Tuple(parts) => [vec![104, parts.len() as u8], each(parts)].concat(),
+        Made::List(parts, tail) => {
+            let tail = tail.as_ref().map_or(vec![106], |tail| given(tail));
+            [vec![108, 0, 0, 0, parts.len() as u8], each(parts), tail].concat()
+        }
+        Made::Map(pairs) => {
+            let pairs_bytes = pairs.iter().flat_map(|(key, value)| [given(key), given(value)].concat());
+            [vec![116, 0, 0, 0, pairs.len() as u8], pairs_bytes.collect()].concat()
+        }
+    }
+}
+
+/// How many rows a tree has.
+fn rows(term: &Made) -> usize {
+    match term {
+        Made::Leaf(_, _, rows) => *rows,
+        Made::Wrapped(inner) => rows(inner),
+        Made::Tuple(parts) => 1 + parts.iter().map(rows).sum::<usize>(),
+        Made::List(parts, tail) => 1 + parts.iter().chain(tail.as_deref()).map(rows).sum::<usize>(),
+        Made::Map(pairs) => 1 + pairs.iter().map(|(key, value)| rows(key) + rows(value)).sum::<usize>(),
+    }
+}
+
+/// The canonical form of a tree whose bytes begin at `at`, or where 7 stands: keys are equal where their forms are.
+fn judged(term: &Made, at: &mut usize) -> Result<Vec<u8>, usize> {
+    match term {
+        Made::Leaf(given, written, _) => {
+            *at += given.len();
+            Ok(written.clone())
+        }
+        Made::Wrapped(inner) => {
+            *at += 5;
+            judged(inner, at)
+        }
+        Made::Tuple(parts) => {
+            *at += 2;
+            let mut form = vec![104, parts.len() as u8];
+            for part in parts {
+                form.extend(judged(part, at)?);
+            }
+            Ok(form)
+        }
+        Made::List(parts, tail) => {
+            *at += 5;
+            let mut forms = Vec::new();
+            for part in parts {
+                forms.push(judged(part, at)?);
+            }
+            let end = match tail {
+                Some(tail) => judged(tail, at)?,
+                None => {
+                    *at += 1;
+                    vec![106]
+                }
+            };
+            if tail.is_none() && forms.iter().all(|form| form[0] == 97) {
+                return Ok([vec![107, 0, parts.len() as u8], forms.iter().map(|form| form[1]).collect()].concat());
+            }
+            Ok([vec![108, 0, 0, 0, parts.len() as u8], forms.concat(), end].concat())
+        }
+        Made::Map(pairs) => {
+            *at += 5;
+            let mut forms: Vec<[Vec<u8>; 2]> = Vec::new();
+            for (key, value) in pairs {
+                let key_at = *at;
+                let key = judged(key, at)?;
+                if forms.iter().any(|[earlier, _]| *earlier == key) {
+                    return Err(key_at);
+                }
+                forms.push([key, judged(value, at)?]);
+            }
+            forms.sort();
+            Ok([vec![116, 0, 0, 0, pairs.len() as u8], forms.concat().concat()].concat())
+        }
+    }
+}
+
+/// The reader and the writer answer for this tree as the model has it; what is written, or None for 7.
+fn as_judged(driver: &mut Driver, term: &Made) -> Option<Vec<u8>> {
+    let message = given(term);
+    let read = ask(driver, &format!("read payload plain {}", hex(&message)));
+    let table = get(driver, "table");
+    let written = write(driver, &message);
+    match judged(term, &mut 0) {
+        Ok(form) => {
+            assert_eq!(read, format!("ok 1 {}", rows(term)), "{}", hex(&message));
+            rows_fit_together(&table, rows(term));
+            let form = [vec![131], form].concat();
+            assert_eq!(written, Ok(form.clone()), "{}", hex(&message));
+            assert_eq!(keys_rise(&form, 1), form.len());
+            // Written again it stays.
+            assert_eq!(write(driver, &form[1..]), Ok(form.clone()));
+            Some(form)
+        }
+        Err(place) => {
+            assert_eq!(read, format!("refused 7 {place}"), "{}", hex(&message));
+            assert_eq!(written, Err(read), "{}", hex(&message));
+            None
+        }
+    }
+}
+
+#[test]
+fn made_up_maps() {
+    let mut r = Random(0x0103_0103_0103_0103);
+    let mut driver = Driver::new();
+    connect(&mut driver, 3);
+    ask(&mut driver, "set plain-count 0 05");
+    ask(&mut driver, "set plain-texts 0 61");
+    ask(&mut driver, "set plain-texts 32 c3a9");
+    ask(&mut driver, "set plain-texts 64 6161");
+    ask(&mut driver, "set plain-lengths 0 00010002000200000000");
+    ask(&mut driver, "lend table 200");
+    ask(&mut driver, "lend output 3000");
+    let (mut accepted, mut sevens, mut moved) = (0, 0, 0);
+    for _ in 0..10_000 {
+        let leaves: Vec<Made> = (0..6).map(|_| leaf(&mut r, &mut driver)).collect();
+        let depth = 1 + r.below(5) as u32;
+        let pairs = (0..1 + r.below(3)).map(|_| (made(&mut r, &leaves, depth), made(&mut r, &leaves, 2))).collect();
+        let term = Made::Map(pairs);
+        if rows(&term) > 80 || given(&term).len() > 1_000 {
+            continue;
+        }
+        let other = turned(&mut r, &term);
+        moved += usize::from(given(&other) != given(&term));
+        let written = as_judged(&mut driver, &term);
+        assert_eq!(as_judged(&mut driver, &other), written);
+        if written.is_none() {
+            sevens += 1;
+            continue;
+        }
+        accepted += 1;
+        // Both as keys of one map, or within its keys: 7 at the later one.
+        let nil = || Made::Leaf(vec![106], vec![106], 1);
+        let around = |inner: Made, way: u64| match way {
+            0 => inner,
+            1 => Made::Tuple(vec![nil(), inner]),
+            2 => Made::List(vec![inner], None),
+            3 => Made::List(vec![nil()], Some(Box::new(inner))),
+            4 => Made::Map(vec![(inner, nil())]),
+            5 => Made::Map(vec![(nil(), inner)]),
+            _ => Made::Wrapped(Box::new(inner)),
+        };
+        let way = r.below(7);
+        let first = around(term, way);
+        let place = 5 + given(&first).len() + 1;
+        let both = Made::Map(vec![(first, nil()), (around(other, way), nil())]);
+        assert_eq!(judged(&both, &mut 0), Err(place));
+        assert_eq!(as_judged(&mut driver, &both), None);
+    }
+    let counts = [accepted, sevens, moved];
+    assert!(accepted > 4_000 && sevens > 1_000 && moved > 4_000, "{counts:?}");
 }
 
 #[test]

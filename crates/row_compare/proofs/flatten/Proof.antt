@@ -1,9 +1,23 @@
 -- `flatten` meets its contract.
-use mathlib.Core.Path.{sym, _∙_, ap}
+use mathlib.Core.Path.{_≡_, sym, _∙_, ap}
+use mathlib.Core.Bool.{Bool}
+use Prim.Native.Nat.{ℕ}
+use Rattle.row_fields.specs.declared.Content.{Content}
+use Rattle.row_fields.specs.declared.Content.the-variants.{Whole, Big}
+use Rattle.row_fields.specs.Meaning.{sign}
+use Rattle.row_compare.specs.declared.Flat.{Flat}
+use Rattle.row_compare.specs.Same.{numbers-of, stretch-of, flat-of}
 use borrow.Author.Needs.{needs}
-use Rattle.row_compare.specs.Same.{flat-of}
 use Rattle.row_compare.proofs.flatten.Statement.{statement}
 use Rattle.row_compare.proofs.flatten.Tie as tie
+
+whole-flat : (r : Flat) (c : Content) (s : Bool) (n x : ℕ) → c ≡ Whole s n → x ≡ sign s → r ≡ numbers-of 1 n x 0 → r ≡ flat-of c
+unfolding flat-of
+whole-flat r c s n x g e f = f ∙ ap (λ (y : ℕ). numbers-of 1 n y 0) e ∙ sym (ap flat-of g)
+
+big-flat : (r : Flat) (c : Content) (s : Bool) (i n x : ℕ) → c ≡ Big s i n → x ≡ sign s → r ≡ stretch-of 2 x i n → r ≡ flat-of c
+unfolding flat-of
+big-flat r c s i n x g e f = f ∙ ap (λ (y : ℕ). stretch-of 2 y i n) e ∙ sym (ap flat-of g)
 
 enum-told : tie.Need-enum-told
 enum-told c = search needs
@@ -14,11 +28,17 @@ numbers-of-requires c κs = search needs
 enum-known-c : tie.Need-enum-known-c
 enum-known-c c = search needs
 
+sign-of-requires : tie.Need-sign-of-requires
+sign-of-requires c κs = search needs
+
 numbers-of-requires-2 : tie.Need-numbers-of-requires-2
 numbers-of-requires-2 c κs = search needs
 
 enum-known-c-2 : tie.Need-enum-known-c-2
 enum-known-c-2 c = search needs
+
+sign-of-requires-2 : tie.Need-sign-of-requires-2
+sign-of-requires-2 c κs = search needs
 
 stretch-of-requires : tie.Need-stretch-of-requires
 stretch-of-requires c κs = search needs
@@ -70,12 +90,10 @@ unfolding flat-of
 returns c = c .numbers-of .ensures ∙ sym (ap flat-of (c .before .enum-told .given .1))
 
 returns-2 : tie.Need-returns-2
-unfolding flat-of
-returns-2 c = c .numbers-of2 .ensures ∙ sym (ap flat-of (c .before .before .c .given .1))
+returns-2 c = whole-flat _ _ _ _ _ (c .before .before .before .c .given .1) (c .before .sign-of .ensures) (c .numbers-of2 .ensures)
 
 returns-3 : tie.Need-returns-3
-unfolding flat-of
-returns-3 c = c .stretch-of .ensures ∙ sym (ap flat-of (c .before .before .c2 .given .1))
+returns-3 c = big-flat _ _ _ _ _ _ (c .before .before .before .c2 .given .1) (c .before .sign-of2 .ensures) (c .stretch-of .ensures)
 
 returns-4 : tie.Need-returns-4
 unfolding flat-of
@@ -112,8 +130,10 @@ flatten-spec =
     enum-told
     numbers-of-requires
     enum-known-c
+    sign-of-requires
     numbers-of-requires-2
     enum-known-c-2
+    sign-of-requires-2
     stretch-of-requires
     enum-known-c-3
     numbers-of-requires-3

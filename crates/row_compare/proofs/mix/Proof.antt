@@ -1,15 +1,16 @@
 -- `mix` meets its contract.
-use mathlib.Core.Path.{refl}
-use native.Mathlib.Omega.{arith}
 use Rattle.row_compare.specs.Hash.{mix}
+use native.Mathlib.Omega.{arith}
+use mathlib.Core.Path.{refl}
+use borrow.Author.Needs.{needs}
 use Rattle.row_compare.proofs.mix.Statement.{statement}
 use Rattle.row_compare.proofs.mix.Tie as tie
 
-mul-result : tie.Need-mul-result
-mul-result c = omega arith
-
 add-result : tie.Need-add-result
 add-result c = omega arith
+
+mul-result : tie.Need-mul-result
+mul-result c = omega arith
 
 add-result-2 : tie.Need-add-result-2
 add-result-2 c = omega arith
@@ -19,4 +20,4 @@ unfolding mix
 returns c = (refl, omega arith)
 
 pub mix-spec : {M : Type 1} → statement M
-mix-spec = tie.close (tie.spec mul-result add-result add-result-2 returns)
+mix-spec = tie.close (tie.spec add-result mul-result add-result-2 returns)

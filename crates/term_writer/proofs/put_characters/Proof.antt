@@ -2,7 +2,7 @@
 use Rattle.term_writer.proofs.Strings.{Characters-left, characters-start, characters-step, characters-end, character-small, characters-here, characters-rest, run-below, run-sound}
 use Rattle.term_writer.specs.InTable.{Run-in-table}
 use Rattle.term_spec.specs.Canonical.{all-small}
-use Rattle.term_spec.specs.Message.{Terms, meanings}
+use Rattle.term_spec.specs.Message.{Terms, all-as-read}
 use Rattle.term_spec.specs.Tree.{count}
 use lib.ListN.{length}
 use Prim.Native.Nat.{ℕ, _-_, _≤_}
@@ -14,7 +14,7 @@ use Rattle.term_writer.proofs.put_characters.Statement.{statement}
 use Rattle.term_writer.proofs.put_characters.Tie as tie
 
 abbrev Inv-loop : tie.InvT-loop
-Inv-loop msg places lengths table row n out₀ at i₀ out i = (i ≤ n) × (length out ≡ length out₀) × ((ts : Terms) (cs : List ℕ) → Run-in-table msg places lengths table row ts → count ts ≡ n → all-small (meanings ts) ≡ some cs → Characters-left msg places lengths table row n at cs out₀ out i)
+Inv-loop msg places lengths table row n out₀ at i₀ out i = (i ≤ n) × (length out ≡ length out₀) × ((ts : Terms) (cs : List ℕ) → Run-in-table msg places lengths table row ts → count ts ≡ n → all-small (all-as-read ts) ≡ some cs → Characters-left msg places lengths table row n at cs out₀ out i)
 
 abbrev μ-loop : tie.MeasureT-loop
 μ-loop msg places lengths table row n out₀ at i₀ out i = n - i

@@ -1,5 +1,5 @@
--- `write_payload` meets its contract. The table after reading holds the terms that were read, by `message-run`; the rest is what writing them answers.
-use Rattle.writer.proofs.Messages.{message-run, message-written, message-refused}
+-- `write_payload` meets its contract. The table after reading holds the terms that were read, by `message-rows`; the rest is what writing them answers.
+use Rattle.writer.proofs.Messages.{message-rows, message-written, message-refused}
 use Rattle.writer.proofs.Scratch.{rows-zero}
 use Rattle.term_spec.proofs.Text.{under-all}
 use Rattle.term_spec.specs.Message.{payload}
@@ -22,7 +22,8 @@ write-and-clear-requires c κs =
     let is = c .before .before .before .terms .given .1 in
     let list = lent-list (args .n) (args .places .now) (args .lengths .now) in
     let under = under-all (args .msg .now) (λ i _. omega (arith, c .before .before .before .before .before .before .before .before .before .before .before .before .before .shared-slice-known .given i)) in
-    (message-run (args .connection .flags) payload list (args .scratch .now) (args .msg .now) (omega arith) under (read .read-answered) is (read .table-left), rows-zero _ _ (read .read-answered) is (read .table-left))
+    let zero = rows-zero _ _ (read .read-answered) is (read .table-left) in
+    (message-rows (args .connection .flags) payload list (args .scratch .now) (args .msg .now) (omega arith) under (read .read-answered) is (read .table-left) (zero .there), zero)
 
 enum-known-refusal : tie.Need-enum-known-refusal
 enum-known-refusal c = search needs

@@ -1,0 +1,10 @@
+pub mod Moved
+pub mod Forms
+pub mod Compared
+pub mod Places
+pub mod Walk
+pub mod Slots
+pub mod Sorted
+pub mod Maps
+pub mod Rooms
+pub mod Rows

@@ -1,0 +1,2 @@
+pub mod Standalones
+pub mod Plain
