@@ -1,32 +1,7 @@
 /* Maps have no order: their pairs are written in one order, however they came, and keys that differ in the order of pairs alone are equal. */
-#include "answers.h"
+#include "made.h"
 
-enum { ROOM = IK_MESSAGE_MOST, MOST_KEYS = 4095 };
-
-struct bytes { const uint8_t *bytes; size_t size; };
-
-/* A message that is made, in memory of ROOM bytes. */
-struct made { uint8_t *bytes; size_t size; };
-
-static void add(struct made *m, const uint8_t *bytes, size_t size)
-{
-    memcpy(m->bytes + m->size, bytes, size);
-    m->size += size;
-}
-
-static void add_map(struct made *m, size_t pairs)
-{
-    add(m, BYTES(116, 0, 0, (uint8_t)(pairs >> 8), (uint8_t)pairs));
-}
-
-/* ---- the order in which pairs come */
-
-static size_t rising(size_t n, size_t i) { return (void)n, i; }
-static size_t falling(size_t n, size_t i) { return n - 1 - i; }
-static size_t halves_turned(size_t n, size_t i) { return (i + n / 2) % n; }
-static size_t mixed(size_t n, size_t i) { return i * 1607 % n; } /* a prime that divides no n here */
-static size_t (*const orders[])(size_t n, size_t i) = {rising, falling, halves_turned, mixed};
-enum { ORDERS = sizeof orders / sizeof *orders };
+enum { MOST_KEYS = 4095 };
 
 /* 131 and a map of n keys in an order, their values falling where they rise. */
 static struct made map_in(uint8_t *memory, size_t n, size_t (*order)(size_t n, size_t i), void (*add_key)(struct made *m, size_t number))

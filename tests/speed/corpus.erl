@@ -8,6 +8,8 @@
 -define(BYTES_MOST, 65536).
 -define(ROWS_MOST, 8192).
 -define(EACH, 256).
+%% What the first hash of a key multiplies by (crate term_hash): keys whose halves cancel meet in it.
+-define(FACTOR, 2246822519).
 
 %% Writes all files; prints their names, the sizes of a kind upward.
 make(Dir) ->
@@ -49,7 +51,7 @@ reference(I) -> binary_to_term(<<131, (reference_bytes(I))/binary>>).
 
 %% ---- kinds of one message: a run of elements {run, tag, width of the number field, element I, what ends it, rows of an element}, a map of
 %% keys {map, key I of N, rows of a key}, bytes {filled, tag, fields after the length, byte} or {string, tag}, a binary in maps
-%% {in_maps, pairs of each}, or two maps as keys
+%% {in_maps, pairs of each}, or two maps as keys {two_maps, the order of the second}
 
 kinds() ->
     [{"small-integers", list(1, fun(I) -> <<97, I>> end)},
@@ -82,17 +84,37 @@ kinds() ->
      {"keys-atom-mixed", map(1, fun(_, I) -> atom_bytes(mixed_up(I)) end)},
      {"keys-creation", map(2, fun(_, I) -> <<88, 119, 1, "n", 1:32, 1:32, (mixed_up(I)):32>> end)}].
 
-%% Keys of one hash, keys that are long or deep, and keys that are maps.
+%% Keys of one hash, keys that differ late or in their middle, keys that are long or deep, and keys that are maps.
 worst() ->
     [{"halves-of-one-sum", map(1, fun(_, I) -> <<110, 8, 0, (mixed_up(I)):32/little, (100000 - mixed_up(I)):32/little>> end)},
+     {"one-hash", map(1, fun(_, I) -> <<110, 8, 0, (-?FACTOR * (I + 1)):32/little, (I + 1):32/little>> end)},
+     {"strings-late", map(37, fun(_, I) -> <<107, 36:16, (binary:copy(<<"a">>, 32))/binary, (mixed_up(I)):32>> end)},
+     {"tuples-late", map(18, fun(_, I) -> [104, 17, binary:copy(<<97, 1>>, 16), <<98, (mixed_up(I)):32>>] end)},
+     {"binaries-middle", map(1, fun(_, I) -> middle(33, I) end)},
+     {"long-binaries-middle", map(1, fun(_, I) -> middle(524, I) end)},
      {"maps-of-one-size", map(5, fun(_, I) -> [<<116, 2:32, 97, 1, 97, 2>>, <<98, (mixed_up(I)):32, 106>>] end)},
+     {"maps-values-swapped", map(13, fun(_, I) -> swapped_map(I) end)},
      {"maps-turned", map(89, fun(_, I) -> turned_map(I) end)},
-     {"two-maps-turned", two_maps},
+     {"two-maps-turned", {two_maps, fun lists:reverse/1}},
+     {"two-maps-mixed", {two_maps, fun mixed_list/1}},
      {"key-63-deep", {in_maps, 1}},
      {"key-63-deep-of-two", {in_maps, 2}}].
 
 list(Rows, Element) -> {run, <<108>>, 4, fun(I) -> iolist_to_binary(Element(I)) end, <<106>>, Rows}.
 map(Rows, Key) -> {map, fun(N, I) -> iolist_to_binary(Key(N, I)) end, Rows}.
+
+%% N bytes, a number and N bytes.
+middle(N, I) -> [<<109, (2 * N + 4):32>>, binary:copy(<<"a">>, N), <<(mixed_up(I)):32>>, binary:copy(<<"b">>, N)].
+
+%% Six pairs whose values are the same six in another order, one of 720.
+swapped_map(I) -> [<<116, 6:32>>, [[97, K, 97, V] || {K, V} <- lists:zip(lists:seq(1, 6), permuted(I rem 720, lists:seq(101, 106)))]].
+
+permuted(_, []) -> [];
+permuted(I, L) ->
+    V = lists:nth(1 + I rem length(L), L),
+    [V | permuted(I div length(L), lists:delete(V, L))].
+
+mixed_list(L) -> [E || {_, E} <- lists:sort(lists:zip([mixed_up(I) || I <- lists:seq(1, length(L))], L))].
 
 %% 44 pairs, of which the last has another value in each map, and the others begin with another.
 turned_map(I) -> [<<116, 44:32>>, [<<97, ((I * 17 + K) rem 43), 106>> || K <- lists:seq(1, 43)], <<97, 43, 98, I:32>>].
@@ -124,12 +146,12 @@ sized({in_maps, Pairs}, Bytes) ->
     Before = binary:copy(<<116, Pairs:32, (binary:copy(<<97, 1, 106>>, Pairs - 1))/binary>>, 63),
     N = Bytes - 1 - byte_size(Before) - 5 - 63,
     <<131, Before/binary, 109, N:32, (binary:copy(<<65>>, N))/binary, (binary:copy(<<106>>, 63))/binary>>;
-%% The second has the pairs of the first, turned round, but for the value of one.
-sized(two_maps, Bytes) ->
+%% The second has the pairs of the first, in another order, but for the value of one.
+sized({two_maps, Order}, Bytes) ->
     N = min((Bytes - 18) div 14, (?ROWS_MOST - 5) div 4),
     Pair = fun(I, Value) -> <<98, I:32, 97, Value>> end,
     Second = [Pair(1, 0) | [Pair(I, 1) || I <- lists:seq(2, N)]],
-    iolist_to_binary([<<131, 116, 2:32, 116, N:32>>, [Pair(I, 1) || I <- lists:seq(1, N)], 106, <<116, N:32>>, lists:reverse(Second), 106]);
+    iolist_to_binary([<<131, 116, 2:32, 116, N:32>>, [Pair(I, 1) || I <- lists:seq(1, N)], 106, <<116, N:32>>, Order(Second), 106]);
 sized({run, Tag, Width, Element, Last, Rows}, Bytes) ->
     Room = Bytes - 1 - byte_size(Tag) - Width - byte_size(Last),
     N = min(Room div byte_size(Element(1)), (?ROWS_MOST - 1) div Rows),
