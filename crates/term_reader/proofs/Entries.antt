@@ -6,7 +6,7 @@ use Prim.Native.Nat.{ℕ, zero, suc, _+_, _-_, _*_, _/_, _%_, _≤_, _<_}
 use native.Mathlib.Omega.{arith}
 use lib.ListN.{length, getD, drop}
 use lib.Seq.{sets, length-sets}
-use Rattle.term_spec.specs.Tree.{empty, _▹_, _▹▹_, count, size, sizes, depth, Each-node, Each-nodes}
+use Rattle.term_spec.specs.Tree.{empty, _▹_, _▹▹_, count, size, sizes, Each-node, Each-nodes}
 use Rattle.term_spec.specs.Numbers.{Under}
 use Rattle.term_spec.specs.Term.{Term}
 use Rattle.term_spec.specs.Equal.{among}
@@ -47,10 +47,10 @@ under-from zero l u = u
 under-from (suc n) [] u = tt
 under-from (suc n) (x ∷ l) u = under-from n l (u .1)
 
--- terms that are read are valid, and have no more levels than there are
+-- terms that are read are valid
 abbrev pub Sound : Given → ℕ → ℕ → List ℕ → Type 0
 Sound given cap deep m =
-    (at row : ℕ) → row ≤ cap → (t : Located) (s : Position) → term given cap deep any (at-offset m at row) ≡ good (t, s) → Valid (given .flags) (as-read t) × (depth (as-read t) ≤ deep)
+    (at row : ℕ) → row ≤ cap → (t : Located) (s : Position) → term given cap deep any (at-offset m at row) ≡ good (t, s) → Valid (given .flags) (as-read t)
 
 pub parts-sound : (flags n : ℕ) (places lengths m : List ℕ) (cap deep : ℕ) → ((i : ℕ) → getD m i 0 < 256) → cap ≤ 8192 → Sound (given-of flags (lent-list n places lengths)) cap deep m
 parts-sound flags n places lengths m cap deep under few at row low t s e =
@@ -58,28 +58,27 @@ parts-sound flags n places lengths m cap deep under few at row low t s e =
     let f : Found-term cap (given-of flags list) for-any deep row t s
     = term-holds cap (given-of flags list) (list-true flags list) few deep for-any row (at-offset m at row)
     (record { bytes-under = under-from at m (under-all m (λ i _. under i)); rows-are = refl }) low .known t s e in
-    (f .valid, f .deep)
+    f .valid
 
 -- a key past pairs is compared with each key of theirs, and where the set contains theirs, those that are the same have one hash
-pub record Told (m : List ℕ) (cap : ℕ) (given : Given) (places lengths : List ℕ) (first deep : ℕ) : Type 0 where
+pub record Told (m : List ℕ) (cap : ℕ) (given : Given) (places lengths : List ℕ) (first : ℕ) : Type 0 where
   pub tells : (S : List ℕ) (us : Terms) (u : Located) (ks : List Term) → Keys-of us ks → Rows-in-table m cap given S (whole-of first) first (us ▹▹ (u ▹ empty))
-      → depth (as-read u) ≤ deep → Valid (given .flags) (as-read u) → Valids (given .flags) (all-as-read us)
-      → among-rows m places lengths S deep first (first + sizes us) ≡ among (meaning u) ks
+      → Valids (given .flags) (all-as-read (us ▹▹ (u ▹ empty))) → among-rows m places lengths S first (first + sizes us) ≡ among (meaning u) ks
   pub recalls : (S : List ℕ) (us : Terms) (u : Located) (L : List ℕ) → Rows-in-table m cap given S (whole-of first) first (us ▹▹ (u ▹ empty))
-      → depth (as-read u) ≤ deep → Valid (given .flags) (as-read u) → Valids (given .flags) (all-as-read us)
-      → Contains-keys m places lengths (whole-of first) first first us L → Contains-before m places lengths S deep first (first + sizes us) L
+      → Valids (given .flags) (all-as-read (us ▹▹ (u ▹ empty))) → Contains-keys m places lengths (whole-of first) first first us L
+      → Contains-before m places lengths S first (first + sizes us) L
   pub hashes : (S : List ℕ) (us : Terms) (u : Located) → Rows-in-table m cap given S (whole-of first) first (us ▹▹ (u ▹ empty))
       → term-hash m places lengths S first (first + sizes us) ≡ hash-row-words m places lengths first (row-words (tree-rows (whole-of first) (first + sizes us) u))
 
-pub keys-told : (flags n : ℕ) (places lengths m : List ℕ) (cap first deep : ℕ) → of-size (lent-list n places lengths) ≡ true → n < 256 → ((i : ℕ) → getD m i 0 < 256)
-    → Told m cap (given-of flags (lent-list n places lengths)) places lengths first deep
+pub keys-told : (flags n : ℕ) (places lengths m : List ℕ) (cap first : ℕ) → of-size (lent-list n places lengths) ≡ true → n < 256 → ((i : ℕ) → getD m i 0 < 256)
+    → Told m cap (given-of flags (lent-list n places lengths)) places lengths first
 unfolding given-of
-keys-told flags n places lengths m cap first deep sized few under =
+keys-told flags n places lengths m cap first sized few under =
     let list : AtomList = lent-list n places lengths in
     record {
-      tells = λ S us u ks k h e v w. last-among flags list m (record { sized = sized; few = omega arith; under = under-all m (λ i _. under i) }) cap S deep us u k h e v w;
-      recalls = λ S us u L h e v w r. contains-before flags list m (record { sized = sized; few = omega arith; under = under-all m (λ i _. under i) }) cap us u h deep e v w r;
-      hashes = λ S us u h. hash-held flags list m (record { sized = sized; few = omega arith; under = under-all m (λ i _. under i) }) cap us u h;
+      tells = λ S us u ks k h v. last-among flags list m (record { sized = sized; few = omega arith; under = under-all m (λ i _. under i) }) cap S us u k v h;
+      recalls = λ S us u L h v r. contains-before flags list m (record { sized = sized; few = omega arith; under = under-all m (λ i _. under i) }) cap us u h v r;
+      hashes = λ S us u h. hash-held m places lengths cap (given-of flags list) us u h;
     }
 
 -- a term that was read has a row
@@ -251,7 +250,7 @@ module _ (given : Given) (cap deep : ℕ) (m places lengths : List ℕ) (start f
               many = omega (arith, s .many, count-join ts (t ▹ empty));
               backed = backing.joined m cap given ts (t ▹ empty) (s .backed) (b .1, tt);
               placed = each-nodes-join (Placed 65536) ts (t ▹ empty) (s .placed) (part .from, tt);
-              valid = valid-more (given .flags) ts t (s .valid) (sound at row (room .low) t (at-offset m next end) (part .is) .0);
+              valid = valid-more (given .flags) ts t (s .valid) (sound at row (room .low) t (at-offset m next end) (part .is));
             }
 
         -- the value of a key
@@ -274,8 +273,8 @@ module _ (given : Given) (cap deep : ℕ) (m places lengths : List ℕ) (start f
             })
 
         -- a key, which is judged, and which is among the earlier ones or not
-        module _ (i : Before-key at row parts T L) (some : parts / 2 < all) (tell : Told m cap given places lengths first deep)
-            (b : Bool) (L₁ L₂ : List ℕ) (kept : Keeps L L₁) (judged : Contains-or-insert m places lengths T′ deep first row L₁ b L₂) where
+        module _ (i : Before-key at row parts T L) (some : parts / 2 < all) (tell : Told m cap given places lengths first)
+            (b : Bool) (L₁ L₂ : List ℕ) (kept : Keeps L L₁) (judged : Contains-or-insert m places lengths T′ first row L₁ b L₂) where
           with-key : Stored (i .ts ▹▹ (part .x ▹ empty)) end (parts + 1) T′
           with-key = stored-more (i .ts) (i .stored)
 
@@ -294,19 +293,16 @@ module _ (given : Given) (cap deep : ℕ) (m places lengths : List ℕ) (start f
                 all-backed = with-key .backed;
               }
 
-          valid-key : Valid (given .flags) (as-read (part .x)) × (depth (as-read (part .x)) ≤ deep)
-          valid-key = sound at row (room .low) (part .x) (at-offset m next end) (part .is)
-
-          recalls-keys : Contains-before m places lengths T′ deep first row L₁
+          recalls-keys : Contains-before m places lengths T′ first row L₁
           recalls-keys =
-              subst (λ (k : ℕ). Contains-before m places lengths T′ deep first k L₁) (sym (i .stored .rows-are))
-              (tell .recalls T′ (i .ts) (part .x) L₁ held (valid-key .1) (valid-key .0) (i .stored .valid) (keys-kept kept (i .remembered)))
+              subst (λ (k : ℕ). Contains-before m places lengths T′ first k L₁) (sym (i .stored .rows-are))
+              (tell .recalls T′ (i .ts) (part .x) L₁ held (with-key .valid) (keys-kept kept (i .remembered)))
 
           is-among : b ≡ among (meaning (part .x)) (i .earlier)
           is-among =
               judged .judged recalls-keys
-              ∙ ap (λ (k : ℕ). among-rows m places lengths T′ deep first k) (i .stored .rows-are)
-              ∙ tell .tells T′ (i .ts) (part .x) (i .earlier) (i .keys) held (valid-key .1) (valid-key .0) (i .stored .valid)
+              ∙ ap (λ (k : ℕ). among-rows m places lengths T′ first k) (i .stored .rows-are)
+              ∙ tell .tells T′ (i .ts) (part .x) (i .earlier) (i .keys) held (with-key .valid)
 
           pub key-twice : (place : ℕ) (U : List ℕ) → b ≡ true → Map-done place (parts-of.Refused 7 at) U
           unfolding inner Done
