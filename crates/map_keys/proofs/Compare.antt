@@ -8,10 +8,10 @@ use Prim.Native.Nat.{ℕ, zero, suc, _+_, _-_, _/_, _≤_, _<_}
 use native.Mathlib.Omega.{arith}
 use lib.Dec.{eqb, ltb}
 use lib.ListN.{length, getD}
-use borrow.Author.Tests.{le-leb, lt-leb, ne-eqb, eqb-true, eqb-false, ltb-true, ltb-false}
+use borrow.Author.Tests.{le-leb, lt-leb, ne-eqb, eqb-false, ltb-true, ltb-false}
 use Rattle.term_spec.specs.Tree.{Tree, Forest, node, empty, _▹_, _▹▹_, count, size, sizes, depth, deepest}
 use Rattle.term_spec.specs.Term.{Label, Term, map}
-use Rattle.term_spec.specs.Pairs.{Pair, in-order, arranged-parts, arranged}
+use Rattle.term_spec.specs.Pairs.{in-order, arranged-parts, arranged}
 use Rattle.term_spec.specs.Meaning.{pair-before}
 use Rattle.term_spec.specs.Equal.{same, among}
 use Rattle.term_spec.specs.Valid.{Fits, Valid, Valids}

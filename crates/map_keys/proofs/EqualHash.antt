@@ -9,16 +9,15 @@ use native.Mathlib.Omega.{arith}
 use lib.Dec.{eqb, ltb}
 use lib.ListN.{getD}
 use borrow.Author.Tests.{le-ltb, ltb-false}
-use Rattle.term_spec.specs.Tree.{Forest, node, empty, _▹_, count, size, sizes}
-use Rattle.term_spec.specs.Term.{Label, Term, map}
+use Rattle.term_spec.specs.Tree.{node, empty, _▹_, size, sizes}
+use Rattle.term_spec.specs.Term.{Label, map}
 use Rattle.term_spec.specs.Pairs.{in-order, arranged-parts, arranged}
 use Rattle.term_spec.specs.Meaning.{pair-before}
 use Rattle.term_spec.specs.Reading.{Offset, Located, meaning}
 use Rattle.term_spec.specs.Message.{Terms, meanings}
-use Rattle.term_spec.specs.Rows.{Row, word, kind-at, kind-in, parts-in, size-in}
-use Rattle.term_spec.proofs.Rows.{size-meaning, sizes-meanings, count-le-sizes}
+use Rattle.term_spec.specs.Rows.{Row, word, kind-at}
+use Rattle.term_spec.proofs.Rows.{size-meaning, count-le-sizes}
 use Rattle.term_spec.proofs.Words.{Small-row, Word-of, node-here, node-packed, row-of}
-use Rattle.term_spec.proofs.Tests.{by-less}
 use Rattle.row_compare.specs.Hash.{mix}
 use Rattle.row_compare.proofs.Alike.{Agree}
 use Rattle.map_keys.specs.Compare.{unordered-rows}

@@ -17,7 +17,7 @@ use Rattle.row_compare.specs.Hash.{mix, hash-contents}
 use Rattle.term_spec.proofs.Tests.{never, by-less}
 use Rattle.row_compare.proofs.Hashes.{both-true, hash-alike}
 use Rattle.map_keys.specs.Compare.{same-fields, same-row, unordered-rows, pair-size, among-steps, among-from, same-terms-raw, among-rows}
-use Rattle.map_keys.specs.KeySet.{slot, Contains, added, hash-row, hash-words, hash-rows, term-hash, Absent, Contains-from, Contains-before}
+use Rattle.map_keys.specs.KeySet.{slot, Contains, added, hash-row, hash-rows, term-hash, Absent, Contains-from, Contains-before}
 
 pub kind-small : (x k : ℕ) → x ≡ term-kind k → k < 16 → x < 16
 unfolding term-kind
@@ -130,15 +130,15 @@ module _ (m places lengths : List ℕ) where
     unfolding term-hash
     term-hashed first row n h r x a b c d = ap (λ (y : ℕ). y / 65536) (d ∙ ap (λ (y : ℕ). mix y 0) (c ∙ rw (a, b)))
 
-    -- rows that stand in the table
-    pub hash-here : (h n s a : ℕ) (ws : List ℕ) → n ≤ length ws → Here T a ws → hash-rows m places lengths T h n s a ≡ hash-words m places lengths h n s ws
-    unfolding hash-rows hash-words
-    hash-here h zero s a ws l g = refl
-    hash-here h (suc n) s a [] l g = absurd (omega arith)
-    hash-here h (suc n) (suc s) a (w ∷ ws) l g =
-        rw (here-word g) (hash-here (added h (hash-row m places lengths 0 w)) n s (a + 1) ws (omega arith) (here-rest g))
-    hash-here h (suc n) zero a (w ∷ ws) l g =
-        rw (here-word g, hash-here (hash-row m places lengths h w) n (unordered-rows w) (a + 1) ws (omega arith) (here-rest g))
+    -- rows that stand in two tables
+    pub hash-here : (S : List ℕ) (h n s a : ℕ) (ws : List ℕ) → n ≤ length ws → Here T a ws → Here S a ws → hash-rows m places lengths T h n s a ≡ hash-rows m places lengths S h n s a
+    unfolding hash-rows
+    hash-here S h zero s a ws l g k = refl
+    hash-here S h (suc n) s a [] l g k = absurd (omega arith)
+    hash-here S h (suc n) (suc s) a (w ∷ ws) l g k =
+        rw (here-word g, here-word k) (hash-here S (added h (hash-row m places lengths 0 w)) n s (a + 1) ws (omega arith) (here-rest g) (here-rest k))
+    hash-here S h (suc n) zero a (w ∷ ws) l g k =
+        rw (here-word g, here-word k, hash-here S (hash-row m places lengths h w) n (unordered-rows w) (a + 1) ws (omega arith) (here-rest g) (here-rest k))
 
     -- ---- a key that is absent
 

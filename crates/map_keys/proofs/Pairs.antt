@@ -1,5 +1,5 @@
 -- Runs of pairs: which pairs they have, that no key stands in them twice, and that runs of the same pairs have one order.
-use mathlib.Core.Path.{_≡_, refl, sym, _∙_, ap, ap₂}
+use mathlib.Core.Path.{_≡_, refl, sym, _∙_, ap}
 use mathlib.Core.Logic.{_⊎_, inl, inr}
 use mathlib.Core.Bool.{Bool, true, false, _||_}
 use mathlib.Core.List.{List, [], _∷_}
@@ -7,7 +7,7 @@ use Prim.Native.Nat.{ℕ, zero, suc, _+_, _<_}
 use native.Mathlib.Omega.{arith}
 use Rattle.term_spec.specs.Tree.{Forest, empty, _▹_, _▹▹_, count}
 use Rattle.term_spec.specs.Term.{Label, Term}
-use Rattle.term_spec.specs.Pairs.{Pair, put-in, in-order, arranged, all-arranged}
+use Rattle.term_spec.specs.Pairs.{Pair, put-in, in-order, arranged}
 use Rattle.term_spec.specs.Meaning.{pair-before, ordered, all-ordered}
 use Rattle.term_spec.specs.Same.{Rearranged, stay, keep, swap, chain}
 use Rattle.term_spec.specs.Equal.{same, among}

@@ -2,7 +2,7 @@
 -- About the code alone, proved against the definitions of term_spec: nothing here has to be believed.
 use mathlib.Core.Path.{_≡_}
 use mathlib.Core.Bool.{Bool, true, false, cond}
-use mathlib.Core.List.{List, [], _∷_}
+use mathlib.Core.List.{List}
 use Prim.Native.Nat.{ℕ, zero, suc, _+_, _*_, _-_, _/_, _%_, _<_, min}
 use lib.Dec.{ltb}
 use lib.ListN.{length, getD}
@@ -36,26 +36,15 @@ module _ (m places lengths : List ℕ) where
   hash-row h w =
       hash-contents m places (mix h (16 * parts-in w + term-kind (kind-in w))) (content-of m places lengths (kind-in w) (offset-in w))
 
-  -- the first n of these words of rows, of which the first s stand in no order. A map of two pairs or more counts by its own row alone where it has more rows than are left
-  unfoldable pub hash-words : ℕ → ℕ → ℕ → List ℕ → ℕ
-  hash-words h zero s ws = h
-  hash-words h (suc n) s [] = h
-  hash-words h (suc n) (suc s) (w ∷ ws) = hash-words (added h (hash-row 0 w)) n s ws
-  hash-words h (suc n) zero (w ∷ ws) = cond (ltb n (unordered-rows w)) (hash-row h w) (hash-words (hash-row h w) n (unordered-rows w) ws)
-
-  -- equal keys of two maps get two hashes: each map's start from the row of its first key; the step at the end and the half that is taken part keys that differ in their last byte alone.
-  -- Of a key its first 16 rows count
-  unfoldable pub hash-row-words : ℕ → List ℕ → ℕ
-  hash-row-words first ws = mix (hash-words (mix 0 first) (min (length ws) 16) 0 ws) 0 / 65536
-
-  -- the same of the rows of a table from a on
+  -- n rows of a table from a on, of which the first s stand in no order. A map of two pairs or more counts by its own row alone where it has more rows than are left
   unfoldable pub hash-rows : List ℕ → ℕ → ℕ → ℕ → ℕ → ℕ
   hash-rows T h zero s a = h
   hash-rows T h (suc n) (suc s) a = hash-rows T (added h (hash-row 0 (getD T a 0))) n s (a + 1)
   hash-rows T h (suc n) zero a =
       cond (ltb n (unordered-rows (getD T a 0))) (hash-row h (getD T a 0)) (hash-rows T (hash-row h (getD T a 0)) n (unordered-rows (getD T a 0)) (a + 1))
 
-  -- of the term at a row, as a key of the map whose first key is at the row `first`
+  -- of the term at a row, as a key of the map whose first key is at the row `first`: its first 16 rows count.
+  -- Equal keys of two maps get two hashes: each map's start from the row of its first key; the step at the end and the half that is taken part keys that differ in their last byte alone
   unfoldable pub term-hash : List ℕ → ℕ → ℕ → ℕ
   term-hash T first row = mix (hash-rows T (mix 0 first) (min (size-in (getD T row 0)) 16) 0 row) 0 / 65536
 
@@ -77,6 +66,6 @@ module _ (m places lengths : List ℕ) where
 
     -- what a call promises that inserts the key unless it equals an earlier one: the answer, whether it does, and the slots after it
     pub record Contains-or-insert (answer : Bool) (L′ : List ℕ) : Type 0 where
-      pub slots-kept : Keeps L L′
+      pub keys-kept : Keeps L L′
       pub judged : Contains-before → answer ≡ among-rows m places lengths T first key
       pub inserted : answer ≡ false → Contains L′ (term-hash T first key) key
