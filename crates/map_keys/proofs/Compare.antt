@@ -1,65 +1,73 @@
--- The rows of terms that stand in a table, and keys and values in turn.
-use mathlib.Core.Path.{_≡_, refl, sym, _∙_, ap, ap₂}
-use mathlib.Core.Bool.{Bool, true, false, _||_, cond}
+-- What a comparison of rows finds in a table that holds the rows of terms: whether the terms mean the same.
+use mathlib.Core.Path.{_≡_, refl, sym, _∙_, ap, ap₂, subst}
+use mathlib.Core.Logic.{_⊎_, inl, inr}
+use mathlib.Core.Bool.{Bool, true, false, _||_, or-false, cond}
 use mathlib.Core.List.{List, [], _∷_, _++_}
 use mathlib.Core.Option.{Option, some}
-use Prim.Native.Nat.{ℕ, zero, suc, _+_, _≤_, _<_}
+use Prim.Native.Nat.{ℕ, zero, suc, _+_, _-_, _/_, _≤_, _<_}
+use native.Mathlib.Omega.{arith}
+use lib.Dec.{eqb, ltb}
 use lib.ListN.{length, getD}
-use borrow.Author.Tests.{le-leb}
-use Rattle.term_spec.specs.Tree.{node, empty, _▹_, _▹▹_, size}
-use Rattle.term_spec.specs.Term.{Label, Term}
-use Rattle.term_spec.specs.Reading.{Located, as-read, meaning}
-use Rattle.term_spec.specs.Message.{Terms, all-as-read}
-use Rattle.term_spec.specs.Rows.{Row, tree-rows, rows, size-in, Tree-here, Rows-here}
-use Rattle.term_spec.proofs.Preorder.{nodes, all-nodes}
-use Rattle.term_spec.proofs.Rows.{count-relabels}
-use Rattle.term_spec.proofs.Words.{Each-row, Small-row, node-packed, node-below, first-here, others-here, row-of}
+use borrow.Author.Tests.{le-leb, lt-leb, ne-eqb, eqb-false, ltb-true, ltb-false}
+use Rattle.term_spec.specs.Tree.{Tree, Forest, node, empty, _▹_, _▹▹_, count, size, sizes, depth, deepest}
+use Rattle.term_spec.specs.Term.{Label, Term, map}
+use Rattle.term_spec.specs.Pairs.{in-order, arranged-parts, arranged}
+use Rattle.term_spec.specs.Meaning.{pair-before}
+use Rattle.term_spec.specs.Equal.{same, among}
+use Rattle.term_spec.specs.Valid.{Fits, Valid, Valids}
+use Rattle.term_spec.specs.Reading.{Offset, Located, as-read, meaning}
+use Rattle.term_spec.specs.Message.{Terms, all-as-read, meanings}
+use Rattle.term_spec.specs.Rows.{Row, tree-rows, rows, word, kind-at, kind-in, parts-in, size-in, Tree-here, Rows-here}
+use Rattle.term_spec.proofs.Pairs.{Kind, a-map, no-map, kind, rearranged-count, rearranged-sizes, order-rearranges, count-arranged}
+use Rattle.term_spec.proofs.RoundTrip.{even}
+use Rattle.term_spec.proofs.Arranged.{same-true, same-equal}
+use Rattle.term_spec.proofs.Rows.{size-meaning, sizes-meanings, size-positive, count-relabels, count-join, count-le-sizes, sizes-join, rows-join}
+use Rattle.term_spec.proofs.Words.{Each-row, Small-row, Word-of, node-here, node-packed, node-below, parts-here, left-here, right-here, first-here, others-here, row-of}
 use Rattle.term_spec.proofs.Tests.{never}
-use Rattle.map_keys.specs.Compare.{pair-size, among-steps}
-use Rattle.row_compare.proofs.Alike.{Agree}
+use Rattle.map_keys.specs.Compare.{unordered-rows, same-rows, same-from, pair-size, pair-among, pair-around, pairs-among, same-maps, same-terms, among-steps, among-from}
+use Rattle.row_compare.proofs.Alike.{Agree, through, self-agrees}
+use Rattle.map_keys.proofs.Pairs.{In, All-in, Distinct, distinct, distinct-left, distinct-right, in-left, in-right, in-either, few-in-order, ordered-in, in-ordered}
 
--- ---- tests
+-- ---- tests and the equalities that they stand for
+
+-- two tests of one fact are equal
+pub agree-same : {P : Type 0} (b c : Bool) → Agree b P → Agree c P → b ≡ c
+agree-same true true p q = refl
+agree-same true false p q = sym (q .back (p .sure refl))
+agree-same false true p q = p .back (q .sure refl)
+agree-same false false p q = refl
 
 -- one test, and where it holds another
 pub and-then : {P Q : Type 0} (b c : Bool) → Agree b P → (P → Agree c Q) → Agree (cond b c false) (P × Q)
 and-then true c p q = let k = q (p .sure refl) in record { sure = λ e. (p .sure refl, k .sure e); back = λ h. k .back (h .1) }
 and-then false c p q = record { sure = never; back = λ h. p .back (h .0) }
 
--- ---- lists of rows
+-- a test that comes last
+and-last : {P Q : Type 0} {b c : Bool} → Agree b (P × (c ≡ true)) → (P → Agree c Q) → Agree b (P × Q)
+and-last p q = record { sure = λ e. let h = p .sure e in (h .0, q (h .0) .sure (h .1)); back = λ h. p .back (h .0, q (h .0) .back (h .1)) }
+
+-- one of two tests
+or-else : {P Q : Type 0} (b c : Bool) → Agree b P → Agree c Q → Agree (cond b true c) (P ⊎ Q)
+or-else true c p q = record { sure = λ _. inl (p .sure refl); back = λ _. refl }
+or-else {P} {Q} false c p q = record { sure = λ e. inr (q .sure e); back = go }
+  where
+    go : P ⊎ Q → c ≡ true
+    go (inl h) = never (p .back h)
+    go (inr h) = q .back h
+
+same-agrees : (t u : Term) → Agree (same t u) (t ≡ u)
+same-agrees t u = record { sure = same-true t u; back = same-equal t u }
+
+-- ---- the rows of terms that stand in a table, each of which is known
 
 -- what a row says of its term: the label and the number of parts
 abbrev pub own : Row → Label × ℕ
 own r = (r .label, r .parts)
 
-unfoldable pub owns : List Row → List (Label × ℕ)
-owns [] = []
-owns (r ∷ rs) = own r ∷ owns rs
-
-owns-join : (rs qs : List Row) → owns (rs ++ qs) ≡ owns rs ++ owns qs
-unfolding owns
-owns-join [] qs = refl
-owns-join (r ∷ rs) qs = ap (λ (xs : List (Label × ℕ)). own r ∷ xs) (owns-join rs qs)
-
-mutual
-  unfolding owns tree-rows
-
-  -- the rows of a term say its nodes as they were read
-  pub owns-tree : (whole : Option ℕ) (n : ℕ) (t : Located) → owns (tree-rows whole n t) ≡ nodes (as-read t)
-  owns-tree whole n (node l ts) =
-      ap₂ (λ (c : ℕ) (xs : List (Label × ℕ)). (l .0, c) ∷ xs) (sym (count-relabels (λ l. l .0) ts)) (owns-rows (some n) (n + 1) ts)
-
-  owns-rows : (whole : Option ℕ) (n : ℕ) (ts : Terms) → owns (rows whole n ts) ≡ all-nodes (all-as-read ts)
-  owns-rows whole n empty = refl
-  owns-rows whole n (t ▹ ts) =
-      owns-join (tree-rows whole n t) (rows whole (n + size t) ts)
-      ∙ ap₂ (λ (xs ys : List (Label × ℕ)). xs ++ ys) (owns-tree whole n t) (owns-rows whole (n + size t) ts)
-
 pub each-row-split : (P : Row → Type 0) (rs qs : List Row) → Each-row P (rs ++ qs) → Each-row P rs × Each-row P qs
 unfolding Each-row
 each-row-split P [] qs h = (tt, h)
 each-row-split P (r ∷ rs) qs h = let g : Each-row P rs × Each-row P qs = each-row-split P rs qs (h .1) in ((h .0, g .0), g .1)
-
--- ---- the rows of terms that stand in a table, each of which is known
 
 module _ (Known : Row → Type 0) (T : List ℕ) where
   pub record Known-tree (whole : Option ℕ) (n : ℕ) (t : Located) : Type 0 where
@@ -81,12 +89,38 @@ module _ {Known : Row → Type 0} {T : List ℕ} {whole : Option ℕ} {n : ℕ} 
   others-known {t} {ts} k =
       record { stand = others-here (k .stand); all-known = each-row-split Known (tree-rows whole n t) (rows whole (n + size t) ts) (k .all-known) .1 }
 
-  pub tree-below : (t : Located) → Known-tree Known T whole n t → n < length T
+  -- the row of a term, and those of its parts
+  pub node-known : {l : Label × Offset} {ts : Terms} → Known-tree Known T whole n (node l ts) → Known (row-of whole l ts)
+  unfolding tree-rows Each-row
+  node-known k = k .known .0
+
+  pub parts-known : {l : Label × Offset} {ts : Terms} → Known-tree Known T whole n (node l ts) → Known-rows Known T (some n) (n + 1) ts
+  unfolding tree-rows Each-row
+  parts-known k = record { stand = parts-here (k .stands); all-known = k .known .1 }
+
+  -- one run and then another
+  module _ (ts us : Terms) (k : Known-rows Known T whole n (ts ▹▹ us)) where
+    both-known : Each-row Known (rows whole n ts) × Each-row Known (rows whole (n + sizes ts) us)
+    both-known = each-row-split Known (rows whole n ts) (rows whole (n + sizes ts) us) (rw rows-join at (k .all-known))
+
+    left-known : Known-rows Known T whole n ts
+    left-known = record { stand = left-here ts us (k .stand); all-known = both-known .0 }
+
+    right-known : Known-rows Known T whole (n + sizes ts) us
+    right-known = record { stand = right-here ts us (k .stand); all-known = both-known .1 }
+
+  tree-below : (t : Located) → Known-tree Known T whole n t → n < length T
   tree-below (node l ts) k = node-below (k .stands)
 
   pub tree-size : (small : (r : Row) → Known r → Small-row r) (t : Located) → Known-tree Known T whole n t → size-in (getD T n 0) ≡ size t
-  unfolding tree-rows Each-row
-  tree-size small (node l ts) k = node-packed (k .stands) (small (row-of whole l ts) (k .known .0)) .size-is
+  tree-size small (node l ts) k = node-packed (k .stands) (small (row-of whole l ts) (node-known k)) .size-is
+
+-- past a pair
+later-known : {Known : Row → Type 0} {T : List ℕ} {whole : Option ℕ} {n : ℕ} {t u : Located} {ts : Terms} → Known-rows Known T whole n (t ▹ u ▹ ts)
+    → Known-rows Known T whole (n + (size t + size u)) ts
+later-known {Known} {T} {whole} {n} {t} {u} {ts} k =
+    let past : n + size t + size u ≡ n + (size t + size u) = omega arith in
+    subst (λ (i : ℕ). Known-rows Known T whole i ts) past (others-known (others-known k))
 
 pub pair-sizes : {Known : Row → Type 0} {T : List ℕ} {whole : Option ℕ} {n : ℕ} {k v : Located} {ts : Terms} → ((r : Row) → Known r → Small-row r) → Known-rows Known T whole n (k ▹ v ▹ ts)
     → pair-size T n ≡ size k + size v
@@ -94,6 +128,109 @@ unfolding pair-size
 pair-sizes {T = T} {n = n} {k = k} {v = v} small h =
     let e : size-in (getD T n 0) ≡ size k = tree-size small k (first-known h) in
     rw e (ap (λ (i : ℕ). size k + i) (tree-size small v (first-known (others-known h))))
+
+-- ---- levels and rows, parts and their order
+
+mutual
+  pub depth-within : {A : Type 0} (t : Tree A) → depth t ≤ size t
+  depth-within (node a ts) = let h = deepest-within ts in omega arith
+
+  deepest-within : {A : Type 0} (ts : Forest A) → deepest ts ≤ sizes ts
+  deepest-within empty = omega arith
+  deepest-within (t ▹ ts) = let h = depth-within t in let g = deepest-within ts in omega arith
+
+pub meanings-count : (ts : Terms) → count (meanings ts) ≡ count ts
+meanings-count ts = count-arranged pair-before (all-as-read ts) ∙ count-relabels (λ l. l .0) ts
+
+meanings-join : (ts us : Terms) → meanings (ts ▹▹ us) ≡ meanings ts ▹▹ meanings us
+unfolding arranged
+meanings-join empty us = refl
+meanings-join (t ▹ ts) us = ap (λ (x : Forest Label). meaning t ▹ x) (meanings-join ts us)
+
+pair-joined : (ts : Terms) (t u : Located) (us : Terms) → ts ▹▹ (t ▹ u ▹ us) ≡ (ts ▹▹ (t ▹ u ▹ empty)) ▹▹ us
+pair-joined empty t u us = refl
+pair-joined (s ▹ ts) t u us = ap (λ (x : Terms). s ▹ x) (pair-joined ts t u us)
+
+pub valids-left : (flags : ℕ) (ts us : Terms) → Valids flags (all-as-read (ts ▹▹ us)) → Valids flags (all-as-read ts)
+valids-left flags empty us v = tt
+valids-left flags (t ▹ ts) us v = (v .0, valids-left flags ts us (v .1))
+
+pub valids-right : (flags : ℕ) (ts us : Terms) → Valids flags (all-as-read (ts ▹▹ us)) → Valids flags (all-as-read us)
+valids-right flags empty us v = v
+valids-right flags (t ▹ ts) us v = valids-right flags ts us (v .1)
+
+pub arranged-count : (l : Label) (ts : Forest Label) → count (arranged-parts pair-before l ts) ≡ count ts
+unfolding arranged-parts
+arranged-count l ts = go (kind l)
+  where
+    go : {l : Label} → Kind l → count (arranged-parts pair-before l ts) ≡ count ts
+    go a-map = rearranged-count (order-rearranges pair-before ts)
+    go (no-map stays) = ap count (stays pair-before ts)
+
+-- a pair is the first of pairs, which is decided by its key, or one of the others
+module _ (x y i j : Term) (us : Forest Label) where
+  first-back : (t : Bool) → Agree t (y ≡ j) → x ≡ i → ((z : Term) → In i z us → ⊥) → ((i ≡ x) × (j ≡ y)) ⊎ In x y us → t ≡ true
+  first-back t q e once (inl h) = q .back (sym (h .1))
+  first-back t q e once (inr h) = absurd (once y (subst (λ (k : Term). In k y us) e h))
+
+  other-back : (r : Bool) → (x ≡ i → ⊥) → Agree r (In x y us) → ((i ≡ x) × (j ≡ y)) ⊎ In x y us → r ≡ true
+  other-back r once g (inl h) = absurd (once (sym (h .0)))
+  other-back r once g (inr h) = g .back h
+
+  first-or-other : (s t r : Bool) → Agree s (x ≡ i) → Agree t (y ≡ j) → Agree r (In x y us) → ((z : Term) → In i z us → ⊥) → Agree (cond s t r) (((i ≡ x) × (j ≡ y)) ⊎ In x y us)
+  first-or-other true t r p q g once = record { sure = λ e. inl (sym (p .sure refl), sym (q .sure e)); back = first-back t q (p .sure refl) once }
+  first-or-other false t r p q g once = record { sure = λ e. inr (g .sure e); back = other-back r (λ e. never (p .back e)) g }
+
+-- two terms that mean the same: their labels, and their parts in order
+top-of : Term → Label
+top-of (node l ts) = l
+
+under-of : Term → Forest Label
+under-of (node l ts) = ts
+
+module _ (l m : Label × Offset) (ts us : Terms) where
+  abbrev pub Parts-alike : Type 0
+  Parts-alike = arranged-parts pair-before (l .0) (meanings ts) ≡ arranged-parts pair-before (l .0) (meanings us)
+
+  mean-same : l .0 ≡ m .0 → Parts-alike → meaning (node l ts) ≡ meaning (node m us)
+  unfolding arranged
+  mean-same e f = ap₂ (λ (x : Label) (xs : Forest Label). node x xs) e (f ∙ ap (λ (x : Label). arranged-parts pair-before x (meanings us)) e)
+
+  of-maps : l .0 ≡ map → {t : Bool} → Agree t (in-order pair-before (meanings ts) ≡ in-order pair-before (meanings us)) → Agree t Parts-alike
+  unfolding arranged-parts
+  of-maps e g = rw e g
+
+  pub same-labels : meaning (node l ts) ≡ meaning (node m us) → l .0 ≡ m .0
+  unfolding arranged top-of
+  same-labels e = ap top-of e
+
+  pub same-parts : meaning (node l ts) ≡ meaning (node m us) → Parts-alike
+  unfolding arranged under-of
+  same-parts e = ap under-of e ∙ ap (λ (x : Label). arranged-parts pair-before x (meanings us)) (sym (same-labels e))
+
+  pub same-counts : Parts-alike → count ts ≡ count us
+  same-counts f =
+      sym (arranged-count (l .0) (meanings ts) ∙ meanings-count ts) ∙ ap count f ∙ arranged-count (l .0) (meanings us) ∙ meanings-count us
+
+-- what a row's word says of the order of the parts
+module _ (w k : ℕ) (e : kind-in w ≡ k) where
+  word-plain : eqb k 9 ≡ false → unordered-rows w ≡ 0
+  unfolding unordered-rows
+  word-plain f = rw (e, f)
+
+  module _ (f : eqb k 9 ≡ true) (n : ℕ) (g : parts-in w ≡ n) where
+    word-few : ltb n 4 ≡ true → unordered-rows w ≡ 0
+    unfolding unordered-rows
+    word-few h = rw (e, f, g, h)
+
+    word-many : ltb n 4 ≡ false → (s : ℕ) → size-in w ≡ suc s → unordered-rows w ≡ s
+    unfolding unordered-rows
+    word-many h s i = rw (e, f, g, h, i) (omega arith)
+
+-- the parts of a node count in turn, or they are pairs in no order
+pub data Sort (l : Label) (ts : Terms) (w : ℕ) : Type 0 where
+  in-turn : unordered-rows w ≡ 0 → ((xs : Forest Label) → count xs ≡ count ts → arranged-parts pair-before l xs ≡ xs) → Sort l ts w
+  in-no-order : l ≡ map → unordered-rows w ≡ sizes ts → 4 ≤ count ts → Sort l ts w
 
 -- ---- keys and values in turn
 
@@ -117,13 +254,323 @@ no-keys = no-pair
 pub one-more-key : {ts : Terms} {ks : List Term} (k v : Located) → Keys-of ts ks → Keys-of (ts ▹▹ (k ▹ v ▹ empty)) (meaning k ∷ ks)
 one-more-key k v p = pairs-join p (a-pair no-pair)
 
-pub or-later : (x s y : Bool) → (x || cond s true y) ≡ ((s || x) || y)
+or-later : (x s y : Bool) → (x || cond s true y) ≡ ((s || x) || y)
 or-later true true y = refl
 or-later true false y = refl
 or-later false true y = refl
 or-later false false y = refl
 
-pub among-ended : (alike : ℕ → ℕ → Bool) (T : List ℕ) (d n at key : ℕ) → key ≤ at → among-steps alike T d n at key ≡ false
+pub among-ended : (T : List ℕ) (terms : ℕ → ℕ → Bool) (n at key : ℕ) → key ≤ at → among-steps T terms n at key ≡ false
 unfolding among-steps
-among-ended alike T d zero at key h = refl
-among-ended alike T d (suc n) at key h = rw (le-leb key at h)
+among-ended T terms zero at key h = refl
+among-ended T terms (suc n) at key h = rw (le-leb key at h)
+
+module _
+    (Known : Row → Type 0)
+    (small : (r : Row) → Known r → Small-row r)
+    (map-agrees : (r : Row) → Known r → Agree (eqb (kind-at (r .label) (r .place)) 9) (r .label ≡ map))
+    (T : List ℕ) where
+  pub sort-of : {whole : Option ℕ} {n : ℕ} {l : Label × Offset} {ts : Terms} → Known-tree Known T whole n (node l ts) → Sort (l .0) ts (getD T n 0)
+  unfolding arranged-parts
+  sort-of {whole} {n} {l} {ts} k = go (eqb (kind-at (l .0) (l .1)) 9) refl (ltb (count ts) 4) refl
+    where
+      packed : Word-of (row-of whole l ts) (getD T n 0)
+      packed = node-packed (k .stands) (small (row-of whole l ts) (node-known k))
+
+      is-map : Agree (eqb (kind-at (l .0) (l .1)) 9) (l .0 ≡ map)
+      is-map = map-agrees (row-of whole l ts) (node-known k)
+
+      other : eqb (kind-at (l .0) (l .1)) 9 ≡ false → {m : Label} → m ≡ l .0 → Kind m → (xs : Forest Label) → arranged-parts pair-before m xs ≡ xs
+      other e f a-map xs = never (sym e ∙ is-map .back (sym f))
+      other e f (no-map stays) xs = stays pair-before xs
+
+      go : (b : Bool) → eqb (kind-at (l .0) (l .1)) 9 ≡ b → (c : Bool) → ltb (count ts) 4 ≡ c → Sort (l .0) ts (getD T n 0)
+      go false e c f = in-turn (word-plain (getD T n 0) _ (packed .kind-is) e) (λ xs g. other e refl (kind (l .0)) xs)
+      go true e true f =
+          in-turn (word-few (getD T n 0) _ (packed .kind-is) e (count ts) (packed .parts-is) f)
+          (λ xs g. let few : count ts < 4 = ltb-true (count ts) 4 f in rw (is-map .sure e) (few-in-order pair-before xs (omega arith)))
+      go true e false f =
+          in-no-order (is-map .sure e) (word-many (getD T n 0) _ (packed .kind-is) e (count ts) (packed .parts-is) f (sizes ts) (packed .size-is)) (ltb-false (count ts) 4 f)
+
+-- ---- over a comparison of words that tells whether two known rows say the same
+
+module _
+    (alike : ℕ → ℕ → Bool)
+    (Known : Row → Type 0)
+    (small : (r : Row) → Known r → Small-row r)
+    (row-agrees : (r q : Row) → Known r → Known q → Agree (alike (word r) (word q)) (own r ≡ own q))
+    (map-agrees : (r : Row) → Known r → Agree (eqb (kind-at (r .label) (r .place)) 9) (r .label ≡ map))
+    (T : List ℕ) where
+  -- the rows that two nodes start with
+  node-agrees : {whole whole′ : Option ℕ} {a b : ℕ} {l m : Label × Offset} {ts us : Terms} → Known-tree Known T whole a (node l ts) → Known-tree Known T whole′ b (node m us)
+      → Agree (alike (getD T a 0) (getD T b 0)) ((l .0 ≡ m .0) × (count ts ≡ count us))
+  node-agrees {whole} {whole′} {l = l} {m = m} {ts = ts} {us = us} p q =
+      rw (node-here (p .stands), node-here (q .stands))
+      (through (λ e. (ap (λ (x : Label × ℕ). x .0) e, ap (λ (x : Label × ℕ). x .1) e)) (λ e. ap₂ (λ (x : Label) (n : ℕ). (x, n)) (e .0) (e .1))
+      (row-agrees (row-of whole l ts) (row-of whole′ m us) (node-known p) (node-known q)))
+
+  -- rows that are stepped over
+  skipped : (maps : ℕ → ℕ → Bool) (s n a b : ℕ) → same-rows alike T maps (s + n) s a b ≡ same-rows alike T maps n 0 (a + s) (b + s)
+  unfolding same-rows
+  skipped maps zero n a b =
+      let e : 0 + n ≡ n = omega arith in
+      let f : a + 0 ≡ a = omega arith in
+      let g : b + 0 ≡ b = omega arith in
+      rw (e, f, g)
+  skipped maps (suc s) n a b =
+      let e : suc s + n ≡ suc (s + n) = omega arith in
+      let f : a + suc s ≡ a + 1 + s = omega arith in
+      let g : b + suc s ≡ b + 1 + s = omega arith in
+      rw (e, f, g) (skipped maps s n (a + 1) (b + 1))
+
+  no-rows : (maps : ℕ → ℕ → Bool) (a b : ℕ) → same-rows alike T maps 0 0 a b ≡ true
+  unfolding same-rows
+  no-rows maps a b = refl
+
+  module _ (flags : ℕ) where
+    -- a comparison of maps of two pairs or more, at most d levels deep
+    abbrev Finds-maps : ℕ → (ℕ → ℕ → Bool) → Type 0
+    Finds-maps d maps =
+        (l m : Label × Offset) (ts us : Terms) → l .0 ≡ map → m .0 ≡ map → count ts ≡ count us → suc (deepest ts) ≤ d → Valid flags (as-read (node l ts)) → Valid flags (as-read (node m us))
+        → (whole whole′ : Option ℕ) (a b : ℕ) → Known-tree Known T whole a (node l ts) → Known-tree Known T whole′ b (node m us)
+        → Agree (maps a b) (in-order pair-before (meanings ts) ≡ in-order pair-before (meanings us))
+
+    -- a comparison of terms
+    abbrev Finds : ℕ → (ℕ → ℕ → Bool) → Type 0
+    Finds d terms =
+        (t u : Located) → depth t ≤ d → Valid flags (as-read t) → Valid flags (as-read u) → (whole whole′ : Option ℕ) (a b : ℕ) → Known-tree Known T whole a t → Known-tree Known T whole′ b u
+        → Agree (terms a b) (meaning t ≡ meaning u)
+
+    -- ---- rows one by one
+
+    module _ (d : ℕ) (maps : ℕ → ℕ → Bool) (finds : Finds-maps d maps) where
+      -- the rest of the rows, from a and b on
+      abbrev rest : ℕ → ℕ → ℕ → Bool
+      rest k a b = same-rows alike T maps k 0 a b
+
+      module _ (l m : Label × Offset) (ts us : Terms) (deep : suc (deepest ts) ≤ d) (v : Valid flags (as-read (node l ts))) (w : Valid flags (as-read (node m us)))
+          (whole whole′ : Option ℕ) (a b : ℕ) (p : Known-tree Known T whole a (node l ts)) (q : Known-tree Known T whole′ b (node m us)) (k : ℕ)
+          (turn : count ts ≡ count us → Agree (rest (sizes ts + k) (a + 1) (b + 1)) ((meanings ts ≡ meanings us) × (rest k (a + 1 + sizes ts) (b + 1 + sizes ts) ≡ true))) where
+        -- what comes after the first row
+        abbrev after : Bool
+        after =
+            cond (eqb (unordered-rows (getD T a 0)) 0) (rest (sizes ts + k) (a + 1) (b + 1))
+            (cond (maps a b) (same-rows alike T maps (sizes ts + k) (unordered-rows (getD T a 0)) (a + 1) (b + 1)) false)
+
+        after-agrees : l .0 ≡ m .0 → count ts ≡ count us → Sort (l .0) ts (getD T a 0) → Agree after (Parts-alike l m ts us × (rest k (a + 1 + sizes ts) (b + 1 + sizes ts) ≡ true))
+        after-agrees e n (in-turn z stays) =
+            let x : arranged-parts pair-before (l .0) (meanings ts) ≡ meanings ts = stays (meanings ts) (meanings-count ts) in
+            let y : arranged-parts pair-before (l .0) (meanings us) ≡ meanings us = stays (meanings us) (meanings-count us ∙ sym n) in
+            rw z (through (λ h. (x ∙ h .0 ∙ sym y, h .1)) (λ h. (sym x ∙ h .0 ∙ y, h .1)) (turn n))
+        after-agrees e n (in-no-order f z c) =
+            let some : (sizes ts ≡ 0) → ⊥ = λ s. omega (arith, count-le-sizes ts) in
+            rw (z, ne-eqb (sizes ts) 0 some, skipped maps (sizes ts) k (a + 1) (b + 1))
+            (and-then (maps a b) _ (of-maps l m ts us f (finds l m ts us f (sym e ∙ f) n deep v w whole whole′ a b p q)) (λ _. self-agrees _))
+
+        node-walk : Agree (rest (suc (sizes ts) + k) a b) ((meaning (node l ts) ≡ meaning (node m us)) × (rest k (a + suc (sizes ts)) (b + suc (sizes ts)) ≡ true))
+        unfolding same-rows
+        node-walk =
+            let e : suc (sizes ts) + k ≡ suc (sizes ts + k) = omega arith in
+            let f : a + suc (sizes ts) ≡ a + 1 + sizes ts = omega arith in
+            let g : b + suc (sizes ts) ≡ b + 1 + sizes ts = omega arith in
+            rw (e, f, g)
+            (through
+            (λ h. (mean-same l m ts us (h .0 .0) (h .1 .0), h .1 .1))
+            (λ h. let s = same-parts l m ts us (h .0) in ((same-labels l m ts us (h .0), same-counts l m ts us s), (s, h .1)))
+            (and-then (alike (getD T a 0) (getD T b 0)) after (node-agrees p q) (λ h. after-agrees (h .0) (h .1) (sort-of Known small map-agrees T p))))
+
+      forest-step : (t u : Located) (ts us : Terms) (whole whole′ : Option ℕ) (a b k : ℕ)
+          → Agree (rest (size t + (sizes ts + k)) a b) ((meaning t ≡ meaning u) × (rest (sizes ts + k) (a + size t) (b + size t) ≡ true))
+          → (meaning t ≡ meaning u → Agree (rest (sizes ts + k) (a + size t) (b + size t)) ((meanings ts ≡ meanings us) × (rest k (a + size t + sizes ts) (b + size t + sizes ts) ≡ true)))
+          → Agree (rest (size t + sizes ts + k) a b) ((meanings (t ▹ ts) ≡ meanings (u ▹ us)) × (rest k (a + (size t + sizes ts)) (b + (size t + sizes ts)) ≡ true))
+      unfolding arranged
+      forest-step t u ts us o o′ a b k p q =
+          let e : size t + sizes ts + k ≡ size t + (sizes ts + k) = omega arith in
+          let f : a + (size t + sizes ts) ≡ a + size t + sizes ts = omega arith in
+          let g : b + (size t + sizes ts) ≡ b + size t + sizes ts = omega arith in
+          rw (e, f, g)
+          (through
+          (λ h. (ap₂ (λ (x : Term) (xs : Forest Label). x ▹ xs) (h .0) (h .1 .0), h .1 .1))
+          (λ h. let s : _≡_ {A = Forest Label} (meaning t ▹ meanings ts) (meaning u ▹ meanings us) = h .0 in
+          let x : meaning t ≡ meaning u = cc in let xs : meanings ts ≡ meanings us = cc in (x, (xs, h .1)))
+          (and-last p q))
+
+      mutual
+        tree-walk : (t u : Located) → depth t ≤ d → Valid flags (as-read t) → Valid flags (as-read u) → (whole whole′ : Option ℕ) (a b : ℕ) → Known-tree Known T whole a t → Known-tree Known T whole′ b u
+            → (k : ℕ) → Agree (rest (size t + k) a b) ((meaning t ≡ meaning u) × (rest k (a + size t) (b + size t) ≡ true))
+        tree-walk (node l ts) (node m us) h v w o o′ a b p q k =
+            node-walk l m ts us h v w o o′ a b p q k (λ n. forest-walk ts us n (omega arith) (v .1) (w .1) (some a) (some b) (a + 1) (b + 1) (parts-known p) (parts-known q) k)
+
+        forest-walk : (ts us : Terms) → count ts ≡ count us → deepest ts ≤ d → Valids flags (all-as-read ts) → Valids flags (all-as-read us) → (whole whole′ : Option ℕ) (a b : ℕ)
+            → Known-rows Known T whole a ts → Known-rows Known T whole′ b us → (k : ℕ) → Agree (rest (sizes ts + k) a b) ((meanings ts ≡ meanings us) × (rest k (a + sizes ts) (b + sizes ts) ≡ true))
+        forest-walk empty empty n h v w o o′ a b p q k =
+            let e : 0 + k ≡ k = omega arith in
+            let f : a + 0 ≡ a = omega arith in
+            let g : b + 0 ≡ b = omega arith in
+            rw (e, f, g) (record { sure = λ x. (refl, x); back = λ x. x .1 })
+        forest-walk empty (u ▹ us) n h v w o o′ a b p q k = absurd (omega arith)
+        forest-walk (t ▹ ts) empty n h v w o o′ a b p q k = absurd (omega arith)
+        forest-walk (t ▹ ts) (u ▹ us) n h v w o o′ a b p q k =
+            forest-step t u ts us o o′ a b k (tree-walk t u (omega arith) (v .0) (w .0) o o′ a b (first-known p) (first-known q) (sizes ts + k))
+            (λ e.
+            let z : size u ≡ size t = sym (size-meaning u) ∙ ap size (sym e) ∙ size-meaning t in
+            forest-walk ts us (omega arith) (omega arith) (v .1) (w .1) o o′ (a + size t) (b + size t) (others-known p) (rw z at (others-known q)) k)
+
+      -- the terms at two rows
+      terms-agree : Finds d (same-from alike T maps)
+      unfolding same-from
+      terms-agree t u h v w o o′ a b p q =
+          rw (lt-leb (length T) a (tree-below t p), lt-leb (length T) b (tree-below u q), tree-size small t p, tree-size small u q) (go (eqb (size t) (size u)) refl)
+        where
+          all-rows : Agree (rest (size t) a b) (meaning t ≡ meaning u)
+          all-rows =
+              let e : size t + 0 ≡ size t = omega arith in
+              through (λ x. x .0) (λ x. (x, no-rows maps (a + size t) (b + size t))) (rw e at (tree-walk t u h v w o o′ a b p q 0))
+
+          go : (z : Bool) → eqb (size t) (size u) ≡ z → Agree (cond z (rest (size t) a b) false) (meaning t ≡ meaning u)
+          go true e = all-rows
+          go false e = record { sure = never; back = λ f. absurd (eqb-false (size t) (size u) e (sym (size-meaning t) ∙ ap size f ∙ size-meaning u)) }
+
+    -- ---- pairs
+
+    module _ (d : ℕ) (terms : ℕ → ℕ → Bool) (finds : Finds d terms) where
+      -- a key at k and the value after it, among n pairs
+      pair-found : (n : ℕ) (x y : Located) (us : Terms) → count us ≡ n + n → depth x ≤ d → depth y ≤ d → Valid flags (as-read x) → Valid flags (as-read y) → Valids flags (all-as-read us)
+          → Distinct (meanings us) → (whole whole′ : Option ℕ) (k b : ℕ) → Known-tree Known T whole k x → Known-tree Known T whole (k + size x) y → Known-rows Known T whole′ b us
+          → Agree (pair-among T terms n k b) (In (meaning x) (meaning y) (meanings us))
+      unfolding pair-among arranged
+      pair-found zero x y empty e h g v v′ w c o o′ k b p q r = record { sure = never; back = λ i. absurd i }
+      pair-found zero x y (u ▹ us) e h g v v′ w c o o′ k b p q r = absurd (omega arith)
+      pair-found (suc n) x y empty e h g v v′ w c o o′ k b p q r = absurd (omega arith)
+      pair-found (suc n) x y (i ▹ empty) e h g v v′ w c o o′ k b p q r = absurd (omega arith)
+      pair-found (suc n) x y (i ▹ j ▹ us) e h g v v′ w c o o′ k b p q r =
+          rw (tree-size small x p, tree-size small i (first-known r), pair-sizes small r)
+          (first-or-other (meaning x) (meaning y) (meaning i) (meaning j) (meanings us) (terms k b) (terms (k + size x) (b + size i)) (pair-among T terms n k (b + (size i + size j)))
+          (finds x i h v (w .0) o o′ k b p (first-known r))
+          (finds y j g v′ (w .1 .0) o o′ (k + size x) (b + size i) q (first-known (others-known r)))
+          (pair-found n x y us (omega arith) h g v v′ (w .1 .1) (c .1) o o′ k (b + (size i + size j)) p q (later-known r))
+          (c .0))
+
+      -- pairs among those of a run, whose rows start at b
+      module _ (us : Terms) (w : Valids flags (all-as-read us)) (c : Distinct (meanings us)) (whole′ : Option ℕ) (b : ℕ) (r : Known-rows Known T whole′ b us) where
+        around : (n m : ℕ) (x y : Located) (vs ws : Terms) → us ≡ vs ▹▹ ws → count vs ≡ m + m → count ws ≡ n + n → depth x ≤ d → depth y ≤ d → Valid flags (as-read x) → Valid flags (as-read y)
+            → (whole : Option ℕ) (k : ℕ) → Known-tree Known T whole k x → Known-tree Known T whole (k + size x) y
+            → Agree (pair-around T terms n m k (b + sizes vs) b) (In (meaning x) (meaning y) (meanings us))
+        unfolding pair-around
+        around n m x y vs ws e f g h h′ v v′ o k p q =
+            let known : Known-rows Known T whole′ b (vs ▹▹ ws) = subst (λ (x : Terms). Known-rows Known T whole′ b x) e r in
+            let valid : Valids flags (all-as-read (vs ▹▹ ws)) = subst (λ (x : Terms). Valids flags (all-as-read x)) e w in
+            let apart : Distinct (meanings vs ▹▹ meanings ws) = subst Distinct (ap meanings e ∙ meanings-join vs ws) c in
+            through
+            (λ i. subst (In (meaning x) (meaning y)) (sym (ap meanings e ∙ meanings-join vs ws)) (either i))
+            (λ i. turned (in-either (meaning x) (meaning y) (meanings vs) (meanings ws) m (meanings-count vs ∙ f) (subst (In (meaning x) (meaning y)) (ap meanings e ∙ meanings-join vs ws) i)))
+            (or-else (pair-among T terms n k (b + sizes vs)) (pair-among T terms m k b)
+            (pair-found n x y ws g h h′ v v′ (valids-right flags vs ws valid) (distinct-right (meanings vs) (meanings ws) m (meanings-count vs ∙ f) apart) o whole′ k (b + sizes vs) p q (right-known vs ws known))
+            (pair-found m x y vs f h h′ v v′ (valids-left flags vs ws valid) (distinct-left (meanings vs) (meanings ws) apart) o whole′ k b p q (left-known vs ws known)))
+          where
+            either : In (meaning x) (meaning y) (meanings ws) ⊎ In (meaning x) (meaning y) (meanings vs) → In (meaning x) (meaning y) (meanings vs ▹▹ meanings ws)
+            either (inl i) = in-right (meaning x) (meaning y) (meanings vs) (meanings ws) m (meanings-count vs ∙ f) i
+            either (inr i) = in-left (meaning x) (meaning y) (meanings vs) (meanings ws) i
+
+            turned : In (meaning x) (meaning y) (meanings vs) ⊎ In (meaning x) (meaning y) (meanings ws) → In (meaning x) (meaning y) (meanings ws) ⊎ In (meaning x) (meaning y) (meanings vs)
+            turned (inl i) = inr i
+            turned (inr i) = inl i
+
+        pairs-found : (n m : ℕ) (ts vs ws : Terms) → us ≡ vs ▹▹ ws → count ts ≡ n + n → count vs ≡ m + m → count ws ≡ n + n → deepest ts ≤ d → Valids flags (all-as-read ts)
+            → (whole : Option ℕ) (a : ℕ) → Known-rows Known T whole a ts → Agree (pairs-among T terms n m a (b + sizes vs) b) (All-in (meanings ts) (meanings us))
+        unfolding pairs-among arranged
+        pairs-found zero m empty vs ws e f g i h v o a k = record { sure = λ _. tt; back = λ _. refl }
+        pairs-found zero m (t ▹ ts) vs ws e f g i h v o a k = absurd (omega arith)
+        pairs-found (suc n) m empty vs ws e f g i h v o a k = absurd (omega arith)
+        pairs-found (suc n) m (x ▹ empty) vs ws e f g i h v o a k = absurd (omega arith)
+        pairs-found (suc n) m (x ▹ y ▹ ts) vs empty e f g i h v o a k = absurd (omega arith)
+        pairs-found (suc n) m (x ▹ y ▹ ts) vs (j ▹ empty) e f g i h v o a k = absurd (omega arith)
+        pairs-found (suc n) m (x ▹ y ▹ ts) vs (j ▹ z ▹ ws) e f g i h v o a k =
+            let past : vs ▹▹ (j ▹ z ▹ ws) ≡ (vs ▹▹ (j ▹ z ▹ empty)) ▹▹ ws = pair-joined vs j z ws in
+            let at : b + sizes vs + (size j + size z) ≡ b + sizes (vs ▹▹ (j ▹ z ▹ empty)) = omega (arith, sizes-join vs (j ▹ z ▹ empty)) in
+            let known : Known-rows Known T whole′ (b + sizes vs) (j ▹ z ▹ ws) = right-known vs (j ▹ z ▹ ws) (subst (λ (x : Terms). Known-rows Known T whole′ b x) e r) in
+            rw (pair-sizes small k, pair-sizes small known, at)
+            (and-then (pair-around T terms (suc n) m a (b + sizes vs) b) _
+            (around (suc n) m x y vs (j ▹ z ▹ ws) e g i (omega arith) (omega arith) (v .0) (v .1 .0) o a (first-known k) (first-known (others-known k)))
+            (λ _. pairs-found n (m + 1) ts (vs ▹▹ (j ▹ z ▹ empty)) ws (e ∙ past) (omega arith) (omega (arith, count-join vs (j ▹ z ▹ empty))) (omega arith) (omega arith) (v .1 .1) o (a + (size x + size y)) (later-known k)))
+
+    -- ---- maps, by levels
+
+    map-step : (d : ℕ) (l m : Label × Offset) (ts us : Terms) → l .0 ≡ map → m .0 ≡ map → count ts ≡ count us → suc (deepest ts) ≤ suc d → Valid flags (as-read (node l ts)) → Valid flags (as-read (node m us))
+        → (whole whole′ : Option ℕ) (a b : ℕ) → Known-tree Known T whole a (node l ts) → Known-tree Known T whole′ b (node m us) → Finds d (same-terms alike T d)
+        → Agree (cond (eqb (size-in (getD T a 0)) (size-in (getD T b 0))) (pairs-among T (same-terms alike T d) (parts-in (getD T a 0) / 2) 0 (a + 1) (b + 1) (b + 1)) false)
+        (in-order pair-before (meanings ts) ≡ in-order pair-before (meanings us))
+    map-step d l m ts us e f n h v w o o′ a b p q finds =
+        rw (tree-size small (node l ts) p, tree-size small (node m us) q, node-packed (p .stands) (small (row-of o l ts) (node-known p)) .parts-is)
+        (go (eqb (suc (sizes ts)) (suc (sizes us))) refl)
+      where
+        keys : (k : Label × Offset) (xs : Terms) → k .0 ≡ map → Valid flags (as-read (node k xs)) → Fits flags map (all-as-read xs)
+        keys k xs g x = subst (λ (y : Label). Fits flags y (all-as-read xs)) g (x .0)
+
+        half : (i : ℕ) × (count ts ≡ i + i)
+        half = let z = even [] (all-as-read ts) (keys l ts e v .1) in (z .0, sym (count-relabels (λ l. l .0) ts) ∙ z .1)
+
+        in-pairs : (i : ℕ) → count ts ≡ i + i → Agree (pairs-among T (same-terms alike T d) (count ts / 2) 0 (a + 1) (b + 1) (b + 1)) (in-order pair-before (meanings ts) ≡ in-order pair-before (meanings us))
+        in-pairs i g =
+            let k : count ts / 2 ≡ i = omega arith in
+            let z : b + 1 ≡ b + 1 + 0 = omega arith in
+            let found : Agree (pairs-among T (same-terms alike T d) i 0 (a + 1) (b + 1 + 0) (b + 1)) (All-in (meanings ts) (meanings us))
+            = pairs-found d (same-terms alike T d) finds us (w .1) (distinct [] (all-as-read us) (keys m us f w .1)) (some b) (b + 1) (parts-known q) i 0 ts empty us refl g refl (sym n ∙ g) (omega arith) (v .1) (some a) (a + 1) (parts-known p) in
+            rw k
+            (through
+            (ordered-in (meanings ts) (meanings us) i (meanings-count ts ∙ g) (meanings-count us ∙ sym n ∙ g) (distinct [] (all-as-read ts) (keys l ts e v .1)))
+            (in-ordered (meanings ts) (meanings us) i (meanings-count ts ∙ g))
+            (rw (← z) at found))
+
+        go : (z : Bool) → eqb (suc (sizes ts)) (suc (sizes us)) ≡ z
+            → Agree (cond z (pairs-among T (same-terms alike T d) (count ts / 2) 0 (a + 1) (b + 1) (b + 1)) false) (in-order pair-before (meanings ts) ≡ in-order pair-before (meanings us))
+        go true z = in-pairs (half .0) (half .1)
+        go false z =
+            record {
+              sure = never;
+              back = λ g.
+                  let k : sizes ts ≡ sizes us
+                  = sym (rearranged-sizes (order-rearranges pair-before (meanings ts)) ∙ sizes-meanings ts) ∙ ap sizes g ∙ rearranged-sizes (order-rearranges pair-before (meanings us)) ∙ sizes-meanings us in
+                  absurd (eqb-false (suc (sizes ts)) (suc (sizes us)) z (ap suc k));
+            }
+
+    pub maps-found : (d : ℕ) → Finds-maps d (same-maps alike T d)
+    unfolding same-maps
+    maps-found zero l m ts us e f n h v w o o′ a b p q = absurd (omega arith)
+    maps-found (suc d) l m ts us e f n h v w o o′ a b p q =
+        map-step d l m ts us e f n h v w o o′ a b p q (terms-agree d (same-maps alike T d) (maps-found d))
+
+    -- two terms compare as their meanings do
+    pub terms-found : (d : ℕ) → Finds d (same-terms alike T d)
+    terms-found d = terms-agree d (same-maps alike T d) (maps-found d)
+
+    pub terms-same : (d : ℕ) (t u : Located) → depth t ≤ d → Valid flags (as-read t) → Valid flags (as-read u) → (whole whole′ : Option ℕ) (a b : ℕ)
+        → Known-tree Known T whole a t → Known-tree Known T whole′ b u → same-terms alike T d a b ≡ same (meaning t) (meaning u)
+    terms-same d t u h v w o o′ a b p q =
+        agree-same (same-terms alike T d a b) (same (meaning t) (meaning u)) (terms-found d t u h v w o o′ a b p q) (same-agrees (meaning t) (meaning u))
+
+    -- ---- a term whose rows stand at `key`, past the rows of pairs
+
+    module _ (d : ℕ) (whole whole′ : Option ℕ) (key : ℕ) (u : Located) (deep : depth u ≤ d) (v : Valid flags (as-read u)) (m : Known-tree Known T whole′ key u) where
+      pairs-agree : (n at : ℕ) {ts : Terms} {ks ls : List Term} → Pairs ts ks ls → key ≡ at + sizes ts → sizes ts ≤ n → Valids flags (all-as-read ts) → Known-rows Known T whole at ts
+          → (among (meaning u) ks || among-steps T (same-terms alike T d) n at key) ≡ among (meaning u) ls
+      unfolding among-steps among
+      pairs-agree n at {ks = ks} no-pair e h w g =
+          ap (λ (b : Bool). among (meaning u) ks || b) (among-ended T (same-terms alike T d) n at key (omega arith)) ∙ or-false (among (meaning u) ks)
+      pairs-agree zero at (a-pair {k = k} p) e h w g = absurd (omega (arith, size-positive k))
+      pairs-agree (suc n) at {ks = ks} (a-pair {k = k} {v = x} {ts = ts} p) e h w g =
+          let some : 1 ≤ size k = size-positive k in
+          rw (
+            lt-leb key at (omega arith),
+            terms-same d u k deep v (w .0) whole′ whole key at m (first-known g),
+            pair-sizes small g,
+            ne-eqb (size k + size x) 0 (λ z. omega arith),
+          )
+          (or-later (among (meaning u) ks) (same (meaning u) (meaning k)) (among-steps T (same-terms alike T d) n (at + (size k + size x)) key)
+          ∙ pairs-agree n (at + (size k + size x)) p (omega arith) (omega arith) (w .1 .1) (later-known g))
+
+      -- it is compared with each key
+      pub among-from-among : (first : ℕ) {ts : Terms} {ks : List Term} → Keys-of ts ks → key ≡ first + sizes ts → Valids flags (all-as-read ts) → Known-rows Known T whole first ts
+          → among-from T (same-terms alike T d) first key ≡ among (meaning u) ks
+      unfolding among-from among
+      among-from-among first p e w g = rw (lt-leb (length T) key (tree-below u m)) (pairs-agree (key - first) first p e (omega arith) w g)

@@ -1,39 +1,33 @@
--- Terms whose rows stand in the table and that the message backs compare as their meanings do.
+-- Terms whose rows stand in the table and that the message backs compare as their meanings do, and have the same hash where these are the same.
 use mathlib.Core.Path.{_≡_, refl, sym, _∙_, ap, ap₂}
-use mathlib.Core.Bool.{Bool, false, cond}
+use mathlib.Core.Bool.{Bool, true, false, cond}
 use mathlib.Core.List.{List, [], _∷_}
 use mathlib.Core.Option.{Option, some}
-use Prim.Native.Nat.{ℕ, _+_, _/_, _≤_}
+use Prim.Native.Nat.{ℕ, _+_, _^_, _≤_, _<_}
 use native.Mathlib.Omega.{arith}
 use lib.Dec.{eqb}
-use lib.IntN.{pos, negsuc}
-use lib.ListN.{length, getD}
 use borrow.Author.Tests.{ne-eqb}
 use Rattle.term_spec.specs.Tree.{node, empty, _▹_, _▹▹_, size, sizes, depth}
 use Rattle.term_spec.specs.Term.{Label, Term, integer, float, atom, tuple, list, improper-list, binary, bitstring, map, pid, port, reference, export}
-use Rattle.term_spec.specs.Order.{compare-numbers, compare-lists, numbers-of}
-use Rattle.term_spec.specs.Equal.{same, among}
+use Rattle.term_spec.specs.Equal.{among}
 use Rattle.term_spec.specs.Valid.{Valid, Valids}
 use Rattle.term_spec.specs.Head.{Given}
 use Rattle.term_spec.specs.AtomList.{AtomList, given-of}
 use Rattle.term_spec.specs.Reading.{Offset, tag-at, character-at, Located, as-read, meaning}
 use Rattle.term_spec.specs.Message.{Terms, all-as-read}
-use Rattle.term_spec.specs.Rows.{Row, tree-rows, rows, row-words, word, kind-of, kind-at, Tree-here, Rows-here}
+use Rattle.term_spec.specs.Rows.{Row, tree-rows, rows, word, kind-of, kind-at, Tree-here, Rows-here}
 use Rattle.term_spec.proofs.Backed.{Label-at, Backed, Backeds}
-use Rattle.term_spec.proofs.Rows.{rows-join, size-meaning, length-tree-rows}
-use Rattle.term_spec.proofs.Words.{Each-row, each-row-join, Small-row, Word-of, word-packed, Between, kind-of-range, left-here, right-here, first-here, length-words-of}
+use Rattle.term_spec.proofs.Rows.{rows-join}
+use Rattle.term_spec.proofs.Words.{Each-row, each-row-join, Small-row, Word-of, word-packed, Between, kind-of-range, left-here, right-here, first-here, row-of}
 use Rattle.row_fields.specs.Meaning.{term-kind}
-use Rattle.row_compare.specs.Hash.{mix}
-use Rattle.map_keys.specs.Alike.{labels-alike}
 use Rattle.map_keys.specs.Compare.{same-fields, same-row, same-terms-raw, among-rows}
-use Rattle.map_keys.specs.KeySet.{has-pairs, hashed-rows, hash-row, hash-row-words}
+use Rattle.map_keys.specs.KeySet.{term-hash}
 use Rattle.row_fields.proofs.Says.{Lent}
 use Rattle.row_compare.proofs.Alike.{Agree, through, numbers-agree}
 use Rattle.row_compare.proofs.Nodes.{contents-agree}
-use Rattle.map_keys.proofs.Compare.{and-then, own, owns-tree, each-row-split, Known-tree, Known-rows, Keys-of}
-use Rattle.map_keys.proofs.Unordered.{terms-same, among-from-among}
 use Rattle.map_keys.proofs.Hashes.{row-alike}
-use Rattle.map_keys.proofs.Hashed.{large, cut, one-cut, hash-cut}
+use Rattle.map_keys.proofs.EqualHash.{equal-hash}
+use Rattle.map_keys.proofs.Compare.{and-then, own, each-row-split, Known-tree, Known-rows, node-known, depth-within, valids-left, valids-right, terms-found, among-from-among, Keys-of}
 
 each-row-both : (P Q : Row → Type 0) (rs : List Row) → Each-row P rs → Each-row Q rs → Each-row (λ r. P r × Q r) rs
 unfolding Each-row
@@ -101,23 +95,29 @@ module _ (message : List ℕ) (cap : ℕ) (given : Given) where
         backed = h .all-backed .0;
       }
 
--- maps by their kind
-map-kind : (l : Label) → eqb (kind-of l) 9 ≡ labels-alike l map
-unfolding kind-of labels-alike compare-lists compare-numbers numbers-of
-map-kind (integer (pos n)) = refl
-map-kind (integer (negsuc n)) = refl
-map-kind (float bits) = refl
-map-kind (atom cs) = refl
-map-kind tuple = refl
-map-kind list = refl
-map-kind improper-list = refl
-map-kind (binary bs) = refl
-map-kind (bitstring bits bs) = refl
-map-kind map = refl
-map-kind (pid id serial creation) = refl
-map-kind (port id creation) = refl
-map-kind (reference creation ws) = refl
-map-kind export = refl
+of-nine : (l : Label) → term-kind 9 ≡ kind-of l → l ≡ map
+unfolding kind-of term-kind
+of-nine (integer z) e = absurd (omega arith)
+of-nine (float b) e = absurd (omega arith)
+of-nine (atom cs) e = absurd (omega arith)
+of-nine tuple e = absurd (omega arith)
+of-nine list e = absurd (omega arith)
+of-nine improper-list e = absurd (omega arith)
+of-nine (binary bs) e = absurd (omega arith)
+of-nine (bitstring n bs) e = absurd (omega arith)
+of-nine map e = refl
+of-nine (pid i s c) e = absurd (omega arith)
+of-nine (port i c) e = absurd (omega arith)
+of-nine (reference c ws) e = absurd (omega arith)
+of-nine export e = absurd (omega arith)
+
+nine-of : (k : ℕ) → term-kind k ≡ kind-of map → k ≡ 9
+unfolding term-kind kind-of
+nine-of k e = go (eqb k 14) e
+  where
+    go : (t : Bool) → cond t 1 k ≡ 9 → k ≡ 9
+    go true f = absurd (omega arith)
+    go false f = f
 
 module _ (flags : ℕ) (list : AtomList) (message : List ℕ) (lent : Lent list message) (cap : ℕ) where
   -- what reading is given, of the flags and the list
@@ -127,7 +127,7 @@ module _ (flags : ℕ) (list : AtomList) (message : List ℕ) (lent : Lent list 
   abbrev pub Known : Row → Type 0
   Known r = Small-row r × Backed-row message cap given r
 
-  pub row-agrees : (r q : Row) → Known r → Known q → Agree (same-row message (list .places) (list .lengths) (word r) (word q)) (own r ≡ own q)
+  row-agrees : (r q : Row) → Known r → Known q → Agree (same-row message (list .places) (list .lengths) (word r) (word q)) (own r ≡ own q)
   unfolding same-row same-fields
   row-agrees r q k m =
       let v : Word-of r (word r) = word-packed r (k .0) in
@@ -146,37 +146,11 @@ module _ (flags : ℕ) (list : AtomList) (message : List ℕ) (lent : Lent list 
           (λ e. let a : r .label ≡ q .label = ap (λ (x : Label × ℕ). x .0) e in (f a, (ap (λ (x : Label × ℕ). x .1) e, a)))
           (and-then (eqb i j) _ (numbers-agree i j) (λ e. and-then (eqb n n′) c (numbers-agree n n′) (λ _. g e)))
 
-  kind-agrees : (r : Row) → Known r → eqb (kind-at (r .label) (r .place)) 9 ≡ labels-alike (r .label) map
-  unfolding kind-at kind-of
-  kind-agrees r k = go (r .label) (r .place) (k .1)
-    where
-      go : (l : Label) (p : Offset) → Label-at message cap given p l → eqb (kind-at l p) 9 ≡ labels-alike l map
-      go l (tag-at p) h = map-kind l
-      go l (character-at p) h = rw (h .1) (map-kind (integer (pos (getD message p 0))))
-
-  row-large : (r : Row) → Known r → has-pairs (word r) ≡ large (own r)
-  unfolding has-pairs large
-  row-large r k =
-      let v : Word-of r (word r) = word-packed r (k .0) in
-      rw (v .kind-is, v .parts-is, kind-agrees r k)
-
-  row-hash : (r q : Row) → Known r → Known q → own r ≡ own q → (h : ℕ)
-      → hash-row message (list .places) (list .lengths) h (word r) ≡ hash-row message (list .places) (list .lengths) h (word q)
-  row-hash r q k m e h = row-alike message (list .places) (list .lengths) h (word r) (word q) (row-agrees r q k m .back e)
-
-  -- terms that mean the same have the same hash
-  pub same-hash : (first : ℕ) (whole whole′ : Option ℕ) (a b : ℕ) (t u : Located) → Each-row Known (tree-rows whole a t) → Each-row Known (tree-rows whole′ b u) → meaning t ≡ meaning u
-      → hash-row-words message (list .places) (list .lengths) first (row-words (tree-rows whole a t))
-      ≡ hash-row-words message (list .places) (list .lengths) first (row-words (tree-rows whole′ b u))
-  unfolding hash-row-words
-  same-hash first whole whole′ a b t u k m e =
-      let x : length (row-words (tree-rows whole a t)) ≡ size t = length-words-of (tree-rows whole a t) ∙ length-tree-rows whole a t in
-      let y : length (row-words (tree-rows whole′ b u)) ≡ size t
-      = length-words-of (tree-rows whole′ b u) ∙ length-tree-rows whole′ b u ∙ sym (size-meaning u) ∙ ap size (sym e) ∙ size-meaning t in
-      rw (x, y)
-      (ap (λ (n : ℕ). mix n 0 / 65536)
-      (hash-cut message (list .places) (list .lengths) Known row-hash row-large (hashed-rows (size t)) (mix 0 first) (tree-rows whole a t) (tree-rows whole′ b u) k m
-      (ap cut (owns-tree whole a t) ∙ one-cut (as-read t) (as-read u) e ∙ sym (ap cut (owns-tree whole′ b u)))))
+  -- a row's kind is a map's exactly where its label is
+  map-agrees : (r : Row) → Known r → Agree (eqb (kind-at (r .label) (r .place)) 9) (r .label ≡ map)
+  map-agrees r k =
+      let e : term-kind (kind-at (r .label) (r .place)) ≡ kind-of (r .label) = term-kind-of message cap given (r .label) (r .place) (k .1) in
+      through (λ f. of-nine (r .label) (ap term-kind (sym f) ∙ e)) (λ f. nine-of (kind-at (r .label) (r .place)) (e ∙ ap kind-of f)) (numbers-agree (kind-at (r .label) (r .place)) 9)
 
   module _ (T : List ℕ) where
     pub known-tree : {whole : Option ℕ} {n : ℕ} (t : Located) → Term-in-table message cap given T whole n t → Known-tree Known T whole n t
@@ -187,17 +161,30 @@ module _ (flags : ℕ) (list : AtomList) (message : List ℕ) (lent : Lent list 
     known-rows {whole} {n} ts h =
         record { stand = h .stand; all-known = each-row-both Small-row (Backed-row message cap given) (rows whole n ts) (h .all-small) (backed-rows message cap given whole n ts (h .all-backed)) }
 
+    -- fewer levels than rows
+    few-levels : {whole : Option ℕ} {n : ℕ} (t : Located) → Known-tree Known T whole n t → depth t ≤ 16384
+    few-levels {whole} (node l ts) k =
+        let r : Row = row-of whole l ts in
+        let less : r .size < 2 ^ 14 = node-known k .0 .small-size in
+        omega (arith, depth-within (node l ts))
+
     -- two terms compare as their meanings do
-    pub same-terms-same : {whole whole′ : Option ℕ} {a b : ℕ} (d : ℕ) (t u : Located) → depth (as-read t) ≤ d → Valid flags (as-read t) → Valid flags (as-read u)
-        → Known-tree Known T whole a t → Known-tree Known T whole′ b u → same-terms-raw message (list .places) (list .lengths) T d a b ≡ same (meaning t) (meaning u)
-    same-terms-same {whole} {whole′} {a} {b} d t u e v w h g =
-        terms-same flags (same-row message (list .places) (list .lengths)) Known (λ r k. k .0) row-agrees kind-agrees T d t u e v w whole whole′ a b h g
+    pub same-terms-same : {whole whole′ : Option ℕ} {a b : ℕ} (t u : Located) → Valid flags (as-read t) → Valid flags (as-read u) → Known-tree Known T whole a t → Known-tree Known T whole′ b u
+        → Agree (same-terms-raw message (list .places) (list .lengths) T a b) (meaning t ≡ meaning u)
+    same-terms-same {whole} {whole′} {a} {b} t u v w h g =
+        terms-found (same-row message (list .places) (list .lengths)) Known (λ r k. k .0) row-agrees map-agrees T flags 16384 t u (few-levels t h) v w whole whole′ a b h g
+
+    -- and where these are the same, so are the hashes
+    pub same-terms-hash : {whole whole′ : Option ℕ} {a b : ℕ} (t u : Located) → Known-tree Known T whole a t → Known-tree Known T whole′ b u → meaning t ≡ meaning u → (first : ℕ)
+        → term-hash message (list .places) (list .lengths) T first a ≡ term-hash message (list .places) (list .lengths) T first b
+    same-terms-hash {whole} {whole′} {a} {b} t u h g e first =
+        equal-hash message (list .places) (list .lengths) T Known (λ r k. k .0)
+        (λ r q k m e h. row-alike message (list .places) (list .lengths) h (word r) (word q) (row-agrees r q k m .back e)) map-agrees t u whole whole′ a b h g e first
 
     -- the last of terms, after pairs, is compared with each of their keys
-    pub last-among : {whole : Option ℕ} {first : ℕ} (d : ℕ) (ts : Terms) (u : Located) {ks : List Term} → Keys-of ts ks → Rows-in-table message cap given T whole first (ts ▹▹ (u ▹ empty))
-        → depth (as-read u) ≤ d → Valid flags (as-read u) → Valids flags (all-as-read ts)
-        → among-rows message (list .places) (list .lengths) T d first (first + sizes ts) ≡ among (meaning u) ks
-    last-among {whole} {first} d ts u p h e v w =
-        among-from-among flags (same-row message (list .places) (list .lengths)) Known (λ r k. k .0) row-agrees kind-agrees T d whole whole (first + sizes ts) u
-        (known-tree u (held-first message cap given u empty (held-right message cap given ts (u ▹ empty) h))) e v first p refl
-        (known-rows ts (held-left message cap given ts (u ▹ empty) h)) w
+    pub last-among : {whole : Option ℕ} {first : ℕ} (ts : Terms) (u : Located) {ks : List Term} → Keys-of ts ks → Valids flags (all-as-read (ts ▹▹ (u ▹ empty)))
+        → Rows-in-table message cap given T whole first (ts ▹▹ (u ▹ empty)) → among-rows message (list .places) (list .lengths) T first (first + sizes ts) ≡ among (meaning u) ks
+    last-among {whole} {first} ts u p v h =
+        let known : Known-tree Known T whole (first + sizes ts) u = known-tree u (held-first message cap given u empty (held-right message cap given ts (u ▹ empty) h)) in
+        among-from-among (same-row message (list .places) (list .lengths)) Known (λ r k. k .0) row-agrees map-agrees T flags 16384 whole whole (first + sizes ts) u (few-levels u known)
+        (valids-right flags ts (u ▹ empty) v .0) known first p refl (valids-left flags ts (u ▹ empty) v) (known-rows ts (held-left message cap given ts (u ▹ empty) h))

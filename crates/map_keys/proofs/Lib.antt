@@ -1,10 +1,10 @@
-pub mod Alike
+pub mod Pairs
 pub mod Compare
-pub mod Unordered
 pub mod Steps
 pub mod Slots
 pub mod Hashes
-pub mod Hashed
+pub mod Sums
+pub mod EqualHash
 pub mod InTable
 pub mod KeySet
 pub mod Accepted

@@ -1,18 +1,17 @@
 -- One law for each way through the functions that compare rows.
-use mathlib.Core.Path.{_≡_, refl, sym, ap, _∙_, subst}
-use mathlib.Core.Bool.{Bool, true, false, cond}
+use mathlib.Core.Path.{_≡_, sym, ap, _∙_}
+use mathlib.Core.Bool.{Bool, true, false}
 use mathlib.Core.List.{List}
-use Prim.Native.Nat.{ℕ, suc, _+_, _-_, _/_, _≤_, _<_}
+use Prim.Native.Nat.{ℕ, zero, suc, _+_, _-_, _/_, _≤_, _<_}
 use native.Mathlib.Omega.{arith}
-use lib.Dec.{eqb}
 use lib.ListN.{length, getD}
-use borrow.Author.Tests.{le-leb, lt-leb, eq-eqb, ne-eqb}
+use borrow.Author.Tests.{le-leb, lt-leb, lt-ltb, le-ltb, eq-eqb, ne-eqb}
 use Rattle.term_spec.specs.Rows.{kind-in, offset-in, parts-in, size-in}
 use Rattle.row_fields.specs.declared.Content.{Content}
 use Rattle.row_fields.specs.Found.{content-of}
 use Rattle.row_fields.specs.Meaning.{term-kind}
 use Rattle.row_compare.specs.Same.{same-contents}
-use Rattle.map_keys.specs.Compare.{same-fields, same-row, pair-size, parts-alike, pair-among, pairs-among, inside-alike, terms-alike, among-steps, among-from}
+use Rattle.map_keys.specs.Compare.{same-fields, same-row, unordered-rows, same-rows, same-from, pair-size, pair-among, pair-around, pairs-among, same-maps, same-terms, among-steps, among-from}
 use Rattle.map_keys.proofs.Compare.{among-ended}
 
 -- ---- kinds
@@ -56,141 +55,198 @@ pair-is T at v w k n a b c d =
     let e : k ≡ size-in (getD T at 0) = b ∙ ap size-in a in
     rw (← e) (ap (λ (i : ℕ). k + i) (d ∙ ap size-in c))
 
--- ---- parts in turn
+-- ---- rows in no order
 
-module _ (T : List ℕ) (terms : ℕ → ℕ → Bool) (n a b : ℕ) (r : Bool) (h : parts-alike T terms n a b ≡ r) where
-  pub parts-ended : n ≤ 0 → true ≡ r
-  unfolding parts-alike
-  parts-ended l = let e : n ≡ 0 = omega arith in rw e at h
+module _ (w k : ℕ) (e : k ≡ kind-in w) where
+  pub unordered-other : (k ≡ 9 → ⊥) → 0 ≡ unordered-rows w
+  unfolding unordered-rows
+  unordered-other f = rw (← e, ne-eqb k 9 f)
 
-  module _ (l : 0 < n) (x : Bool) (g : x ≡ terms a b) where
-    some-parts : parts-alike T terms (suc (n - 1)) a b ≡ r
-    some-parts = let e : n ≡ suc (n - 1) = omega arith in rw e at h
+  module _ (f : k ≡ 9) (p : ℕ) (g : p ≡ parts-in w) where
+    pub unordered-few : p < 4 → 0 ≡ unordered-rows w
+    unfolding unordered-rows
+    unordered-few h = rw (← e, eq-eqb k 9 f, ← g, lt-ltb p 4 h)
 
-    pub part-differs : x ≡ false → false ≡ r
-    unfolding parts-alike
-    part-differs f = rw (← g, f) at some-parts
+    pub unordered-all : 4 ≤ p → (n r : ℕ) → n ≡ size-in w → r ≡ n - 1 → r ≡ unordered-rows w
+    unfolding unordered-rows
+    unordered-all h n r i c = rw (← e, eq-eqb k 9 f, ← g, le-ltb p 4 h, ← i) c
 
-    pub part-next : x ≡ true → (v s w z : ℕ) → v ≡ getD T a 0 → s ≡ size-in v → w ≡ getD T b 0 → z ≡ size-in w → parts-alike T terms (n - 1) (a + s) (b + z) ≡ r
-    unfolding parts-alike
-    part-next f v s w z p i q j = rw (i, j, p, q) (rw (← g, f) at some-parts)
+-- ---- rows one by one
 
--- ---- a pair among pairs
+module _ (alike : ℕ → ℕ → Bool) (T : List ℕ) (maps : ℕ → ℕ → Bool) where
+  -- rows that are stepped over
+  stepped : (n s a b : ℕ) → same-rows alike T maps n s a b ≡ same-rows alike T maps (n - s) 0 (a + s) (b + s)
+  unfolding same-rows
+  stepped zero s a b = let e : 0 - s ≡ 0 = omega arith in rw e
+  stepped (suc n) zero a b =
+      let e : suc n - 0 ≡ suc n = omega arith in
+      let f : a + 0 ≡ a = omega arith in
+      let g : b + 0 ≡ b = omega arith in
+      rw (e, f, g)
+  stepped (suc n) (suc s) a b =
+      let e : suc n - suc s ≡ n - s = omega arith in
+      let f : a + suc s ≡ a + 1 + s = omega arith in
+      let g : b + suc s ≡ b + 1 + s = omega arith in
+      rw (e, f, g) (stepped n s (a + 1) (b + 1))
 
-module _ (T : List ℕ) (terms : ℕ → ℕ → Bool) (n key at : ℕ) (r : Bool) (h : pair-among T terms n key at ≡ r) where
-  pub pair-ended : n ≤ 0 → false ≡ r
-  unfolding pair-among
-  pair-ended l = let e : n ≡ 0 = omega arith in rw e at h
+  pub rows-start : (n a b : ℕ) → same-rows alike T maps (n - 0) 0 (a + 0) (b + 0) ≡ same-rows alike T maps n 0 a b
+  rows-start n a b =
+      let e : n - 0 ≡ n = omega arith in
+      let x : a + 0 ≡ a = omega arith in
+      let y : b + 0 ≡ b = omega arith in
+      rw (e, x, y)
 
-  module _ (l : 0 < n) (x : Bool) (g : x ≡ terms key at) where
-    some-pairs : pair-among T terms (suc (n - 1)) key at ≡ r
-    some-pairs = let e : n ≡ suc (n - 1) = omega arith in rw e at h
+  module _ (n a b i : ℕ) (r : Bool) (h : same-rows alike T maps (n - i) 0 (a + i) (b + i) ≡ r) where
+    pub rows-ended : n ≤ i → true ≡ r
+    unfolding same-rows
+    rows-ended l = let e : n - i ≡ 0 = omega arith in rw e at h
 
-    pub pair-here : x ≡ true → (v s w z : ℕ) → v ≡ getD T key 0 → s ≡ size-in v → w ≡ getD T at 0 → z ≡ size-in w → (y : Bool) → y ≡ terms (key + s) (at + z) → y ≡ r
-    unfolding pair-among
-    pair-here f v s w z p i q j y k = k ∙ rw (i, j, p, q) (rw (← g, f) at some-pairs)
+    module _ (l : i < n) (v w : ℕ) (p : v ≡ getD T (a + i) 0) (q : w ≡ getD T (b + i) 0) (t : Bool) (d : t ≡ alike v w) where
+      pub rows-differ : t ≡ false → false ≡ r
+      unfolding same-rows
+      rows-differ f = let e : n - i ≡ suc (n - (i + 1)) = omega arith in rw (e, ← p, ← q, ← d, f) at h
 
-    pub pair-next : x ≡ false → (s : ℕ) → s ≡ pair-size T at → pair-among T terms (n - 1) key (at + s) ≡ r
-    unfolding pair-among
-    pair-next f s i = rw i (rw (← g, f) at some-pairs)
+      module _ (f : t ≡ true) (u : ℕ) (k : u ≡ unordered-rows v) where
+        pub rows-next : u ≡ 0 → same-rows alike T maps (n - (i + 1)) 0 (a + (i + 1)) (b + (i + 1)) ≡ r
+        unfolding same-rows
+        rows-next z =
+            let e : n - i ≡ suc (n - (i + 1)) = omega arith in
+            let x : a + (i + 1) ≡ a + i + 1 = omega arith in
+            let y : b + (i + 1) ≡ b + i + 1 = omega arith in
+            rw (x, y) (rw (e, ← p, ← q, ← d, f, ← k, eq-eqb u 0 z) at h)
 
--- ---- pairs among pairs
+        module _ (z : u ≡ 0 → ⊥) (s : Bool) (g : s ≡ maps (a + i) (b + i)) where
+          pub maps-differ : s ≡ false → false ≡ r
+          unfolding same-rows
+          maps-differ c = let e : n - i ≡ suc (n - (i + 1)) = omega arith in rw (e, ← p, ← q, ← d, f, ← k, ne-eqb u 0 z, ← g, c) at h
 
-module _ (T : List ℕ) (terms : ℕ → ℕ → Bool) (n a m b : ℕ) (r : Bool) (h : pairs-among T terms n a m b ≡ r) where
-  pub pairs-ended : n ≤ 0 → true ≡ r
-  unfolding pairs-among
-  pairs-ended l = let e : n ≡ 0 = omega arith in rw e at h
+          after-map : s ≡ true → same-rows alike T maps (n - (i + 1)) u (a + i + 1) (b + i + 1) ≡ r
+          unfolding same-rows
+          after-map c = let e : n - i ≡ suc (n - (i + 1)) = omega arith in rw (e, ← p, ← q, ← d, f, ← k, ne-eqb u 0 z, ← g, c) at h
 
-  module _ (l : 0 < n) (x : Bool) (g : x ≡ pair-among T terms m a b) where
-    more-pairs : pairs-among T terms (suc (n - 1)) a m b ≡ r
-    more-pairs = let e : n ≡ suc (n - 1) = omega arith in rw e at h
-
-    pub pairs-differ : x ≡ false → false ≡ r
-    unfolding pairs-among
-    pairs-differ f = rw (← g, f) at more-pairs
-
-    pub pairs-next : x ≡ true → (s : ℕ) → s ≡ pair-size T a → pairs-among T terms (n - 1) (a + s) m b ≡ r
-    unfolding pairs-among
-    pairs-next f s i = rw i (rw (← g, f) at more-pairs)
+          pub maps-next : s ≡ true → same-rows alike T maps (n - (i + (1 + u))) 0 (a + (i + (1 + u))) (b + (i + (1 + u))) ≡ r
+          maps-next c =
+              let e : n - (i + (1 + u)) ≡ n - (i + 1) - u = omega arith in
+              let x : a + (i + (1 + u)) ≡ a + i + 1 + u = omega arith in
+              let y : b + (i + (1 + u)) ≡ b + i + 1 + u = omega arith in
+              rw (e, x, y) (sym (stepped (n - (i + 1)) u (a + i + 1) (b + i + 1)) ∙ after-map c)
 
 -- ---- two terms
 
+module _ (alike : ℕ → ℕ → Bool) (T : List ℕ) (maps : ℕ → ℕ → Bool) (a b : ℕ) where
+  pub past-first : length T ≤ a → false ≡ same-from alike T maps a b
+  unfolding same-from
+  past-first h = rw (le-leb (length T) a h)
+
+  module _ (h : a < length T) where
+    pub past-second : length T ≤ b → false ≡ same-from alike T maps a b
+    unfolding same-from
+    past-second k = rw (lt-leb (length T) a h, le-leb (length T) b k)
+
+    module _ (k : b < length T) (m n : ℕ) (e : m ≡ size-in (getD T a 0)) (f : n ≡ size-in (getD T b 0)) where
+      pub sizes-differ : (m ≡ n → ⊥) → false ≡ same-from alike T maps a b
+      unfolding same-from
+      sizes-differ d = rw (lt-leb (length T) a h, lt-leb (length T) b k, ← e, ← f, ne-eqb m n d)
+
+      pub sizes-same : (r : Bool) → m ≡ n → r ≡ same-rows alike T maps m 0 a b → r ≡ same-from alike T maps a b
+      unfolding same-from
+      sizes-same r d g = g ∙ rw (lt-leb (length T) a h, lt-leb (length T) b k, ← e, ← f, eq-eqb m n d)
+
+-- ---- two maps
+
 module _ (alike : ℕ → ℕ → Bool) (T : List ℕ) (d a b : ℕ) where
-  pub no-level : d ≡ 0 → false ≡ terms-alike alike T d a b
-  unfolding terms-alike
+  pub no-level : d ≡ 0 → false ≡ same-maps alike T d a b
+  unfolding same-maps
   no-level e = rw e
 
-  module _ (z : d ≡ 0 → ⊥) where
-    one-level : (r : Bool) → r ≡ terms-alike alike T (suc (d - 1)) a b → r ≡ terms-alike alike T d a b
-    one-level r h = let e : suc (d - 1) ≡ d = omega arith in subst (λ (n : ℕ). r ≡ terms-alike alike T n a b) e h
+  module _ (some : d ≡ 0 → ⊥) (v w m n : ℕ) (p : v ≡ getD T a 0) (q : w ≡ getD T b 0) (e : m ≡ size-in v) (f : n ≡ size-in w) where
+    pub maps-sizes : (m ≡ n → ⊥) → false ≡ same-maps alike T d a b
+    unfolding same-maps
+    maps-sizes g = let k : d ≡ suc (d - 1) = omega arith in rw (k, ← p, ← q, ← e, ← f, ne-eqb m n g)
 
-    pub past-first : length T ≤ a → false ≡ terms-alike alike T d a b
-    unfolding terms-alike
-    past-first h = one-level false (rw (le-leb (length T) a h))
+    one-level : m ≡ n → (c : ℕ) → c ≡ parts-in v → (k : ℕ) → pairs-among T (same-terms alike T k) (c / 2) 0 (a + 1) (b + 1) (b + 1) ≡ same-maps alike T (suc k) a b
+    unfolding same-maps
+    one-level g c h k = rw (h, ← p, ← q, ← e, ← f, eq-eqb m n g)
 
-    module _ (h : a < length T) where
-      pub past-second : length T ≤ b → false ≡ terms-alike alike T d a b
-      unfolding terms-alike
-      past-second k = one-level false (rw (lt-leb (length T) a h, le-leb (length T) b k))
+    pub maps-pairs : m ≡ n → (c : ℕ) → c ≡ parts-in v → (r : Bool) → r ≡ pairs-among T (same-terms alike T (d - 1)) (c / 2) 0 (a + 1) (b + 1) (b + 1) → r ≡ same-maps alike T d a b
+    maps-pairs g c h r i =
+        let k : suc (d - 1) ≡ d = omega arith in
+        i ∙ one-level g c h (d - 1) ∙ ap (λ (x : ℕ). same-maps alike T x a b) k
 
-      module _ (k : b < length T) (m n : ℕ) (e : m ≡ size-in (getD T a 0)) (f : n ≡ size-in (getD T b 0)) where
-        pub sizes-differ : (m ≡ n → ⊥) → false ≡ terms-alike alike T d a b
-        unfolding terms-alike
-        sizes-differ q = one-level false (rw (lt-leb (length T) a h, lt-leb (length T) b k, ← e, ← f, ne-eqb m n q))
+-- ---- pairs one by one
 
-        module _ (s : m ≡ n) (x : Bool) (g : x ≡ alike (getD T a 0) (getD T b 0)) where
-          pub rows-differ : x ≡ false → false ≡ terms-alike alike T d a b
-          unfolding terms-alike
-          rows-differ q = one-level false (rw (lt-leb (length T) a h, lt-leb (length T) b k, ← e, ← f, eq-eqb m n s, ← g, q))
+module _ (T : List ℕ) (terms : ℕ → ℕ → Bool) where
+  pub pair-start : (n k at : ℕ) → pair-among T terms (n - 0) k at ≡ pair-among T terms n k at
+  pair-start n k at = let e : n - 0 ≡ n = omega arith in rw e
 
-          module _ (t : x ≡ true) where
-            inside : (r : Bool) → r ≡ inside-alike T (terms-alike alike T (d - 1)) a b → r ≡ terms-alike alike T d a b
-            unfolding terms-alike
-            inside r q = one-level r (rw (lt-leb (length T) a h, lt-leb (length T) b k, ← e, ← f, eq-eqb m n s, ← g, t) q)
+  module _ (n k i x : ℕ) (r : Bool) (h : pair-among T terms (n - i) k x ≡ r) where
+    pub pair-none : n ≤ i → false ≡ r
+    unfolding pair-among
+    pair-none l = let e : n - i ≡ 0 = omega arith in rw e at h
 
-            module _ (c : ℕ) (i : c ≡ parts-in (getD T a 0)) where
-              pub no-parts : c ≡ 0 → true ≡ terms-alike alike T d a b
-              unfolding inside-alike parts-alike pairs-among
-              no-parts q = inside true (rw (← i, q) (go (eqb (kind-in (getD T a 0)) 9)))
-                where
-                  go : (y : Bool) → true ≡ cond y true true
-                  go true = refl
-                  go false = refl
+    module _ (l : i < n) (s : Bool) (p : s ≡ terms k x) where
+      pub pair-here : s ≡ true → (v w y z : ℕ) → v ≡ getD T k 0 → y ≡ size-in v → w ≡ getD T x 0 → z ≡ size-in w → (t : Bool) → t ≡ terms (k + y) (x + z) → t ≡ r
+      unfolding pair-among
+      pair-here f v w y z a b c d t g = let e : n - i ≡ suc (n - (i + 1)) = omega arith in g ∙ rw (b, a, d, c) (rw (e, ← p, f) at h)
 
-              module _ (j : ℕ) (o : j ≡ kind-in (getD T a 0)) where
-                pub by-pairs : j ≡ 9 → (r : Bool) → r ≡ pairs-among T (terms-alike alike T (d - 1)) (c / 2) (a + 1) (c / 2) (b + 1) → r ≡ terms-alike alike T d a b
-                unfolding inside-alike
-                by-pairs q r p = inside r (rw (← o, eq-eqb j 9 q, ← i) p)
+      pub pair-next : s ≡ false → (z : ℕ) → z ≡ pair-size T x → pair-among T terms (n - (i + 1)) k (x + z) ≡ r
+      unfolding pair-among
+      pair-next f z g = let e : n - i ≡ suc (n - (i + 1)) = omega arith in rw (e, ← p, f, ← g) at h
 
-                pub by-parts : (j ≡ 9 → ⊥) → (r : Bool) → r ≡ parts-alike T (terms-alike alike T (d - 1)) c (a + 1) (b + 1) → r ≡ terms-alike alike T d a b
-                unfolding inside-alike
-                by-parts q r p = inside r (rw (← o, ne-eqb j 9 q, ← i) p)
+  module _ (n m k at b : ℕ) (s : Bool) (p : s ≡ pair-among T terms n k at) where
+    pub around-first : s ≡ true → true ≡ pair-around T terms n m k at b
+    unfolding pair-around
+    around-first e = rw (← p, e)
+
+    pub around-second : s ≡ false → (t : Bool) → t ≡ pair-among T terms m k b → t ≡ pair-around T terms n m k at b
+    unfolding pair-around
+    around-second e t q = rw (← p, e) q
+
+  pub pairs-start : (n a b : ℕ) → pairs-among T terms (n - 0) 0 a b b ≡ pairs-among T terms n 0 a b b
+  pairs-start n a b = let e : n - 0 ≡ n = omega arith in rw e
+
+  module _ (n b i x y : ℕ) (r : Bool) (h : pairs-among T terms (n - i) i x y b ≡ r) where
+    pub pairs-ended : n ≤ i → true ≡ r
+    unfolding pairs-among
+    pairs-ended l = let e : n - i ≡ 0 = omega arith in rw e at h
+
+    module _ (l : i < n) (s : Bool) (p : s ≡ pair-around T terms (n - i) i x y b) where
+      first-pair : s ≡ pair-around T terms (suc (n - (i + 1))) i x y b
+      first-pair = let e : n - i ≡ suc (n - (i + 1)) = omega arith in rw e at p
+
+      pub pairs-differ : s ≡ false → false ≡ r
+      unfolding pairs-among
+      pairs-differ f = let e : n - i ≡ suc (n - (i + 1)) = omega arith in rw (e, ← first-pair, f) at h
+
+      pub pairs-next : s ≡ true → (z z′ : ℕ) → z ≡ pair-size T x → z′ ≡ pair-size T y → pairs-among T terms (n - (i + 1)) (i + 1) (x + z) (y + z′) b ≡ r
+      unfolding pairs-among
+      pairs-next f z z′ g k = let e : n - i ≡ suc (n - (i + 1)) = omega arith in rw (e, ← first-pair, f, ← g, ← k) at h
 
 -- ---- keys one by one
 
 -- n steps are enough from `at` on, and find r
-pub record Among-left (alike : ℕ → ℕ → Bool) (T : List ℕ) (d at key : ℕ) (r : Bool) : Type 0 where
+pub record Among-left (T : List ℕ) (terms : ℕ → ℕ → Bool) (at key : ℕ) (r : Bool) : Type 0 where
   pub steps : ℕ
   pub enough : key - at ≤ steps
-  pub finds : among-steps alike T d steps at key ≡ r
+  pub finds : among-steps T terms steps at key ≡ r
 
-pub no-such-row : (alike : ℕ → ℕ → Bool) (T : List ℕ) (d first key : ℕ) → length T ≤ key → false ≡ among-from alike T d first key
+pub no-such-row : (T : List ℕ) (terms : ℕ → ℕ → Bool) (first key : ℕ) → length T ≤ key → false ≡ among-from T terms first key
 unfolding among-from
-no-such-row alike T d first key h = rw (le-leb (length T) key h)
+no-such-row T terms first key h = rw (le-leb (length T) key h)
 
-pub among-start : (alike : ℕ → ℕ → Bool) (T : List ℕ) (d first key : ℕ) → key < length T → Among-left alike T d first key (among-from alike T d first key)
+pub among-start : (T : List ℕ) (terms : ℕ → ℕ → Bool) (first key : ℕ) → key < length T → Among-left T terms first key (among-from T terms first key)
 unfolding among-from
-among-start alike T d first key h = record { steps = key - first; enough = omega arith; finds = rw (lt-leb (length T) key h) }
+among-start T terms first key h = record { steps = key - first; enough = omega arith; finds = rw (lt-leb (length T) key h) }
 
-module _ (alike : ℕ → ℕ → Bool) (T : List ℕ) (d at key : ℕ) (r : Bool) where
-  pub among-none : Among-left alike T d at key r → key ≤ at → false ≡ r
-  among-none h l = sym (among-ended alike T d (h .steps) at key l) ∙ h .finds
+module _ (T : List ℕ) (terms : ℕ → ℕ → Bool) (at key : ℕ) (r : Bool) where
+  pub among-none : Among-left T terms at key r → key ≤ at → false ≡ r
+  among-none h l = sym (among-ended T terms (h .steps) at key l) ∙ h .finds
 
-  one-step : (n : ℕ) → key - at ≤ n → among-steps alike T d n at key ≡ r → at < key → among-steps alike T d (suc (n - 1)) at key ≡ r
+  one-step : (n : ℕ) → key - at ≤ n → among-steps T terms n at key ≡ r → at < key → among-steps T terms (suc (n - 1)) at key ≡ r
   one-step n l h k = let e : n ≡ suc (n - 1) = omega arith in rw e at h
 
-  module _ (h : Among-left alike T d at key r) (l : at < key) (s : Bool) (p : s ≡ terms-alike alike T d key at) where
-    first-step : among-steps alike T d (suc (h .steps - 1)) at key ≡ r
+  module _ (h : Among-left T terms at key r) (l : at < key) (s : Bool) (p : s ≡ terms key at) where
+    first-step : among-steps T terms (suc (h .steps - 1)) at key ≡ r
     first-step = one-step (h .steps) (h .enough) (h .finds) l
 
     pub among-found : s ≡ true → true ≡ r
@@ -202,7 +258,7 @@ module _ (alike : ℕ → ℕ → Bool) (T : List ℕ) (d at key : ℕ) (r : Boo
       unfolding among-steps
       among-stuck e = rw (lt-leb key at l, ← p, f, ← g, eq-eqb z 0 e) at first-step
 
-      pub among-later : (z ≡ 0 → ⊥) → Among-left alike T d (at + z) key r
+      pub among-later : (z ≡ 0 → ⊥) → Among-left T terms (at + z) key r
       unfolding among-steps
       among-later e =
           let enough : key - at ≤ h .steps = h .enough in

@@ -2,15 +2,15 @@
 -- About the code alone, proved against the definitions of term_spec: nothing here has to be believed.
 use mathlib.Core.Path.{_≡_}
 use mathlib.Core.Bool.{Bool, true, false, cond}
-use mathlib.Core.List.{List, [], _∷_}
-use Prim.Native.Nat.{ℕ, zero, suc, _+_, _*_, _-_, _/_, _%_, _<_}
-use lib.Dec.{eqb, leb}
+use mathlib.Core.List.{List}
+use Prim.Native.Nat.{ℕ, zero, suc, _+_, _*_, _-_, _/_, _%_, _<_, min}
+use lib.Dec.{ltb}
 use lib.ListN.{length, getD}
 use Rattle.term_spec.specs.Rows.{kind-in, offset-in, parts-in, size-in}
 use Rattle.row_fields.specs.Found.{content-of}
 use Rattle.row_fields.specs.Meaning.{term-kind}
 use Rattle.row_compare.specs.Hash.{mix, hash-contents}
-use Rattle.map_keys.specs.Compare.{same-terms-raw, pair-size, among-rows}
+use Rattle.map_keys.specs.Compare.{unordered-rows, same-terms-raw, pair-size, among-rows}
 
 -- the d-th slot from the hash h on
 abbrev pub slot : List ℕ → ℕ → ℕ → ℕ
@@ -25,61 +25,47 @@ pub record Keeps (L L′ : List ℕ) : Type 0 where
   pub as-many : length L′ ≡ length L
   pub occupied : (i : ℕ) → (getD L i 0 ≡ 0 → ⊥) → getD L′ i 0 ≡ getD L i 0
 
--- a row of a map of two pairs or more, whose order says nothing
-unfoldable pub has-pairs : ℕ → Bool
-has-pairs w = cond (eqb (kind-in w) 9) (leb 4 (parts-in w)) false
+-- a hash to which that of a row is added whose place does not count: what is added is no multiple, so that other rows seldom give the same sum
+unfoldable pub added : ℕ → ℕ → ℕ
+added h x = (h + x * x / 65536) % 4294967296
 
--- how many rows of a term are hashed at most, by its size
-unfoldable pub hashed-rows : ℕ → ℕ
-hashed-rows n = cond (leb n 16) n 16
-
--- hashes of terms, over the words of their rows: up to the first map of two pairs or more, with its own row
+-- hashes of terms, over the words of their rows
 module _ (m places lengths : List ℕ) where
   -- what a row says: its kind, its number of parts and its own fields
   unfoldable pub hash-row : ℕ → ℕ → ℕ
   hash-row h w =
       hash-contents m places (mix h (16 * parts-in w + term-kind (kind-in w))) (content-of m places lengths (kind-in w) (offset-in w))
 
-  -- of at most n words
-  unfoldable pub hash-words : ℕ → ℕ → List ℕ → ℕ
-  hash-words zero h ws = h
-  hash-words (suc n) h [] = h
-  hash-words (suc n) h (w ∷ ws) = cond (has-pairs w) (hash-row h w) (hash-words n (hash-row h w) ws)
+  -- n rows of a table from a on, of which the first s stand in no order. A map of two pairs or more counts by its own row alone where it has more rows than are left
+  unfoldable pub hash-rows : List ℕ → ℕ → ℕ → ℕ → ℕ → ℕ
+  hash-rows T h zero s a = h
+  hash-rows T h (suc n) (suc s) a = hash-rows T (added h (hash-row 0 (getD T a 0))) n s (a + 1)
+  hash-rows T h (suc n) zero a =
+      cond (ltb n (unordered-rows (getD T a 0))) (hash-row h (getD T a 0)) (hash-rows T (hash-row h (getD T a 0)) n (unordered-rows (getD T a 0)) (a + 1))
 
-  -- equal keys of two maps get two hashes: each map's start from the row of its first key; the step at the end and the half that is taken part keys that differ in their last byte alone
-  unfoldable pub hash-row-words : ℕ → List ℕ → ℕ
-  hash-row-words first ws = mix (hash-words (hashed-rows (length ws)) (mix 0 first) ws) 0 / 65536
-
-  -- the same of the n rows of a table from a on
-  unfoldable pub hash-rows : List ℕ → ℕ → ℕ → ℕ → ℕ
-  hash-rows T h zero a = h
-  hash-rows T h (suc n) a = cond (has-pairs (getD T a 0)) (hash-row h (getD T a 0)) (hash-rows T (hash-row h (getD T a 0)) n (a + 1))
-
-  -- of the term at a row, as a key of the map whose first key is at the row `first`
+  -- of the term at a row, as a key of the map whose first key is at the row `first`: its first 16 rows count.
+  -- Equal keys of two maps get two hashes: each map's start from the row of its first key; the step at the end and the half that is taken part keys that differ in their last byte alone
   unfoldable pub term-hash : List ℕ → ℕ → ℕ → ℕ
-  term-hash T first row = mix (hash-rows T (mix 0 first) (hashed-rows (size-in (getD T row 0))) row) 0 / 65536
+  term-hash T first row = mix (hash-rows T (mix 0 first) (min (size-in (getD T row 0)) 16) 0 row) 0 / 65536
 
   -- the key is absent: an empty slot comes from the hash h on, and no row in the slots before it means the same
-  unfoldable pub Absent : List ℕ → ℕ → ℕ → List ℕ → ℕ → Type 0
-  Absent T levels key L h =
-      (d : ℕ) × (d < length L) × (slot L h d ≡ 0) × ((e : ℕ) → e < d → same-terms-raw m places lengths T levels key (slot L h e - 1) ≡ false)
+  unfoldable pub Absent : List ℕ → ℕ → List ℕ → ℕ → Type 0
+  Absent T key L h =
+      (d : ℕ) × (d < length L) × (slot L h d ≡ 0) × ((e : ℕ) → e < d → same-terms-raw m places lengths T key (slot L h e - 1) ≡ false)
 
-  module _ (T : List ℕ) (levels first key : ℕ) (L : List ℕ) where
-    -- the set contains the keys at which among-steps looks, in n steps from the row `at` on, and those that are the same as this one have its hash
+  module _ (T : List ℕ) (first key : ℕ) (L : List ℕ) where
+    -- of the keys at which among-steps looks, in n steps from the row `at` on, the set contains those that are equal to that at the row `key`, by its hash
     unfoldable pub Contains-from : ℕ → ℕ → Type 0
     Contains-from zero at = Unit {0}
     Contains-from (suc n) at =
-        at < key
-        → Contains L (term-hash T first at) at
-        × (same-terms-raw m places lengths T levels key at ≡ true → term-hash T first key ≡ term-hash T first at)
-        × Contains-from n (at + pair-size T at)
+        at < key → (same-terms-raw m places lengths T key at ≡ true → Contains L (term-hash T first key) at) × Contains-from n (at + pair-size T at)
 
-    -- the set contains each key before the row `key`
+    -- the same of each key before the row `key`
     abbrev pub Contains-before : Type 0
     Contains-before = Contains-from (key - first) first
 
     -- what a call promises that inserts the key unless it equals an earlier one: the answer, whether it does, and the slots after it
     pub record Contains-or-insert (answer : Bool) (L′ : List ℕ) : Type 0 where
-      pub slots-kept : Keeps L L′
-      pub judged : Contains-before → answer ≡ among-rows m places lengths T levels first key
+      pub keys-kept : Keeps L L′
+      pub judged : Contains-before → answer ≡ among-rows m places lengths T first key
       pub inserted : answer ≡ false → Contains L′ (term-hash T first key) key

@@ -6,7 +6,7 @@ use Prim.Native.Nat.{ℕ, zero, suc, _+_, _-_, _*_, _/_, _%_, _≤_, _<_}
 use native.Mathlib.Omega.{arith}
 use lib.ListN.{length, getD, drop}
 use lib.Seq.{sets, length-sets}
-use Rattle.term_spec.specs.Tree.{empty, _▹_, _▹▹_, count, size, sizes, depth, Each-node, Each-nodes}
+use Rattle.term_spec.specs.Tree.{empty, _▹_, _▹▹_, count, size, sizes, Each-node, Each-nodes}
 use Rattle.term_spec.specs.Numbers.{Under}
 use Rattle.term_spec.specs.Term.{Term}
 use Rattle.term_spec.specs.Equal.{among}
@@ -27,12 +27,10 @@ use Rattle.term_spec.proofs.RoundTrip.{join-none}
 use Rattle.term_spec.proofs.Rows.{size-positive, each-nodes-join, sizes-join, count-join, count-le-sizes, length-rows}
 use Rattle.term_spec.proofs.Text.{under-all}
 use Rattle.term_spec.proofs.Words.{small-rows, sets-here, length-words-of}
-use Rattle.map_keys.specs.Compare.{among-rows}
-use Rattle.map_keys.specs.KeySet.{Contains, Keeps, hash-row-words, term-hash, Contains-before, Contains-or-insert}
+use Rattle.map_keys.specs.KeySet.{Keeps, Contains-or-insert}
 use Rattle.map_keys.proofs.Compare.{Keys-of, no-keys, one-more-key}
-use Rattle.map_keys.proofs.InTable.{Rows-in-table, last-among}
-use Rattle.map_keys.proofs.Slots.{keeps-trans, contains-as, contains-kept}
-use Rattle.map_keys.proofs.KeySet.{Contains-keys, no-key, keys-kept, keys-more, contains-before, hash-held}
+use Rattle.map_keys.proofs.InTable.{Rows-in-table}
+use Rattle.map_keys.proofs.KeySet.{keeps-trans, Contains-key, Contains-keys, no-key, key-kept, keys-kept, keys-more, key-inserted, key-judged}
 use Rattle.term_reader.specs.declared.Step.{Step}
 use Rattle.term_reader.specs.declared.Step.the-variants as step
 use Rattle.term_reader.specs.declared.Parts.{Parts}
@@ -47,10 +45,10 @@ under-from zero l u = u
 under-from (suc n) [] u = tt
 under-from (suc n) (x ∷ l) u = under-from n l (u .1)
 
--- terms that are read are valid, and have no more levels than there are
+-- terms that are read are valid
 abbrev pub Sound : Given → ℕ → ℕ → List ℕ → Type 0
 Sound given cap deep m =
-    (at row : ℕ) → row ≤ cap → (t : Located) (s : Position) → term given cap deep any (at-offset m at row) ≡ good (t, s) → Valid (given .flags) (as-read t) × (depth (as-read t) ≤ deep)
+    (at row : ℕ) → row ≤ cap → (t : Located) (s : Position) → term given cap deep any (at-offset m at row) ≡ good (t, s) → Valid (given .flags) (as-read t)
 
 pub parts-sound : (flags n : ℕ) (places lengths m : List ℕ) (cap deep : ℕ) → ((i : ℕ) → getD m i 0 < 256) → cap ≤ 8192 → Sound (given-of flags (lent-list n places lengths)) cap deep m
 parts-sound flags n places lengths m cap deep under few at row low t s e =
@@ -58,28 +56,21 @@ parts-sound flags n places lengths m cap deep under few at row low t s e =
     let f : Found-term cap (given-of flags list) for-any deep row t s
     = term-holds cap (given-of flags list) (list-true flags list) few deep for-any row (at-offset m at row)
     (record { bytes-under = under-from at m (under-all m (λ i _. under i)); rows-are = refl }) low .known t s e in
-    (f .valid, f .deep)
+    f .valid
 
--- a key past pairs is compared with each key of theirs, and where the set contains theirs, those that are the same have one hash
-pub record Told (m : List ℕ) (cap : ℕ) (given : Given) (places lengths : List ℕ) (first deep : ℕ) : Type 0 where
-  pub tells : (S : List ℕ) (us : Terms) (u : Located) (ks : List Term) → Keys-of us ks → Rows-in-table m cap given S (whole-of first) first (us ▹▹ (u ▹ empty))
-      → depth (as-read u) ≤ deep → Valid (given .flags) (as-read u) → Valids (given .flags) (all-as-read us)
-      → among-rows m places lengths S deep first (first + sizes us) ≡ among (meaning u) ks
-  pub recalls : (S : List ℕ) (us : Terms) (u : Located) (L : List ℕ) → Rows-in-table m cap given S (whole-of first) first (us ▹▹ (u ▹ empty))
-      → depth (as-read u) ≤ deep → Valid (given .flags) (as-read u) → Valids (given .flags) (all-as-read us)
-      → Contains-keys m places lengths (whole-of first) first first us L → Contains-before m places lengths S deep first (first + sizes us) L
-  pub hashes : (S : List ℕ) (us : Terms) (u : Located) → Rows-in-table m cap given S (whole-of first) first (us ▹▹ (u ▹ empty))
-      → term-hash m places lengths S first (first + sizes us) ≡ hash-row-words m places lengths first (row-words (tree-rows (whole-of first) (first + sizes us) u))
+-- where the set contains the keys of pairs, a key past them is judged by whether it is among theirs
+pub record Told (m : List ℕ) (cap : ℕ) (given : Given) (places lengths : List ℕ) (first : ℕ) : Type 0 where
+  pub judges : (S : List ℕ) (us : Terms) (u : Located) (ks : List Term) (L L′ : List ℕ) (b : Bool) → Rows-in-table m cap given S (whole-of first) first (us ▹▹ (u ▹ empty))
+      → Valids (given .flags) (all-as-read (us ▹▹ (u ▹ empty))) → Keys-of us ks → Contains-keys m places lengths (whole-of first) first first us L
+      → Contains-or-insert m places lengths S first (first + sizes us) L b L′ → b ≡ among (meaning u) ks
 
-pub keys-told : (flags n : ℕ) (places lengths m : List ℕ) (cap first deep : ℕ) → of-size (lent-list n places lengths) ≡ true → n < 256 → ((i : ℕ) → getD m i 0 < 256)
-    → Told m cap (given-of flags (lent-list n places lengths)) places lengths first deep
+pub keys-told : (flags n : ℕ) (places lengths m : List ℕ) (cap first : ℕ) → of-size (lent-list n places lengths) ≡ true → n < 256 → ((i : ℕ) → getD m i 0 < 256)
+    → Told m cap (given-of flags (lent-list n places lengths)) places lengths first
 unfolding given-of
-keys-told flags n places lengths m cap first deep sized few under =
-    let list : AtomList = lent-list n places lengths in
+keys-told flags n places lengths m cap first sized few under =
     record {
-      tells = λ S us u ks k h e v w. last-among flags list m (record { sized = sized; few = omega arith; under = under-all m (λ i _. under i) }) cap S deep us u k h e v w;
-      recalls = λ S us u L h e v w r. contains-before flags list m (record { sized = sized; few = omega arith; under = under-all m (λ i _. under i) }) cap us u h deep e v w r;
-      hashes = λ S us u h. hash-held flags list m (record { sized = sized; few = omega arith; under = under-all m (λ i _. under i) }) cap us u h;
+      judges = λ S us u ks L L′ b h v.
+          key-judged flags (lent-list n places lengths) m (record { sized = sized; few = omega arith; under = under-all m (λ i _. under i) }) cap us u h v;
     }
 
 -- a term that was read has a row
@@ -137,7 +128,7 @@ module _ (given : Given) (cap deep : ℕ) (m places lengths : List ℕ) (start f
     pub left : parts + 1 + more * 2 ≡ all * 2
     pub keys : Keys-of ts earlier
     pub remembered : Contains-keys m places lengths (whole-of first) first first ts L
-    pub contained : Contains L (hash-row-words m places lengths first (row-words (tree-rows (whole-of first) (first + sizes ts) key))) (first + sizes ts)
+    pub contained : Contains-key m places lengths (whole-of first) first (first + sizes ts) key L
     pub goes : all-entries
         ≡ after (Part any (at-offset m at row)) (λ v. λ u. after (entries Part (meaning key ∷ earlier) more u) (λ us. done ((ts ▹▹ (key ▹ empty)) ▹▹ (v ▹ us))))
 
@@ -251,7 +242,7 @@ module _ (given : Given) (cap deep : ℕ) (m places lengths : List ℕ) (start f
               many = omega (arith, s .many, count-join ts (t ▹ empty));
               backed = backing.joined m cap given ts (t ▹ empty) (s .backed) (b .1, tt);
               placed = each-nodes-join (Placed 65536) ts (t ▹ empty) (s .placed) (part .from, tt);
-              valid = valid-more (given .flags) ts t (s .valid) (sound at row (room .low) t (at-offset m next end) (part .is) .0);
+              valid = valid-more (given .flags) ts t (s .valid) (sound at row (room .low) t (at-offset m next end) (part .is));
             }
 
         -- the value of a key
@@ -269,13 +260,13 @@ module _ (given : Given) (cap deep : ℕ) (m places lengths : List ℕ) (start f
               stored = subst (λ (us : Terms). Stored us end (parts + 1) T′) j (stored-more (ts ▹▹ (k ▹ empty)) (i .stored));
               left = i .left;
               keys = one-more-key k v (i .keys);
-              remembered = keys-more k v (keys-kept kept (i .remembered)) (contains-kept kept (i .contained));
+              remembered = keys-more k v (keys-kept kept (i .remembered)) (key-kept kept (i .contained));
               goes = value-goes i v next end (part .is);
             })
 
         -- a key, which is judged, and which is among the earlier ones or not
-        module _ (i : Before-key at row parts T L) (some : parts / 2 < all) (tell : Told m cap given places lengths first deep)
-            (b : Bool) (L₁ L₂ : List ℕ) (kept : Keeps L L₁) (judged : Contains-or-insert m places lengths T′ deep first row L₁ b L₂) where
+        module _ (i : Before-key at row parts T L) (some : parts / 2 < all) (tell : Told m cap given places lengths first)
+            (b : Bool) (L₁ L₂ : List ℕ) (kept : Keeps L L₁) (judged : Contains-or-insert m places lengths T′ first row L₁ b L₂) where
           with-key : Stored (i .ts ▹▹ (part .x ▹ empty)) end (parts + 1) T′
           with-key = stored-more (i .ts) (i .stored)
 
@@ -294,19 +285,11 @@ module _ (given : Given) (cap deep : ℕ) (m places lengths : List ℕ) (start f
                 all-backed = with-key .backed;
               }
 
-          valid-key : Valid (given .flags) (as-read (part .x)) × (depth (as-read (part .x)) ≤ deep)
-          valid-key = sound at row (room .low) (part .x) (at-offset m next end) (part .is)
-
-          recalls-keys : Contains-before m places lengths T′ deep first row L₁
-          recalls-keys =
-              subst (λ (k : ℕ). Contains-before m places lengths T′ deep first k L₁) (sym (i .stored .rows-are))
-              (tell .recalls T′ (i .ts) (part .x) L₁ held (valid-key .1) (valid-key .0) (i .stored .valid) (keys-kept kept (i .remembered)))
+          judged-key : Contains-or-insert m places lengths T′ first (first + sizes (i .ts)) L₁ b L₂
+          judged-key = subst (λ (k : ℕ). Contains-or-insert m places lengths T′ first k L₁ b L₂) (i .stored .rows-are) judged
 
           is-among : b ≡ among (meaning (part .x)) (i .earlier)
-          is-among =
-              judged .judged recalls-keys
-              ∙ ap (λ (k : ℕ). among-rows m places lengths T′ deep first k) (i .stored .rows-are)
-              ∙ tell .tells T′ (i .ts) (part .x) (i .earlier) (i .keys) held (valid-key .1) (valid-key .0) (i .stored .valid)
+          is-among = tell .judges T′ (i .ts) (part .x) (i .earlier) L₁ L₂ b held (with-key .valid) (i .keys) (keys-kept kept (i .remembered)) judged-key
 
           pub key-twice : (place : ℕ) (U : List ℕ) → b ≡ true → Map-done place (parts-of.Refused 7 at) U
           unfolding inner Done
@@ -317,8 +300,6 @@ module _ (given : Given) (cap deep : ℕ) (m places lengths : List ℕ) (start f
               let ts : Terms = i .ts in
               let k : Located = part .x in
               let more : ℕ = i .more - 1 in
-              let known : Contains L₂ (hash-row-words m places lengths first (row-words (tree-rows (whole-of first) (first + sizes ts) k))) (first + sizes ts)
-              = contains-as (tell .hashes T′ ts k held) (rw (i .stored .rows-are) at (judged .inserted new)) in
               before-value
               (record {
                 ts = ts;
@@ -328,7 +309,7 @@ module _ (given : Given) (cap deep : ℕ) (m places lengths : List ℕ) (start f
                 stored = with-key;
                 left = omega (arith, i .left);
                 keys = i .keys;
-                remembered = keys-kept (keeps-trans kept (judged .slots-kept)) (i .remembered);
-                contained = known;
+                remembered = keys-kept (keeps-trans kept (judged .keys-kept)) (i .remembered);
+                contained = key-inserted m places lengths cap given ts k held judged-key new;
                 goes = key-goes i k next end some (part .is) (sym is-among ∙ new);
               })

@@ -922,7 +922,7 @@ fn read_pairs(
                 if parts % PAIR_PARTS == 0 {
                     continue;
                 }
-                if map_keys::contains_or_insert(msg, places, lengths, table, seen, deep, row, key) {
+                if map_keys::contains_or_insert(msg, places, lengths, table, seen, row, key) {
                     return Parts::Refused {
                         number: refusals::KEY,
                         place: start,

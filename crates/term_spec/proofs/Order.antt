@@ -1,7 +1,7 @@
 -- The order on terms is total, and equal only where two terms are equal.
 use mathlib.Core.Path.{_≡_, refl, sym, _∙_, ap, ap₂}
 use mathlib.Core.Bool.{Bool, true, false, cond}
-use mathlib.Core.List.{List, [], _∷_, _++_}
+use mathlib.Core.List.{List, [], _∷_}
 use Prim.Native.Nat.{ℕ, _<_}
 use native.Mathlib.Omega.{arith}
 use lib.Dec.{eqb}
@@ -281,9 +281,3 @@ self-flipped greater e = less≢greater (sym e)
 
 pub compare-self : (t : Term) → compare t t ≡ equal
 compare-self t = self-flipped (compare t t) (compare-flipped t t)
-
--- a common front decides nothing
-pub front : (a x y : List ℕ) → compare-lists (a ++ x) (a ++ y) ≡ compare-lists x y
-unfolding compare-lists
-front [] x y = refl
-front (n ∷ a) x y = rw (numbers-same n n refl) (front a x y)

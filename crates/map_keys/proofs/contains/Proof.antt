@@ -9,7 +9,7 @@ probe-requires : tie.Need-probe-requires
 probe-requires c κs = search needs
 
 returns : tie.Need-returns
-returns c = λ g. absent-none _ _ _ _ _ _ _ _ _ (c .before .before .before .before .before .before .before .pre .1) (c .before .probe .ensures (not-true _ (c .if1 .taken))) g
+returns c = λ g. absent-none _ _ _ _ _ _ _ _ (c .before .before .before .before .before .before .before .pre .1) (c .before .probe .ensures (not-true _ (c .if1 .taken))) g
 
 key-among-requires : tie.Need-key-among-requires
 key-among-requires c κs = search needs

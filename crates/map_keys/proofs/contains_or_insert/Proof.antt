@@ -16,7 +16,7 @@ same-length : tie.Need-same-length
 same-length c = search needs
 
 returns : tie.Need-returns
-returns c = record { slots-kept = keeps-refl _; judged = λ g. sym (c .if1 .taken) ∙ c .before .contains .ensures g; inserted = λ e. never (sym e) }
+returns c = record { keys-kept = keeps-refl _; judged = λ g. sym (c .if1 .taken) ∙ c .before .contains .ensures g; inserted = λ e. never (sym e) }
 
 insert-requires : tie.Need-insert-requires
 insert-requires c κs = search needs
@@ -27,7 +27,7 @@ same-length-2 c = search needs
 returns-2 : tie.Need-returns-2
 returns-2 c =
     record {
-      slots-kept = c .before .before .insert .ensures .0;
+      keys-kept = c .before .before .insert .ensures .0;
       judged = λ g. sym (c .before .before .before .before .if1 .left) ∙ c .before .before .before .before .before .contains .ensures g;
       inserted = λ _. contains-as (c .before .before .before .before .before .before .before .term-hash .ensures) (c .before .before .insert .ensures .1);
     }

@@ -9,10 +9,10 @@ use Rattle.map_keys.proofs.probe.Statement.{statement}
 use Rattle.map_keys.proofs.probe.Tie as tie
 
 abbrev Inv-loop : tie.InvT-loop
-Inv-loop msg places lengths table slots levels key hash n i₀ d₀ i d = Probed (Other msg places lengths table levels key) slots hash n i d
+Inv-loop msg places lengths table slots key hash n i₀ d₀ i d = Probed (Other msg places lengths table key) slots hash n i d
 
 abbrev μ-loop : tie.MeasureT-loop
-μ-loop msg places lengths table slots levels key hash n i₀ d₀ i d = n - d
+μ-loop msg places lengths table slots key hash n i₀ d₀ i d = n - d
 
 rem-i : tie.Need-rem-i Inv-loop μ-loop
 rem-i c = omega arith
@@ -30,7 +30,7 @@ wide16-requires : tie.Need-wide16-requires Inv-loop μ-loop
 wide16-requires c κs = search needs
 
 returns : tie.Need-returns Inv-loop μ-loop
-returns c = λ _. probe-empty _ _ _ _ _ _ _ _ _ (c .before .before .before .before .loop .inv) (c .before .before .before .loop-test .taken) (c .before .wide16 .ensures) (c .if1 .taken)
+returns c = λ _. probe-empty _ _ _ _ _ _ _ _ (c .before .before .before .before .loop .inv) (c .before .before .before .loop-test .taken) (c .before .wide16 .ensures) (c .if1 .taken)
 
 sub-same-terms : tie.Need-sub-same-terms Inv-loop μ-loop
 sub-same-terms c = omega arith
@@ -51,7 +51,7 @@ loop-less : tie.Need-loop-less Inv-loop μ-loop
 loop-less c = omega arith
 
 loop-again : tie.Need-loop-again Inv-loop μ-loop
-loop-again c = probe-other _ _ _ _ _ _ _ _ _ _ _ (c .before .before .before .before .before .before .before .loop .inv) (c .before .before .before .before .before .before .loop-test .taken) (c .before .before .before .before .wide16 .ensures) (c .before .before .same-terms .ensures) (c .before .if2 .left) (c .next-slot .ensures .0) (c .next-slot .ensures .1)
+loop-again c = probe-other _ _ _ _ _ _ _ _ _ _ (c .before .before .before .before .before .before .before .loop .inv) (c .before .before .before .before .before .before .loop-test .taken) (c .before .before .before .before .wide16 .ensures) (c .before .before .same-terms .ensures) (c .before .if2 .left) (c .next-slot .ensures .0) (c .next-slot .ensures .1)
 
 returns-3 : tie.Need-returns-3 Inv-loop μ-loop
 returns-3 c = λ e. never (sym e)

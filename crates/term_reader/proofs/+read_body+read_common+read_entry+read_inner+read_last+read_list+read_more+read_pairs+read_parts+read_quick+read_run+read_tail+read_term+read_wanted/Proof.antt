@@ -9,12 +9,12 @@ use Rattle.term_head.proofs.Openings.{skipped-here}
 use Rattle.term_reader.specs.Code.{Room, RunDone, PartsDone}
 use Rattle.term_reader.specs.declared.Step.{Step}
 use Rattle.map_keys.specs.KeySet.{Keeps}
-use Rattle.map_keys.proofs.Slots.{keeps-refl, keeps-trans}
+use Rattle.map_keys.proofs.KeySet.{keeps-refl, keeps-trans}
 use Rattle.term_head.specs.Code.{wanted-of}
 use Rattle.term_spec.specs.Answer.{at-offset}
 use Rattle.term_spec.specs.Reading.{each, list-tail, body, term}
 use Rattle.term_spec.specs.AtomList.{given-of}
-use Rattle.context.specs.Word.{count-in, capacity-in, list-in, given-in}
+use Rattle.context.specs.Word.{capacity-in, list-in, given-in}
 use Rattle.context.proofs.Words.{count-small}
 use types.Run.{miss}
 use lib.ListN.{length, drop, replicate, length-set}
@@ -593,7 +593,7 @@ read-pairs-returns-2 : (t : ℕ) → read-pairs-lts.Need-returns-2 (read-pairs-c
 read-pairs-returns-2 t c =
     let i = c .before .before .before .before .before .before .before .before .before .before .before .before .before .before .before .before .before .before .loop in
     let e : i .parts / 2 < c .before .before .before .before .before .before .before .before .before .before .before .before .before .before .before .before .before .before .before .before .before .before .before .before .args .count = omega (arith, c .before .before .before .before .before .before .before .before .before .before .before .before .before .before .before .before .before .loop-test .taken) in
-    record { rows-stored = λ place. key-twice _ _ _ _ _ _ _ _ _ _ _ _ _ _ _ _ _ (c .before .before .before .before .before .before .before .before .before .before .before .before .before .before .read-entry .ensures .rows-stored) _ (i .inv .0) _ _ (c .before .before .before .before .before .before .before .before .next .given .1) (parts-sound _ _ _ _ _ _ _ (λ j. omega (arith, c .before .before .before .before .before .before .before .before .before .before .before .before .before .before .before .before .before .before .before .before .before .before .before .shared-slice-known .given j)) (i .inv .0 .few)) (at-key _ _ _ _ _ _ _ _ _ _ _ _ _ _ _ (i .inv .2) (c .before .before .before .before .before .before .if1 .left)) e (keys-told _ _ _ _ _ _ _ _ (i .inv .0 .sized) (count-small _) (λ j. omega (arith, c .before .before .before .before .before .before .before .before .before .before .before .before .before .before .before .before .before .before .before .before .before .before .before .shared-slice-known .given j))) _ _ _ (c .before .before .before .before .before .before .before .before .before .before .before .before .before .before .read-entry .ensures .keys-kept) (c .before .before .before .contains-or-insert .ensures) place _ (c .if2 .taken); keys-kept = keeps-trans (keeps-trans (i .inv .3) (c .before .before .before .before .before .before .before .before .before .before .before .before .before .before .read-entry .ensures .keys-kept)) (c .before .before .before .contains-or-insert .ensures .slots-kept) }
+    record { rows-stored = λ place. key-twice _ _ _ _ _ _ _ _ _ _ _ _ _ _ _ _ _ (c .before .before .before .before .before .before .before .before .before .before .before .before .before .before .read-entry .ensures .rows-stored) _ (i .inv .0) _ _ (c .before .before .before .before .before .before .before .before .next .given .1) (parts-sound _ _ _ _ _ _ _ (λ j. omega (arith, c .before .before .before .before .before .before .before .before .before .before .before .before .before .before .before .before .before .before .before .before .before .before .before .shared-slice-known .given j)) (i .inv .0 .few)) (at-key _ _ _ _ _ _ _ _ _ _ _ _ _ _ _ (i .inv .2) (c .before .before .before .before .before .before .if1 .left)) e (keys-told _ _ _ _ _ _ _ (i .inv .0 .sized) (count-small _) (λ j. omega (arith, c .before .before .before .before .before .before .before .before .before .before .before .before .before .before .before .before .before .before .before .before .before .before .before .shared-slice-known .given j))) _ _ _ (c .before .before .before .before .before .before .before .before .before .before .before .before .before .before .read-entry .ensures .keys-kept) (c .before .before .before .contains-or-insert .ensures) place _ (c .if2 .taken); keys-kept = keeps-trans (keeps-trans (i .inv .3) (c .before .before .before .before .before .before .before .before .before .before .before .before .before .before .read-entry .ensures .keys-kept)) (c .before .before .before .contains-or-insert .ensures .keys-kept) }
 
 read-pairs-loop-less-2 : (t : ℕ) → read-pairs-lts.Need-loop-less-2 (read-pairs-calls t) (read-pairs-at t) read-pairs.Post read-pairs-Inv-loop read-pairs-μ-loop
 read-pairs-loop-less-2 t c = omega (arith, c .before .before .before .before .before .before .before .before .before .before .before .before .before .before .before .before .before .loop-test .taken)
@@ -602,7 +602,7 @@ read-pairs-loop-again-2 : (t : ℕ) → read-pairs-lts.Need-loop-again-2 (read-p
 read-pairs-loop-again-2 t c =
     let i = c .before .before .before .before .before .before .before .before .before .before .before .before .before .before .before .before .before .before .loop in
     let e : i .parts / 2 < c .before .before .before .before .before .before .before .before .before .before .before .before .before .before .before .before .before .before .before .before .before .before .before .before .args .count = omega (arith, c .before .before .before .before .before .before .before .before .before .before .before .before .before .before .before .before .before .loop-test .taken) in
-    (room-after _ _ _ _ _ _ _ _ _ _ _ _ _ _ _ (i .inv .0) (c .before .before .before .before .before .before .before .before .before .before .before .before .before .before .read-entry .ensures .rows-stored) (c .before .before .before .before .before .before .before .before .next .given .1) (c .before .before .before .before .before .before .before .before .before .before .before .before .before .before .read-entry .kept .1 .1 .1 .1 .0), c .before .before .before .before .before .before .before .before .before .before .before .before .before .before .read-entry .kept .1 .1 .1 .1 .0 ∙ i .inv .1, key-entered _ _ _ _ _ _ _ _ _ _ _ _ _ _ _ _ _ (c .before .before .before .before .before .before .before .before .before .before .before .before .before .before .read-entry .ensures .rows-stored) _ (i .inv .0) _ _ (c .before .before .before .before .before .before .before .before .next .given .1) (parts-sound _ _ _ _ _ _ _ (λ j. omega (arith, c .before .before .before .before .before .before .before .before .before .before .before .before .before .before .before .before .before .before .before .before .before .before .before .shared-slice-known .given j)) (i .inv .0 .few)) (at-key _ _ _ _ _ _ _ _ _ _ _ _ _ _ _ (i .inv .2) (c .before .before .before .before .before .before .if1 .left)) e (keys-told _ _ _ _ _ _ _ _ (i .inv .0 .sized) (count-small _) (λ j. omega (arith, c .before .before .before .before .before .before .before .before .before .before .before .before .before .before .before .before .before .before .before .before .before .before .before .shared-slice-known .given j))) _ _ _ (c .before .before .before .before .before .before .before .before .before .before .before .before .before .before .read-entry .ensures .keys-kept) (c .before .before .before .contains-or-insert .ensures) (c .if2 .left), keeps-trans (keeps-trans (i .inv .3) (c .before .before .before .before .before .before .before .before .before .before .before .before .before .before .read-entry .ensures .keys-kept)) (c .before .before .before .contains-or-insert .ensures .slots-kept))
+    (room-after _ _ _ _ _ _ _ _ _ _ _ _ _ _ _ (i .inv .0) (c .before .before .before .before .before .before .before .before .before .before .before .before .before .before .read-entry .ensures .rows-stored) (c .before .before .before .before .before .before .before .before .next .given .1) (c .before .before .before .before .before .before .before .before .before .before .before .before .before .before .read-entry .kept .1 .1 .1 .1 .0), c .before .before .before .before .before .before .before .before .before .before .before .before .before .before .read-entry .kept .1 .1 .1 .1 .0 ∙ i .inv .1, key-entered _ _ _ _ _ _ _ _ _ _ _ _ _ _ _ _ _ (c .before .before .before .before .before .before .before .before .before .before .before .before .before .before .read-entry .ensures .rows-stored) _ (i .inv .0) _ _ (c .before .before .before .before .before .before .before .before .next .given .1) (parts-sound _ _ _ _ _ _ _ (λ j. omega (arith, c .before .before .before .before .before .before .before .before .before .before .before .before .before .before .before .before .before .before .before .before .before .before .before .shared-slice-known .given j)) (i .inv .0 .few)) (at-key _ _ _ _ _ _ _ _ _ _ _ _ _ _ _ (i .inv .2) (c .before .before .before .before .before .before .if1 .left)) e (keys-told _ _ _ _ _ _ _ (i .inv .0 .sized) (count-small _) (λ j. omega (arith, c .before .before .before .before .before .before .before .before .before .before .before .before .before .before .before .before .before .before .before .before .before .before .before .shared-slice-known .given j))) _ _ _ (c .before .before .before .before .before .before .before .before .before .before .before .before .before .before .read-entry .ensures .keys-kept) (c .before .before .before .contains-or-insert .ensures) (c .if2 .left), keeps-trans (keeps-trans (i .inv .3) (c .before .before .before .before .before .before .before .before .before .before .before .before .before .before .read-entry .ensures .keys-kept)) (c .before .before .before .contains-or-insert .ensures .keys-kept))
 
 read-pairs-same-length-5 : (t : ℕ) → read-pairs-lts.Need-same-length-5 (read-pairs-calls t) (read-pairs-at t) read-pairs.Post read-pairs-Inv-loop read-pairs-μ-loop
 read-pairs-same-length-5 t c = c .before .loop .inv .1

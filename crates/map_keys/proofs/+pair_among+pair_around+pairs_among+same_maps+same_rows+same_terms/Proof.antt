@@ -1,0 +1,1055 @@
+-- The functions that compare terms call each other and meet their contracts: each level counts 6, and a function that calls another at its own level counts more.
+use Rattle.map_keys.proofs.Steps.{rows-start, rows-differ, rows-next, maps-differ, maps-next, rows-ended, past-first, past-second, sizes-differ, sizes-same, no-level, maps-sizes, maps-pairs, pairs-start, pairs-differ, pairs-next, pairs-ended, around-first, around-second, pair-start, pair-here, pair-next, pair-none}
+use Rattle.map_keys.specs.Compare.{same-row, same-rows, pair-among, pairs-among, same-maps, same-terms}
+use borrow.Author.Tests.{not-true, not-false}
+use borrow.Author.Needs.{needs}
+use native.Mathlib.Omega.{arith}
+use mathlib.Core.Path.{_≡_}
+use Prim.Native.Nat.{ℕ, _+_, _*_, _-_, _≤_, _<_}
+use borrow.Fn.Kinds.{In}
+use borrow.Fn.PlainCycle.{Measures, is, falls, and}
+use Rattle.map_keys.proofs.pair_among.Reads as pair-among
+use Rattle.map_keys.proofs.pair_among.Kinds as pair-among-kinds
+use Rattle.map_keys.proofs.+pair_among+pair_around+pairs_among+same_maps+same_rows+same_terms.Lts-pair_among as pair-among-lts
+use Rattle.map_keys.proofs.pair_around.Reads as pair-around
+use Rattle.map_keys.proofs.pair_around.Kinds as pair-around-kinds
+use Rattle.map_keys.proofs.+pair_among+pair_around+pairs_among+same_maps+same_rows+same_terms.Lts-pair_around as pair-around-lts
+use Rattle.map_keys.proofs.pairs_among.Reads as pairs-among
+use Rattle.map_keys.proofs.pairs_among.Kinds as pairs-among-kinds
+use Rattle.map_keys.proofs.+pair_among+pair_around+pairs_among+same_maps+same_rows+same_terms.Lts-pairs_among as pairs-among-lts
+use Rattle.map_keys.proofs.same_maps.Reads as same-maps
+use Rattle.map_keys.proofs.same_maps.Kinds as same-maps-kinds
+use Rattle.map_keys.proofs.+pair_among+pair_around+pairs_among+same_maps+same_rows+same_terms.Lts-same_maps as same-maps-lts
+use Rattle.map_keys.proofs.same_rows.Reads as same-rows
+use Rattle.map_keys.proofs.same_rows.Kinds as same-rows-kinds
+use Rattle.map_keys.proofs.+pair_among+pair_around+pairs_among+same_maps+same_rows+same_terms.Lts-same_rows as same-rows-lts
+use Rattle.map_keys.proofs.same_terms.Reads as same-terms
+use Rattle.map_keys.proofs.same_terms.Kinds as same-terms-kinds
+use Rattle.map_keys.proofs.+pair_among+pair_around+pairs_among+same_maps+same_rows+same_terms.Lts-same_terms as same-terms-lts
+use Rattle.map_keys.proofs.pair_size.Reads as pair-size-reads
+use Rattle.map_keys.proofs.row_at.Reads as row-at-reads
+use Rattle.map_keys.proofs.same_row.Reads as same-row-reads
+use Rattle.map_keys.proofs.unordered_rows.Reads as unordered-rows-reads
+use Rattle.row.proofs.parts_in.Reads as parts-in-reads
+use Rattle.row.proofs.size_in.Reads as size-in-reads
+use Rattle.map_keys.proofs.+pair_among+pair_around+pairs_among+same_maps+same_rows+same_terms.{
+  statement,
+}
+use Rattle.map_keys.proofs.+pair_among+pair_around+pairs_among+same_maps+same_rows+same_terms.Tie.{
+  close,
+}
+
+abbrev μ-pair-among : Measures 4 pair-among-kinds.ps ℕ
+μ-pair-among κs a = a .1 .1 .1 .1 .0 * 6 + 3
+
+abbrev μ-pair-around : Measures 4 pair-around-kinds.ps ℕ
+μ-pair-around κs a = a .1 .1 .1 .1 .0 * 6 + 4
+
+abbrev μ-pairs-among : Measures 4 pairs-among-kinds.ps ℕ
+μ-pairs-among κs a = a .1 .1 .1 .1 .0 * 6 + 5
+
+abbrev μ-same-maps : Measures 4 same-maps-kinds.ps ℕ
+μ-same-maps κs a = a .1 .1 .1 .1 .0 * 6 + 0
+
+abbrev μ-same-rows : Measures 4 same-rows-kinds.ps ℕ
+μ-same-rows κs a = a .1 .1 .1 .1 .0 * 6 + 1
+
+abbrev μ-same-terms : Measures 4 same-terms-kinds.ps ℕ
+μ-same-terms κs a = a .1 .1 .1 .1 .0 * 6 + 2
+
+abbrev pair-among-at : ℕ → In 4 pair-among-kinds.ps
+pair-among-at t =
+    and 4 pair-among-kinds.ps (is 4 pair-among-kinds.ps μ-pair-among t) pair-among.Pre
+
+abbrev pair-among-below : ℕ → In 4 pair-among-kinds.ps
+pair-among-below t =
+    and 4 pair-among-kinds.ps (falls 4 pair-among-kinds.ps _<_ μ-pair-among t) pair-among.Pre
+
+abbrev pair-around-at : ℕ → In 4 pair-around-kinds.ps
+pair-around-at t =
+    and 4 pair-around-kinds.ps (is 4 pair-around-kinds.ps μ-pair-around t) pair-around.Pre
+
+abbrev pair-around-below : ℕ → In 4 pair-around-kinds.ps
+pair-around-below t =
+    and 4 pair-around-kinds.ps (falls 4 pair-around-kinds.ps _<_ μ-pair-around t) pair-around.Pre
+
+abbrev pairs-among-at : ℕ → In 4 pairs-among-kinds.ps
+pairs-among-at t =
+    and 4 pairs-among-kinds.ps (is 4 pairs-among-kinds.ps μ-pairs-among t) pairs-among.Pre
+
+abbrev pairs-among-below : ℕ → In 4 pairs-among-kinds.ps
+pairs-among-below t =
+    and 4 pairs-among-kinds.ps (falls 4 pairs-among-kinds.ps _<_ μ-pairs-among t) pairs-among.Pre
+
+abbrev same-maps-at : ℕ → In 4 same-maps-kinds.ps
+same-maps-at t = and 4 same-maps-kinds.ps (is 4 same-maps-kinds.ps μ-same-maps t) same-maps.Pre
+
+abbrev same-maps-below : ℕ → In 4 same-maps-kinds.ps
+same-maps-below t =
+    and 4 same-maps-kinds.ps (falls 4 same-maps-kinds.ps _<_ μ-same-maps t) same-maps.Pre
+
+abbrev same-rows-at : ℕ → In 4 same-rows-kinds.ps
+same-rows-at t = and 4 same-rows-kinds.ps (is 4 same-rows-kinds.ps μ-same-rows t) same-rows.Pre
+
+abbrev same-rows-below : ℕ → In 4 same-rows-kinds.ps
+same-rows-below t =
+    and 4 same-rows-kinds.ps (falls 4 same-rows-kinds.ps _<_ μ-same-rows t) same-rows.Pre
+
+abbrev same-terms-at : ℕ → In 4 same-terms-kinds.ps
+same-terms-at t =
+    and 4 same-terms-kinds.ps (is 4 same-terms-kinds.ps μ-same-terms t) same-terms.Pre
+
+abbrev same-terms-below : ℕ → In 4 same-terms-kinds.ps
+same-terms-below t =
+    and 4 same-terms-kinds.ps (falls 4 same-terms-kinds.ps _<_ μ-same-terms t) same-terms.Pre
+
+abbrev pair-among-Inv-loop : pair-among-lts.InvT-loop
+pair-among-Inv-loop msg places lengths table levels n k at i₀ x₀ i x =
+    (i ≤ n) × (x + 32768 * (n - i) < 4611686018427387904) × (pair-among table (same-terms (same-row msg places lengths) table levels) (n - i) k x ≡ pair-among table (same-terms (same-row msg places lengths) table levels) n k at)
+
+abbrev pair-among-μ-loop : pair-among-lts.MeasureT-loop
+pair-among-μ-loop msg places lengths table levels n k at i₀ x₀ i x = n - i
+
+pair-among-loop-holds : (t : ℕ) → pair-among-lts.Need-loop-holds (
+  same-terms-below t,
+  same-terms.Post,
+  row-at-reads.Asked,
+  row-at-reads.Learnt,
+  size-in-reads.Asked,
+  size-in-reads.Learnt,
+  pair-size-reads.Asked,
+  pair-size-reads.Learnt,
+) (pair-among-at t) pair-among.Post pair-among-Inv-loop pair-among-μ-loop
+pair-among-loop-holds t c = (omega arith, omega (arith, c .before .before .before .before .pre .1 .1), pair-start _ _ _ _ _)
+
+pair-among-same-terms-requires : (t : ℕ) → pair-among-lts.Need-same-terms-requires (
+  same-terms-below t,
+  same-terms.Post,
+  row-at-reads.Asked,
+  row-at-reads.Learnt,
+  size-in-reads.Asked,
+  size-in-reads.Learnt,
+  pair-size-reads.Asked,
+  pair-size-reads.Learnt,
+) (pair-among-at t) pair-among.Post pair-among-Inv-loop pair-among-μ-loop
+pair-among-same-terms-requires t c κs = (omega (arith, c .before .before .before .before .before .before .pre .0), tt)
+
+pair-among-row-at-requires : (t : ℕ) → pair-among-lts.Need-row-at-requires (
+  same-terms-below t,
+  same-terms.Post,
+  row-at-reads.Asked,
+  row-at-reads.Learnt,
+  size-in-reads.Asked,
+  size-in-reads.Learnt,
+  pair-size-reads.Asked,
+  pair-size-reads.Learnt,
+) (pair-among-at t) pair-among.Post pair-among-Inv-loop pair-among-μ-loop
+pair-among-row-at-requires t c κs = search needs
+
+pair-among-size-in-requires : (t : ℕ) → pair-among-lts.Need-size-in-requires (
+  same-terms-below t,
+  same-terms.Post,
+  row-at-reads.Asked,
+  row-at-reads.Learnt,
+  size-in-reads.Asked,
+  size-in-reads.Learnt,
+  pair-size-reads.Asked,
+  pair-size-reads.Learnt,
+) (pair-among-at t) pair-among.Post pair-among-Inv-loop pair-among-μ-loop
+pair-among-size-in-requires t c κs = search needs
+
+pair-among-add-v : (t : ℕ) → pair-among-lts.Need-add-v (
+  same-terms-below t,
+  same-terms.Post,
+  row-at-reads.Asked,
+  row-at-reads.Learnt,
+  size-in-reads.Asked,
+  size-in-reads.Learnt,
+  pair-size-reads.Asked,
+  pair-size-reads.Learnt,
+) (pair-among-at t) pair-among.Post pair-among-Inv-loop pair-among-μ-loop
+pair-among-add-v t c = omega (arith, c .before .before .before .before .before .before .before .before .before .before .pre .1 .0, c .size-in .ensures .1)
+
+pair-among-row-at-requires-2 : (t : ℕ) → pair-among-lts.Need-row-at-requires-2 (
+  same-terms-below t,
+  same-terms.Post,
+  row-at-reads.Asked,
+  row-at-reads.Learnt,
+  size-in-reads.Asked,
+  size-in-reads.Learnt,
+  pair-size-reads.Asked,
+  pair-size-reads.Learnt,
+) (pair-among-at t) pair-among.Post pair-among-Inv-loop pair-among-μ-loop
+pair-among-row-at-requires-2 t c κs = search needs
+
+pair-among-size-in-requires-2 : (t : ℕ) → pair-among-lts.Need-size-in-requires-2 (
+  same-terms-below t,
+  same-terms.Post,
+  row-at-reads.Asked,
+  row-at-reads.Learnt,
+  size-in-reads.Asked,
+  size-in-reads.Learnt,
+  pair-size-reads.Asked,
+  pair-size-reads.Learnt,
+) (pair-among-at t) pair-among.Post pair-among-Inv-loop pair-among-μ-loop
+pair-among-size-in-requires-2 t c κs = search needs
+
+pair-among-add-w : (t : ℕ) → pair-among-lts.Need-add-w (
+  same-terms-below t,
+  same-terms.Post,
+  row-at-reads.Asked,
+  row-at-reads.Learnt,
+  size-in-reads.Asked,
+  size-in-reads.Learnt,
+  pair-size-reads.Asked,
+  pair-size-reads.Learnt,
+) (pair-among-at t) pair-among.Post pair-among-Inv-loop pair-among-μ-loop
+pair-among-add-w t c = omega (arith, c .before .before .before .before .before .before .before .loop .inv .1, c .size-in2 .ensures .1)
+
+pair-among-same-terms-requires-2 : (t : ℕ) → pair-among-lts.Need-same-terms-requires-2 (
+  same-terms-below t,
+  same-terms.Post,
+  row-at-reads.Asked,
+  row-at-reads.Learnt,
+  size-in-reads.Asked,
+  size-in-reads.Learnt,
+  pair-size-reads.Asked,
+  pair-size-reads.Learnt,
+) (pair-among-at t) pair-among.Post pair-among-Inv-loop pair-among-μ-loop
+pair-among-same-terms-requires-2 t c κs = (omega (arith, c .before .before .before .before .before .before .before .before .before .before .before .before .pre .0), tt)
+
+pair-among-returns : (t : ℕ) → pair-among-lts.Need-returns (
+  same-terms-below t,
+  same-terms.Post,
+  row-at-reads.Asked,
+  row-at-reads.Learnt,
+  size-in-reads.Asked,
+  size-in-reads.Learnt,
+  pair-size-reads.Asked,
+  pair-size-reads.Learnt,
+) (pair-among-at t) pair-among.Post pair-among-Inv-loop pair-among-μ-loop
+pair-among-returns t c = pair-here _ _ _ _ _ _ _ (c .before .before .before .before .before .before .before .before .loop .inv .2) (c .before .before .before .before .before .before .before .loop-test .taken) _ (c .before .before .before .before .before .before .same-terms .ensures) (c .before .before .before .before .before .if1 .taken) _ _ _ _ (c .before .before .before .before .row-at .ensures) (c .before .before .before .size-in .ensures .0) (c .before .before .row-at2 .ensures) (c .before .size-in2 .ensures .0) _ (c .same-terms2 .ensures)
+
+pair-among-pair-size-requires : (t : ℕ) → pair-among-lts.Need-pair-size-requires (
+  same-terms-below t,
+  same-terms.Post,
+  row-at-reads.Asked,
+  row-at-reads.Learnt,
+  size-in-reads.Asked,
+  size-in-reads.Learnt,
+  pair-size-reads.Asked,
+  pair-size-reads.Learnt,
+) (pair-among-at t) pair-among.Post pair-among-Inv-loop pair-among-μ-loop
+pair-among-pair-size-requires t c κs = omega (arith, c .before .before .before .loop .inv .1)
+
+pair-among-add-x : (t : ℕ) → pair-among-lts.Need-add-x (
+  same-terms-below t,
+  same-terms.Post,
+  row-at-reads.Asked,
+  row-at-reads.Learnt,
+  size-in-reads.Asked,
+  size-in-reads.Learnt,
+  pair-size-reads.Asked,
+  pair-size-reads.Learnt,
+) (pair-among-at t) pair-among.Post pair-among-Inv-loop pair-among-μ-loop
+pair-among-add-x t c = omega (arith, c .before .before .before .before .loop .inv .1, c .pair-size .ensures .1)
+
+pair-among-add-i : (t : ℕ) → pair-among-lts.Need-add-i (
+  same-terms-below t,
+  same-terms.Post,
+  row-at-reads.Asked,
+  row-at-reads.Learnt,
+  size-in-reads.Asked,
+  size-in-reads.Learnt,
+  pair-size-reads.Asked,
+  pair-size-reads.Learnt,
+) (pair-among-at t) pair-among.Post pair-among-Inv-loop pair-among-μ-loop
+pair-among-add-i t c = omega arith
+
+pair-among-loop-less : (t : ℕ) → pair-among-lts.Need-loop-less (
+  same-terms-below t,
+  same-terms.Post,
+  row-at-reads.Asked,
+  row-at-reads.Learnt,
+  size-in-reads.Asked,
+  size-in-reads.Learnt,
+  pair-size-reads.Asked,
+  pair-size-reads.Learnt,
+) (pair-among-at t) pair-among.Post pair-among-Inv-loop pair-among-μ-loop
+pair-among-loop-less t c = omega arith
+
+pair-among-loop-again : (t : ℕ) → pair-among-lts.Need-loop-again (
+  same-terms-below t,
+  same-terms.Post,
+  row-at-reads.Asked,
+  row-at-reads.Learnt,
+  size-in-reads.Asked,
+  size-in-reads.Learnt,
+  pair-size-reads.Asked,
+  pair-size-reads.Learnt,
+) (pair-among-at t) pair-among.Post pair-among-Inv-loop pair-among-μ-loop
+pair-among-loop-again t c = (omega arith, omega (arith, c .before .before .before .before .loop .inv .1, c .pair-size .ensures .1), pair-next _ _ _ _ _ _ _ (c .before .before .before .before .loop .inv .2) (c .before .before .before .loop-test .taken) _ (c .before .before .same-terms .ensures) (c .before .if1 .left) _ (c .pair-size .ensures .0))
+
+pair-among-returns-2 : (t : ℕ) → pair-among-lts.Need-returns-2 (
+  same-terms-below t,
+  same-terms.Post,
+  row-at-reads.Asked,
+  row-at-reads.Learnt,
+  size-in-reads.Asked,
+  size-in-reads.Learnt,
+  pair-size-reads.Asked,
+  pair-size-reads.Learnt,
+) (pair-among-at t) pair-among.Post pair-among-Inv-loop pair-among-μ-loop
+pair-among-returns-2 t c = pair-none _ _ _ _ _ _ _ (c .before .loop .inv .2) (c .loop-test .left)
+
+pair-around-pair-among-requires : (t : ℕ) → pair-around-lts.Need-pair-among-requires (
+  pair-among-below t,
+  pair-among.Post,
+) (pair-around-at t) pair-around.Post
+pair-around-pair-among-requires t c κs = (omega (arith, c .before .before .before .before .pre .0), (c .before .before .before .before .pre .1 .0, c .before .before .before .before .pre .1 .1))
+
+pair-around-returns :
+    (t : ℕ) →
+    pair-around-lts.Need-returns
+    (pair-among-below t, pair-among.Post)
+    (pair-around-at t)
+    pair-around.Post
+pair-around-returns t c = around-first _ _ _ _ _ _ _ _ (c .before .pair-among .ensures) (c .if1 .taken)
+
+pair-around-pair-among-requires-2 : (t : ℕ) → pair-around-lts.Need-pair-among-requires-2 (
+  pair-among-below t,
+  pair-among.Post,
+) (pair-around-at t) pair-around.Post
+pair-around-pair-among-requires-2 t c κs = (omega (arith, c .before .before .before .before .before .before .pre .0), (c .before .before .before .before .before .before .pre .1 .0, c .before .before .before .before .before .before .pre .1 .2))
+
+pair-around-returns-2 : (t : ℕ) → pair-around-lts.Need-returns-2 (
+  pair-among-below t,
+  pair-among.Post,
+) (pair-around-at t) pair-around.Post
+pair-around-returns-2 t c = around-second _ _ _ _ _ _ _ _ (c .before .before .pair-among .ensures) (c .before .if1 .left) _ (c .pair-among2 .ensures)
+
+abbrev pairs-among-Inv-loop : pairs-among-lts.InvT-loop
+pairs-among-Inv-loop msg places lengths table levels n a b i₀ x₀ y₀ i x y =
+    (i ≤ n) × (x + 32768 * (n - i) < 4611686018427387904) × (y + 32768 * (n - i) < 4611686018427387904) × (pairs-among table (same-terms (same-row msg places lengths) table levels) (n - i) i x y b ≡ pairs-among table (same-terms (same-row msg places lengths) table levels) n 0 a b b)
+
+abbrev pairs-among-μ-loop : pairs-among-lts.MeasureT-loop
+pairs-among-μ-loop msg places lengths table levels n a b i₀ x₀ y₀ i x y = n - i
+
+pairs-among-loop-holds : (t : ℕ) → pairs-among-lts.Need-loop-holds (
+  pair-around-below t,
+  pair-around.Post,
+  pair-size-reads.Asked,
+  pair-size-reads.Learnt,
+) (pairs-among-at t) pairs-among.Post pairs-among-Inv-loop pairs-among-μ-loop
+pairs-among-loop-holds t c = (omega arith, omega (arith, c .before .before .before .before .pre .1 .0), omega (arith, c .before .before .before .before .pre .1 .1), pairs-start _ _ _ _ _)
+
+pairs-among-sub-pair-around : (t : ℕ) → pairs-among-lts.Need-sub-pair-around (
+  pair-around-below t,
+  pair-around.Post,
+  pair-size-reads.Asked,
+  pair-size-reads.Learnt,
+) (pairs-among-at t) pairs-among.Post pairs-among-Inv-loop pairs-among-μ-loop
+pairs-among-sub-pair-around t c = omega arith
+
+pairs-among-pair-around-requires : (t : ℕ) → pairs-among-lts.Need-pair-around-requires (
+  pair-around-below t,
+  pair-around.Post,
+  pair-size-reads.Asked,
+  pair-size-reads.Learnt,
+) (pairs-among-at t) pairs-among.Post pairs-among-Inv-loop pairs-among-μ-loop
+pairs-among-pair-around-requires t c κs = (omega (arith, c .before .before .before .before .before .before .pre .0), (omega (arith, c .before .loop .inv .1), c .before .loop .inv .2, omega (arith, c .before .before .before .before .before .before .pre .1 .1, c .before .loop .inv .0)))
+
+pairs-among-returns : (t : ℕ) → pairs-among-lts.Need-returns (
+  pair-around-below t,
+  pair-around.Post,
+  pair-size-reads.Asked,
+  pair-size-reads.Learnt,
+) (pairs-among-at t) pairs-among.Post pairs-among-Inv-loop pairs-among-μ-loop
+pairs-among-returns t c = pairs-differ _ _ _ _ _ _ _ _ (c .before .before .before .loop .inv .3) (c .before .before .loop-test .taken) _ (c .before .pair-around .ensures) (not-true _ (c .if1 .taken))
+
+pairs-among-pair-size-requires : (t : ℕ) → pairs-among-lts.Need-pair-size-requires (
+  pair-around-below t,
+  pair-around.Post,
+  pair-size-reads.Asked,
+  pair-size-reads.Learnt,
+) (pairs-among-at t) pairs-among.Post pairs-among-Inv-loop pairs-among-μ-loop
+pairs-among-pair-size-requires t c κs = omega (arith, c .before .before .before .loop .inv .1)
+
+pairs-among-add-x : (t : ℕ) → pairs-among-lts.Need-add-x (
+  pair-around-below t,
+  pair-around.Post,
+  pair-size-reads.Asked,
+  pair-size-reads.Learnt,
+) (pairs-among-at t) pairs-among.Post pairs-among-Inv-loop pairs-among-μ-loop
+pairs-among-add-x t c = omega (arith, c .before .before .before .before .loop .inv .1, c .pair-size .ensures .1)
+
+pairs-among-pair-size-requires-2 : (t : ℕ) → pairs-among-lts.Need-pair-size-requires-2 (
+  pair-around-below t,
+  pair-around.Post,
+  pair-size-reads.Asked,
+  pair-size-reads.Learnt,
+) (pairs-among-at t) pairs-among.Post pairs-among-Inv-loop pairs-among-μ-loop
+pairs-among-pair-size-requires-2 t c κs = omega (arith, c .before .before .before .before .loop .inv .2)
+
+pairs-among-add-y : (t : ℕ) → pairs-among-lts.Need-add-y (
+  pair-around-below t,
+  pair-around.Post,
+  pair-size-reads.Asked,
+  pair-size-reads.Learnt,
+) (pairs-among-at t) pairs-among.Post pairs-among-Inv-loop pairs-among-μ-loop
+pairs-among-add-y t c = omega (arith, c .before .before .before .before .before .loop .inv .2, c .pair-size2 .ensures .1)
+
+pairs-among-add-i : (t : ℕ) → pairs-among-lts.Need-add-i (
+  pair-around-below t,
+  pair-around.Post,
+  pair-size-reads.Asked,
+  pair-size-reads.Learnt,
+) (pairs-among-at t) pairs-among.Post pairs-among-Inv-loop pairs-among-μ-loop
+pairs-among-add-i t c = omega arith
+
+pairs-among-loop-less : (t : ℕ) → pairs-among-lts.Need-loop-less (
+  pair-around-below t,
+  pair-around.Post,
+  pair-size-reads.Asked,
+  pair-size-reads.Learnt,
+) (pairs-among-at t) pairs-among.Post pairs-among-Inv-loop pairs-among-μ-loop
+pairs-among-loop-less t c = omega arith
+
+pairs-among-loop-again : (t : ℕ) → pairs-among-lts.Need-loop-again (
+  pair-around-below t,
+  pair-around.Post,
+  pair-size-reads.Asked,
+  pair-size-reads.Learnt,
+) (pairs-among-at t) pairs-among.Post pairs-among-Inv-loop pairs-among-μ-loop
+pairs-among-loop-again t c = (omega arith, omega (arith, c .before .before .before .before .before .loop .inv .1, c .before .pair-size .ensures .1), omega (arith, c .before .before .before .before .before .loop .inv .2, c .pair-size2 .ensures .1), pairs-next _ _ _ _ _ _ _ _ (c .before .before .before .before .before .loop .inv .3) (c .before .before .before .before .loop-test .taken) _ (c .before .before .before .pair-around .ensures) (not-false _ (c .before .before .if1 .left)) _ _ (c .before .pair-size .ensures .0) (c .pair-size2 .ensures .0))
+
+pairs-among-returns-2 : (t : ℕ) → pairs-among-lts.Need-returns-2 (
+  pair-around-below t,
+  pair-around.Post,
+  pair-size-reads.Asked,
+  pair-size-reads.Learnt,
+) (pairs-among-at t) pairs-among.Post pairs-among-Inv-loop pairs-among-μ-loop
+pairs-among-returns-2 t c = pairs-ended _ _ _ _ _ _ _ _ (c .before .loop .inv .3) (c .loop-test .left)
+
+same-maps-returns : (t : ℕ) → same-maps-lts.Need-returns (
+  row-at-reads.Asked,
+  row-at-reads.Learnt,
+  size-in-reads.Asked,
+  size-in-reads.Learnt,
+  parts-in-reads.Asked,
+  parts-in-reads.Learnt,
+  pairs-among-below t,
+  pairs-among.Post,
+) (same-maps-at t) same-maps.Post
+same-maps-returns t c = no-level _ _ _ _ _ (c .if1 .taken)
+
+same-maps-row-at-requires : (t : ℕ) → same-maps-lts.Need-row-at-requires (
+  row-at-reads.Asked,
+  row-at-reads.Learnt,
+  size-in-reads.Asked,
+  size-in-reads.Learnt,
+  parts-in-reads.Asked,
+  parts-in-reads.Learnt,
+  pairs-among-below t,
+  pairs-among.Post,
+) (same-maps-at t) same-maps.Post
+same-maps-row-at-requires t c κs = search needs
+
+same-maps-size-in-requires : (t : ℕ) → same-maps-lts.Need-size-in-requires (
+  row-at-reads.Asked,
+  row-at-reads.Learnt,
+  size-in-reads.Asked,
+  size-in-reads.Learnt,
+  parts-in-reads.Asked,
+  parts-in-reads.Learnt,
+  pairs-among-below t,
+  pairs-among.Post,
+) (same-maps-at t) same-maps.Post
+same-maps-size-in-requires t c κs = search needs
+
+same-maps-row-at-requires-2 : (t : ℕ) → same-maps-lts.Need-row-at-requires-2 (
+  row-at-reads.Asked,
+  row-at-reads.Learnt,
+  size-in-reads.Asked,
+  size-in-reads.Learnt,
+  parts-in-reads.Asked,
+  parts-in-reads.Learnt,
+  pairs-among-below t,
+  pairs-among.Post,
+) (same-maps-at t) same-maps.Post
+same-maps-row-at-requires-2 t c κs = search needs
+
+same-maps-size-in-requires-2 : (t : ℕ) → same-maps-lts.Need-size-in-requires-2 (
+  row-at-reads.Asked,
+  row-at-reads.Learnt,
+  size-in-reads.Asked,
+  size-in-reads.Learnt,
+  parts-in-reads.Asked,
+  parts-in-reads.Learnt,
+  pairs-among-below t,
+  pairs-among.Post,
+) (same-maps-at t) same-maps.Post
+same-maps-size-in-requires-2 t c κs = search needs
+
+same-maps-returns-2 : (t : ℕ) → same-maps-lts.Need-returns-2 (
+  row-at-reads.Asked,
+  row-at-reads.Learnt,
+  size-in-reads.Asked,
+  size-in-reads.Learnt,
+  parts-in-reads.Asked,
+  parts-in-reads.Learnt,
+  pairs-among-below t,
+  pairs-among.Post,
+) (same-maps-at t) same-maps.Post
+same-maps-returns-2 t c = maps-sizes _ _ _ _ _ (c .before .before .before .before .before .if1 .left) _ _ _ _ (c .before .before .before .before .row-at .ensures) (c .before .before .row-at2 .ensures) (c .before .before .before .size-in .ensures .0) (c .before .size-in2 .ensures .0) (c .if2 .taken)
+
+same-maps-parts-in-requires : (t : ℕ) → same-maps-lts.Need-parts-in-requires (
+  row-at-reads.Asked,
+  row-at-reads.Learnt,
+  size-in-reads.Asked,
+  size-in-reads.Learnt,
+  parts-in-reads.Asked,
+  parts-in-reads.Learnt,
+  pairs-among-below t,
+  pairs-among.Post,
+) (same-maps-at t) same-maps.Post
+same-maps-parts-in-requires t c κs = search needs
+
+same-maps-sub-pairs-among : (t : ℕ) → same-maps-lts.Need-sub-pairs-among (
+  row-at-reads.Asked,
+  row-at-reads.Learnt,
+  size-in-reads.Asked,
+  size-in-reads.Learnt,
+  parts-in-reads.Asked,
+  parts-in-reads.Learnt,
+  pairs-among-below t,
+  pairs-among.Post,
+) (same-maps-at t) same-maps.Post
+same-maps-sub-pairs-among t c = search needs
+
+same-maps-add-pairs-among : (t : ℕ) → same-maps-lts.Need-add-pairs-among (
+  row-at-reads.Asked,
+  row-at-reads.Learnt,
+  size-in-reads.Asked,
+  size-in-reads.Learnt,
+  parts-in-reads.Asked,
+  parts-in-reads.Learnt,
+  pairs-among-below t,
+  pairs-among.Post,
+) (same-maps-at t) same-maps.Post
+same-maps-add-pairs-among t c = omega arith
+
+same-maps-add-pairs-among-2 : (t : ℕ) → same-maps-lts.Need-add-pairs-among-2 (
+  row-at-reads.Asked,
+  row-at-reads.Learnt,
+  size-in-reads.Asked,
+  size-in-reads.Learnt,
+  parts-in-reads.Asked,
+  parts-in-reads.Learnt,
+  pairs-among-below t,
+  pairs-among.Post,
+) (same-maps-at t) same-maps.Post
+same-maps-add-pairs-among-2 t c = omega arith
+
+same-maps-pairs-among-requires : (t : ℕ) → same-maps-lts.Need-pairs-among-requires (
+  row-at-reads.Asked,
+  row-at-reads.Learnt,
+  size-in-reads.Asked,
+  size-in-reads.Learnt,
+  parts-in-reads.Asked,
+  parts-in-reads.Learnt,
+  pairs-among-below t,
+  pairs-among.Post,
+) (same-maps-at t) same-maps.Post
+same-maps-pairs-among-requires t c κs = (omega (arith, c .before .before .before .before .before .before .before .before .before .before .before .pre .0), (omega (arith, c .parts-in .ensures .1), omega (arith, c .parts-in .ensures .1)))
+
+same-maps-returns-3 : (t : ℕ) → same-maps-lts.Need-returns-3 (
+  row-at-reads.Asked,
+  row-at-reads.Learnt,
+  size-in-reads.Asked,
+  size-in-reads.Learnt,
+  parts-in-reads.Asked,
+  parts-in-reads.Learnt,
+  pairs-among-below t,
+  pairs-among.Post,
+) (same-maps-at t) same-maps.Post
+same-maps-returns-3 t c = maps-pairs _ _ _ _ _ (c .before .before .before .before .before .before .before .if1 .left) _ _ _ _ (c .before .before .before .before .before .before .row-at .ensures) (c .before .before .before .before .row-at2 .ensures) (c .before .before .before .before .before .size-in .ensures .0) (c .before .before .before .size-in2 .ensures .0) (c .before .before .if2 .left) _ (c .before .parts-in .ensures .0) _ (c .pairs-among .ensures)
+
+abbrev same-rows-Inv-loop : same-rows-lts.InvT-loop
+same-rows-Inv-loop msg places lengths table levels n a b i₀ i =
+    same-rows (same-row msg places lengths) table (same-maps (same-row msg places lengths) table levels) (n - i) 0 (a + i) (b + i) ≡ same-rows (same-row msg places lengths) table (same-maps (same-row msg places lengths) table levels) n 0 a b
+
+abbrev same-rows-μ-loop : same-rows-lts.MeasureT-loop
+same-rows-μ-loop msg places lengths table levels n a b i₀ i = n - i
+
+same-rows-loop-holds : (t : ℕ) → same-rows-lts.Need-loop-holds (
+  row-at-reads.Asked,
+  row-at-reads.Learnt,
+  same-row-reads.Asked,
+  same-row-reads.Learnt,
+  unordered-rows-reads.Asked,
+  unordered-rows-reads.Learnt,
+  same-maps-below t,
+  same-maps.Post,
+) (same-rows-at t) same-rows.Post same-rows-Inv-loop same-rows-μ-loop
+same-rows-loop-holds t c = rows-start _ _ _ _ _ _
+
+same-rows-add-row-at : (t : ℕ) → same-rows-lts.Need-add-row-at (
+  row-at-reads.Asked,
+  row-at-reads.Learnt,
+  same-row-reads.Asked,
+  same-row-reads.Learnt,
+  unordered-rows-reads.Asked,
+  unordered-rows-reads.Learnt,
+  same-maps-below t,
+  same-maps.Post,
+) (same-rows-at t) same-rows.Post same-rows-Inv-loop same-rows-μ-loop
+same-rows-add-row-at t c = omega arith
+
+same-rows-row-at-requires : (t : ℕ) → same-rows-lts.Need-row-at-requires (
+  row-at-reads.Asked,
+  row-at-reads.Learnt,
+  same-row-reads.Asked,
+  same-row-reads.Learnt,
+  unordered-rows-reads.Asked,
+  unordered-rows-reads.Learnt,
+  same-maps-below t,
+  same-maps.Post,
+) (same-rows-at t) same-rows.Post same-rows-Inv-loop same-rows-μ-loop
+same-rows-row-at-requires t c κs = search needs
+
+same-rows-add-row-at-2 : (t : ℕ) → same-rows-lts.Need-add-row-at-2 (
+  row-at-reads.Asked,
+  row-at-reads.Learnt,
+  same-row-reads.Asked,
+  same-row-reads.Learnt,
+  unordered-rows-reads.Asked,
+  unordered-rows-reads.Learnt,
+  same-maps-below t,
+  same-maps.Post,
+) (same-rows-at t) same-rows.Post same-rows-Inv-loop same-rows-μ-loop
+same-rows-add-row-at-2 t c = omega arith
+
+same-rows-row-at-requires-2 : (t : ℕ) → same-rows-lts.Need-row-at-requires-2 (
+  row-at-reads.Asked,
+  row-at-reads.Learnt,
+  same-row-reads.Asked,
+  same-row-reads.Learnt,
+  unordered-rows-reads.Asked,
+  unordered-rows-reads.Learnt,
+  same-maps-below t,
+  same-maps.Post,
+) (same-rows-at t) same-rows.Post same-rows-Inv-loop same-rows-μ-loop
+same-rows-row-at-requires-2 t c κs = search needs
+
+same-rows-same-row-requires : (t : ℕ) → same-rows-lts.Need-same-row-requires (
+  row-at-reads.Asked,
+  row-at-reads.Learnt,
+  same-row-reads.Asked,
+  same-row-reads.Learnt,
+  unordered-rows-reads.Asked,
+  unordered-rows-reads.Learnt,
+  same-maps-below t,
+  same-maps.Post,
+) (same-rows-at t) same-rows.Post same-rows-Inv-loop same-rows-μ-loop
+same-rows-same-row-requires t c κs = search needs
+
+same-rows-returns : (t : ℕ) → same-rows-lts.Need-returns (
+  row-at-reads.Asked,
+  row-at-reads.Learnt,
+  same-row-reads.Asked,
+  same-row-reads.Learnt,
+  unordered-rows-reads.Asked,
+  unordered-rows-reads.Learnt,
+  same-maps-below t,
+  same-maps.Post,
+) (same-rows-at t) same-rows.Post same-rows-Inv-loop same-rows-μ-loop
+same-rows-returns t c = rows-differ _ _ _ _ _ _ _ _ (c .before .before .before .before .before .loop .inv) (c .before .before .before .before .loop-test .taken) _ _ (c .before .before .before .row-at .ensures) (c .before .before .row-at2 .ensures) _ (c .before .same-row .ensures) (not-true _ (c .if1 .taken))
+
+same-rows-unordered-rows-requires : (t : ℕ) → same-rows-lts.Need-unordered-rows-requires (
+  row-at-reads.Asked,
+  row-at-reads.Learnt,
+  same-row-reads.Asked,
+  same-row-reads.Learnt,
+  unordered-rows-reads.Asked,
+  unordered-rows-reads.Learnt,
+  same-maps-below t,
+  same-maps.Post,
+) (same-rows-at t) same-rows.Post same-rows-Inv-loop same-rows-μ-loop
+same-rows-unordered-rows-requires t c κs = search needs
+
+same-rows-add-i : (t : ℕ) → same-rows-lts.Need-add-i (
+  row-at-reads.Asked,
+  row-at-reads.Learnt,
+  same-row-reads.Asked,
+  same-row-reads.Learnt,
+  unordered-rows-reads.Asked,
+  unordered-rows-reads.Learnt,
+  same-maps-below t,
+  same-maps.Post,
+) (same-rows-at t) same-rows.Post same-rows-Inv-loop same-rows-μ-loop
+same-rows-add-i t c = omega arith
+
+same-rows-loop-less : (t : ℕ) → same-rows-lts.Need-loop-less (
+  row-at-reads.Asked,
+  row-at-reads.Learnt,
+  same-row-reads.Asked,
+  same-row-reads.Learnt,
+  unordered-rows-reads.Asked,
+  unordered-rows-reads.Learnt,
+  same-maps-below t,
+  same-maps.Post,
+) (same-rows-at t) same-rows.Post same-rows-Inv-loop same-rows-μ-loop
+same-rows-loop-less t c = omega arith
+
+same-rows-loop-again : (t : ℕ) → same-rows-lts.Need-loop-again (
+  row-at-reads.Asked,
+  row-at-reads.Learnt,
+  same-row-reads.Asked,
+  same-row-reads.Learnt,
+  unordered-rows-reads.Asked,
+  unordered-rows-reads.Learnt,
+  same-maps-below t,
+  same-maps.Post,
+) (same-rows-at t) same-rows.Post same-rows-Inv-loop same-rows-μ-loop
+same-rows-loop-again t c = rows-next _ _ _ _ _ _ _ _ (c .before .before .before .before .before .before .before .loop .inv) (c .before .before .before .before .before .before .loop-test .taken) _ _ (c .before .before .before .before .before .row-at .ensures) (c .before .before .before .before .row-at2 .ensures) _ (c .before .before .before .same-row .ensures) (not-false _ (c .before .before .if1 .left)) _ (c .before .unordered-rows .ensures .0) (c .if2 .taken)
+
+same-rows-add-same-maps : (t : ℕ) → same-rows-lts.Need-add-same-maps (
+  row-at-reads.Asked,
+  row-at-reads.Learnt,
+  same-row-reads.Asked,
+  same-row-reads.Learnt,
+  unordered-rows-reads.Asked,
+  unordered-rows-reads.Learnt,
+  same-maps-below t,
+  same-maps.Post,
+) (same-rows-at t) same-rows.Post same-rows-Inv-loop same-rows-μ-loop
+same-rows-add-same-maps t c = omega arith
+
+same-rows-add-same-maps-2 : (t : ℕ) → same-rows-lts.Need-add-same-maps-2 (
+  row-at-reads.Asked,
+  row-at-reads.Learnt,
+  same-row-reads.Asked,
+  same-row-reads.Learnt,
+  unordered-rows-reads.Asked,
+  unordered-rows-reads.Learnt,
+  same-maps-below t,
+  same-maps.Post,
+) (same-rows-at t) same-rows.Post same-rows-Inv-loop same-rows-μ-loop
+same-rows-add-same-maps-2 t c = omega arith
+
+same-rows-same-maps-requires : (t : ℕ) → same-rows-lts.Need-same-maps-requires (
+  row-at-reads.Asked,
+  row-at-reads.Learnt,
+  same-row-reads.Asked,
+  same-row-reads.Learnt,
+  unordered-rows-reads.Asked,
+  unordered-rows-reads.Learnt,
+  same-maps-below t,
+  same-maps.Post,
+) (same-rows-at t) same-rows.Post same-rows-Inv-loop same-rows-μ-loop
+same-rows-same-maps-requires t c κs = (omega (arith, c .before .before .before .before .before .before .before .before .before .before .before .before .pre .0), (omega arith, omega arith))
+
+same-rows-returns-2 : (t : ℕ) → same-rows-lts.Need-returns-2 (
+  row-at-reads.Asked,
+  row-at-reads.Learnt,
+  same-row-reads.Asked,
+  same-row-reads.Learnt,
+  unordered-rows-reads.Asked,
+  unordered-rows-reads.Learnt,
+  same-maps-below t,
+  same-maps.Post,
+) (same-rows-at t) same-rows.Post same-rows-Inv-loop same-rows-μ-loop
+same-rows-returns-2 t c = maps-differ _ _ _ _ _ _ _ _ (c .before .before .before .before .before .before .before .before .before .loop .inv) (c .before .before .before .before .before .before .before .before .loop-test .taken) _ _ (c .before .before .before .before .before .before .before .row-at .ensures) (c .before .before .before .before .before .before .row-at2 .ensures) _ (c .before .before .before .before .before .same-row .ensures) (not-false _ (c .before .before .before .before .if1 .left)) _ (c .before .before .before .unordered-rows .ensures .0) (c .before .before .if2 .left) _ (c .before .same-maps .ensures) (not-true _ (c .if3 .taken))
+
+same-rows-add-i-2 : (t : ℕ) → same-rows-lts.Need-add-i-2 (
+  row-at-reads.Asked,
+  row-at-reads.Learnt,
+  same-row-reads.Asked,
+  same-row-reads.Learnt,
+  unordered-rows-reads.Asked,
+  unordered-rows-reads.Learnt,
+  same-maps-below t,
+  same-maps.Post,
+) (same-rows-at t) same-rows.Post same-rows-Inv-loop same-rows-μ-loop
+same-rows-add-i-2 t c = omega (arith, c .before .before .before .unordered-rows .ensures .1)
+
+same-rows-add-i-3 : (t : ℕ) → same-rows-lts.Need-add-i-3 (
+  row-at-reads.Asked,
+  row-at-reads.Learnt,
+  same-row-reads.Asked,
+  same-row-reads.Learnt,
+  unordered-rows-reads.Asked,
+  unordered-rows-reads.Learnt,
+  same-maps-below t,
+  same-maps.Post,
+) (same-rows-at t) same-rows.Post same-rows-Inv-loop same-rows-μ-loop
+same-rows-add-i-3 t c = omega (arith, c .before .before .before .unordered-rows .ensures .1)
+
+same-rows-loop-less-2 : (t : ℕ) → same-rows-lts.Need-loop-less-2 (
+  row-at-reads.Asked,
+  row-at-reads.Learnt,
+  same-row-reads.Asked,
+  same-row-reads.Learnt,
+  unordered-rows-reads.Asked,
+  unordered-rows-reads.Learnt,
+  same-maps-below t,
+  same-maps.Post,
+) (same-rows-at t) same-rows.Post same-rows-Inv-loop same-rows-μ-loop
+same-rows-loop-less-2 t c = omega arith
+
+same-rows-loop-again-2 : (t : ℕ) → same-rows-lts.Need-loop-again-2 (
+  row-at-reads.Asked,
+  row-at-reads.Learnt,
+  same-row-reads.Asked,
+  same-row-reads.Learnt,
+  unordered-rows-reads.Asked,
+  unordered-rows-reads.Learnt,
+  same-maps-below t,
+  same-maps.Post,
+) (same-rows-at t) same-rows.Post same-rows-Inv-loop same-rows-μ-loop
+same-rows-loop-again-2 t c = maps-next _ _ _ _ _ _ _ _ (c .before .before .before .before .before .before .before .before .before .loop .inv) (c .before .before .before .before .before .before .before .before .loop-test .taken) _ _ (c .before .before .before .before .before .before .before .row-at .ensures) (c .before .before .before .before .before .before .row-at2 .ensures) _ (c .before .before .before .before .before .same-row .ensures) (not-false _ (c .before .before .before .before .if1 .left)) _ (c .before .before .before .unordered-rows .ensures .0) (c .before .before .if2 .left) _ (c .before .same-maps .ensures) (not-false _ (c .if3 .left))
+
+same-rows-returns-3 : (t : ℕ) → same-rows-lts.Need-returns-3 (
+  row-at-reads.Asked,
+  row-at-reads.Learnt,
+  same-row-reads.Asked,
+  same-row-reads.Learnt,
+  unordered-rows-reads.Asked,
+  unordered-rows-reads.Learnt,
+  same-maps-below t,
+  same-maps.Post,
+) (same-rows-at t) same-rows.Post same-rows-Inv-loop same-rows-μ-loop
+same-rows-returns-3 t c = rows-ended _ _ _ _ _ _ _ _ (c .before .loop .inv) (c .loop-test .left)
+
+same-terms-returns : (t : ℕ) → same-terms-lts.Need-returns (
+  size-in-reads.Asked,
+  size-in-reads.Learnt,
+  same-rows-below t,
+  same-rows.Post,
+) (same-terms-at t) same-terms.Post
+same-terms-returns t c = past-first _ _ _ _ _ (c .if1 .taken)
+
+same-terms-returns-2 : (t : ℕ) → same-terms-lts.Need-returns-2 (
+  size-in-reads.Asked,
+  size-in-reads.Learnt,
+  same-rows-below t,
+  same-rows.Post,
+) (same-terms-at t) same-terms.Post
+same-terms-returns-2 t c = past-second _ _ _ _ _ (c .before .if1 .left) (c .if2 .taken)
+
+same-terms-mul-size-in : (t : ℕ) → same-terms-lts.Need-mul-size-in (
+  size-in-reads.Asked,
+  size-in-reads.Learnt,
+  same-rows-below t,
+  same-rows.Post,
+) (same-terms-at t) same-terms.Post
+same-terms-mul-size-in t c = search needs
+
+same-terms-shared-slice-read-size-in : (t : ℕ) → same-terms-lts.Need-shared-slice-read-size-in (
+  size-in-reads.Asked,
+  size-in-reads.Learnt,
+  same-rows-below t,
+  same-rows.Post,
+) (same-terms-at t) same-terms.Post
+same-terms-shared-slice-read-size-in t c = search needs
+
+same-terms-size-in-requires : (t : ℕ) → same-terms-lts.Need-size-in-requires (
+  size-in-reads.Asked,
+  size-in-reads.Learnt,
+  same-rows-below t,
+  same-rows.Post,
+) (same-terms-at t) same-terms.Post
+same-terms-size-in-requires t c κs = search needs
+
+same-terms-mul-size-in-2 : (t : ℕ) → same-terms-lts.Need-mul-size-in-2 (
+  size-in-reads.Asked,
+  size-in-reads.Learnt,
+  same-rows-below t,
+  same-rows.Post,
+) (same-terms-at t) same-terms.Post
+same-terms-mul-size-in-2 t c = search needs
+
+same-terms-shared-slice-read-size-in-2 : (t : ℕ) → same-terms-lts.Need-shared-slice-read-size-in-2 (
+  size-in-reads.Asked,
+  size-in-reads.Learnt,
+  same-rows-below t,
+  same-rows.Post,
+) (same-terms-at t) same-terms.Post
+same-terms-shared-slice-read-size-in-2 t c = search needs
+
+same-terms-size-in-requires-2 : (t : ℕ) → same-terms-lts.Need-size-in-requires-2 (
+  size-in-reads.Asked,
+  size-in-reads.Learnt,
+  same-rows-below t,
+  same-rows.Post,
+) (same-terms-at t) same-terms.Post
+same-terms-size-in-requires-2 t c κs = search needs
+
+same-terms-returns-3 : (t : ℕ) → same-terms-lts.Need-returns-3 (
+  size-in-reads.Asked,
+  size-in-reads.Learnt,
+  same-rows-below t,
+  same-rows.Post,
+) (same-terms-at t) same-terms.Post
+same-terms-returns-3 t c = sizes-differ _ _ _ _ _ (c .before .before .before .before .before .before .if1 .left) (c .before .before .before .before .before .if2 .left) _ _ (c .before .before .before .size-in .ensures .0) (c .before .size-in2 .ensures .0) (c .if3 .taken)
+
+same-terms-same-rows-requires : (t : ℕ) → same-terms-lts.Need-same-rows-requires (
+  size-in-reads.Asked,
+  size-in-reads.Learnt,
+  same-rows-below t,
+  same-rows.Post,
+) (same-terms-at t) same-terms.Post
+same-terms-same-rows-requires t c κs = (omega (arith, c .before .before .before .before .before .before .before .before .before .before .before .pre .0), (c .before .before .before .size-in .ensures .1, omega arith, omega arith))
+
+same-terms-returns-4 : (t : ℕ) → same-terms-lts.Need-returns-4 (
+  size-in-reads.Asked,
+  size-in-reads.Learnt,
+  same-rows-below t,
+  same-rows.Post,
+) (same-terms-at t) same-terms.Post
+same-terms-returns-4 t c = sizes-same _ _ _ _ _ (c .before .before .before .before .before .before .before .if1 .left) (c .before .before .before .before .before .before .if2 .left) _ _ (c .before .before .before .before .size-in .ensures .0) (c .before .before .size-in2 .ensures .0) _ (c .before .if3 .left) (c .same-rows .ensures)
+
+pub +pair-among+pair-around+pairs-among+same-maps+same-rows+same-terms-spec :
+    {M : Type 1} → statement M
++pair-among+pair-around+pairs-among+same-maps+same-rows+same-terms-spec =
+    close
+    μ-pair-among
+    μ-pair-around
+    μ-pairs-among
+    μ-same-maps
+    μ-same-rows
+    μ-same-terms
+    (λ t. pair-among-lts.spec (
+      same-terms-below t,
+      same-terms.Post,
+      row-at-reads.Asked,
+      row-at-reads.Learnt,
+      size-in-reads.Asked,
+      size-in-reads.Learnt,
+      pair-size-reads.Asked,
+      pair-size-reads.Learnt,
+    )
+    (pair-among-at t)
+    pair-among.Post
+    pair-among-Inv-loop
+    pair-among-μ-loop
+    (pair-among-loop-holds t)
+    (pair-among-same-terms-requires t)
+    (pair-among-row-at-requires t)
+    (pair-among-size-in-requires t)
+    (pair-among-add-v t)
+    (pair-among-row-at-requires-2 t)
+    (pair-among-size-in-requires-2 t)
+    (pair-among-add-w t)
+    (pair-among-same-terms-requires-2 t)
+    (pair-among-returns t)
+    (pair-among-pair-size-requires t)
+    (pair-among-add-x t)
+    (pair-among-add-i t)
+    (pair-among-loop-less t)
+    (pair-among-loop-again t)
+    (pair-among-returns-2 t))
+    (λ t. pair-around-lts.spec
+    (pair-among-below t, pair-among.Post)
+    (pair-around-at t)
+    pair-around.Post
+    (pair-around-pair-among-requires t)
+    (pair-around-returns t)
+    (pair-around-pair-among-requires-2 t)
+    (pair-around-returns-2 t))
+    (λ t. pairs-among-lts.spec (
+      pair-around-below t,
+      pair-around.Post,
+      pair-size-reads.Asked,
+      pair-size-reads.Learnt,
+    )
+    (pairs-among-at t)
+    pairs-among.Post
+    pairs-among-Inv-loop
+    pairs-among-μ-loop
+    (pairs-among-loop-holds t)
+    (pairs-among-sub-pair-around t)
+    (pairs-among-pair-around-requires t)
+    (pairs-among-returns t)
+    (pairs-among-pair-size-requires t)
+    (pairs-among-add-x t)
+    (pairs-among-pair-size-requires-2 t)
+    (pairs-among-add-y t)
+    (pairs-among-add-i t)
+    (pairs-among-loop-less t)
+    (pairs-among-loop-again t)
+    (pairs-among-returns-2 t))
+    (λ t. same-maps-lts.spec (
+      row-at-reads.Asked,
+      row-at-reads.Learnt,
+      size-in-reads.Asked,
+      size-in-reads.Learnt,
+      parts-in-reads.Asked,
+      parts-in-reads.Learnt,
+      pairs-among-below t,
+      pairs-among.Post,
+    )
+    (same-maps-at t)
+    same-maps.Post
+    (same-maps-returns t)
+    (same-maps-row-at-requires t)
+    (same-maps-size-in-requires t)
+    (same-maps-row-at-requires-2 t)
+    (same-maps-size-in-requires-2 t)
+    (same-maps-returns-2 t)
+    (same-maps-parts-in-requires t)
+    (same-maps-sub-pairs-among t)
+    (same-maps-add-pairs-among t)
+    (same-maps-add-pairs-among-2 t)
+    (same-maps-pairs-among-requires t)
+    (same-maps-returns-3 t))
+    (λ t. same-rows-lts.spec (
+      row-at-reads.Asked,
+      row-at-reads.Learnt,
+      same-row-reads.Asked,
+      same-row-reads.Learnt,
+      unordered-rows-reads.Asked,
+      unordered-rows-reads.Learnt,
+      same-maps-below t,
+      same-maps.Post,
+    )
+    (same-rows-at t)
+    same-rows.Post
+    same-rows-Inv-loop
+    same-rows-μ-loop
+    (same-rows-loop-holds t)
+    (same-rows-add-row-at t)
+    (same-rows-row-at-requires t)
+    (same-rows-add-row-at-2 t)
+    (same-rows-row-at-requires-2 t)
+    (same-rows-same-row-requires t)
+    (same-rows-returns t)
+    (same-rows-unordered-rows-requires t)
+    (same-rows-add-i t)
+    (same-rows-loop-less t)
+    (same-rows-loop-again t)
+    (same-rows-add-same-maps t)
+    (same-rows-add-same-maps-2 t)
+    (same-rows-same-maps-requires t)
+    (same-rows-returns-2 t)
+    (same-rows-add-i-2 t)
+    (same-rows-add-i-3 t)
+    (same-rows-loop-less-2 t)
+    (same-rows-loop-again-2 t)
+    (same-rows-returns-3 t))
+    λ t. same-terms-lts.spec
+    (size-in-reads.Asked, size-in-reads.Learnt, same-rows-below t, same-rows.Post)
+    (same-terms-at t)
+    same-terms.Post
+    (same-terms-returns t)
+    (same-terms-returns-2 t)
+    (same-terms-mul-size-in t)
+    (same-terms-shared-slice-read-size-in t)
+    (same-terms-size-in-requires t)
+    (same-terms-mul-size-in-2 t)
+    (same-terms-shared-slice-read-size-in-2 t)
+    (same-terms-size-in-requires-2 t)
+    (same-terms-returns-3 t)
+    (same-terms-same-rows-requires t)
+    (same-terms-returns-4 t)
