@@ -84,7 +84,7 @@ term-whole : (m : List ℕ) (cap : ℕ) (given : Given) {S : List ℕ} {whole : 
 unfolding tree-rows Each-row
 term-whole m cap given (node l ts) h = node-packed (h .stands) (h .small .0) .whole-is
 
--- the same, all of them are valid, and they are parts of the term in front of the row `first`
+-- the same, all of them are valid, and `first` says what they are parts of
 module _ (flags : ℕ) (list : AtomList) (m : List ℕ) (lent : Lent list m) (cap : ℕ) {S : List ℕ} {whole : Option ℕ} {first : ℕ} (us : Terms) (u : Located)
     (h : Rows-in-table m cap (given-of flags list) S whole first (us ▹▹ (u ▹ empty))) (valid : Valids flags (all-as-read (us ▹▹ (u ▹ empty)))) (code : whole-code whole ≡ first) where
   abbrev places : List ℕ

@@ -26,12 +26,11 @@ pointed-is h n =
     ∙ ap (λ (x : ℕ). x + n % 65536 * h) (mul-assoc 65536 (n / 65536) h) in
     sym (ap (λ (x : ℕ). x / 65536) e ∙ mul-add-div (omega arith) (n / 65536 * h) (n % 65536 * h))
 
-pub pointed-below : (h n : ℕ) → h < 65536 → 0 < n → n / 65536 * h + n % 65536 * h / 65536 < n
-pointed-below h n l p = let e : h * n ≤ 65535 * n = mul-le-mul-right n (omega arith) in omega (arith, pointed-is h n)
-
--- a product of what is left of n
-pub rest-small : (h n : ℕ) → h < 65536 → 0 < n → n % 65536 * h ≤ 65535 * 65535
-rest-small h n l p = mul-le-mul {n₂ = 65535} {m₂ = 65535} (omega arith) (omega arith)
+-- it is one of the n, and no product is large
+pub pointed-small : (h n : ℕ) → h < 65536 → 0 < n → (n / 65536 * h + n % 65536 * h / 65536 < n) × (n % 65536 * h ≤ 65535 * 65535)
+pointed-small h n l p =
+    let e : h * n ≤ 65535 * n = mul-le-mul-right n (omega arith) in
+    (omega (arith, pointed-is h n), mul-le-mul {n₂ = 65535} {m₂ = 65535} (omega arith) (omega arith))
 
 -- ---- the slot after a slot
 
@@ -126,13 +125,12 @@ contains-kept {L} {L′} {hs} {k} g f =
 -- d steps are passed, P holds of the slot at each; the last was slot i, of n
 pub record Walked (P : ℕ → Type 0) (L : List ℕ) (hs : ℕ → ℕ) (n i d : ℕ) : Type 0 where
   pub all : n ≡ length L
-  pub few : d ≤ 32
   pub last : 0 < d → i ≡ place hs n (d - 1)
   pub passed : (e : ℕ) → e < d → P (slot L hs e)
 
 module _ (P : ℕ → Type 0) (L : List ℕ) (hs : ℕ → ℕ) where
   pub walk-start : Walked P L hs (length L) 0 0
-  walk-start = record { all = refl; few = omega arith; last = λ l. absurd (omega arith); passed = below-none (λ (e : ℕ). P (slot L hs e)) }
+  walk-start = record { all = refl; last = λ l. absurd (omega arith); passed = below-none (λ (e : ℕ). P (slot L hs e)) }
 
   module _ {n i d : ℕ} (p : Walked P L hs n i d) (j : ℕ) (e : j ≡ place hs n d) where
     slot-here : slot L hs d ≡ getD L j 0
@@ -143,7 +141,6 @@ module _ (P : ℕ → Type 0) (L : List ℕ) (hs : ℕ → ℕ) where
         let s : d + 1 - 1 ≡ d = omega arith in
         record {
           all = p .all;
-          few = omega arith;
           last = λ _. e ∙ ap (place hs n) (sym s);
           passed = below-more (λ (e : ℕ). P (slot L hs e)) d (p .passed) (subst P (sym slot-here) x);
         }
