@@ -147,6 +147,10 @@ module _ (P : ℕ → Type 0) (L : List ℕ) (hs : ℕ → ℕ) where
 
 -- ---- a path to the first empty slot
 
+-- a row of another term, whose word is w
+pub other-whole : {P : Type 0} (w first v x : ℕ) → v ≡ w → x ≡ whole-in v → (x ≡ first → ⊥) → whole-in w ≡ first → P
+other-whole w first v x e f n g = absurd (n (f ∙ ap whole-in e ∙ g))
+
 module _ (m places lengths T : List ℕ) (first key : ℕ) where
   -- what is known of a slot that is passed: it is occupied, and the row in it, if it is a part of the map, means something else
   abbrev pub Other : ℕ → Type 0

@@ -1,7 +1,6 @@
 -- `same_key` meets its contract: one answer for rows of other terms.
-use mathlib.Core.Path.{_∙_, ap}
 use borrow.Author.Needs.{needs}
-use Rattle.term_spec.specs.Rows.{whole-in}
+use Rattle.map_keys.proofs.Slots.{other-whole}
 use Rattle.map_keys.proofs.same_key.Statement.{statement}
 use Rattle.map_keys.proofs.same_key.Tie as tie
 
@@ -12,7 +11,7 @@ whole-in-requires : tie.Need-whole-in-requires
 whole-in-requires c κs = search needs
 
 returns : tie.Need-returns
-returns c = λ w. absurd (c .if1 .taken (c .before .whole-in .ensures .0 ∙ ap whole-in (c .before .before .row-at .ensures) ∙ w))
+returns c = other-whole _ _ _ _ (c .before .before .row-at .ensures) (c .before .whole-in .ensures .0) (c .if1 .taken)
 
 same-terms-requires : tie.Need-same-terms-requires
 same-terms-requires c κs = search needs
