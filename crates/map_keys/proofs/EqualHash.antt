@@ -193,14 +193,14 @@ module _ (m places lengths : List ℕ) (T : List ℕ) where
           }
 
     -- terms that mean the same have the same hash
-    pub equal-hash : (t u : Located) (whole whole′ : Option ℕ) (a b : ℕ) → Known-tree Known T whole a t → Known-tree Known T whole′ b u → meaning t ≡ meaning u → (first : ℕ)
-        → term-hash m places lengths T first a ≡ term-hash m places lengths T first b
+    pub equal-hash : (t u : Located) (whole whole′ : Option ℕ) (a b : ℕ) → Known-tree Known T whole a t → Known-tree Known T whole′ b u → meaning t ≡ meaning u → (round first : ℕ)
+        → term-hash m places lengths T round first a ≡ term-hash m places lengths T round first b
     unfolding term-hash hash-rows
-    equal-hash t u o o′ a b p q e first =
+    equal-hash t u o o′ a b p q e round first =
         let f : size u ≡ size t = sym (size-meaning u) ∙ ap size (sym e) ∙ size-meaning t in
         let n : ℕ = min (size t) 16 in
-        let z = tree-hash t u o o′ a b p q e n (mix 0 first) in
+        let z = tree-hash t u o o′ a b p q e n (mix (mix 0 first) round) in
         let none : z .more ≡ 0 = omega (arith, z .few) in
-        let x : hashed (mix 0 first) n 0 a ≡ z .hash = z .one ∙ rw none in
-        let y : hashed (mix 0 first) n 0 b ≡ z .hash = z .two ∙ rw none in
+        let x : hashed (mix (mix 0 first) round) n 0 a ≡ z .hash = z .one ∙ rw none in
+        let y : hashed (mix (mix 0 first) round) n 0 b ≡ z .hash = z .two ∙ rw none in
         rw (tree-size small t p, tree-size small u q, f) (ap (λ (k : ℕ). mix k 0 / 65536) (x ∙ sym y))

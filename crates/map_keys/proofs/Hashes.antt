@@ -1,4 +1,4 @@
--- Hashes of terms: one law for each way through the functions that make them; a key that is absent from the set, which has those that are equal to it by its hash, is new.
+-- Hashes of terms: one law for each way through the functions that make them; a key that is absent from the set, which has those that are equal to it by its hashes, is new.
 use mathlib.Core.Path.{_≡_, refl, sym, _∙_, ap, ap₂}
 use mathlib.Core.Bool.{Bool, true, false, cond}
 use mathlib.Core.List.{List, [], _∷_}
@@ -6,9 +6,9 @@ use Prim.Native.Nat.{ℕ, zero, suc, _+_, _*_, _-_, _/_, _≤_, _<_, min}
 use native.Mathlib.Nat.{mul-le-mul-left}
 use native.Mathlib.Omega.{arith}
 use lib.Dec.{eqb, leb, ltb}
-use lib.ListN.{length, getD}
+use lib.ListN.{length, getD, set}
 use borrow.Author.Tests.{eqb-true, leb-false, lt-ltb, le-ltb}
-use Rattle.term_spec.specs.Rows.{kind-in, offset-in, parts-in, size-in, Here}
+use Rattle.term_spec.specs.Rows.{kind-in, offset-in, whole-in, parts-in, size-in, Here}
 use Rattle.term_spec.proofs.Words.{here-word, here-rest}
 use Rattle.row_fields.specs.declared.Content.{Content}
 use Rattle.row_fields.specs.Found.{content-of}
@@ -17,7 +17,8 @@ use Rattle.row_compare.specs.Hash.{mix, hash-contents}
 use Rattle.term_spec.proofs.Tests.{never, by-less}
 use Rattle.row_compare.proofs.Hashes.{both-true, hash-alike}
 use Rattle.map_keys.specs.Compare.{same-fields, same-row, unordered-rows, pair-size, among-steps, among-from, same-terms-raw, among-rows}
-use Rattle.map_keys.specs.KeySet.{slot, Contains, added, hash-row, hash-rows, term-hash, Absent, Contains-from, Contains-before}
+use Rattle.map_keys.specs.KeySet.{slot, Contains, added, hash-row, hash-rows, term-hash, key-hashes, Absent, Contains-from, Contains-before, Contains-or-insert}
+use Rattle.map_keys.proofs.Slots.{keeps-set, contains-set}
 
 pub kind-small : (x k : ℕ) → x ≡ term-kind k → k < 16 → x < 16
 unfolding term-kind
@@ -125,10 +126,10 @@ module _ (m places lengths : List ℕ) where
               let u : i + 1 + unordered-rows w - (i + 1) ≡ unordered-rows w = omega arith in
               rw (z, y, u) (rw (le-ltb (n - (i + 1)) (unordered-rows w) (omega arith)) at (beyond b)))
 
-    pub term-hashed : (first row n h r x : ℕ) → n ≡ min (size-in (getD T row 0)) 16 → x ≡ mix 0 first → h ≡ hash-rows m places lengths T x n 0 row → r ≡ mix h 0
-        → r / 65536 ≡ term-hash m places lengths T first row
+    pub term-hashed : (round first row n h r x y : ℕ) → n ≡ min (size-in (getD T row 0)) 16 → x ≡ mix 0 first → y ≡ mix x round → h ≡ hash-rows m places lengths T y n 0 row → r ≡ mix h 0
+        → r / 65536 ≡ term-hash m places lengths T round first row
     unfolding term-hash
-    term-hashed first row n h r x a b c d = ap (λ (y : ℕ). y / 65536) (d ∙ ap (λ (y : ℕ). mix y 0) (c ∙ rw (a, b)))
+    term-hashed round first row n h r x y a b b′ c d = ap (λ (z : ℕ). z / 65536) (d ∙ ap (λ (z : ℕ). mix z 0) (c ∙ rw (a, b′, b)))
 
     -- rows that stand in two tables
     pub hash-here : (S : List ℕ) (h n s a : ℕ) (ws : List ℕ) → n ≤ length ws → Here T a ws → Here S a ws → hash-rows m places lengths T h n s a ≡ hash-rows m places lengths S h n s a
@@ -142,24 +143,25 @@ module _ (m places lengths : List ℕ) where
 
     -- ---- a key that is absent
 
-    module _ (first key : ℕ) (L : List ℕ) (u : Absent m places lengths T key L (term-hash m places lengths T first key)) where
-      not-same : (at : ℕ) → Contains L (term-hash m places lengths T first key) at → same-terms-raw m places lengths T key at ≡ true → ⊥
-      unfolding Absent
-      not-same at k e =
-          let w = k .stands (u .0) (u .1) (u .2) in
-          let q : slot L (term-hash m places lengths T first key) (w .0) ≡ at + 1 = w .2 in
-          let s : slot L (term-hash m places lengths T first key) (w .0) - 1 ≡ at = omega arith in
-          let d : same-terms-raw m places lengths T key at ≡ false = ap (same-terms-raw m places lengths T key) (sym s) ∙ u .3 (w .0) (w .1) in
+    module _ (first key : ℕ) (L : List ℕ) {i : ℕ} (u : Absent m places lengths T first key L i) where
+      not-same : (at : ℕ) → whole-in (getD T at 0) ≡ first → Contains L (key-hashes m places lengths T first key) at → same-terms-raw m places lengths T key at ≡ true → ⊥
+      not-same at p k e =
+          let hs : ℕ → ℕ = key-hashes m places lengths T first key in
+          let w = k .stands (u .free .step) (u .free .on-path) (ap (λ (x : ℕ). getD L x 0) (sym (u .free .place-is)) ∙ u .free .is-empty) in
+          let q : slot L hs (w .0) ≡ at + 1 = w .2 in
+          let s : slot L hs (w .0) - 1 ≡ at = omega arith in
+          let d : same-terms-raw m places lengths T key at ≡ false
+          = ap (same-terms-raw m places lengths T key) (sym s) ∙ u .others (w .0) (w .1) (ap (λ (x : ℕ). whole-in (getD T x 0)) s ∙ p) in
           never (sym d ∙ e)
 
       none-same : (n at : ℕ) → Contains-from m places lengths T first key L n at → among-steps T (same-terms-raw m places lengths T) n at key ≡ false
       unfolding among-steps Contains-from
       none-same zero at g = refl
-      none-same (suc n) at g = go (leb key at) refl (λ l. none-same n (at + pair-size T at) (g l .1))
+      none-same (suc n) at g = go (leb key at) refl (λ l. none-same n (at + pair-size T at) (g l .2))
         where
           later : at < key → (s z : Bool) → same-terms-raw m places lengths T key at ≡ s → among-steps T (same-terms-raw m places lengths T) n (at + pair-size T at) key ≡ false
               → cond s true (cond z false (among-steps T (same-terms-raw m places lengths T) n (at + pair-size T at) key)) ≡ false
-          later l true z e r = absurd (not-same at (g l .0 e) e)
+          later l true z e r = absurd (not-same at (g l .0) (g l .1 e) e)
           later l false true e r = refl
           later l false false e r = r
 
@@ -168,11 +170,18 @@ module _ (m places lengths : List ℕ) where
           go true e r = refl
           go false e r = let l : at < key = leb-false key at e in later l (same-terms-raw m places lengths T key at) (eqb (pair-size T at) 0) refl (r l)
 
-    pub absent-none : (first key : ℕ) (L : List ℕ) (h : ℕ) → h ≡ term-hash m places lengths T first key → Absent m places lengths T key L h
-        → Contains-before m places lengths T first key L → false ≡ among-rows m places lengths T first key
+    absent-none : (first key : ℕ) (L : List ℕ) (i : ℕ) → Absent m places lengths T first key L i → Contains-before m places lengths T first key L
+        → false ≡ among-rows m places lengths T first key
     unfolding among-from
-    absent-none first key L h e u g = sym (go (leb (length T) key))
+    absent-none first key L i u g = sym (go (leb (length T) key))
       where
         go : (t : Bool) → cond t false (among-steps T (same-terms-raw m places lengths T) (key - first) first key) ≡ false
         go true = refl
-        go false = none-same first key L (rw e at u) (key - first) first g
+        go false = none-same first key L u (key - first) first g
+
+    -- it is inserted in the slot that was found
+    pub absent-inserted : (first key : ℕ) (L : List ℕ) (i : ℕ) → Absent m places lengths T first key L i → i < length L
+        → Contains-or-insert m places lengths T first key L false (set L i (key + 1))
+    absent-inserted first key L i u l =
+        let hs : ℕ → ℕ = key-hashes m places lengths T first key in
+        record { keys-kept = keeps-set L hs key (u .free) l; judged = absent-none first key L i u; inserted = λ _. contains-set L hs key (u .free) l }

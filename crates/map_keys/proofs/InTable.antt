@@ -175,11 +175,11 @@ module _ (flags : ℕ) (list : AtomList) (message : List ℕ) (lent : Lent list 
         terms-found (same-row message (list .places) (list .lengths)) Known (λ r k. k .0) row-agrees map-agrees T flags 16384 t u (few-levels t h) v w whole whole′ a b h g
 
     -- and where these are the same, so are the hashes
-    pub same-terms-hash : {whole whole′ : Option ℕ} {a b : ℕ} (t u : Located) → Known-tree Known T whole a t → Known-tree Known T whole′ b u → meaning t ≡ meaning u → (first : ℕ)
-        → term-hash message (list .places) (list .lengths) T first a ≡ term-hash message (list .places) (list .lengths) T first b
-    same-terms-hash {whole} {whole′} {a} {b} t u h g e first =
+    pub same-terms-hash : {whole whole′ : Option ℕ} {a b : ℕ} (t u : Located) → Known-tree Known T whole a t → Known-tree Known T whole′ b u → meaning t ≡ meaning u → (round first : ℕ)
+        → term-hash message (list .places) (list .lengths) T round first a ≡ term-hash message (list .places) (list .lengths) T round first b
+    same-terms-hash {whole} {whole′} {a} {b} t u h g e round first =
         equal-hash message (list .places) (list .lengths) T Known (λ r k. k .0)
-        (λ r q k m e h. row-alike message (list .places) (list .lengths) h (word r) (word q) (row-agrees r q k m .back e)) map-agrees t u whole whole′ a b h g e first
+        (λ r q k m e h. row-alike message (list .places) (list .lengths) h (word r) (word q) (row-agrees r q k m .back e)) map-agrees t u whole whole′ a b h g e round first
 
     -- the last of terms, after pairs, is compared with each of their keys
     pub last-among : {whole : Option ℕ} {first : ℕ} (ts : Terms) (u : Located) {ks : List Term} → Keys-of ts ks → Valids flags (all-as-read (ts ▹▹ (u ▹ empty)))

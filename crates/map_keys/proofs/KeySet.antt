@@ -14,22 +14,22 @@ use Rattle.term_spec.specs.AtomList.{AtomList, given-of}
 use Rattle.term_spec.specs.Valid.{Valid, Valids}
 use Rattle.term_spec.specs.Reading.{Located, as-read, meaning}
 use Rattle.term_spec.specs.Message.{Terms, all-as-read}
-use Rattle.term_spec.specs.Rows.{tree-rows, row-words, size-in, Tree-here}
+use Rattle.term_spec.specs.Rows.{tree-rows, row-words, whole-code, whole-in, size-in, Tree-here}
 use Rattle.term_spec.proofs.Rows.{length-tree-rows}
-use Rattle.term_spec.proofs.Words.{Small-row, length-words-of, node-here}
+use Rattle.term_spec.proofs.Words.{Each-row, Small-row, length-words-of, node-here, node-packed}
 use Rattle.row_fields.proofs.Says.{Lent}
 use Rattle.row_compare.specs.Hash.{mix}
 use Rattle.map_keys.specs.Compare.{pair-size, same-terms-raw}
-use Rattle.map_keys.specs.KeySet.{Contains, Keeps, term-hash, Contains-from, Contains-before, Contains-or-insert}
+use Rattle.map_keys.specs.KeySet.{Contains, Keeps, term-hash, key-hashes, Contains-from, Contains-before, Contains-or-insert}
 use Rattle.map_keys.proofs.Compare.{Known-tree, Known-rows, tree-size, pair-sizes, valids-left, valids-right, Keys-of}
 use Rattle.map_keys.proofs.Slots.{contains-as, contains-kept}
 pub use Rattle.map_keys.proofs.Slots.{keeps-refl, keeps-trans}
 use Rattle.map_keys.proofs.Hashes.{hash-here}
 use Rattle.map_keys.proofs.InTable.{Term-in-table, Rows-in-table, held-left, held-right, held-first, known-tree, same-terms-same, same-terms-hash, last-among}
 
--- the set contains the key whose rows start at the row `row`: in each table where they stand, by its hash there, which starts from the row `first`
+-- the set contains the key whose rows start at the row `row`: in each table where they stand, by its hashes there, which start from the row `first`
 pub record Contains-key (m places lengths : List ℕ) (whole : Option ℕ) (first row : ℕ) (k : Located) (L : List ℕ) : Type 0 where
-  by-hash : (S : List ℕ) → Tree-here S whole row k → Contains L (term-hash m places lengths S first row) row
+  by-hash : (S : List ℕ) → Tree-here S whole row k → Contains L (key-hashes m places lengths S first row) row
 
 -- the keys of these pairs, from the row `row` on
 pub data Contains-keys (m places lengths : List ℕ) (whole : Option ℕ) (first : ℕ) : ℕ → Terms → List ℕ → Type 0 where
@@ -58,15 +58,15 @@ module _ {m places lengths : List ℕ} {whole : Option ℕ} {first : ℕ} where
 
 -- ---- rows that stand in a table
 
--- in another table where they stand a term has the same hash
-hash-tree : (m places lengths S S′ : List ℕ) (whole : Option ℕ) (first n : ℕ) (t : Located) → Known-tree Small-row S whole n t → Tree-here S′ whole n t
-    → term-hash m places lengths S first n ≡ term-hash m places lengths S′ first n
-unfolding term-hash
-hash-tree m places lengths S S′ whole first n (node l ts) h g =
+-- in another table where they stand a term has the same hash in each round
+hash-tree : (m places lengths S S′ : List ℕ) (whole : Option ℕ) (first n : ℕ) (t : Located) → Known-tree Small-row S whole n t → Tree-here S′ whole n t → (round : ℕ)
+    → key-hashes m places lengths S first n round ≡ key-hashes m places lengths S′ first n round
+unfolding key-hashes term-hash
+hash-tree m places lengths S S′ whole first n (node l ts) h g round =
     let ws : List ℕ = row-words (tree-rows whole n (node l ts)) in
     let e : size-in (getD S n 0) ≡ length ws = tree-size (λ r k. k) (node l ts) h ∙ sym (length-words-of (tree-rows whole n (node l ts)) ∙ length-tree-rows whole n (node l ts)) in
     let one : getD S n 0 ≡ getD S′ n 0 = node-here (h .stands) ∙ sym (node-here g) in
-    rw (← one, e) (ap (λ (x : ℕ). mix x 0 / 65536) (hash-here m places lengths S S′ (mix 0 first) (min (length ws) 16) 0 n ws (omega arith) (h .stands .tree-words) (g .tree-words)))
+    rw (← one, e) (ap (λ (x : ℕ). mix x 0 / 65536) (hash-here m places lengths S S′ (mix (mix 0 first) round) (min (length ws) 16) 0 n ws (omega arith) (h .stands .tree-words) (g .tree-words)))
 
 -- the rows of pairs, and of one more term, stand in the table
 module _ (m places lengths : List ℕ) (cap : ℕ) (given : Given) {S : List ℕ} {whole : Option ℕ} {first : ℕ} (us : Terms) (u : Located)
@@ -78,9 +78,15 @@ module _ (m places lengths : List ℕ) (cap : ℕ) (given : Given) {S : List ℕ
       let g = held-first m cap given u empty (held-right m cap given us (u ▹ empty) h) in
       record { by-hash = λ S′ k. contains-as (hash-tree m places lengths S S′ whole first (first + sizes us) u (record { stands = g .stands; known = g .small }) k) (c .inserted e) }
 
--- the same, and all of them are valid
+-- a term's row says which term it is a part of
+term-whole : (m : List ℕ) (cap : ℕ) (given : Given) {S : List ℕ} {whole : Option ℕ} {row : ℕ} (t : Located) → Term-in-table m cap given S whole row t
+    → whole-in (getD S row 0) ≡ whole-code whole
+unfolding tree-rows Each-row
+term-whole m cap given (node l ts) h = node-packed (h .stands) (h .small .0) .whole-is
+
+-- the same, all of them are valid, and `first` says what they are parts of
 module _ (flags : ℕ) (list : AtomList) (m : List ℕ) (lent : Lent list m) (cap : ℕ) {S : List ℕ} {whole : Option ℕ} {first : ℕ} (us : Terms) (u : Located)
-    (h : Rows-in-table m cap (given-of flags list) S whole first (us ▹▹ (u ▹ empty))) (valid : Valids flags (all-as-read (us ▹▹ (u ▹ empty)))) where
+    (h : Rows-in-table m cap (given-of flags list) S whole first (us ▹▹ (u ▹ empty))) (valid : Valids flags (all-as-read (us ▹▹ (u ▹ empty)))) (code : whole-code whole ≡ first) where
   abbrev places : List ℕ
   places = list .places
 
@@ -93,14 +99,15 @@ module _ (flags : ℕ) (list : AtomList) (m : List ℕ) (lent : Lent list m) (ca
   key-held : Term-in-table m cap (given-of flags list) S whole key u
   key-held = held-first m cap (given-of flags list) u empty (held-right m cap (given-of flags list) us (u ▹ empty) h)
 
-  -- a key that is equal has the same hash
+  -- a key that is equal has the same hashes
   one-hash : {row : ℕ} {L : List ℕ} (k : Located) → Valid flags (as-read k) → Term-in-table m cap (given-of flags list) S whole row k
-      → Contains-key m places lengths whole first row k L → same-terms-raw m places lengths S key row ≡ true → Contains L (term-hash m places lengths S first key) row
+      → Contains-key m places lengths whole first row k L → same-terms-raw m places lengths S key row ≡ true → Contains L (key-hashes m places lengths S first key) row
+  unfolding key-hashes
   one-hash {row} k v g o e =
       let known-u = known-tree flags list m lent cap S u key-held in
       let known-k = known-tree flags list m lent cap S k g in
       let f : meaning u ≡ meaning k = same-terms-same flags list m lent cap S u k (valids-right flags us (u ▹ empty) valid .0) v known-u known-k .sure e in
-      contains-as (sym (same-terms-hash flags list m lent cap S u k known-u known-k f first)) (o .by-hash S (g .stands))
+      contains-as (λ round. sym (same-terms-hash flags list m lent cap S u k known-u known-k f round first)) (o .by-hash S (g .stands))
 
   contains-from : {L : List ℕ} (n row : ℕ) (ts : Terms) → Contains-keys m places lengths whole first row ts L → key ≡ row + sizes ts → Valids flags (all-as-read ts)
       → Rows-in-table m cap (given-of flags list) S whole row ts → Contains-from m places lengths S first key L n row
@@ -110,10 +117,12 @@ module _ (flags : ℕ) (list : AtomList) (m : List ℕ) (lent : Lent list m) (ca
   contains-from {L} (suc n) row (k ▹ x ▹ ts) (a-key o r) e v g =
       let rest : Rows-in-table m cap (given-of flags list) S whole (row + (size k + (size x + 0))) ts = held-right m cap (given-of flags list) (k ▹ x ▹ empty) ts g in
       let past : row + (size k + (size x + 0)) ≡ row + size k + size x = omega arith in
+      let held : Term-in-table m cap (given-of flags list) S whole row k = held-first m cap (given-of flags list) k (x ▹ ts) g in
       let known : Known-rows Small-row S whole row (k ▹ x ▹ ts) = record { stand = g .stand; all-known = g .all-small } in
       let step : row + pair-size S row ≡ row + size k + size x = ap (λ (i : ℕ). row + i) (pair-sizes (λ r k. k) known) ∙ (omega arith) in
       λ l. (
-        one-hash k (v .0) (held-first m cap (given-of flags list) k (x ▹ ts) g) o,
+        term-whole m cap (given-of flags list) k held ∙ code,
+        one-hash k (v .0) held o,
         subst (λ (i : ℕ). Contains-from m places lengths S first key L n i) (sym step)
             (contains-from n (row + size k + size x) ts r (omega arith) (v .1 .1) (rw past at rest)),
       )

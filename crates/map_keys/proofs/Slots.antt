@@ -1,18 +1,36 @@
--- The slots of the set of keys: one law for each way through the functions that probe them, and that occupied slots stay.
+-- The slots of the set of keys: where a path comes to, one law for each way through the functions that walk it, and that occupied slots stay.
 use mathlib.Core.Path.{_≡_, refl, sym, _∙_, ap, subst}
 use mathlib.Core.Bool.{Bool, true, false}
 use mathlib.Core.List.{List}
-use Prim.Native.Nat.{ℕ, _+_, _-_, _%_, _≤_, _<_}
-use native.Mathlib.Nat.{mod-lt, mod-eq-of-lt, mod-self, mod-add-mod}
+use Prim.Native.Nat.{ℕ, _+_, _*_, _-_, _/_, _%_, _≤_, _<_}
+use native.Mathlib.Nat.{mul-comm, add-mul, mul-assoc, mul-le-mul, mul-le-mul-right, mul-add-div, div-add-mod, mod-lt, mod-eq-of-lt, mod-self, mod-add-mod}
 use native.Mathlib.Omega.{arith}
 use lib.Dec.{eqb}
 use lib.ListN.{length, getD, set, length-set}
 use lib.Seq.{getD-set-same, getD-set-other}
 use borrow.Author.Count.{below-none, below-more}
 use borrow.Author.Tests.{eqb-true, eqb-false}
+use Rattle.term_spec.specs.Rows.{whole-in}
 use Rattle.term_spec.proofs.Tests.{by-less}
 use Rattle.map_keys.specs.Compare.{same-terms-raw}
-use Rattle.map_keys.specs.KeySet.{slot, Contains, Keeps, Absent}
+use Rattle.map_keys.specs.KeySet.{place, slot, Contains, First-empty, Keeps, term-hash, key-hashes, Absent}
+
+-- ---- the slot to which a hash points
+
+pub pointed-is : (h n : ℕ) → n / 65536 * h + n % 65536 * h / 65536 ≡ h * n / 65536
+pointed-is h n =
+    let e : h * n ≡ 65536 * (n / 65536 * h) + n % 65536 * h
+    = mul-comm h n
+    ∙ ap (λ (x : ℕ). x * h) (sym (div-add-mod n 65536))
+    ∙ add-mul (65536 * (n / 65536)) (n % 65536) h
+    ∙ ap (λ (x : ℕ). x + n % 65536 * h) (mul-assoc 65536 (n / 65536) h) in
+    sym (ap (λ (x : ℕ). x / 65536) e ∙ mul-add-div (omega arith) (n / 65536 * h) (n % 65536 * h))
+
+-- it is one of the n, and no product is large
+pub pointed-small : (h n : ℕ) → h < 65536 → 0 < n → (n / 65536 * h + n % 65536 * h / 65536 < n) × (n % 65536 * h ≤ 65535 * 65535)
+pointed-small h n l p =
+    let e : h * n ≤ 65535 * n = mul-le-mul-right n (omega arith) in
+    (omega (arith, pointed-is h n), mul-le-mul {n₂ = 65535} {m₂ = 65535} (omega arith) (omega arith))
 
 -- ---- the slot after a slot
 
@@ -21,6 +39,44 @@ wraps i n e = rw e (sym (mod-self n))
 
 pub goes-on : (i n : ℕ) → i < n → (i + 1 ≡ n → ⊥) → i + 1 ≡ (i + 1) % n
 goes-on i n l e = sym (mod-eq-of-lt (omega arith))
+
+-- ---- the places of a path
+
+module _ (hs : ℕ → ℕ) where
+  place-below : (n d : ℕ) → 0 < n → place hs n d < n
+  unfolding place
+  place-below n d l = mod-lt (hs (d / 2) * n / 65536 + d % 2) l
+
+  -- a round starts
+  place-start : (n d r : ℕ) → d % 2 ≡ 0 → r ≡ hs (d / 2) * n / 65536 → r < n → r ≡ place hs n d
+  unfolding place
+  place-start n d r z e l = let f : hs (d / 2) * n / 65536 + d % 2 ≡ r = omega arith in rw f (sym (mod-eq-of-lt l))
+
+  -- a round goes on, from slot i
+  module _ (n d i : ℕ) (z : d % 2 ≡ 0 → ⊥) (e : 0 < d → i ≡ place hs n (d - 1)) where
+    last-place : i ≡ place hs n (d - 1)
+    last-place = e (omega arith)
+
+    pub last-inside : 0 < n → i < n
+    last-inside l = let b : place hs n (d - 1) < n = place-below n (d - 1) l in omega (arith, last-place)
+
+    pub place-next : (r : ℕ) → r ≡ (i + 1) % n → r ≡ place hs n d
+    unfolding place
+    place-next r f =
+        let x : ℕ = hs (d / 2) * n / 65536 in
+        let round : (d - 1) / 2 ≡ d / 2 = omega arith in
+        let at : hs ((d - 1) / 2) * n / 65536 + (d - 1) % 2 ≡ x = ap (λ (k : ℕ). hs k * n / 65536 + (d - 1) % 2) round ∙ (omega arith) in
+        let odd : d % 2 ≡ 1 = omega arith in
+        f ∙ ap (λ (k : ℕ). (k + 1) % n) (last-place ∙ ap (λ (k : ℕ). k % n) at) ∙ mod-add-mod x n 1 ∙ ap (λ (k : ℕ). (x + k) % n) (sym odd)
+
+  place-as : {hs′ : ℕ → ℕ} → ((round : ℕ) → hs round ≡ hs′ round) → (n d : ℕ) → place hs n d ≡ place hs′ n d
+  unfolding place
+  place-as f n d = ap (λ (h : ℕ). (h * n / 65536 + d % 2) % n) (f (d / 2))
+
+pub path-start : (m places lengths T : List ℕ) (first key n d h r : ℕ) → d % 2 ≡ 0 → h ≡ term-hash m places lengths T (d / 2) first key → r ≡ h * n / 65536 → r < n
+    → r ≡ place (key-hashes m places lengths T first key) n d
+unfolding key-hashes
+path-start m places lengths T first key n d h r z e f l = place-start (key-hashes m places lengths T first key) n d r z (f ∙ ap (λ (k : ℕ). k * n / 65536) e) l
 
 -- ---- occupied slots stay
 
@@ -42,108 +98,115 @@ module _ {L L′ : List ℕ} (k : Keeps L L′) where
   was-empty : (i : ℕ) → getD L′ i 0 ≡ 0 → getD L i 0 ≡ 0
   was-empty i e = zero-or-not (getD L i 0) (λ z. z) (λ n. absurd (n (sym (k .occupied i n) ∙ e)))
 
-  same-slot : (h d : ℕ) → slot L′ h d ≡ getD L′ ((h + d) % length L) 0
-  same-slot h d = ap (λ (n : ℕ). getD L′ ((h + d) % n) 0) (k .as-many)
+  same-slot : (hs : ℕ → ℕ) (d : ℕ) → slot L′ hs d ≡ getD L′ (place hs (length L) d) 0
+  same-slot hs d = ap (λ (n : ℕ). getD L′ (place hs n d) 0) (k .as-many)
 
-  slot-was-empty : (h d : ℕ) → slot L′ h d ≡ 0 → slot L h d ≡ 0
-  slot-was-empty h d e = was-empty ((h + d) % length L) (sym (same-slot h d) ∙ e)
+  slot-was-empty : (hs : ℕ → ℕ) (d : ℕ) → slot L′ hs d ≡ 0 → slot L hs d ≡ 0
+  slot-was-empty hs d e = was-empty (place hs (length L) d) (sym (same-slot hs d) ∙ e)
 
-pub contains-as : {L : List ℕ} {h h′ k : ℕ} → h ≡ h′ → Contains L h k → Contains L h′ k
-contains-as {L} {k = k} e f = subst (λ (h : ℕ). Contains L h k) e f
+-- the same by equal hashes
+pub contains-as : {L : List ℕ} {hs hs′ : ℕ → ℕ} {k : ℕ} → ((round : ℕ) → hs round ≡ hs′ round) → Contains L hs k → Contains L hs′ k
+contains-as {L} {hs} {hs′} f c =
+    let at : (d : ℕ) → slot L hs d ≡ slot L hs′ d = λ d. ap (λ (i : ℕ). getD L i 0) (place-as hs f (length L) d) in
+    record { stands = λ d l e. let w = c .stands d l (at d ∙ e) in (w .0, w .1, sym (at (w .0)) ∙ w .2) }
 
 -- a key that is contained stays so
-pub contains-kept : {L L′ : List ℕ} {h k : ℕ} → Keeps L L′ → Contains L h k → Contains L′ h k
-contains-kept {L} {L′} {h} {k} g f =
+pub contains-kept : {L L′ : List ℕ} {hs : ℕ → ℕ} {k : ℕ} → Keeps L L′ → Contains L hs k → Contains L′ hs k
+contains-kept {L} {L′} {hs} {k} g f =
     record {
       stands = λ d l e.
-          let w = f .stands d (omega (arith, g .as-many)) (slot-was-empty g h d e) in
-          let here : slot L h (w .0) ≡ k + 1 = w .2 in
-          (w .0, w .1, same-slot g h (w .0) ∙ g .occupied ((h + w .0) % length L) (λ z. omega arith) ∙ here);
+          let w = f .stands d l (slot-was-empty g hs d e) in
+          let here : slot L hs (w .0) ≡ k + 1 = w .2 in
+          (w .0, w .1, same-slot g hs (w .0) ∙ g .occupied (place hs (length L) (w .0)) (λ z. omega arith) ∙ here);
     }
 
--- ---- probing
+-- ---- walking a path
 
--- d slots from the hash h on are passed, P holds of each; the next is slot i of n
-pub record Probed (P : ℕ → Type 0) (L : List ℕ) (h n i d : ℕ) : Type 0 where
+-- d steps are passed, P holds of the slot at each; the last was slot i, of n
+pub record Walked (P : ℕ → Type 0) (L : List ℕ) (hs : ℕ → ℕ) (n i d : ℕ) : Type 0 where
   pub all : n ≡ length L
-  pub few : d ≤ n
-  pub inside : i < n
-  pub here : i ≡ (h + d) % n
-  pub passed : (e : ℕ) → e < d → P (slot L h e)
+  pub last : 0 < d → i ≡ place hs n (d - 1)
+  pub passed : (e : ℕ) → e < d → P (slot L hs e)
 
-module _ (P : ℕ → Type 0) (L : List ℕ) (h : ℕ) where
-  pub probe-start : 0 < length L → Probed P L h (length L) (h % length L) 0
-  probe-start l =
-      let e : h + 0 ≡ h = omega arith in
-      record { all = refl; few = omega arith; inside = mod-lt h l; here = rw e; passed = below-none (λ (e : ℕ). P (slot L h e)) }
+module _ (P : ℕ → Type 0) (L : List ℕ) (hs : ℕ → ℕ) where
+  pub walk-start : Walked P L hs (length L) 0 0
+  walk-start = record { all = refl; last = λ l. absurd (omega arith); passed = below-none (λ (e : ℕ). P (slot L hs e)) }
 
-  module _ {n i d : ℕ} (p : Probed P L h n i d) where
-    slot-here : slot L h d ≡ getD L i 0
-    slot-here = rw (p .here, p .all)
+  module _ {n i d : ℕ} (p : Walked P L hs n i d) (j : ℕ) (e : j ≡ place hs n d) where
+    slot-here : slot L hs d ≡ getD L j 0
+    slot-here = rw (e, p .all)
 
-    pub probe-next : (j : ℕ) → d < n → P (getD L i 0) → j ≡ (i + 1) % n → j < n → Probed P L h n j (d + 1)
-    probe-next j l x e b =
-        let s : h + d + 1 ≡ h + (d + 1) = omega arith in
+    pub walk-next : d < 32 → P (getD L j 0) → Walked P L hs n j (d + 1)
+    walk-next l x =
+        let s : d + 1 - 1 ≡ d = omega arith in
         record {
           all = p .all;
-          few = omega arith;
-          inside = b;
-          here = e ∙ ap (λ (x : ℕ). (x + 1) % n) (p .here) ∙ mod-add-mod (h + d) n 1 ∙ ap (λ (x : ℕ). x % n) s;
-          passed = below-more (λ (e : ℕ). P (slot L h e)) d (p .passed) (subst P (sym slot-here) x);
+          last = λ _. e ∙ ap (place hs n) (sym s);
+          passed = below-more (λ (e : ℕ). P (slot L hs e)) d (p .passed) (subst P (sym slot-here) x);
         }
 
--- ---- probe
+-- ---- a path to the first empty slot
 
-module _ (m places lengths T : List ℕ) (key : ℕ) where
-  -- what a row in a slot is compared for
+-- a row of another term, whose word is w
+pub other-whole : {P : Type 0} (w first v x : ℕ) → v ≡ w → x ≡ whole-in v → (x ≡ first → ⊥) → whole-in w ≡ first → P
+other-whole w first v x e f n g = absurd (n (f ∙ ap whole-in e ∙ g))
+
+module _ (m places lengths T : List ℕ) (first key : ℕ) where
+  -- what is known of a slot that is passed: it is occupied, and the row in it, if it is a part of the map, means something else
   abbrev pub Other : ℕ → Type 0
-  Other x = same-terms-raw m places lengths T key (x - 1) ≡ false
+  Other x = (x ≡ 0 → ⊥) × (whole-in (getD T (x - 1) 0) ≡ first → same-terms-raw m places lengths T key (x - 1) ≡ false)
 
-  pub probe-empty : (L : List ℕ) (h : ℕ) {n i d : ℕ} (x : ℕ) → Probed Other L h n i d → d < n → x ≡ getD L i 0 → x ≡ 0 → Absent m places lengths T key L h
-  unfolding Absent
-  probe-empty L h {d = d} x p l e z = (d, omega (arith, p .all), slot-here Other L h p ∙ sym e ∙ z, p .passed)
+  module _ (L : List ℕ) {n i d : ℕ} (p : Walked Other L (key-hashes m places lengths T first key) n i d) (j x : ℕ) (l : d < 32)
+      (e : j ≡ place (key-hashes m places lengths T first key) n d) (f : x ≡ getD L j 0) where
+    pub free-found : x ≡ 0 → Absent m places lengths T first key L j
+    free-found z =
+        let hs : ℕ → ℕ = key-hashes m places lengths T first key in
+        record {
+          free = record { step = d; on-path = l; place-is = e ∙ ap (λ (k : ℕ). place hs k d) (p .all); is-empty = sym f ∙ z; passed = λ e k. p .passed e k .0 };
+          others = λ e k. p .passed e k .1;
+        }
 
-  pub probe-other : (L : List ℕ) (h : ℕ) {n i d : ℕ} (j x : ℕ) (s : Bool) → Probed Other L h n i d → d < n → x ≡ getD L i 0 → s ≡ same-terms-raw m places lengths T key (x - 1) → s ≡ false
-      → j ≡ (i + 1) % n → j < n → Probed Other L h n j (d + 1)
-  probe-other L h j x s p l e f z g b =
-      probe-next Other L h p j l (ap (λ (y : ℕ). same-terms-raw m places lengths T key (y - 1)) (sym e) ∙ sym f ∙ z) g b
+    pub free-later : (s : Bool) → (x ≡ 0 → ⊥) → (whole-in (getD T (x - 1) 0) ≡ first → s ≡ same-terms-raw m places lengths T key (x - 1)) → s ≡ false
+        → Walked Other L (key-hashes m places lengths T first key) n j (d + 1)
+    free-later s o g z = walk-next Other L (key-hashes m places lengths T first key) p j e l (subst Other f (o, λ w. sym (g w) ∙ z))
 
 -- ---- insert
 
 abbrev pub Occupied : ℕ → Type 0
 Occupied x = x ≡ 0 → ⊥
 
-module _ (L : List ℕ) (h k : ℕ) {n i d : ℕ} (p : Probed Occupied L h n i d) where
-  -- no slot is empty
-  contains-full : n ≤ d → Contains L h k
-  contains-full l = record { stands = λ e b z. absurd (p .passed e (omega (arith, p .all)) z) }
+-- in the first empty slot
+module _ (L : List ℕ) (hs : ℕ → ℕ) (k : ℕ) {i : ℕ} (f : First-empty L hs i) (inside : i < length L) where
+  pub keeps-set : Keeps L (set L i (k + 1))
+  keeps-set =
+      record { as-many = length-set L i (k + 1); occupied = λ j e. getD-set-other L i j (k + 1) 0 (λ q. e (ap (λ (x : ℕ). getD L x 0) q ∙ f .is-empty)) }
 
-  module _ (z : getD L i 0 ≡ 0) where
-    keeps-set : Keeps L (set L i (k + 1))
-    keeps-set = record { as-many = length-set L i (k + 1); occupied = λ j e. getD-set-other L i j (k + 1) 0 (λ q. e (ap (λ (x : ℕ). getD L x 0) q ∙ z)) }
+  occupied-now : slot (set L i (k + 1)) hs (f .step) ≡ k + 1
+  occupied-now =
+      same-slot keeps-set hs (f .step) ∙ ap (λ (x : ℕ). getD (set L i (k + 1)) x 0) (sym (f .place-is)) ∙ getD-set-same L i (k + 1) 0 inside
 
-    occupied-now : slot (set L i (k + 1)) h d ≡ k + 1
-    occupied-now =
-        let at : (h + d) % length L ≡ i = rw (← p .all) (sym (p .here)) in
-        same-slot keeps-set h d ∙ ap (λ (x : ℕ). getD (set L i (k + 1)) x 0) at ∙ getD-set-same L i (k + 1) 0 (omega (arith, p .inside, p .all))
+  -- it is occupied now, so the next empty one comes later
+  later-empty : (e : ℕ) → slot (set L i (k + 1)) hs e ≡ 0 → f .step < e
+  later-empty e y =
+      by-less (f .step) e (λ x. x)
+      (λ x. by-less e (f .step) (λ w. absurd (f .passed e w (slot-was-empty keeps-set hs e y)))
+      (λ w.
+      let q : e ≡ f .step = omega arith in
+      let g : slot (set L i (k + 1)) hs e ≡ k + 1 = ap (slot (set L i (k + 1)) hs) q ∙ occupied-now in
+      absurd (omega arith)))
 
-    -- the first empty slot is occupied now, so the next empty one comes later
-    later-empty : (e : ℕ) → slot (set L i (k + 1)) h e ≡ 0 → d < e
-    later-empty e y =
-        by-less d e (λ x. x)
-        (λ x. by-less e d (λ w. absurd (p .passed e w (slot-was-empty keeps-set h e y)))
-        (λ w.
-        let q : e ≡ d = omega arith in
-        let f : slot (set L i (k + 1)) h e ≡ k + 1 = ap (slot (set L i (k + 1)) h) q ∙ occupied-now in
-        absurd (omega arith)))
-
-    contains-set : Contains (set L i (k + 1)) h k
-    contains-set = record { stands = λ e b y. (d, later-empty e y, occupied-now) }
+  pub contains-set : Contains (set L i (k + 1)) hs k
+  contains-set = record { stands = λ e b y. (f .step, later-empty e y, occupied-now) }
 
 -- slots S that are still as they were, L
-module _ (L S : List ℕ) (h k : ℕ) {n i d : ℕ} (e : S ≡ L) (p : Probed Occupied S h n i d) where
-  pub insert-empty : getD S i 0 ≡ 0 → Keeps L (set S i (k + 1)) × Contains (set S i (k + 1)) h k
-  insert-empty z = (subst (λ (l : List ℕ). Keeps l (set S i (k + 1))) e (keeps-set S h k p z), contains-set S h k p z)
+module _ (L S : List ℕ) (hs : ℕ → ℕ) (k : ℕ) {n i d : ℕ} (e : S ≡ L) (p : Walked Occupied S hs n i d) where
+  pub insert-empty : (j : ℕ) → d < 32 → j ≡ place hs n d → j < n → getD S j 0 ≡ 0 → Keeps L (set S j (k + 1)) × Contains (set S j (k + 1)) hs k
+  insert-empty j l g b z =
+      let f : First-empty S hs j = record { step = d; on-path = l; place-is = g ∙ ap (λ (k : ℕ). place hs k d) (p .all); is-empty = z; passed = p .passed } in
+      let inside : j < length S = omega (arith, p .all) in
+      (subst (λ (l : List ℕ). Keeps l (set S j (k + 1))) e (keeps-set S hs k f inside), contains-set S hs k f inside)
 
-  pub insert-full : n ≤ d → Keeps L S × Contains S h k
-  insert-full l = (subst (λ (l : List ℕ). Keeps l S) e (keeps-refl S), contains-full S h k p l)
+  -- no slot of the path is empty
+  pub insert-full : 32 ≤ d → Keeps L S × Contains S hs k
+  insert-full l =
+      (subst (λ (l : List ℕ). Keeps l S) e (keeps-refl S), record { stands = λ e b z. absurd (p .passed e (omega arith) z) })

@@ -1,18 +1,19 @@
 // Terms compared by their rows, whatever their encoding, and the hash set of a map's keys.
 ghost use mathlib.Core.Path.{_≡_};
 ghost use mathlib.Core.Bool.{false, cond};
-ghost use Prim.Native.Nat.{_+_, _*_, _%_, _≤_, _<_, min};
+ghost use Prim.Native.Nat.{_+_, _*_, _-_, _/_, _%_, _≤_, _<_, min};
 ghost use lib.Dec.{ltb};
 ghost use lib.ListN.{length, getD};
-ghost use Rattle.term_spec.specs.Rows.{size-in};
+ghost use Rattle.term_spec.specs.Rows.{size-in, whole-in};
 ghost use Rattle.row_fields.specs.Meaning.{term-kind};
-ghost use Rattle.map_keys.specs.Compare.{same-fields, same-row, unordered-rows, same-rows, pair-size, pair-among, pair-around, pairs-among, same-maps, same-terms, among-rows};
-ghost use Rattle.map_keys.specs.KeySet.{Contains, Keeps, added, hash-row, hash-rows, term-hash, Absent, Contains-before, Contains-or-insert};
+ghost use Rattle.map_keys.specs.Compare.{same-fields, same-row, unordered-rows, same-rows, pair-size, pair-among, pair-around, pairs-among, same-maps, same-terms, same-terms-raw, among-rows};
+ghost use Rattle.map_keys.specs.KeySet.{place, Contains, Keeps, added, hash-row, hash-rows, term-hash, key-hashes, Absent, Contains-or-insert};
 use octets::wide16;
 use row::kind_in;
 use row::offset_in;
 use row::parts_in;
 use row::size_in;
+use row::whole_in;
 use row_compare::hash_content;
 use row_compare::mix;
 use row_compare::same_content;
@@ -30,6 +31,15 @@ const LEVELS: usize = 16384;
 
 // So many rows of a key count in its hash.
 const HASHED_ROWS: usize = 16;
+
+// So many hashes there are of 16 bits.
+const HASHES: usize = 65536;
+
+// So many neighbouring slots a round looks at.
+const WINDOW: usize = 2;
+
+// The path of a key has so many steps, in rounds of WINDOW.
+const PATH: usize = 32;
 
 // The row at an index of the table as its word, 0 past its end.
 pub fn row_at(table: &[u64], i: usize) -> u64
@@ -402,21 +412,31 @@ fn hash_rows(
     h
 }
 
-// The hash of the term at a row, as a key of the map whose first key is at the row `first`.
+// The hash of the term at a row in a round, as a key of the map whose first key is at the row `first`.
 fn term_hash(
     msg: &[u8],
     places: &[u8],
     lengths: &[u16],
     table: &[u64],
+    round: usize,
     first: usize,
     row: usize,
 ) -> usize
-    requires { ⌜ row < 4611686018427387904 ⌝ }
-    ensures { λ r. ⌜ r ≡ term-hash (now (msg .entry)) (now (places .entry)) (now (lengths .entry)) (now (table .entry)) first row ⌝ }
+    requires { ⌜ (round < 65536) × (row < 4611686018427387904) ⌝ }
+    ensures { λ r. ⌜ (r ≡ term-hash (now (msg .entry)) (now (places .entry)) (now (lengths .entry)) (now (table .entry)) round first row) × (r < 65536) ⌝ }
 {
     let n = hashed_rows(table, row);
-    let h = hash_rows(msg, places, lengths, table, n, row, mix(0, first as u64));
+    let start = mix(mix(0, first as u64), round as u64);
+    let h = hash_rows(msg, places, lengths, table, n, row, start);
     (mix(h, 0) / 65536) as usize
+}
+
+// The slot to which a hash points, of n.
+fn hashed_slot(hash: usize, n: usize) -> usize
+    requires { ⌜ (hash < 65536) × (0 < n) ⌝ }
+    ensures { λ r. ⌜ (r ≡ hash * n / 65536) × (r < n) ⌝ }
+{
+    n / HASHES * hash + n % HASHES * hash / HASHES
 }
 
 // The slot after slot i, of n; after the last comes the first.
@@ -430,56 +450,48 @@ fn next_slot(i: usize, n: usize) -> usize
     i + 1
 }
 
-// Probes the set from the hash on: whether a row before the first empty slot means the same as the key, or no slot is empty.
-fn probe(
+// The slot at step d of a key's path, of n; i is the one at the step before. Each round starts at a slot of its own.
+fn path_slot(
     msg: &[u8],
     places: &[u8],
     lengths: &[u16],
     table: &[u64],
-    slots: &[u16],
+    n: usize,
+    first: usize,
     key: usize,
-    hash: usize,
+    d: usize,
+    i: usize,
+) -> usize
+    requires { ⌜ (0 < n) × (key < 65535) × (d < 32) × (0 < d → i ≡ place (key-hashes (now msg) (now places) (now lengths) (now table) first key) n (d - 1)) ⌝ }
+    ensures { λ r. ⌜ (r ≡ place (key-hashes (now (msg .entry)) (now (places .entry)) (now (lengths .entry)) (now (table .entry)) first key) n d) × (r < n) ⌝ }
+{
+    if d % WINDOW == 0 {
+        let hash = term_hash(msg, places, lengths, table, d / WINDOW, first, key);
+        return hashed_slot(hash, n);
+    }
+    next_slot(i, n)
+}
+
+// Whether the term at a row, if it is a part of the map, means the same as the key.
+fn same_key(
+    msg: &[u8],
+    places: &[u8],
+    lengths: &[u16],
+    table: &[u64],
+    first: usize,
+    key: usize,
+    row: usize,
 ) -> bool
-    requires { ⌜ 0 < length (now slots) ⌝ }
-    ensures { λ r. ⌜ (r ≡ false → Absent (now (msg .entry)) (now (places .entry)) (now (lengths .entry)) (now (table .entry)) key (now (slots .entry)) hash) ⌝ }
+    ensures { λ r. ⌜ (whole-in (getD (now (table .entry)) row 0) ≡ first → r ≡ same-terms-raw (now (msg .entry)) (now (places .entry)) (now (lengths .entry)) (now (table .entry)) key row) ⌝ }
 {
-    let n = slots.len();
-    let mut i = hash % n;
-    let mut d = 0usize;
-    while d < n {
-        let entry = wide16(slots[i]);
-        if entry == 0 {
-            return false;
-        }
-        if same_terms(msg, places, lengths, table, LEVELS, key, entry - 1) {
-            return true;
-        }
-        i = next_slot(i, n);
-        d += 1;
+    if whole_in(row_at(table, row)) != first {
+        return false;
     }
-    true
+    same_terms(msg, places, lengths, table, LEVELS, key, row)
 }
 
-// Inserts the key's row in the first empty slot from the hash on, if there is one.
-fn insert(slots: &mut [u16], hash: usize, key: usize)
-    requires { ⌜ (0 < length (now slots)) × (key < 65535) ⌝ }
-    ensures { λ _. ⌜ Keeps (now (slots .entry)) (now (slots .exit)) × Contains (now (slots .exit)) hash key ⌝ }
-{
-    let n = slots.len();
-    let mut i = hash % n;
-    let mut d = 0usize;
-    while d < n {
-        if slots[i] == 0 {
-            slots[i] = (key + 1) as u16;
-            return;
-        }
-        i = next_slot(i, n);
-        d += 1;
-    }
-}
-
-// Whether the set contains the key; all earlier keys of its map are compared only where a probe does not rule it out.
-fn contains(
+// The first empty slot of a key's path; the number of slots where there is none, or where a row before it means the same as the key.
+fn free_slot(
     msg: &[u8],
     places: &[u8],
     lengths: &[u16],
@@ -487,18 +499,54 @@ fn contains(
     slots: &[u16],
     first: usize,
     key: usize,
-    hash: usize,
-) -> bool
-    requires { ⌜ (0 < length (now slots)) × (hash ≡ term-hash (now msg) (now places) (now lengths) (now table) first key) ⌝ }
-    ensures { λ r. ⌜ (Contains-before (now (msg .entry)) (now (places .entry)) (now (lengths .entry)) (now (table .entry)) first key (now (slots .entry)) → r ≡ among-rows (now (msg .entry)) (now (places .entry)) (now (lengths .entry)) (now (table .entry)) first key) ⌝ }
+) -> usize
+    requires { ⌜ (0 < length (now slots)) × (key < 65535) ⌝ }
+    ensures { λ r. ⌜ (r < length (now (slots .entry)) → Absent (now (msg .entry)) (now (places .entry)) (now (lengths .entry)) (now (table .entry)) first key (now (slots .entry)) r) ⌝ }
 {
-    if !probe(msg, places, lengths, table, slots, key, hash) {
-        return false;
+    let n = slots.len();
+    let mut i = 0usize;
+    let mut d = 0usize;
+    while d < PATH {
+        i = path_slot(msg, places, lengths, table, n, first, key, d, i);
+        let entry = wide16(slots[i]);
+        if entry == 0 {
+            return i;
+        }
+        if same_key(msg, places, lengths, table, first, key, entry - 1) {
+            return n;
+        }
+        d += 1;
     }
-    key_among(msg, places, lengths, table, first, key)
+    n
 }
 
-// Whether the key at the row `key` means the same as a key of the pairs from the row `first` on; if not, it is inserted.
+// Inserts the key's row in the first empty slot of its path, if there is one.
+fn insert(
+    msg: &[u8],
+    places: &[u8],
+    lengths: &[u16],
+    table: &[u64],
+    slots: &mut [u16],
+    first: usize,
+    key: usize,
+)
+    requires { ⌜ (0 < length (now slots)) × (key < 65535) ⌝ }
+    ensures { λ _. ⌜ Keeps (now (slots .entry)) (now (slots .exit)) × Contains (now (slots .exit)) (key-hashes (now (msg .entry)) (now (places .entry)) (now (lengths .entry)) (now (table .entry)) first key) key ⌝ }
+{
+    let n = slots.len();
+    let mut i = 0usize;
+    let mut d = 0usize;
+    while d < PATH {
+        i = path_slot(msg, places, lengths, table, n, first, key, d, i);
+        if slots[i] == 0 {
+            slots[i] = (key + 1) as u16;
+            return;
+        }
+        d += 1;
+    }
+}
+
+// Whether the key at the row `key` means the same as a key of the pairs from the row `first` on; if not, it is inserted. All earlier keys are compared only where its path does not rule it out.
 pub fn contains_or_insert(
     msg: &[u8],
     places: &[u8],
@@ -511,10 +559,14 @@ pub fn contains_or_insert(
     requires { ⌜ (0 < length (now slots)) × (key < 65535) ⌝ }
     ensures { λ r. ⌜ Contains-or-insert (now (msg .entry)) (now (places .entry)) (now (lengths .entry)) (now (table .entry)) first key (now (slots .entry)) r (now (slots .exit)) ⌝ }
 {
-    let hash = term_hash(msg, places, lengths, table, first, key);
-    if contains(msg, places, lengths, table, slots, first, key, hash) {
+    let i = free_slot(msg, places, lengths, table, slots, first, key);
+    if i < slots.len() {
+        slots[i] = (key + 1) as u16;
+        return false;
+    }
+    if key_among(msg, places, lengths, table, first, key) {
         return true;
     }
-    insert(slots, hash, key);
+    insert(msg, places, lengths, table, slots, first, key);
     false
 }

@@ -70,7 +70,7 @@ unfolding given-of
 keys-told flags n places lengths m cap first sized few under =
     record {
       judges = λ S us u ks L L′ b h v.
-          key-judged flags (lent-list n places lengths) m (record { sized = sized; few = omega arith; under = under-all m (λ i _. under i) }) cap us u h v;
+          key-judged flags (lent-list n places lengths) m (record { sized = sized; few = omega arith; under = under-all m (λ i _. under i) }) cap us u h v (code-of-whole first);
     }
 
 -- a term that was read has a row

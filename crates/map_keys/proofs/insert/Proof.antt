@@ -1,23 +1,24 @@
--- `insert` meets its contract. The slots passed are occupied; the measure is the number of slots left.
+-- `insert` meets its contract. The slots passed are occupied; the measure is the number of steps left.
 use mathlib.Core.Path.{_≡_, refl, ap}
 use Prim.Native.Nat.{_-_}
 use native.Mathlib.Omega.{arith}
 use lib.ListN.{length, length-set}
-use Rattle.map_keys.proofs.Slots.{Occupied, Probed, probe-start, probe-next, insert-empty, insert-full}
+use Rattle.map_keys.specs.KeySet.{key-hashes}
+use Rattle.map_keys.proofs.Slots.{Occupied, Walked, walk-start, walk-next, insert-empty, insert-full}
 use Rattle.map_keys.proofs.insert.Statement.{statement}
 use Rattle.map_keys.proofs.insert.Tie as tie
 
 abbrev Inv-loop : tie.InvT-loop
-Inv-loop slots₀ hash key n i₀ d₀ slots i d = (slots ≡ slots₀) × Probed Occupied slots hash n i d
+Inv-loop msg places lengths table slots₀ first key n i₀ d₀ slots i d = (slots ≡ slots₀) × Walked Occupied slots (key-hashes msg places lengths table first key) n i d
 
 abbrev μ-loop : tie.MeasureT-loop
-μ-loop slots₀ hash key n i₀ d₀ slots i d = n - d
-
-rem-i : tie.Need-rem-i Inv-loop μ-loop
-rem-i c = omega arith
+μ-loop msg places lengths table slots₀ first key n i₀ d₀ slots i d = 32 - d
 
 loop-holds : tie.Need-loop-holds Inv-loop μ-loop
-loop-holds c = (refl, probe-start _ _ _ (c .before .pre .0))
+loop-holds c = (refl, walk-start _ _ _)
+
+path-slot-requires : tie.Need-path-slot-requires Inv-loop μ-loop
+path-slot-requires c κs = (omega (arith, ap length (c .before .loop .inv .0)), omega arith, omega arith, c .before .loop .inv .1 .last)
 
 mul-if1 : tie.Need-mul-if1 Inv-loop μ-loop
 mul-if1 c = omega arith
@@ -38,13 +39,10 @@ slice-write-slots : tie.Need-slice-write-slots Inv-loop μ-loop
 slice-write-slots c = omega arith
 
 same-length : tie.Need-same-length Inv-loop μ-loop
-same-length c = simp length-set (ap length (c .before .before .before .loop .inv .0))
+same-length c = simp length-set (ap length (c .before .before .before .before .loop .inv .0))
 
 returns : tie.Need-returns Inv-loop μ-loop
-returns c = insert-empty _ _ _ _ (c .before .before .before .loop .inv .0) (c .before .before .before .loop .inv .1) (c .if1 .taken)
-
-next-slot-requires : tie.Need-next-slot-requires Inv-loop μ-loop
-next-slot-requires c κs = omega arith
+returns c = insert-empty _ _ _ _ (c .before .before .before .before .loop .inv .0) (c .before .before .before .before .loop .inv .1) _ (c .before .before .before .loop-test .taken) (c .before .before .path-slot .ensures .0) (c .before .before .path-slot .ensures .1) (c .if1 .taken)
 
 add-d : tie.Need-add-d Inv-loop μ-loop
 add-d c = omega arith
@@ -53,7 +51,7 @@ loop-less : tie.Need-loop-less Inv-loop μ-loop
 loop-less c = omega arith
 
 loop-again : tie.Need-loop-again Inv-loop μ-loop
-loop-again c = (c .before .before .before .before .loop .inv .0, probe-next _ _ _ (c .before .before .before .before .loop .inv .1) _ (c .before .before .before .loop-test .taken) (c .before .if1 .left) (c .next-slot .ensures .0) (c .next-slot .ensures .1))
+loop-again c = (c .before .before .before .before .loop .inv .0, walk-next _ _ _ (c .before .before .before .before .loop .inv .1) _ (c .before .before .path-slot .ensures .0) (c .before .before .before .loop-test .taken) (c .if1 .left))
 
 same-length-2 : tie.Need-same-length-2 Inv-loop μ-loop
 same-length-2 c = ap length (c .before .loop .inv .0)
@@ -67,8 +65,8 @@ insert-spec =
     (tie.spec
     Inv-loop
     μ-loop
-    rem-i
     loop-holds
+    path-slot-requires
     mul-if1
     slice-read-if1
     add-slots
@@ -77,7 +75,6 @@ insert-spec =
     slice-write-slots
     same-length
     returns
-    next-slot-requires
     add-d
     loop-less
     loop-again

@@ -1,0 +1,73 @@
+-- `free_slot` meets its contract. The slots passed are occupied, none by an equal key of the map; the measure is the number of steps left.
+use Prim.Native.Nat.{_-_}
+use native.Mathlib.Omega.{arith}
+use borrow.Author.Needs.{needs}
+use Rattle.map_keys.specs.KeySet.{key-hashes}
+use Rattle.map_keys.proofs.Slots.{Other, Walked, walk-start, free-found, free-later}
+use Rattle.map_keys.proofs.free_slot.Statement.{statement}
+use Rattle.map_keys.proofs.free_slot.Tie as tie
+
+abbrev Inv-loop : tie.InvT-loop
+Inv-loop msg places lengths table slots first key n i₀ d₀ i d = Walked (Other msg places lengths table first key) slots (key-hashes msg places lengths table first key) n i d
+
+abbrev μ-loop : tie.MeasureT-loop
+μ-loop msg places lengths table slots first key n i₀ d₀ i d = 32 - d
+
+loop-holds : tie.Need-loop-holds Inv-loop μ-loop
+loop-holds c = walk-start _ _ _
+
+path-slot-requires : tie.Need-path-slot-requires Inv-loop μ-loop
+path-slot-requires c κs = (omega arith, omega arith, omega arith, c .before .loop .inv .last)
+
+mul-wide16 : tie.Need-mul-wide16 Inv-loop μ-loop
+mul-wide16 c = omega arith
+
+shared-slice-read-wide16 : tie.Need-shared-slice-read-wide16 Inv-loop μ-loop
+shared-slice-read-wide16 c = omega arith
+
+wide16-requires : tie.Need-wide16-requires Inv-loop μ-loop
+wide16-requires c κs = search needs
+
+returns : tie.Need-returns Inv-loop μ-loop
+returns c = λ _. free-found _ _ _ _ _ _ _ (c .before .before .before .before .before .loop .inv) _ _ (c .before .before .before .before .loop-test .taken) (c .before .before .before .path-slot .ensures .0) (c .before .wide16 .ensures) (c .if1 .taken)
+
+sub-same-key : tie.Need-sub-same-key Inv-loop μ-loop
+sub-same-key c = omega arith
+
+same-key-requires : tie.Need-same-key-requires Inv-loop μ-loop
+same-key-requires c κs = search needs
+
+returns-2 : tie.Need-returns-2 Inv-loop μ-loop
+returns-2 c = λ l. absurd (omega arith)
+
+add-d : tie.Need-add-d Inv-loop μ-loop
+add-d c = omega arith
+
+loop-less : tie.Need-loop-less Inv-loop μ-loop
+loop-less c = omega arith
+
+loop-again : tie.Need-loop-again Inv-loop μ-loop
+loop-again c = free-later _ _ _ _ _ _ _ (c .before .before .before .before .before .before .before .loop .inv) _ _ (c .before .before .before .before .before .before .loop-test .taken) (c .before .before .before .before .before .path-slot .ensures .0) (c .before .before .before .wide16 .ensures) _ (c .before .before .if1 .left) (c .before .same-key .ensures) (c .if2 .left)
+
+returns-3 : tie.Need-returns-3 Inv-loop μ-loop
+returns-3 c = λ l. absurd (omega arith)
+
+pub free-slot-spec : {M : Type 1} → statement M
+free-slot-spec =
+    tie.close
+    (tie.spec
+    Inv-loop
+    μ-loop
+    loop-holds
+    path-slot-requires
+    mul-wide16
+    shared-slice-read-wide16
+    wide16-requires
+    returns
+    sub-same-key
+    same-key-requires
+    returns-2
+    add-d
+    loop-less
+    loop-again
+    returns-3)
