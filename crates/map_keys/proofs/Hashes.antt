@@ -16,8 +16,8 @@ use Rattle.row_fields.specs.Meaning.{term-kind}
 use Rattle.row_compare.specs.Hash.{mix, hash-contents}
 use Rattle.term_spec.proofs.Tests.{never, by-less}
 use Rattle.row_compare.proofs.Hashes.{both-true, hash-alike}
-use Rattle.map_keys.specs.Compare.{same-fields, same-row, unordered-rows, pair-size, among-steps, among-from, same-terms-raw, among-rows}
-use Rattle.map_keys.specs.KeySet.{slot, Contains, added, hash-row, hash-words, hash-rows, term-hash, Absent, Contains-from, Contains-before}
+use Rattle.map_keys.specs.Compare.{same-fields, same-row, unordered-rows, pair-size, among-steps, among-from}
+use Rattle.map_keys.specs.KeySet.{slot, Contains, added, hash-row, hash-words, hash-rows, term-hash, same-terms-raw, among-rows, Absent, Contains-from, Contains-before}
 
 pub kind-small : (x k : ℕ) → x ≡ term-kind k → k < 16 → x < 16
 unfolding term-kind
@@ -143,36 +143,36 @@ module _ (m places lengths : List ℕ) where
     -- ---- a key that is absent
 
     module _ (first key : ℕ) (L : List ℕ) (u : Absent m places lengths T key L (term-hash m places lengths T first key)) where
-      not-same : (at : ℕ) → Contains L (term-hash m places lengths T first key) at → same-terms-raw m places lengths T key at ≡ true → ⊥
+      not-same : (at : ℕ) → Contains L (term-hash m places lengths T first key) at → same-terms-raw m places lengths T L key at ≡ true → ⊥
       unfolding Absent
       not-same at k e =
           let w = k .stands (u .0) (u .1) (u .2) in
           let q : slot L (term-hash m places lengths T first key) (w .0) ≡ at + 1 = w .2 in
           let s : slot L (term-hash m places lengths T first key) (w .0) - 1 ≡ at = omega arith in
-          let d : same-terms-raw m places lengths T key at ≡ false = ap (same-terms-raw m places lengths T key) (sym s) ∙ u .3 (w .0) (w .1) in
+          let d : same-terms-raw m places lengths T L key at ≡ false = ap (same-terms-raw m places lengths T L key) (sym s) ∙ u .3 (w .0) (w .1) in
           never (sym d ∙ e)
 
-      none-same : (n at : ℕ) → Contains-from m places lengths T first key L n at → among-steps T (same-terms-raw m places lengths T) n at key ≡ false
+      none-same : (n at : ℕ) → Contains-from m places lengths T first key L n at → among-steps T (same-terms-raw m places lengths T L) n at key ≡ false
       unfolding among-steps Contains-from
       none-same zero at g = refl
       none-same (suc n) at g = go (leb key at) refl (λ l. none-same n (at + pair-size T at) (g l .1))
         where
-          later : at < key → (s z : Bool) → same-terms-raw m places lengths T key at ≡ s → among-steps T (same-terms-raw m places lengths T) n (at + pair-size T at) key ≡ false
-              → cond s true (cond z false (among-steps T (same-terms-raw m places lengths T) n (at + pair-size T at) key)) ≡ false
+          later : at < key → (s z : Bool) → same-terms-raw m places lengths T L key at ≡ s → among-steps T (same-terms-raw m places lengths T L) n (at + pair-size T at) key ≡ false
+              → cond s true (cond z false (among-steps T (same-terms-raw m places lengths T L) n (at + pair-size T at) key)) ≡ false
           later l true z e r = absurd (not-same at (g l .0 e) e)
           later l false true e r = refl
           later l false false e r = r
 
-          go : (t : Bool) → leb key at ≡ t → (at < key → among-steps T (same-terms-raw m places lengths T) n (at + pair-size T at) key ≡ false)
-              → cond t false (cond (same-terms-raw m places lengths T key at) true (cond (eqb (pair-size T at) 0) false (among-steps T (same-terms-raw m places lengths T) n (at + pair-size T at) key))) ≡ false
+          go : (t : Bool) → leb key at ≡ t → (at < key → among-steps T (same-terms-raw m places lengths T L) n (at + pair-size T at) key ≡ false)
+              → cond t false (cond (same-terms-raw m places lengths T L key at) true (cond (eqb (pair-size T at) 0) false (among-steps T (same-terms-raw m places lengths T L) n (at + pair-size T at) key))) ≡ false
           go true e r = refl
-          go false e r = let l : at < key = leb-false key at e in later l (same-terms-raw m places lengths T key at) (eqb (pair-size T at) 0) refl (r l)
+          go false e r = let l : at < key = leb-false key at e in later l (same-terms-raw m places lengths T L key at) (eqb (pair-size T at) 0) refl (r l)
 
     pub absent-none : (first key : ℕ) (L : List ℕ) (h : ℕ) → h ≡ term-hash m places lengths T first key → Absent m places lengths T key L h
-        → Contains-before m places lengths T first key L → false ≡ among-rows m places lengths T first key
+        → Contains-before m places lengths T first key L → false ≡ among-rows m places lengths T L first key
     unfolding among-from
     absent-none first key L h e u g = sym (go (leb (length T) key))
       where
-        go : (t : Bool) → cond t false (among-steps T (same-terms-raw m places lengths T) (key - first) first key) ≡ false
+        go : (t : Bool) → cond t false (among-steps T (same-terms-raw m places lengths T L) (key - first) first key) ≡ false
         go true = refl
         go false = none-same first key L (rw e at u) (key - first) first g

@@ -17,8 +17,8 @@ use Rattle.term_spec.proofs.Rows.{length-tree-rows}
 use Rattle.term_spec.proofs.Words.{Small-row, length-words-of}
 use Rattle.row_fields.proofs.Says.{Lent}
 use Rattle.row_compare.specs.Hash.{mix}
-use Rattle.map_keys.specs.Compare.{pair-size, same-terms-raw}
-use Rattle.map_keys.specs.KeySet.{Contains, Keeps, hash-row-words, term-hash, Contains-from, Contains-before}
+use Rattle.map_keys.specs.Compare.{pair-size}
+use Rattle.map_keys.specs.KeySet.{Contains, Keeps, hash-row-words, term-hash, same-terms-raw, Contains-from, Contains-before}
 use Rattle.map_keys.proofs.Compare.{Known-tree, Known-rows, tree-size, pair-sizes, valids-left, valids-right}
 use Rattle.map_keys.proofs.Slots.{contains-as, contains-kept}
 use Rattle.map_keys.proofs.Hashes.{hash-here}
@@ -81,11 +81,11 @@ module _ (flags : ℕ) (list : AtomList) (m : List ℕ) (lent : Lent list m) (ca
 
   -- a key that is equal has the same hash
   one-hash : {row : ℕ} {L : List ℕ} (k : Located) → Valid flags (as-read k) → Term-in-table m cap (given-of flags list) S whole row k
-      → Contains L (hash-row-words m places lengths first (row-words (tree-rows whole row k))) row → same-terms-raw m places lengths S key row ≡ true → Contains L (term-hash m places lengths S first key) row
-  one-hash {row} k v g o e =
+      → Contains L (hash-row-words m places lengths first (row-words (tree-rows whole row k))) row → same-terms-raw m places lengths S L key row ≡ true → Contains L (term-hash m places lengths S first key) row
+  one-hash {row} {L} k v g o e =
       let known-u = known-tree flags list m lent cap S u key-held in
       let known-k = known-tree flags list m lent cap S k g in
-      let f : meaning u ≡ meaning k = same-terms-same flags list m lent cap S u k (valids-right flags us (u ▹ empty) valid .0) v known-u known-k .sure e in
+      let f : meaning u ≡ meaning k = same-terms-same flags list m lent cap S L u k (valids-right flags us (u ▹ empty) valid .0) v known-u known-k .sure e in
       contains-as
       (sym (hash-tree m places lengths S whole first row k (record { stands = g .stands; known = g .small })) ∙ sym (same-terms-hash flags list m lent cap S u k known-u known-k f first))
       o

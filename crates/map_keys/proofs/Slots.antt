@@ -11,8 +11,7 @@ use lib.Seq.{getD-set-same, getD-set-other}
 use borrow.Author.Count.{below-none, below-more}
 use borrow.Author.Tests.{eqb-true, eqb-false}
 use Rattle.term_spec.proofs.Tests.{by-less}
-use Rattle.map_keys.specs.Compare.{same-terms-raw}
-use Rattle.map_keys.specs.KeySet.{slot, Contains, Keeps, Absent}
+use Rattle.map_keys.specs.KeySet.{slot, Contains, Keeps, same-terms-raw, Absent}
 
 -- ---- the slot after a slot
 
@@ -94,19 +93,19 @@ module _ (P : ℕ → Type 0) (L : List ℕ) (h : ℕ) where
 
 -- ---- probe
 
-module _ (m places lengths T : List ℕ) (key : ℕ) where
+module _ (m places lengths T : List ℕ) (key : ℕ) (L : List ℕ) where
   -- what a row in a slot is compared for
   abbrev pub Other : ℕ → Type 0
-  Other x = same-terms-raw m places lengths T key (x - 1) ≡ false
+  Other x = same-terms-raw m places lengths T L key (x - 1) ≡ false
 
-  pub probe-empty : (L : List ℕ) (h : ℕ) {n i d : ℕ} (x : ℕ) → Probed Other L h n i d → d < n → x ≡ getD L i 0 → x ≡ 0 → Absent m places lengths T key L h
+  pub probe-empty : (h : ℕ) {n i d : ℕ} (x : ℕ) → Probed Other L h n i d → d < n → x ≡ getD L i 0 → x ≡ 0 → Absent m places lengths T key L h
   unfolding Absent
-  probe-empty L h {d = d} x p l e z = (d, omega (arith, p .all), slot-here Other L h p ∙ sym e ∙ z, p .passed)
+  probe-empty h {d = d} x p l e z = (d, omega (arith, p .all), slot-here Other L h p ∙ sym e ∙ z, p .passed)
 
-  pub probe-other : (L : List ℕ) (h : ℕ) {n i d : ℕ} (j x : ℕ) (s : Bool) → Probed Other L h n i d → d < n → x ≡ getD L i 0 → s ≡ same-terms-raw m places lengths T key (x - 1) → s ≡ false
+  pub probe-other : (h : ℕ) {n i d : ℕ} (j x : ℕ) (s : Bool) → Probed Other L h n i d → d < n → x ≡ getD L i 0 → s ≡ same-terms-raw m places lengths T L key (x - 1) → s ≡ false
       → j ≡ (i + 1) % n → j < n → Probed Other L h n j (d + 1)
-  probe-other L h j x s p l e f z g b =
-      probe-next Other L h p j l (ap (λ (y : ℕ). same-terms-raw m places lengths T key (y - 1)) (sym e) ∙ sym f ∙ z) g b
+  probe-other h j x s p l e f z g b =
+      probe-next Other L h p j l (ap (λ (y : ℕ). same-terms-raw m places lengths T L key (y - 1)) (sym e) ∙ sym f ∙ z) g b
 
 -- ---- insert
 

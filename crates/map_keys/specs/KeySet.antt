@@ -10,7 +10,8 @@ use Rattle.term_spec.specs.Rows.{kind-in, offset-in, parts-in, size-in}
 use Rattle.row_fields.specs.Found.{content-of}
 use Rattle.row_fields.specs.Meaning.{term-kind}
 use Rattle.row_compare.specs.Hash.{mix, hash-contents}
-use Rattle.map_keys.specs.Compare.{unordered-rows, same-terms-raw, pair-size, among-rows}
+use Rattle.map_keys.specs.Compare.{same-row, unordered-rows, pair-size, among-from, same-maps, same-terms}
+use Rattle.map_keys.specs.Found.{found-key}
 
 -- the d-th slot from the hash h on
 abbrev pub slot : List ℕ → ℕ → ℕ → ℕ
@@ -59,17 +60,38 @@ module _ (m places lengths : List ℕ) where
   unfoldable pub term-hash : List ℕ → ℕ → ℕ → ℕ
   term-hash T first row = mix (hash-rows T (mix 0 first) (min (size-in (getD T row 0)) 16) 0 row) 0 / 65536
 
+  -- ---- comparisons whose hint is what the slots name, in at most so many levels
+
+  -- a key of the map whose first key is at the row `first`, equal to the key at the row `key`
+  unfoldable pub key-found : List ℕ → List ℕ → (ℕ → ℕ → Bool) → ℕ → ℕ → ℕ
+  key-found T L terms first key = found-key T L terms first key (term-hash T first key)
+
+  abbrev pub maps-at : List ℕ → List ℕ → ℕ → ℕ → ℕ → Bool
+  maps-at T L = same-maps (same-row m places lengths) T (key-found T L)
+
+  abbrev pub terms-at : List ℕ → List ℕ → ℕ → ℕ → ℕ → Bool
+  terms-at T L = same-terms (same-row m places lengths) T (key-found T L)
+
+  -- with more levels than a term of a table has
+  abbrev pub same-terms-raw : List ℕ → List ℕ → ℕ → ℕ → Bool
+  same-terms-raw T L = terms-at T L 16384
+
+  abbrev pub among-rows : List ℕ → List ℕ → ℕ → ℕ → Bool
+  among-rows T L = among-from T (same-terms-raw T L)
+
+  -- ---- the set
+
   -- the key is absent: an empty slot comes from the hash h on, and no row in the slots before it means the same
   unfoldable pub Absent : List ℕ → ℕ → List ℕ → ℕ → Type 0
   Absent T key L h =
-      (d : ℕ) × (d < length L) × (slot L h d ≡ 0) × ((e : ℕ) → e < d → same-terms-raw m places lengths T key (slot L h e - 1) ≡ false)
+      (d : ℕ) × (d < length L) × (slot L h d ≡ 0) × ((e : ℕ) → e < d → same-terms-raw T L key (slot L h e - 1) ≡ false)
 
   module _ (T : List ℕ) (first key : ℕ) (L : List ℕ) where
     -- of the keys at which among-steps looks, in n steps from the row `at` on, the set contains those that are equal to that at the row `key`, by its hash
     unfoldable pub Contains-from : ℕ → ℕ → Type 0
     Contains-from zero at = Unit {0}
     Contains-from (suc n) at =
-        at < key → (same-terms-raw m places lengths T key at ≡ true → Contains L (term-hash T first key) at) × Contains-from n (at + pair-size T at)
+        at < key → (same-terms-raw T L key at ≡ true → Contains L (term-hash T first key) at) × Contains-from n (at + pair-size T at)
 
     -- the same of each key before the row `key`
     abbrev pub Contains-before : Type 0
@@ -78,5 +100,5 @@ module _ (m places lengths : List ℕ) where
     -- what a call promises that inserts the key unless it equals an earlier one: the answer, whether it does, and the slots after it
     pub record Contains-or-insert (answer : Bool) (L′ : List ℕ) : Type 0 where
       pub slots-kept : Keeps L L′
-      pub judged : Contains-before → answer ≡ among-rows m places lengths T first key
+      pub judged : Contains-before → answer ≡ among-rows T L first key
       pub inserted : answer ≡ false → Contains L′ (term-hash T first key) key

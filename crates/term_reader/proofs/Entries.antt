@@ -27,8 +27,7 @@ use Rattle.term_spec.proofs.RoundTrip.{join-none}
 use Rattle.term_spec.proofs.Rows.{size-positive, each-nodes-join, sizes-join, count-join, count-le-sizes, length-rows}
 use Rattle.term_spec.proofs.Text.{under-all}
 use Rattle.term_spec.proofs.Words.{small-rows, sets-here, length-words-of}
-use Rattle.map_keys.specs.Compare.{among-rows}
-use Rattle.map_keys.specs.KeySet.{Contains, Keeps, hash-row-words, term-hash, Contains-before, Contains-or-insert}
+use Rattle.map_keys.specs.KeySet.{Contains, Keeps, hash-row-words, term-hash, among-rows, Contains-before, Contains-or-insert}
 use Rattle.map_keys.proofs.Compare.{Keys-of, no-keys, one-more-key}
 use Rattle.map_keys.proofs.InTable.{Rows-in-table, last-among}
 use Rattle.map_keys.proofs.Slots.{keeps-trans, contains-as, contains-kept}
@@ -62,8 +61,8 @@ parts-sound flags n places lengths m cap deep under few at row low t s e =
 
 -- a key past pairs is compared with each key of theirs, and where the set contains theirs, those that are the same have one hash
 pub record Told (m : List ℕ) (cap : ℕ) (given : Given) (places lengths : List ℕ) (first : ℕ) : Type 0 where
-  pub tells : (S : List ℕ) (us : Terms) (u : Located) (ks : List Term) → Keys-of us ks → Rows-in-table m cap given S (whole-of first) first (us ▹▹ (u ▹ empty))
-      → Valids (given .flags) (all-as-read (us ▹▹ (u ▹ empty))) → among-rows m places lengths S first (first + sizes us) ≡ among (meaning u) ks
+  pub tells : (S L : List ℕ) (us : Terms) (u : Located) (ks : List Term) → Keys-of us ks → Rows-in-table m cap given S (whole-of first) first (us ▹▹ (u ▹ empty))
+      → Valids (given .flags) (all-as-read (us ▹▹ (u ▹ empty))) → among-rows m places lengths S L first (first + sizes us) ≡ among (meaning u) ks
   pub recalls : (S : List ℕ) (us : Terms) (u : Located) (L : List ℕ) → Rows-in-table m cap given S (whole-of first) first (us ▹▹ (u ▹ empty))
       → Valids (given .flags) (all-as-read (us ▹▹ (u ▹ empty))) → Contains-keys m places lengths (whole-of first) first first us L
       → Contains-before m places lengths S first (first + sizes us) L
@@ -76,7 +75,7 @@ unfolding given-of
 keys-told flags n places lengths m cap first sized few under =
     let list : AtomList = lent-list n places lengths in
     record {
-      tells = λ S us u ks k h v. last-among flags list m (record { sized = sized; few = omega arith; under = under-all m (λ i _. under i) }) cap S us u k v h;
+      tells = λ S L us u ks k h v. last-among flags list m (record { sized = sized; few = omega arith; under = under-all m (λ i _. under i) }) cap S L us u k v h;
       recalls = λ S us u L h v r. contains-before flags list m (record { sized = sized; few = omega arith; under = under-all m (λ i _. under i) }) cap us u h v r;
       hashes = λ S us u h. hash-held m places lengths cap (given-of flags list) us u h;
     }
@@ -301,8 +300,8 @@ module _ (given : Given) (cap deep : ℕ) (m places lengths : List ℕ) (start f
           is-among : b ≡ among (meaning (part .x)) (i .earlier)
           is-among =
               judged .judged recalls-keys
-              ∙ ap (λ (k : ℕ). among-rows m places lengths T′ first k) (i .stored .rows-are)
-              ∙ tell .tells T′ (i .ts) (part .x) (i .earlier) (i .keys) held (with-key .valid)
+              ∙ ap (λ (k : ℕ). among-rows m places lengths T′ L₁ first k) (i .stored .rows-are)
+              ∙ tell .tells T′ L₁ (i .ts) (part .x) (i .earlier) (i .keys) held (with-key .valid)
 
           pub key-twice : (place : ℕ) (U : List ℕ) → b ≡ true → Map-done place (parts-of.Refused 7 at) U
           unfolding inner Done

@@ -9,7 +9,7 @@ use Rattle.map_keys.proofs.probe.Statement.{statement}
 use Rattle.map_keys.proofs.probe.Tie as tie
 
 abbrev Inv-loop : tie.InvT-loop
-Inv-loop msg places lengths table slots key hash n i₀ d₀ i d = Probed (Other msg places lengths table key) slots hash n i d
+Inv-loop msg places lengths table slots key hash n i₀ d₀ i d = Probed (Other msg places lengths table key slots) slots hash n i d
 
 abbrev μ-loop : tie.MeasureT-loop
 μ-loop msg places lengths table slots key hash n i₀ d₀ i d = n - d
