@@ -458,8 +458,8 @@ fn found_key(
     let mut i = term_hash(msg, places, lengths, table, first, key) % n;
     let mut d = 0usize;
     while d < MOST_PROBED {
-        let entry = wide16(slots[i]);
-        if entry == 0 {
+        let slot = wide16(slots[i]);
+        if slot == 0 {
             return 0;
         }
         if same_key(
@@ -471,9 +471,9 @@ fn found_key(
             levels,
             first,
             key,
-            entry - 1,
+            slot - 1,
         ) {
-            return entry - 1;
+            return slot - 1;
         }
         i = next_slot(i, n);
         d += 1;
@@ -502,9 +502,9 @@ fn pair_marked(
     if !at_key(table, marks, b, end, x) {
         return pair_among(msg, places, lengths, table, slots, levels, n, k, b);
     }
-    let v = k + size_in(row_at(table, k));
-    let w = x + size_in(row_at(table, x));
-    same_terms(msg, places, lengths, table, slots, levels, v, w)
+    let value = k + size_in(row_at(table, k));
+    let found = x + size_in(row_at(table, x));
+    same_terms(msg, places, lengths, table, slots, levels, value, found)
 }
 
 // Whether each of the n pairs from a on is one of the n from b on, which end before the row `end` and of whose keys some are marked.

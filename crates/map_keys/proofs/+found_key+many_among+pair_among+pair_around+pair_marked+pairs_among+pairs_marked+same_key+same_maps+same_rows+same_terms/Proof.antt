@@ -759,7 +759,7 @@ pair-marked-size-in-requires : (t : ℕ) → pair-marked-lts.Need-size-in-requir
 ) (pair-marked-at t) pair-marked.Post
 pair-marked-size-in-requires t c κs = search needs
 
-pair-marked-add-v : (t : ℕ) → pair-marked-lts.Need-add-v (
+pair-marked-add-value : (t : ℕ) → pair-marked-lts.Need-add-value (
   found-key-below t,
   found-key.Post,
   at-key-reads.Asked,
@@ -773,7 +773,7 @@ pair-marked-add-v : (t : ℕ) → pair-marked-lts.Need-add-v (
   same-terms-below t,
   same-terms.Post,
 ) (pair-marked-at t) pair-marked.Post
-pair-marked-add-v t c = omega (arith, c .before .before .before .before .before .before .before .before .before .before .before .pre .1 .0, c .size-in .ensures .1)
+pair-marked-add-value t c = omega (arith, c .before .before .before .before .before .before .before .before .before .before .before .pre .1 .0, c .size-in .ensures .1)
 
 pair-marked-row-at-requires-2 : (t : ℕ) → pair-marked-lts.Need-row-at-requires-2 (
   found-key-below t,
@@ -807,7 +807,7 @@ pair-marked-size-in-requires-2 : (t : ℕ) → pair-marked-lts.Need-size-in-requ
 ) (pair-marked-at t) pair-marked.Post
 pair-marked-size-in-requires-2 t c κs = search needs
 
-pair-marked-add-w : (t : ℕ) → pair-marked-lts.Need-add-w (
+pair-marked-add-found : (t : ℕ) → pair-marked-lts.Need-add-found (
   found-key-below t,
   found-key.Post,
   at-key-reads.Asked,
@@ -821,7 +821,7 @@ pair-marked-add-w : (t : ℕ) → pair-marked-lts.Need-add-w (
   same-terms-below t,
   same-terms.Post,
 ) (pair-marked-at t) pair-marked.Post
-pair-marked-add-w t c = omega (arith, c .before .before .before .before .before .before .found-key .ensures .1, c .size-in2 .ensures .1)
+pair-marked-add-found t c = omega (arith, c .before .before .before .before .before .before .found-key .ensures .1, c .size-in2 .ensures .1)
 
 pair-marked-same-terms-requires : (t : ℕ) → pair-marked-lts.Need-same-terms-requires (
   found-key-below t,
@@ -1807,10 +1807,10 @@ pub +found-key+many-among+pair-among+pair-around+pair-marked+pairs-among+pairs-m
     (pair-marked-returns t)
     (pair-marked-row-at-requires t)
     (pair-marked-size-in-requires t)
-    (pair-marked-add-v t)
+    (pair-marked-add-value t)
     (pair-marked-row-at-requires-2 t)
     (pair-marked-size-in-requires-2 t)
-    (pair-marked-add-w t)
+    (pair-marked-add-found t)
     (pair-marked-same-terms-requires t)
     (pair-marked-returns-2 t))
     (λ t. pairs-among-lts.spec (
