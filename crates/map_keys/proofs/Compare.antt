@@ -23,10 +23,11 @@ use Rattle.term_spec.proofs.RoundTrip.{even}
 use Rattle.term_spec.proofs.Arranged.{same-true, same-equal}
 use Rattle.term_spec.proofs.Rows.{size-meaning, sizes-meanings, size-positive, count-relabels, count-join, count-le-sizes, sizes-join, rows-join}
 use Rattle.term_spec.proofs.Words.{Each-row, Small-row, Word-of, node-here, node-packed, node-below, parts-here, left-here, right-here, first-here, others-here, row-of}
-use Rattle.term_spec.proofs.Tests.{never}
-use Rattle.map_keys.specs.Compare.{unordered-rows, same-rows, same-from, pair-size, pair-among, pair-around, pairs-among, same-maps, same-terms, among-steps, among-from}
+use Rattle.term_spec.proofs.Tests.{never, by-less}
+use Rattle.map_keys.specs.Compare.{unordered-rows, same-rows, same-from, pair-size, pair-among, pair-around, pairs-among, leads, at-key, pair-marked, pairs-marked, maps-from, same-maps, same-terms, among-steps, among-from}
 use Rattle.row_compare.proofs.Alike.{Agree, through, self-agrees}
-use Rattle.map_keys.proofs.Pairs.{In, All-in, Distinct, distinct, distinct-left, distinct-right, in-left, in-right, in-either, few-in-order, ordered-in, in-ordered}
+use Rattle.map_keys.proofs.Marks.{leads-from, leads-later, key-parts}
+use Rattle.map_keys.proofs.Pairs.{In, All-in, Distinct, distinct, one-value, distinct-left, distinct-right, in-left, in-right, in-either, few-in-order, ordered-in, in-ordered}
 
 -- ---- tests and the equalities that they stand for
 
@@ -300,7 +301,8 @@ module _
     (small : (r : Row) → Known r → Small-row r)
     (row-agrees : (r q : Row) → Known r → Known q → Agree (alike (word r) (word q)) (own r ≡ own q))
     (map-agrees : (r : Row) → Known r → Agree (eqb (kind-at (r .label) (r .place)) 9) (r .label ≡ map))
-    (T : List ℕ) where
+    (T : List ℕ)
+    (hint : (ℕ → ℕ → Bool) → ℕ → ℕ → ℕ) where
   -- the rows that two nodes start with
   node-agrees : {whole whole′ : Option ℕ} {a b : ℕ} {l m : Label × Offset} {ts us : Terms} → Known-tree Known T whole a (node l ts) → Known-tree Known T whole′ b (node m us)
       → Agree (alike (getD T a 0) (getD T b 0)) ((l .0 ≡ m .0) × (count ts ≡ count us))
@@ -494,13 +496,102 @@ module _
             (around (suc n) m x y vs (j ▹ z ▹ ws) e g i (omega arith) (omega arith) (v .0) (v .1 .0) o a (first-known k) (first-known (others-known k)))
             (λ _. pairs-found n (m + 1) ts (vs ▹▹ (j ▹ z ▹ empty)) ws (e ∙ past) (omega arith) (omega (arith, count-join vs (j ▹ z ▹ empty))) (omega arith) (omega arith) (v .1 .1) o (a + (size x + size y)) (later-known k)))
 
+    -- ---- pairs, by a hint
+
+    -- a pair of these whose key stands at a row
+    record Pair-at (us : Terms) (whole : Option ℕ) (at : ℕ) : Type 0 where
+      key : Located
+      value : Located
+      key-valid : Valid flags (as-read key)
+      value-valid : Valid flags (as-read value)
+      key-known : Known-tree Known T whole at key
+      value-known : Known-tree Known T whole (at + size key) value
+      one-of : In (meaning key) (meaning value) (meanings us)
+
+    pair-at : (n : ℕ) (us : Terms) → count us ≡ n + n → Valids flags (all-as-read us) → (whole : Option ℕ) (b at : ℕ) → Known-rows Known T whole b us → leads T b at ≡ true → at < b + sizes us
+        → Pair-at us whole at
+    unfolding arranged
+    pair-at zero empty e v o b at r l h = absurd (omega (arith, leads-from T b at l))
+    pair-at (suc n) empty e v o b at r l h = absurd (omega arith)
+    pair-at zero (i ▹ us) e v o b at r l h = absurd (omega arith)
+    pair-at (suc n) (i ▹ empty) e v o b at r l h = absurd (omega arith)
+    pair-at (suc n) (i ▹ j ▹ us) e v o b at r l h =
+        by-less b at
+        (λ g.
+        let z : pair-size T b ≡ size i + size j = pair-sizes small r in
+        let further : leads T (b + (size i + size j)) at ≡ true = rw z at (sym (leads-later T b at g (λ y. omega (arith, size-positive i))) ∙ l) in
+        let p : Pair-at us o at = pair-at n us (omega arith) (v .1 .1) o (b + (size i + size j)) at (later-known r) further (omega arith) in
+        record {
+          key = p .key;
+          value = p .value;
+          key-valid = p .key-valid;
+          value-valid = p .value-valid;
+          key-known = p .key-known;
+          value-known = p .value-known;
+          one-of = inr (p .one-of);
+        })
+        (λ g.
+        let z : at ≡ b = omega (arith, leads-from T b at l) in
+        rw z
+        (record {
+          key = i;
+          value = j;
+          key-valid = v .0;
+          value-valid = v .1 .0;
+          key-known = first-known r;
+          value-known = first-known (others-known r);
+          one-of = inl (refl, refl);
+        }))
+
+    module _ (d : ℕ) (terms : ℕ → ℕ → Bool) (finds : Finds d terms) (near : ℕ → ℕ → ℕ) (n : ℕ) (us : Terms) (e : count us ≡ n + n) (w : Valids flags (all-as-read us))
+        (c : Distinct (meanings us)) (whole′ : Option ℕ) (b : ℕ) (r : Known-rows Known T whole′ b us) where
+      -- whatever the hint is
+      marked : (x y : Located) → depth x ≤ d → depth y ≤ d → Valid flags (as-read x) → Valid flags (as-read y) → (whole : Option ℕ) (k : ℕ) → Known-tree Known T whole k x
+          → Known-tree Known T whole (k + size x) y → Agree (pair-marked T terms near n k b (b + sizes us)) (In (meaning x) (meaning y) (meanings us))
+      unfolding pair-marked
+      marked x y h g v v′ o k p q = go (at-key T b (b + sizes us) (near b k)) refl (terms k (near b k)) refl
+        where
+          in-turn : Agree (pair-among T terms n k b) (In (meaning x) (meaning y) (meanings us))
+          in-turn = pair-found d terms finds n x y us e h g v v′ w c o whole′ k b p q r
+
+          by-value : Pair-at us whole′ (near b k) → terms k (near b k) ≡ true
+              → Agree (terms (k + size-in (getD T k 0)) (near b k + size-in (getD T (near b k) 0))) (In (meaning x) (meaning y) (meanings us))
+          by-value i s =
+              let f : meaning x ≡ meaning (i .key) = finds x (i .key) h v (i .key-valid) o whole′ k (near b k) p (i .key-known) .sure s in
+              let here : In (meaning x) (meaning (i .value)) (meanings us) = rw f (i .one-of) in
+              rw (tree-size small x p, tree-size small (i .key) (i .key-known))
+              (through
+              (λ t. rw t here)
+              (λ t. one-value (meanings us) (meaning x) (meaning y) (meaning (i .value)) c t here)
+              (finds y (i .value) g v′ (i .value-valid) o whole′ (k + size x) (near b k + size (i .key)) q (i .value-known)))
+
+          go : (s : Bool) → at-key T b (b + sizes us) (near b k) ≡ s → (t : Bool) → terms k (near b k) ≡ t
+              → Agree (cond s (cond t (terms (k + size-in (getD T k 0)) (near b k + size-in (getD T (near b k) 0))) (pair-among T terms n k b)) (pair-among T terms n k b))
+              (In (meaning x) (meaning y) (meanings us))
+          go true s true t = let z = key-parts T b (b + sizes us) (near b k) s in by-value (pair-at n us e w whole′ b (near b k) r (z .1) (z .0)) t
+          go true s false t = in-turn
+          go false s t f = in-turn
+
+      all-marked : (m : ℕ) (ts : Terms) → count ts ≡ m + m → deepest ts ≤ d → Valids flags (all-as-read ts) → (whole : Option ℕ) (a : ℕ) → Known-rows Known T whole a ts
+          → Agree (pairs-marked T terms near n m a b (b + sizes us)) (All-in (meanings ts) (meanings us))
+      unfolding pairs-marked arranged
+      all-marked zero empty f h v o a k = record { sure = λ _. tt; back = λ _. refl }
+      all-marked zero (x ▹ ts) f h v o a k = absurd (omega arith)
+      all-marked (suc m) empty f h v o a k = absurd (omega arith)
+      all-marked (suc m) (x ▹ empty) f h v o a k = absurd (omega arith)
+      all-marked (suc m) (x ▹ y ▹ ts) f h v o a k =
+          rw (pair-sizes small k)
+          (and-then (pair-marked T terms near n a b (b + sizes us)) _
+          (marked x y (omega arith) (omega arith) (v .0) (v .1 .0) o a (first-known k) (first-known (others-known k)))
+          (λ _. all-marked m ts (omega arith) (omega arith) (v .1 .1) o (a + (size x + size y)) (later-known k)))
+
     -- ---- maps, by levels
 
     map-step : (d : ℕ) (l m : Label × Offset) (ts us : Terms) → l .0 ≡ map → m .0 ≡ map → count ts ≡ count us → suc (deepest ts) ≤ suc d → Valid flags (as-read (node l ts)) → Valid flags (as-read (node m us))
-        → (whole whole′ : Option ℕ) (a b : ℕ) → Known-tree Known T whole a (node l ts) → Known-tree Known T whole′ b (node m us) → Finds d (same-terms alike T d)
-        → Agree (cond (eqb (size-in (getD T a 0)) (size-in (getD T b 0))) (pairs-among T (same-terms alike T d) (parts-in (getD T a 0) / 2) 0 (a + 1) (b + 1) (b + 1)) false)
-        (in-order pair-before (meanings ts) ≡ in-order pair-before (meanings us))
-    map-step d l m ts us e f n h v w o o′ a b p q finds =
+        → (whole whole′ : Option ℕ) (a b : ℕ) → Known-tree Known T whole a (node l ts) → Known-tree Known T whole′ b (node m us) → (terms : ℕ → ℕ → Bool) → Finds d terms → (near : ℕ → ℕ → ℕ)
+        → Agree (maps-from T terms near a b) (in-order pair-before (meanings ts) ≡ in-order pair-before (meanings us))
+    unfolding maps-from
+    map-step d l m ts us e f n h v w o o′ a b p q terms finds near =
         rw (tree-size small (node l ts) p, tree-size small (node m us) q, node-packed (p .stands) (small (row-of o l ts) (node-known p)) .parts-is)
         (go (eqb (suc (sizes ts)) (suc (sizes us))) refl)
       where
@@ -510,20 +601,34 @@ module _
         half : (i : ℕ) × (count ts ≡ i + i)
         half = let z = even [] (all-as-read ts) (keys l ts e v .1) in (z .0, sym (count-relabels (λ l. l .0) ts) ∙ z .1)
 
-        in-pairs : (i : ℕ) → count ts ≡ i + i → Agree (pairs-among T (same-terms alike T d) (count ts / 2) 0 (a + 1) (b + 1) (b + 1)) (in-order pair-before (meanings ts) ≡ in-order pair-before (meanings us))
+        apart : Distinct (meanings us)
+        apart = distinct [] (all-as-read us) (keys m us f w .1)
+
+        -- in turn or by a hint
+        either : (t : Bool) (i : ℕ) → count ts ≡ i + i
+            → Agree (cond t (pairs-among T terms i 0 (a + 1) (b + 1) (b + 1)) (pairs-marked T terms near i i (a + 1) (b + 1) (b + suc (sizes us)))) (All-in (meanings ts) (meanings us))
+        either true i g =
+            let z : b + 1 ≡ b + 1 + 0 = omega arith in
+            rw (← z) at
+            (pairs-found d terms finds us (w .1) apart (some b) (b + 1) (parts-known q) i 0 ts empty us refl g refl (sym n ∙ g) (omega arith) (v .1) (some a) (a + 1) (parts-known p))
+        either false i g =
+            let z : b + suc (sizes us) ≡ b + 1 + sizes us = omega arith in
+            rw z (all-marked d terms finds near i us (sym n ∙ g) (w .1) apart (some b) (b + 1) (parts-known q) i ts g (omega arith) (v .1) (some a) (a + 1) (parts-known p))
+
+        in-pairs : (i : ℕ) → count ts ≡ i + i
+            → Agree (cond (ltb (count ts / 2) 32) (pairs-among T terms (count ts / 2) 0 (a + 1) (b + 1) (b + 1)) (pairs-marked T terms near (count ts / 2) (count ts / 2) (a + 1) (b + 1) (b + suc (sizes us))))
+            (in-order pair-before (meanings ts) ≡ in-order pair-before (meanings us))
         in-pairs i g =
             let k : count ts / 2 ≡ i = omega arith in
-            let z : b + 1 ≡ b + 1 + 0 = omega arith in
-            let found : Agree (pairs-among T (same-terms alike T d) i 0 (a + 1) (b + 1 + 0) (b + 1)) (All-in (meanings ts) (meanings us))
-            = pairs-found d (same-terms alike T d) finds us (w .1) (distinct [] (all-as-read us) (keys m us f w .1)) (some b) (b + 1) (parts-known q) i 0 ts empty us refl g refl (sym n ∙ g) (omega arith) (v .1) (some a) (a + 1) (parts-known p) in
             rw k
             (through
             (ordered-in (meanings ts) (meanings us) i (meanings-count ts ∙ g) (meanings-count us ∙ sym n ∙ g) (distinct [] (all-as-read ts) (keys l ts e v .1)))
             (in-ordered (meanings ts) (meanings us) i (meanings-count ts ∙ g))
-            (rw (← z) at found))
+            (either (ltb i 32) i g))
 
         go : (z : Bool) → eqb (suc (sizes ts)) (suc (sizes us)) ≡ z
-            → Agree (cond z (pairs-among T (same-terms alike T d) (count ts / 2) 0 (a + 1) (b + 1) (b + 1)) false) (in-order pair-before (meanings ts) ≡ in-order pair-before (meanings us))
+            → Agree (cond z (cond (ltb (count ts / 2) 32) (pairs-among T terms (count ts / 2) 0 (a + 1) (b + 1) (b + 1)) (pairs-marked T terms near (count ts / 2) (count ts / 2) (a + 1) (b + 1) (b + suc (sizes us)))) false)
+            (in-order pair-before (meanings ts) ≡ in-order pair-before (meanings us))
         go true z = in-pairs (half .0) (half .1)
         go false z =
             record {
@@ -534,29 +639,29 @@ module _
                   absurd (eqb-false (suc (sizes ts)) (suc (sizes us)) z (ap suc k));
             }
 
-    pub maps-found : (d : ℕ) → Finds-maps d (same-maps alike T d)
+    pub maps-found : (d : ℕ) → Finds-maps d (same-maps alike T hint d)
     unfolding same-maps
     maps-found zero l m ts us e f n h v w o o′ a b p q = absurd (omega arith)
     maps-found (suc d) l m ts us e f n h v w o o′ a b p q =
-        map-step d l m ts us e f n h v w o o′ a b p q (terms-agree d (same-maps alike T d) (maps-found d))
+        map-step d l m ts us e f n h v w o o′ a b p q (same-terms alike T hint d) (terms-agree d (same-maps alike T hint d) (maps-found d)) (hint (same-terms alike T hint d))
 
     -- two terms compare as their meanings do
-    pub terms-found : (d : ℕ) → Finds d (same-terms alike T d)
-    terms-found d = terms-agree d (same-maps alike T d) (maps-found d)
+    pub terms-found : (d : ℕ) → Finds d (same-terms alike T hint d)
+    terms-found d = terms-agree d (same-maps alike T hint d) (maps-found d)
 
     pub terms-same : (d : ℕ) (t u : Located) → depth t ≤ d → Valid flags (as-read t) → Valid flags (as-read u) → (whole whole′ : Option ℕ) (a b : ℕ)
-        → Known-tree Known T whole a t → Known-tree Known T whole′ b u → same-terms alike T d a b ≡ same (meaning t) (meaning u)
+        → Known-tree Known T whole a t → Known-tree Known T whole′ b u → same-terms alike T hint d a b ≡ same (meaning t) (meaning u)
     terms-same d t u h v w o o′ a b p q =
-        agree-same (same-terms alike T d a b) (same (meaning t) (meaning u)) (terms-found d t u h v w o o′ a b p q) (same-agrees (meaning t) (meaning u))
+        agree-same (same-terms alike T hint d a b) (same (meaning t) (meaning u)) (terms-found d t u h v w o o′ a b p q) (same-agrees (meaning t) (meaning u))
 
     -- ---- a term whose rows stand at `key`, past the rows of pairs
 
     module _ (d : ℕ) (whole whole′ : Option ℕ) (key : ℕ) (u : Located) (deep : depth u ≤ d) (v : Valid flags (as-read u)) (m : Known-tree Known T whole′ key u) where
       pairs-agree : (n at : ℕ) {ts : Terms} {ks ls : List Term} → Pairs ts ks ls → key ≡ at + sizes ts → sizes ts ≤ n → Valids flags (all-as-read ts) → Known-rows Known T whole at ts
-          → (among (meaning u) ks || among-steps T (same-terms alike T d) n at key) ≡ among (meaning u) ls
+          → (among (meaning u) ks || among-steps T (same-terms alike T hint d) n at key) ≡ among (meaning u) ls
       unfolding among-steps among
       pairs-agree n at {ks = ks} no-pair e h w g =
-          ap (λ (b : Bool). among (meaning u) ks || b) (among-ended T (same-terms alike T d) n at key (omega arith)) ∙ or-false (among (meaning u) ks)
+          ap (λ (b : Bool). among (meaning u) ks || b) (among-ended T (same-terms alike T hint d) n at key (omega arith)) ∙ or-false (among (meaning u) ks)
       pairs-agree zero at (a-pair {k = k} p) e h w g = absurd (omega (arith, size-positive k))
       pairs-agree (suc n) at {ks = ks} (a-pair {k = k} {v = x} {ts = ts} p) e h w g =
           let some : 1 ≤ size k = size-positive k in
@@ -566,11 +671,11 @@ module _
             pair-sizes small g,
             ne-eqb (size k + size x) 0 (λ z. omega arith),
           )
-          (or-later (among (meaning u) ks) (same (meaning u) (meaning k)) (among-steps T (same-terms alike T d) n (at + (size k + size x)) key)
+          (or-later (among (meaning u) ks) (same (meaning u) (meaning k)) (among-steps T (same-terms alike T hint d) n (at + (size k + size x)) key)
           ∙ pairs-agree n (at + (size k + size x)) p (omega arith) (omega arith) (w .1 .1) (later-known g))
 
       -- it is compared with each key
       pub among-from-among : (first : ℕ) {ts : Terms} {ks : List Term} → Keys-of ts ks → key ≡ first + sizes ts → Valids flags (all-as-read ts) → Known-rows Known T whole first ts
-          → among-from T (same-terms alike T d) first key ≡ among (meaning u) ks
+          → among-from T (same-terms alike T hint d) first key ≡ among (meaning u) ks
       unfolding among-from among
       among-from-among first p e w g = rw (lt-leb (length T) key (tree-below u m)) (pairs-agree (key - first) first p e (omega arith) w g)

@@ -154,7 +154,7 @@ module _ (m places lengths : List ℕ) where
           = ap (same-terms-raw m places lengths T key) (sym s) ∙ u .others (w .0) (w .1) (ap (λ (x : ℕ). whole-in (getD T x 0)) s ∙ p) in
           never (sym d ∙ e)
 
-      none-same : (n at : ℕ) → Contains-from m places lengths T first key L n at → among-steps T (same-terms-raw m places lengths T) n at key ≡ false
+      none-same : (n at : ℕ) → Contains-from m places lengths T first key L n at → among-steps T (same-terms-raw m places lengths T L) n at key ≡ false
       unfolding among-steps Contains-from
       none-same zero at g = refl
       none-same (suc n) at g = go (leb key at) refl (λ l. none-same n (at + pair-size T at) (g l .2))
@@ -165,17 +165,17 @@ module _ (m places lengths : List ℕ) where
           later l false true e r = refl
           later l false false e r = r
 
-          go : (t : Bool) → leb key at ≡ t → (at < key → among-steps T (same-terms-raw m places lengths T) n (at + pair-size T at) key ≡ false)
-              → cond t false (cond (same-terms-raw m places lengths T key at) true (cond (eqb (pair-size T at) 0) false (among-steps T (same-terms-raw m places lengths T) n (at + pair-size T at) key))) ≡ false
+          go : (t : Bool) → leb key at ≡ t → (at < key → among-steps T (same-terms-raw m places lengths T L) n (at + pair-size T at) key ≡ false)
+              → cond t false (cond (same-terms-raw m places lengths T L key at) true (cond (eqb (pair-size T at) 0) false (among-steps T (same-terms-raw m places lengths T L) n (at + pair-size T at) key))) ≡ false
           go true e r = refl
-          go false e r = let l : at < key = leb-false key at e in later l (same-terms-raw m places lengths T key at) (eqb (pair-size T at) 0) refl (r l)
+          go false e r = let l : at < key = leb-false key at e in later l (same-terms-raw m places lengths T L key at) (eqb (pair-size T at) 0) refl (r l)
 
     absent-none : (first key : ℕ) (L : List ℕ) (i : ℕ) → Absent m places lengths T first key L i → Contains-before m places lengths T first key L
         → false ≡ among-rows m places lengths T first key
     unfolding among-from
     absent-none first key L i u g = sym (go (leb (length T) key))
       where
-        go : (t : Bool) → cond t false (among-steps T (same-terms-raw m places lengths T) (key - first) first key) ≡ false
+        go : (t : Bool) → cond t false (among-steps T (same-terms-raw m places lengths T L) (key - first) first key) ≡ false
         go true = refl
         go false = none-same first key L u (key - first) first g
 

@@ -20,8 +20,8 @@ use Rattle.term_spec.proofs.Backed.{Label-at, Backed, Backeds}
 use Rattle.term_spec.proofs.Rows.{rows-join}
 use Rattle.term_spec.proofs.Words.{Each-row, each-row-join, Small-row, Word-of, word-packed, Between, kind-of-range, left-here, right-here, first-here, row-of}
 use Rattle.row_fields.specs.Meaning.{term-kind}
-use Rattle.map_keys.specs.Compare.{same-fields, same-row, same-terms-raw, among-rows}
-use Rattle.map_keys.specs.KeySet.{term-hash}
+use Rattle.map_keys.specs.Compare.{same-fields, same-row}
+use Rattle.map_keys.specs.KeySet.{term-hash, key-found, same-terms-raw, among-rows}
 use Rattle.row_fields.proofs.Says.{Lent}
 use Rattle.row_compare.proofs.Alike.{Agree, through, numbers-agree}
 use Rattle.row_compare.proofs.Nodes.{contents-agree}
@@ -169,10 +169,10 @@ module _ (flags : ℕ) (list : AtomList) (message : List ℕ) (lent : Lent list 
         omega (arith, depth-within (node l ts))
 
     -- two terms compare as their meanings do
-    pub same-terms-same : {whole whole′ : Option ℕ} {a b : ℕ} (t u : Located) → Valid flags (as-read t) → Valid flags (as-read u) → Known-tree Known T whole a t → Known-tree Known T whole′ b u
-        → Agree (same-terms-raw message (list .places) (list .lengths) T a b) (meaning t ≡ meaning u)
-    same-terms-same {whole} {whole′} {a} {b} t u v w h g =
-        terms-found (same-row message (list .places) (list .lengths)) Known (λ r k. k .0) row-agrees map-agrees T flags 16384 t u (few-levels t h) v w whole whole′ a b h g
+    pub same-terms-same : (L : List ℕ) {whole whole′ : Option ℕ} {a b : ℕ} (t u : Located) → Valid flags (as-read t) → Valid flags (as-read u) → Known-tree Known T whole a t → Known-tree Known T whole′ b u
+        → Agree (same-terms-raw message (list .places) (list .lengths) T L a b) (meaning t ≡ meaning u)
+    same-terms-same L {whole} {whole′} {a} {b} t u v w h g =
+        terms-found (same-row message (list .places) (list .lengths)) Known (λ r k. k .0) row-agrees map-agrees T (key-found message (list .places) (list .lengths) T L) flags 16384 t u (few-levels t h) v w whole whole′ a b h g
 
     -- and where these are the same, so are the hashes
     pub same-terms-hash : {whole whole′ : Option ℕ} {a b : ℕ} (t u : Located) → Known-tree Known T whole a t → Known-tree Known T whole′ b u → meaning t ≡ meaning u → (round first : ℕ)
@@ -182,9 +182,9 @@ module _ (flags : ℕ) (list : AtomList) (message : List ℕ) (lent : Lent list 
         (λ r q k m e h. row-alike message (list .places) (list .lengths) h (word r) (word q) (row-agrees r q k m .back e)) map-agrees t u whole whole′ a b h g e round first
 
     -- the last of terms, after pairs, is compared with each of their keys
-    pub last-among : {whole : Option ℕ} {first : ℕ} (ts : Terms) (u : Located) {ks : List Term} → Keys-of ts ks → Valids flags (all-as-read (ts ▹▹ (u ▹ empty)))
-        → Rows-in-table message cap given T whole first (ts ▹▹ (u ▹ empty)) → among-rows message (list .places) (list .lengths) T first (first + sizes ts) ≡ among (meaning u) ks
-    last-among {whole} {first} ts u p v h =
+    pub last-among : (L : List ℕ) {whole : Option ℕ} {first : ℕ} (ts : Terms) (u : Located) {ks : List Term} → Keys-of ts ks → Valids flags (all-as-read (ts ▹▹ (u ▹ empty)))
+        → Rows-in-table message cap given T whole first (ts ▹▹ (u ▹ empty)) → among-rows message (list .places) (list .lengths) T L first (first + sizes ts) ≡ among (meaning u) ks
+    last-among L {whole} {first} ts u p v h =
         let known : Known-tree Known T whole (first + sizes ts) u = known-tree u (held-first message cap given u empty (held-right message cap given ts (u ▹ empty) h)) in
-        among-from-among (same-row message (list .places) (list .lengths)) Known (λ r k. k .0) row-agrees map-agrees T flags 16384 whole whole (first + sizes ts) u (few-levels u known)
+        among-from-among (same-row message (list .places) (list .lengths)) Known (λ r k. k .0) row-agrees map-agrees T (key-found message (list .places) (list .lengths) T L) flags 16384 whole whole (first + sizes ts) u (few-levels u known)
         (valids-right flags ts (u ▹ empty) v .0) known first p refl (valids-left flags ts (u ▹ empty) v) (known-rows ts (held-left message cap given ts (u ▹ empty) h))

@@ -1,3 +1,5 @@
+pub mod Marks
+pub mod Found
 pub mod Pairs
 pub mod Compare
 pub mod Steps

@@ -145,6 +145,19 @@ mutual
     distinct (ordered k ∷ e) ts ok,
   )
 
+-- a key has one value
+mutual
+  pub one-value : (us : Forest Label) (k v w : Term) → Distinct us → In k v us → In k w us → v ≡ w
+  one-value empty k v w d m n = absurd m
+  one-value (j ▹ us) k v w d m n = one-value-of j us k v w d m n
+
+  one-value-of : (j : Term) (us : Forest Label) (k v w : Term) → Distinct-value j us → In-value k v j us → In-value k w j us → v ≡ w
+  one-value-of j empty k v w d m n = absurd m
+  one-value-of j (x ▹ us) k v w d (inl e) (inl f) = sym (e .1) ∙ f .1
+  one-value-of j (x ▹ us) k v w d (inl e) (inr n) = absurd (d .0 w (rw (e .0) n))
+  one-value-of j (x ▹ us) k v w d (inr m) (inl f) = absurd (d .0 v (rw (f .0) m))
+  one-value-of j (x ▹ us) k v w d (inr m) (inr n) = one-value us k v w (d .1) m n
+
 mutual
   all-in-by : (ts us : Forest Label) → ((k v : Term) → In k v ts → In k v us) → (n : ℕ) → count ts ≡ n + n → All-in ts us
   all-in-by empty us h n e = tt

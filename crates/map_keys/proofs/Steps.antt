@@ -1,5 +1,5 @@
 -- One law for each way through the functions that compare rows.
-use mathlib.Core.Path.{_≡_, sym, ap, _∙_}
+use mathlib.Core.Path.{_≡_, refl, sym, ap, _∙_}
 use mathlib.Core.Bool.{Bool, true, false}
 use mathlib.Core.List.{List}
 use Prim.Native.Nat.{ℕ, zero, suc, _+_, _-_, _/_, _≤_, _<_}
@@ -11,7 +11,7 @@ use Rattle.row_fields.specs.declared.Content.{Content}
 use Rattle.row_fields.specs.Found.{content-of}
 use Rattle.row_fields.specs.Meaning.{term-kind}
 use Rattle.row_compare.specs.Same.{same-contents}
-use Rattle.map_keys.specs.Compare.{same-fields, same-row, unordered-rows, same-rows, same-from, pair-size, pair-among, pair-around, pairs-among, same-maps, same-terms, among-steps, among-from}
+use Rattle.map_keys.specs.Compare.{same-fields, same-row, unordered-rows, same-rows, same-from, pair-size, pair-among, pair-around, pairs-among, at-key, pair-marked, pairs-marked, maps-from, same-maps, same-terms, among-steps, among-from}
 use Rattle.map_keys.proofs.Compare.{among-ended}
 
 -- ---- kinds
@@ -154,24 +154,45 @@ module _ (alike : ℕ → ℕ → Bool) (T : List ℕ) (maps : ℕ → ℕ → B
 
 -- ---- two maps
 
-module _ (alike : ℕ → ℕ → Bool) (T : List ℕ) (d a b : ℕ) where
-  pub no-level : d ≡ 0 → false ≡ same-maps alike T d a b
+module _ (T : List ℕ) (terms : ℕ → ℕ → Bool) (hint : ℕ → ℕ → ℕ) (a b v w m n : ℕ) (p : v ≡ getD T a 0) (q : w ≡ getD T b 0) (e : m ≡ size-in v) (f : n ≡ size-in w) where
+  other-sizes : (m ≡ n → ⊥) → false ≡ maps-from T terms hint a b
+  unfolding maps-from
+  other-sizes g = rw (← p, ← q, ← e, ← f, ne-eqb m n g)
+
+  module _ (g : m ≡ n) (c : ℕ) (h : c ≡ parts-in v) (r : Bool) where
+    few-pairs : c / 2 < 32 → r ≡ pairs-among T terms (c / 2) 0 (a + 1) (b + 1) (b + 1) → r ≡ maps-from T terms hint a b
+    unfolding maps-from
+    few-pairs l i = i ∙ rw (← p, ← q, ← e, ← f, eq-eqb m n g, ← h, lt-ltb (c / 2) 32 l)
+
+    many-pairs : 32 ≤ c / 2 → r ≡ pairs-marked T terms hint (c / 2) (c / 2) (a + 1) (b + 1) (b + n) → r ≡ maps-from T terms hint a b
+    unfolding maps-from
+    many-pairs l i = i ∙ rw (← p, ← q, ← e, ← f, eq-eqb m n g, ← h, le-ltb (c / 2) 32 l)
+
+module _ (alike : ℕ → ℕ → Bool) (T : List ℕ) (hint : (ℕ → ℕ → Bool) → ℕ → ℕ → ℕ) (d a b : ℕ) where
+  pub no-level : d ≡ 0 → false ≡ same-maps alike T hint d a b
   unfolding same-maps
   no-level e = rw e
 
+  one-level : (k : ℕ) → maps-from T (same-terms alike T hint k) (hint (same-terms alike T hint k)) a b ≡ same-maps alike T hint (suc k) a b
+  unfolding same-maps
+  one-level k = refl
+
   module _ (some : d ≡ 0 → ⊥) (v w m n : ℕ) (p : v ≡ getD T a 0) (q : w ≡ getD T b 0) (e : m ≡ size-in v) (f : n ≡ size-in w) where
-    pub maps-sizes : (m ≡ n → ⊥) → false ≡ same-maps alike T d a b
-    unfolding same-maps
-    maps-sizes g = let k : d ≡ suc (d - 1) = omega arith in rw (k, ← p, ← q, ← e, ← f, ne-eqb m n g)
+    a-level : (r : Bool) → r ≡ maps-from T (same-terms alike T hint (d - 1)) (hint (same-terms alike T hint (d - 1))) a b → r ≡ same-maps alike T hint d a b
+    a-level r h = let k : suc (d - 1) ≡ d = omega arith in h ∙ one-level (d - 1) ∙ ap (λ (x : ℕ). same-maps alike T hint x a b) k
 
-    one-level : m ≡ n → (c : ℕ) → c ≡ parts-in v → (k : ℕ) → pairs-among T (same-terms alike T k) (c / 2) 0 (a + 1) (b + 1) (b + 1) ≡ same-maps alike T (suc k) a b
-    unfolding same-maps
-    one-level g c h k = rw (h, ← p, ← q, ← e, ← f, eq-eqb m n g)
+    pub maps-sizes : (m ≡ n → ⊥) → false ≡ same-maps alike T hint d a b
+    maps-sizes g = a-level false (other-sizes T _ _ a b v w m n p q e f g)
 
-    pub maps-pairs : m ≡ n → (c : ℕ) → c ≡ parts-in v → (r : Bool) → r ≡ pairs-among T (same-terms alike T (d - 1)) (c / 2) 0 (a + 1) (b + 1) (b + 1) → r ≡ same-maps alike T d a b
-    maps-pairs g c h r i =
-        let k : suc (d - 1) ≡ d = omega arith in
-        i ∙ one-level g c h (d - 1) ∙ ap (λ (x : ℕ). same-maps alike T x a b) k
+    module _ (g : m ≡ n) (c : ℕ) (h : c ≡ parts-in v) where
+      pub maps-few : c / 2 < 32 → (r : Bool) → r ≡ pairs-among T (same-terms alike T hint (d - 1)) (c / 2) 0 (a + 1) (b + 1) (b + 1) → r ≡ same-maps alike T hint d a b
+      maps-few l r i = a-level r (few-pairs T _ _ a b v w m n p q e f g c h r l i)
+
+      pub maps-many : 32 ≤ c / 2 → (s : ℕ) → s ≡ size-in v → (r : Bool)
+          → r ≡ pairs-marked T (same-terms alike T hint (d - 1)) (hint (same-terms alike T hint (d - 1))) (c / 2) (c / 2) (a + 1) (b + 1) (b + s) → r ≡ same-maps alike T hint d a b
+      maps-many l s j r i =
+          let k : s ≡ n = j ∙ sym e ∙ g in
+          a-level r (many-pairs T _ _ a b v w m n p q e f g c h r l (rw k at i))
 
 -- ---- pairs one by one
 
@@ -221,6 +242,36 @@ module _ (T : List ℕ) (terms : ℕ → ℕ → Bool) where
       pub pairs-next : s ≡ true → (z z′ : ℕ) → z ≡ pair-size T x → z′ ≡ pair-size T y → pairs-among T terms (n - (i + 1)) (i + 1) (x + z) (y + z′) b ≡ r
       unfolding pairs-among
       pairs-next f z z′ g k = let e : n - i ≡ suc (n - (i + 1)) = omega arith in rw (e, ← first-pair, f, ← g, ← k) at h
+
+-- ---- pairs by a hint
+
+module _ (T : List ℕ) (terms : ℕ → ℕ → Bool) (hint : ℕ → ℕ → ℕ) where
+  module _ (n k b end x : ℕ) (p : x ≡ hint b k) (s : Bool) (q : s ≡ at-key T b end x) where
+    pub no-key-there : s ≡ false → (t : Bool) → t ≡ pair-among T terms n k b → t ≡ pair-marked T terms hint n k b end
+    unfolding pair-marked
+    no-key-there e t f = rw (← p, ← q, e) f
+
+    pub key-there : s ≡ true → terms k x ≡ true → (v w y z : ℕ) → v ≡ getD T k 0 → y ≡ size-in v → w ≡ getD T x 0 → z ≡ size-in w → (t : Bool) → t ≡ terms (k + y) (x + z)
+        → t ≡ pair-marked T terms hint n k b end
+    unfolding pair-marked
+    key-there e f v w y z a c g h t i = i ∙ rw (c, a, h, g) (rw (← p, ← q, e, f))
+
+  pub marked-start : (n a b end : ℕ) → pairs-marked T terms hint n (n - 0) a b end ≡ pairs-marked T terms hint n n a b end
+  marked-start n a b end = let e : n - 0 ≡ n = omega arith in rw e
+
+  module _ (n b end i x : ℕ) (r : Bool) (h : pairs-marked T terms hint n (n - i) x b end ≡ r) where
+    pub marked-ended : n ≤ i → true ≡ r
+    unfolding pairs-marked
+    marked-ended l = let e : n - i ≡ 0 = omega arith in rw e at h
+
+    module _ (l : i < n) (s : Bool) (p : s ≡ pair-marked T terms hint n x b end) where
+      pub marked-differ : s ≡ false → false ≡ r
+      unfolding pairs-marked
+      marked-differ f = let e : n - i ≡ suc (n - (i + 1)) = omega arith in rw (e, ← p, f) at h
+
+      pub marked-next : s ≡ true → (z : ℕ) → z ≡ pair-size T x → pairs-marked T terms hint n (n - (i + 1)) (x + z) b end ≡ r
+      unfolding pairs-marked
+      marked-next f z g = let e : n - i ≡ suc (n - (i + 1)) = omega arith in rw (e, ← p, f, ← g) at h
 
 -- ---- keys one by one
 

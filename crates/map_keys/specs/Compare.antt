@@ -77,22 +77,52 @@ module _ (T : List ℕ) (terms : ℕ → ℕ → Bool) where
   unfoldable pub among-from : ℕ → ℕ → Bool
   among-from first key = cond (leb (length T) key) false (among-steps (key - first) first key)
 
-module _ (alike : ℕ → ℕ → Bool) (T : List ℕ) where
+-- over the rows of a table
+module _ (T : List ℕ) where
+  -- do steps over pairs from the row `at` on lead to the row? In at most n
+  unfoldable pub leads-steps : ℕ → ℕ → ℕ → Bool
+  leads-steps zero at row = eqb at row
+  leads-steps (suc n) at row =
+      cond (leb row at) (eqb at row)
+      (cond (eqb (pair-size T at) 0) false (leads-steps n (at + pair-size T at) row))
+
+  unfoldable pub leads : ℕ → ℕ → Bool
+  leads at row = leads-steps (row - at) at row
+
+  -- is the row that of a key of the pairs from the row b on, before the row `end`?
+  unfoldable pub at-key : ℕ → ℕ → ℕ → Bool
+  at-key b end row = cond (ltb row b) false (cond (leb end row) false (leads b row))
+
+-- over a comparison of the terms at two rows and a hint: from the rows of a map's first key and of a key that is looked for, a row
+module _ (T : List ℕ) (terms : ℕ → ℕ → Bool) (hint : ℕ → ℕ → ℕ) where
+  -- the pair from k on is one of the n from b on, which end before the row `end`. Where the hint is a row of their keys and has the key, its value decides
+  unfoldable pub pair-marked : ℕ → ℕ → ℕ → ℕ → Bool
+  pair-marked n k b end =
+      cond (at-key T b end (hint b k))
+      (cond (terms k (hint b k)) (terms (k + size-in (getD T k 0)) (hint b k + size-in (getD T (hint b k) 0))) (pair-among T terms n k b))
+      (pair-among T terms n k b)
+
+  -- each of the m pairs from a on is one of those
+  unfoldable pub pairs-marked : ℕ → ℕ → ℕ → ℕ → ℕ → Bool
+  pairs-marked n zero a b end = true
+  pairs-marked n (suc m) a b end = cond (pair-marked n a b end) (pairs-marked n m (a + pair-size T a) b end) false
+
+  -- the maps of two pairs or more at a and b: of few pairs, or of 32 or more
+  unfoldable pub maps-from : ℕ → ℕ → Bool
+  maps-from a b =
+      cond (eqb (size-in (getD T a 0)) (size-in (getD T b 0)))
+      (cond (ltb (parts-in (getD T a 0) / 2) 32)
+      (pairs-among T terms (parts-in (getD T a 0) / 2) 0 (a + 1) (b + 1) (b + 1))
+      (pairs-marked (parts-in (getD T a 0) / 2) (parts-in (getD T a 0) / 2) (a + 1) (b + 1) (b + size-in (getD T b 0))))
+      false
+
+-- over a hint that may compare terms
+module _ (alike : ℕ → ℕ → Bool) (T : List ℕ) (hint : (ℕ → ℕ → Bool) → ℕ → ℕ → ℕ) where
   -- the maps of two pairs or more at a and b, in at most so many levels of such maps
   unfoldable pub same-maps : ℕ → ℕ → ℕ → Bool
   same-maps zero a b = false
-  same-maps (suc d) a b =
-      cond (eqb (size-in (getD T a 0)) (size-in (getD T b 0)))
-      (pairs-among T (same-from alike T (same-maps d)) (parts-in (getD T a 0) / 2) 0 (a + 1) (b + 1) (b + 1))
-      false
+  same-maps (suc d) a b = maps-from T (same-from alike T (same-maps d)) (hint (same-from alike T (same-maps d))) a b
 
   -- the terms at a and b
   abbrev pub same-terms : ℕ → ℕ → ℕ → Bool
   same-terms d = same-from alike T (same-maps d)
-
--- the same over the message and the atom list, with more levels than a term of a table has
-abbrev pub same-terms-raw : List ℕ → List ℕ → List ℕ → List ℕ → ℕ → ℕ → Bool
-same-terms-raw m places lengths T = same-terms (same-row m places lengths) T 16384
-
-abbrev pub among-rows : List ℕ → List ℕ → List ℕ → List ℕ → ℕ → ℕ → Bool
-among-rows m places lengths T = among-from T (same-terms-raw m places lengths T)

@@ -10,7 +10,8 @@ use Rattle.term_spec.specs.Rows.{kind-in, offset-in, whole-in, parts-in, size-i
 use Rattle.row_fields.specs.Found.{content-of}
 use Rattle.row_fields.specs.Meaning.{term-kind}
 use Rattle.row_compare.specs.Hash.{mix, hash-contents}
-use Rattle.map_keys.specs.Compare.{unordered-rows, same-terms-raw, pair-size, among-rows}
+use Rattle.map_keys.specs.Compare.{same-row, unordered-rows, pair-size, among-from, same-maps, same-terms}
+use Rattle.map_keys.specs.Found.{found-key}
 
 -- which of n slots a path comes to at step d, where hs are the hashes of all rounds: each round looks at the slot to which its hash points and at the next one
 unfoldable pub place : (ℕ → ℕ) → ℕ → ℕ → ℕ

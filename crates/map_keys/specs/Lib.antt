@@ -1,2 +1,4 @@
 pub mod Compare
+pub mod Found
 pub mod KeySet
+pub mod Marks

@@ -29,6 +29,15 @@ const UNORDERED_PARTS: usize = 2 * PAIR_PARTS;
 // More levels than any term of a table has rows. Calls nest no deeper than the terms do.
 const LEVELS: usize = 16384;
 
+// From so many pairs on a map's keys are looked up in the set.
+const MANY_PAIRS: usize = 32;
+
+// So many keys of a map are marked.
+const MARKS: usize = 64;
+
+// So many slots are probed for a key of a map.
+const MOST_PROBED: usize = 32;
+
 // So many rows of a key count in its hash.
 const HASHED_ROWS: usize = 16;
 
@@ -134,13 +143,14 @@ fn same_rows(
     places: &[u8],
     lengths: &[u16],
     table: &[u64],
+    slots: &[u16],
     levels: usize,
     n: usize,
     a: usize,
     b: usize,
 ) -> bool
     requires { ⌜ (n < 16384) × (a < 2305843009213693952) × (b < 2305843009213693952) ⌝ }
-    ensures { λ r. ⌜ r ≡ same-rows (same-row (now (msg .entry)) (now (places .entry)) (now (lengths .entry))) (now (table .entry)) (same-maps (same-row (now (msg .entry)) (now (places .entry)) (now (lengths .entry))) (now (table .entry)) levels) n 0 a b ⌝ }
+    ensures { λ r. ⌜ r ≡ same-rows (same-row (now (msg .entry)) (now (places .entry)) (now (lengths .entry))) (now (table .entry)) (maps-at (now (msg .entry)) (now (places .entry)) (now (lengths .entry)) (now (table .entry)) (now (slots .entry)) levels) n 0 a b ⌝ }
 {
     let mut i = 0usize;
     while i < n {
@@ -154,7 +164,7 @@ fn same_rows(
             i += 1;
             continue;
         }
-        if !same_maps(msg, places, lengths, table, levels, a + i, b + i) {
+        if !same_maps(msg, places, lengths, table, slots, levels, a + i, b + i) {
             return false;
         }
         i += 1 + unordered;
@@ -168,11 +178,12 @@ fn same_terms(
     places: &[u8],
     lengths: &[u16],
     table: &[u64],
+    slots: &[u16],
     levels: usize,
     a: usize,
     b: usize,
 ) -> bool
-    ensures { λ r. ⌜ r ≡ same-terms (same-row (now (msg .entry)) (now (places .entry)) (now (lengths .entry))) (now (table .entry)) levels a b ⌝ }
+    ensures { λ r. ⌜ r ≡ terms-at (now (msg .entry)) (now (places .entry)) (now (lengths .entry)) (now (table .entry)) (now (slots .entry)) levels a b ⌝ }
 {
     if table.len() <= a {
         return false;
@@ -184,7 +195,7 @@ fn same_terms(
     if n != size_in(table[b]) {
         return false;
     }
-    same_rows(msg, places, lengths, table, levels, n, a, b)
+    same_rows(msg, places, lengths, table, slots, levels, n, a, b)
 }
 
 // Whether the maps at a and b, of the same number of pairs, have the same pairs.
@@ -193,12 +204,13 @@ fn same_maps(
     places: &[u8],
     lengths: &[u16],
     table: &[u64],
+    slots: &[u16],
     levels: usize,
     a: usize,
     b: usize,
 ) -> bool
     requires { ⌜ (a < 2305843009213710336) × (b < 2305843009213710336) ⌝ }
-    ensures { λ r. ⌜ r ≡ same-maps (same-row (now (msg .entry)) (now (places .entry)) (now (lengths .entry))) (now (table .entry)) levels a b ⌝ }
+    ensures { λ r. ⌜ r ≡ maps-at (now (msg .entry)) (now (places .entry)) (now (lengths .entry)) (now (table .entry)) (now (slots .entry)) levels a b ⌝ }
 {
     if levels == 0 {
         return false;
@@ -208,7 +220,32 @@ fn same_maps(
         return false;
     }
     let n = parts_in(v) / PAIR_PARTS;
-    pairs_among(msg, places, lengths, table, levels - 1, n, a + 1, b + 1)
+    if n < MANY_PAIRS {
+        return pairs_among(
+            msg,
+            places,
+            lengths,
+            table,
+            slots,
+            levels - 1,
+            n,
+            a + 1,
+            b + 1,
+        );
+    }
+    let end = b + size_in(v);
+    many_among(
+        msg,
+        places,
+        lengths,
+        table,
+        slots,
+        levels - 1,
+        n,
+        a + 1,
+        b + 1,
+        end,
+    )
 }
 
 // Whether each of the n pairs from a on is one of the n from b on. A pair is looked for from the place on that it has itself, and then from b on.
@@ -217,19 +254,32 @@ fn pairs_among(
     places: &[u8],
     lengths: &[u16],
     table: &[u64],
+    slots: &[u16],
     levels: usize,
     n: usize,
     a: usize,
     b: usize,
 ) -> bool
     requires { ⌜ (a + 32768 * n < 4611686018427387904) × (b + 32768 * n < 4611686018427387904) ⌝ }
-    ensures { λ r. ⌜ r ≡ pairs-among (now (table .entry)) (same-terms (same-row (now (msg .entry)) (now (places .entry)) (now (lengths .entry))) (now (table .entry)) levels) n 0 a b b ⌝ }
+    ensures { λ r. ⌜ r ≡ pairs-among (now (table .entry)) (terms-at (now (msg .entry)) (now (places .entry)) (now (lengths .entry)) (now (table .entry)) (now (slots .entry)) levels) n 0 a b b ⌝ }
 {
     let mut i = 0usize;
     let mut x = a;
     let mut y = b;
     while i < n {
-        if !pair_around(msg, places, lengths, table, levels, n - i, i, x, y, b) {
+        if !pair_around(
+            msg,
+            places,
+            lengths,
+            table,
+            slots,
+            levels,
+            n - i,
+            i,
+            x,
+            y,
+            b,
+        ) {
             return false;
         }
         x += pair_size(table, x);
@@ -245,6 +295,7 @@ fn pair_around(
     places: &[u8],
     lengths: &[u16],
     table: &[u64],
+    slots: &[u16],
     levels: usize,
     n: usize,
     m: usize,
@@ -253,12 +304,12 @@ fn pair_around(
     b: usize,
 ) -> bool
     requires { ⌜ (k < 4611686018427387904) × (at + 32768 * n < 4611686018427387904) × (b + 32768 * m < 4611686018427387904) ⌝ }
-    ensures { λ r. ⌜ r ≡ pair-around (now (table .entry)) (same-terms (same-row (now (msg .entry)) (now (places .entry)) (now (lengths .entry))) (now (table .entry)) levels) n m k at b ⌝ }
+    ensures { λ r. ⌜ r ≡ pair-around (now (table .entry)) (terms-at (now (msg .entry)) (now (places .entry)) (now (lengths .entry)) (now (table .entry)) (now (slots .entry)) levels) n m k at b ⌝ }
 {
-    if pair_among(msg, places, lengths, table, levels, n, k, at) {
+    if pair_among(msg, places, lengths, table, slots, levels, n, k, at) {
         return true;
     }
-    pair_among(msg, places, lengths, table, levels, m, k, b)
+    pair_among(msg, places, lengths, table, slots, levels, m, k, b)
 }
 
 // Whether of the n pairs from `at` on the first with the key at k has the value after that key.
@@ -267,26 +318,274 @@ fn pair_among(
     places: &[u8],
     lengths: &[u16],
     table: &[u64],
+    slots: &[u16],
     levels: usize,
     n: usize,
     k: usize,
     at: usize,
 ) -> bool
     requires { ⌜ (k < 4611686018427387904) × (at + 32768 * n < 4611686018427387904) ⌝ }
-    ensures { λ r. ⌜ r ≡ pair-among (now (table .entry)) (same-terms (same-row (now (msg .entry)) (now (places .entry)) (now (lengths .entry))) (now (table .entry)) levels) n k at ⌝ }
+    ensures { λ r. ⌜ r ≡ pair-among (now (table .entry)) (terms-at (now (msg .entry)) (now (places .entry)) (now (lengths .entry)) (now (table .entry)) (now (slots .entry)) levels) n k at ⌝ }
 {
     let mut i = 0usize;
     let mut x = at;
     while i < n {
-        if same_terms(msg, places, lengths, table, levels, k, x) {
+        if same_terms(msg, places, lengths, table, slots, levels, k, x) {
             let v = k + size_in(row_at(table, k));
             let w = x + size_in(row_at(table, x));
-            return same_terms(msg, places, lengths, table, levels, v, w);
+            return same_terms(msg, places, lengths, table, slots, levels, v, w);
         }
         x += pair_size(table, x);
         i += 1;
     }
     false
+}
+
+// Whether steps over pairs from the row `from` on lead to the row.
+fn leads_to(table: &[u64], from: usize, row: usize) -> bool
+    requires { ⌜ row < 65536 ⌝ }
+    ensures { λ r. ⌜ r ≡ leads (now (table .entry)) from row ⌝ }
+{
+    let mut at = from;
+    while at < row {
+        let step = pair_size(table, at);
+        if step == 0 {
+            return false;
+        }
+        at += step;
+    }
+    at == row
+}
+
+// The row after n pairs.
+fn pairs_after(table: &[u64], n: usize, from: usize) -> usize
+    requires { ⌜ from + 32768 * n < 4611686018427387904 ⌝ }
+    ensures { λ r. ⌜ Reached (now (table .entry)) from r × (r ≤ from + 32768 * n) ⌝ }
+{
+    let mut i = 0usize;
+    let mut at = from;
+    while i < n {
+        at += pair_size(table, at);
+        i += 1;
+    }
+    at
+}
+
+// Marks keys of the n pairs from the row b on, at even distances.
+fn mark_keys(table: &[u64], n: usize, b: usize, marks: &mut [u16])
+    requires { ⌜ (n < 4096) × (b < 4611686018427387904) × Marks (now table) b (now marks) ⌝ }
+    ensures { λ _. ⌜ Marks (now (table .entry)) b (now (marks .exit)) ⌝ }
+{
+    let step = n / MARKS + 1;
+    let mut at = b;
+    let mut i = 0usize;
+    while i < marks.len() {
+        if 65535 < at {
+            return;
+        }
+        marks[i] = at as u16;
+        at = pairs_after(table, step, at);
+        i += 1;
+    }
+}
+
+// The last mark that is not past the row, b where there is none. A mark that is 0 ends the list.
+fn mark_before(marks: &[u16], b: usize, row: usize) -> usize
+    requires { ⌜ b ≤ row ⌝ }
+    ensures { λ r. ⌜ Mark-of (now (marks .entry)) b r × (r ≤ row) ⌝ }
+{
+    let mut found = b;
+    let mut i = 0usize;
+    while i < marks.len() {
+        let mark = wide16(marks[i]);
+        if mark == 0 {
+            return found;
+        }
+        if row < mark {
+            return found;
+        }
+        found = mark;
+        i += 1;
+    }
+    found
+}
+
+// Whether the row is that of a key of the pairs from the row b on, before the row `end`.
+fn at_key(table: &[u64], marks: &[u16], b: usize, end: usize, row: usize) -> bool
+    requires { ⌜ (row < 65536) × Marks (now table) b (now marks) ⌝ }
+    ensures { λ r. ⌜ r ≡ at-key (now (table .entry)) b end row ⌝ }
+{
+    if row < b {
+        return false;
+    }
+    if end <= row {
+        return false;
+    }
+    leads_to(table, mark_before(marks, b, row), row)
+}
+
+// Whether the row is that of a key of the map whose first key is at the row `first`, and means the same as that at the row `key`.
+fn same_key(
+    msg: &[u8],
+    places: &[u8],
+    lengths: &[u16],
+    table: &[u64],
+    slots: &[u16],
+    levels: usize,
+    first: usize,
+    key: usize,
+    row: usize,
+) -> bool
+    ensures { λ r. ⌜ r ≡ same-key (now (table .entry)) (terms-at (now (msg .entry)) (now (places .entry)) (now (lengths .entry)) (now (table .entry)) (now (slots .entry)) levels) first key row ⌝ }
+{
+    if whole_in(row_at(table, row)) != first {
+        return false;
+    }
+    same_terms(msg, places, lengths, table, slots, levels, key, row)
+}
+
+// The row of such a key as the slots name it, 0 where they name none: a hint, for nothing is known of the slots.
+fn found_key(
+    msg: &[u8],
+    places: &[u8],
+    lengths: &[u16],
+    table: &[u64],
+    slots: &[u16],
+    levels: usize,
+    first: usize,
+    key: usize,
+) -> usize
+    requires { ⌜ key < 4611686018427387904 ⌝ }
+    ensures { λ r. ⌜ (r ≡ key-found (now (msg .entry)) (now (places .entry)) (now (lengths .entry)) (now (table .entry)) (now (slots .entry)) (terms-at (now (msg .entry)) (now (places .entry)) (now (lengths .entry)) (now (table .entry)) (now (slots .entry)) levels) first key) × (r < 65536) ⌝ }
+{
+    let n = slots.len();
+    if n == 0 {
+        return 0;
+    }
+    let mut i = term_hash(msg, places, lengths, table, first, key) % n;
+    let mut d = 0usize;
+    while d < MOST_PROBED {
+        let slot = wide16(slots[i]);
+        if slot == 0 {
+            return 0;
+        }
+        if same_key(
+            msg,
+            places,
+            lengths,
+            table,
+            slots,
+            levels,
+            first,
+            key,
+            slot - 1,
+        ) {
+            return slot - 1;
+        }
+        i = next_slot(i, n);
+        d += 1;
+    }
+    0
+}
+
+// Whether the pair from k on is one of the n from b on, which end before the row `end`: where the hint is the row of a key of theirs, its value decides.
+fn pair_marked(
+    msg: &[u8],
+    places: &[u8],
+    lengths: &[u16],
+    table: &[u64],
+    slots: &[u16],
+    marks: &[u16],
+    levels: usize,
+    n: usize,
+    k: usize,
+    b: usize,
+    end: usize,
+) -> bool
+    requires { ⌜ (k < 4611686018427387904) × (b + 32768 * n < 4611686018427387904) × (0 < b) × Marks (now table) b (now marks) ⌝ }
+    ensures { λ r. ⌜ r ≡ pair-marked (now (table .entry)) (terms-at (now (msg .entry)) (now (places .entry)) (now (lengths .entry)) (now (table .entry)) (now (slots .entry)) levels) (key-found (now (msg .entry)) (now (places .entry)) (now (lengths .entry)) (now (table .entry)) (now (slots .entry)) (terms-at (now (msg .entry)) (now (places .entry)) (now (lengths .entry)) (now (table .entry)) (now (slots .entry)) levels)) n k b end ⌝ }
+{
+    let x = found_key(msg, places, lengths, table, slots, levels, b, k);
+    if !at_key(table, marks, b, end, x) {
+        return pair_among(msg, places, lengths, table, slots, levels, n, k, b);
+    }
+    let value = k + size_in(row_at(table, k));
+    let found = x + size_in(row_at(table, x));
+    same_terms(msg, places, lengths, table, slots, levels, value, found)
+}
+
+// Whether each of the n pairs from a on is one of the n from b on, which end before the row `end` and of whose keys some are marked.
+fn pairs_marked(
+    msg: &[u8],
+    places: &[u8],
+    lengths: &[u16],
+    table: &[u64],
+    slots: &[u16],
+    marks: &[u16],
+    levels: usize,
+    n: usize,
+    a: usize,
+    b: usize,
+    end: usize,
+) -> bool
+    requires { ⌜ (a + 32768 * n < 4611686018427387904) × (b + 32768 * n < 4611686018427387904) × (0 < b) × Marks (now table) b (now marks) ⌝ }
+    ensures { λ r. ⌜ r ≡ pairs-marked (now (table .entry)) (terms-at (now (msg .entry)) (now (places .entry)) (now (lengths .entry)) (now (table .entry)) (now (slots .entry)) levels) (key-found (now (msg .entry)) (now (places .entry)) (now (lengths .entry)) (now (table .entry)) (now (slots .entry)) (terms-at (now (msg .entry)) (now (places .entry)) (now (lengths .entry)) (now (table .entry)) (now (slots .entry)) levels)) n n a b end ⌝ }
+{
+    let mut i = 0usize;
+    let mut x = a;
+    while i < n {
+        if !pair_marked(
+            msg,
+            places,
+            lengths,
+            table,
+            slots,
+            marks,
+            levels,
+            n,
+            x,
+            b,
+            end,
+        ) {
+            return false;
+        }
+        x += pair_size(table, x);
+        i += 1;
+    }
+    true
+}
+
+// The same, with marks of its own.
+fn many_among(
+    msg: &[u8],
+    places: &[u8],
+    lengths: &[u16],
+    table: &[u64],
+    slots: &[u16],
+    levels: usize,
+    n: usize,
+    a: usize,
+    b: usize,
+    end: usize,
+) -> bool
+    requires { ⌜ (n < 4096) × (a + 32768 * n < 4611686018427387904) × (b + 32768 * n < 4611686018427387904) × (0 < b) ⌝ }
+    ensures { λ r. ⌜ r ≡ pairs-marked (now (table .entry)) (terms-at (now (msg .entry)) (now (places .entry)) (now (lengths .entry)) (now (table .entry)) (now (slots .entry)) levels) (key-found (now (msg .entry)) (now (places .entry)) (now (lengths .entry)) (now (table .entry)) (now (slots .entry)) (terms-at (now (msg .entry)) (now (places .entry)) (now (lengths .entry)) (now (table .entry)) (now (slots .entry)) levels)) n n a b end ⌝ }
+{
+    let mut marks = [0u16; MARKS];
+    mark_keys(table, n, b, &mut marks);
+    pairs_marked(
+        msg,
+        places,
+        lengths,
+        table,
+        slots,
+        &marks,
+        levels,
+        n,
+        a,
+        b,
+        end,
+    )
 }
 
 // Whether the term at the row `key` means the same as a key of the pairs from the row `first` on.
@@ -295,17 +594,18 @@ fn key_among(
     places: &[u8],
     lengths: &[u16],
     table: &[u64],
+    slots: &[u16],
     first: usize,
     key: usize,
 ) -> bool
-    ensures { λ r. ⌜ r ≡ among-rows (now (msg .entry)) (now (places .entry)) (now (lengths .entry)) (now (table .entry)) first key ⌝ }
+    ensures { λ r. ⌜ r ≡ among-rows (now (msg .entry)) (now (places .entry)) (now (lengths .entry)) (now (table .entry)) (now (slots .entry)) first key ⌝ }
 {
     if table.len() <= key {
         return false;
     }
     let mut at = first;
     while at < key {
-        if same_terms(msg, places, lengths, table, LEVELS, key, at) {
+        if same_terms(msg, places, lengths, table, slots, LEVELS, key, at) {
             return true;
         }
         let step = pair_size(table, at);

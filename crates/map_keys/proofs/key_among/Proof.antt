@@ -3,16 +3,16 @@ use Prim.Native.Nat.{_-_, _<_}
 use native.Mathlib.Omega.{arith}
 use lib.ListN.{length}
 use borrow.Author.Needs.{needs}
-use Rattle.map_keys.specs.Compare.{same-terms-raw, among-rows}
+use Rattle.map_keys.specs.KeySet.{same-terms-raw, among-rows}
 use Rattle.map_keys.proofs.Steps.{Among-left, no-such-row, among-start, among-found, among-stuck, among-later, among-none}
 use Rattle.map_keys.proofs.key_among.Statement.{statement}
 use Rattle.map_keys.proofs.key_among.Tie as tie
 
 abbrev Inv-loop : tie.InvT-loop
-Inv-loop msg places lengths table first key at₀ at = (key < length table) × Among-left table (same-terms-raw msg places lengths table) at key (among-rows msg places lengths table first key)
+Inv-loop msg places lengths table slots first key at₀ at = (key < length table) × Among-left table (same-terms-raw msg places lengths table slots) at key (among-rows msg places lengths table slots first key)
 
 abbrev μ-loop : tie.MeasureT-loop
-μ-loop msg places lengths table first key at₀ at = key - at
+μ-loop msg places lengths table slots first key at₀ at = key - at
 
 returns : tie.Need-returns Inv-loop μ-loop
 returns c = no-such-row _ _ _ _ (c .if1 .taken)
