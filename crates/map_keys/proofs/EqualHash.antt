@@ -200,8 +200,8 @@ module _ (m places lengths : List ℕ) (T : List ℕ) where
     equal-hash t u o o′ a b p q e first =
         let f : size u ≡ size t = sym (size-meaning u) ∙ ap size (sym e) ∙ size-meaning t in
         let n : ℕ = min (size t) 16 in
-        let z = tree-hash t u o o′ a b p q e n (mix 0 first) in
+        let z = tree-hash t u o o′ a b p q e n (mix 22695477 0 first) in
         let none : z .more ≡ 0 = omega (arith, z .few) in
-        let x : hashed (mix 0 first) n 0 a ≡ z .hash = z .one ∙ rw none in
-        let y : hashed (mix 0 first) n 0 b ≡ z .hash = z .two ∙ rw none in
-        rw (tree-size small t p, tree-size small u q, f) (ap (λ (k : ℕ). mix k 0 / 65536) (x ∙ sym y))
+        let x : hashed (mix 22695477 0 first) n 0 a ≡ z .hash = z .one ∙ rw none in
+        let y : hashed (mix 22695477 0 first) n 0 b ≡ z .hash = z .two ∙ rw none in
+        rw (tree-size small t p, tree-size small u q, f) (ap (λ (k : ℕ). mix 22695477 k 0 / 65536) (x ∙ sym y))

@@ -33,8 +33,8 @@ square-below x l = let h : x * x ≤ x * 4294967295 = mul-le-mul-left x (omega a
 module _ (m places lengths : List ℕ) where
   -- ---- a row
 
-  pub row-mixed : (h w r k p t o s : ℕ) (c : Content) → k ≡ kind-in w → p ≡ parts-in w → t ≡ term-kind k → s ≡ mix h (16 * p + t) → o ≡ offset-in w
-      → c ≡ content-of m places lengths k o → r ≡ hash-contents m places s c → r ≡ hash-row m places lengths h w
+  pub row-mixed : (h w r k p t o s : ℕ) (c : Content) → k ≡ kind-in w → p ≡ parts-in w → t ≡ term-kind k → s ≡ mix 22695477 h (16 * p + t) → o ≡ offset-in w
+      → c ≡ content-of m places lengths k o → r ≡ hash-contents 22695477 m places s c → r ≡ hash-row m places lengths h w
   unfolding hash-row
   row-mixed h w r k p t o s c a b d e f g i = i ∙ rw (g, e, d, f, b, a)
 
@@ -46,7 +46,7 @@ module _ (m places lengths : List ℕ) where
       let f = both-true (eqb (parts-in v) (parts-in w)) _ (g .1) in
       let k : term-kind (kind-in v) ≡ term-kind (kind-in w) = eqb-true _ _ (g .0) in
       let p : parts-in v ≡ parts-in w = eqb-true _ _ (f .0) in
-      rw (k, p) (hash-alike m places _ (content-of m places lengths (kind-in v) (offset-in v)) (content-of m places lengths (kind-in w) (offset-in w)) (f .1))
+      rw (k, p) (hash-alike 22695477 m places _ (content-of m places lengths (kind-in v) (offset-in v)) (content-of m places lengths (kind-in w) (offset-in w)) (f .1))
 
   module _ (T : List ℕ) where
     -- ---- the rows of a term one by one
@@ -125,10 +125,10 @@ module _ (m places lengths : List ℕ) where
               let u : i + 1 + unordered-rows w - (i + 1) ≡ unordered-rows w = omega arith in
               rw (z, y, u) (rw (le-ltb (n - (i + 1)) (unordered-rows w) (omega arith)) at (beyond b)))
 
-    pub term-hashed : (first row n h r x : ℕ) → n ≡ min (size-in (getD T row 0)) 16 → x ≡ mix 0 first → h ≡ hash-rows m places lengths T x n 0 row → r ≡ mix h 0
+    pub term-hashed : (first row n h r x : ℕ) → n ≡ min (size-in (getD T row 0)) 16 → x ≡ mix 22695477 0 first → h ≡ hash-rows m places lengths T x n 0 row → r ≡ mix 22695477 h 0
         → r / 65536 ≡ term-hash m places lengths T first row
     unfolding term-hash
-    term-hashed first row n h r x a b c d = ap (λ (y : ℕ). y / 65536) (d ∙ ap (λ (y : ℕ). mix y 0) (c ∙ rw (a, b)))
+    term-hashed first row n h r x a b c d = ap (λ (y : ℕ). y / 65536) (d ∙ ap (λ (y : ℕ). mix 22695477 y 0) (c ∙ rw (a, b)))
 
     -- rows that stand in the table
     pub hash-here : (h n s a : ℕ) (ws : List ℕ) → n ≤ length ws → Here T a ws → hash-rows m places lengths T h n s a ≡ hash-words m places lengths h n s ws

@@ -54,7 +54,7 @@ unfolding term-hash hash-row-words
 hash-tree m places lengths S whole first n t h =
     let ws : List ℕ = row-words (tree-rows whole n t) in
     let e : size-in (getD S n 0) ≡ length ws = tree-size (λ r k. k) t h ∙ sym (length-words-of (tree-rows whole n t) ∙ length-tree-rows whole n t) in
-    rw e (ap (λ (x : ℕ). mix x 0 / 65536) (hash-here m places lengths S (mix 0 first) (min (length ws) 16) 0 n ws (omega arith) (h .stands .tree-words)))
+    rw e (ap (λ (x : ℕ). mix 22695477 x 0 / 65536) (hash-here m places lengths S (mix 22695477 0 first) (min (length ws) 16) 0 n ws (omega arith) (h .stands .tree-words)))
 
 -- the rows of pairs, and of one more term, stand in the table
 module _ (m places lengths : List ℕ) (cap : ℕ) (given : Given) {S : List ℕ} {whole : Option ℕ} {first : ℕ} (us : Terms) (u : Located)

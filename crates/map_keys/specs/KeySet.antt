@@ -34,7 +34,7 @@ module _ (m places lengths : List ℕ) where
   -- what a row says: its kind, its number of parts and its own fields
   unfoldable pub hash-row : ℕ → ℕ → ℕ
   hash-row h w =
-      hash-contents m places (mix h (16 * parts-in w + term-kind (kind-in w))) (content-of m places lengths (kind-in w) (offset-in w))
+      hash-contents 22695477 m places (mix 22695477 h (16 * parts-in w + term-kind (kind-in w))) (content-of m places lengths (kind-in w) (offset-in w))
 
   -- the first n of these words of rows, of which the first s stand in no order. A map of two pairs or more counts by its own row alone where it has more rows than are left
   unfoldable pub hash-words : ℕ → ℕ → ℕ → List ℕ → ℕ
@@ -46,7 +46,7 @@ module _ (m places lengths : List ℕ) where
   -- equal keys of two maps get two hashes: each map's start from the row of its first key; the step at the end and the half that is taken part keys that differ in their last byte alone.
   -- Of a key its first 16 rows count
   unfoldable pub hash-row-words : ℕ → List ℕ → ℕ
-  hash-row-words first ws = mix (hash-words (mix 0 first) (min (length ws) 16) 0 ws) 0 / 65536
+  hash-row-words first ws = mix 22695477 (hash-words (mix 22695477 0 first) (min (length ws) 16) 0 ws) 0 / 65536
 
   -- the same of the rows of a table from a on
   unfoldable pub hash-rows : List ℕ → ℕ → ℕ → ℕ → ℕ → ℕ
@@ -57,7 +57,7 @@ module _ (m places lengths : List ℕ) where
 
   -- of the term at a row, as a key of the map whose first key is at the row `first`
   unfoldable pub term-hash : List ℕ → ℕ → ℕ → ℕ
-  term-hash T first row = mix (hash-rows T (mix 0 first) (min (size-in (getD T row 0)) 16) 0 row) 0 / 65536
+  term-hash T first row = mix 22695477 (hash-rows T (mix 22695477 0 first) (min (size-in (getD T row 0)) 16) 0 row) 0 / 65536
 
   -- the key is absent: an empty slot comes from the hash h on, and no row in the slots before it means the same
   unfoldable pub Absent : List ℕ → ℕ → List ℕ → ℕ → Type 0
