@@ -31,6 +31,7 @@ const LEVELS: usize = 16384;
 // So many rows of a key count in its hash.
 const HASHED_ROWS: usize = 16;
 
+// What a hash is multiplied by.
 const HASH_FACTOR: u64 = 22695477;
 
 // The row at an index of the table as its word, 0 past its end.

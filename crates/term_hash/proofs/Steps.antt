@@ -24,7 +24,7 @@ row-mixed factor m places lengths h w r k p t o s c a b d e f g i = i ∙ rw (g,
 
 module _ (hash : ℕ → ℕ → ℕ) (T : List ℕ) (pairs : ℕ → ℕ → ℕ → ℕ) where
   -- rows that are stepped over
-  stepped : (h n s a : ℕ) → hash-rows hash T pairs h n s a ≡ hash-rows hash T pairs h (n - s) 0 (a + s)
+  pub stepped : (h n s a : ℕ) → hash-rows hash T pairs h n s a ≡ hash-rows hash T pairs h (n - s) 0 (a + s)
   unfolding hash-rows
   stepped h zero s a = let e : 0 - s ≡ 0 = omega arith in rw e
   stepped h (suc n) zero a =

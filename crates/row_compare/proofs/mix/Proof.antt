@@ -4,7 +4,6 @@ use native.Mathlib.Omega.{arith}
 use Prim.Native.Nat.{_+_, _/_, _%_}
 use mathlib.Core.Path.{refl}
 use Rattle.row_compare.proofs.Hashes.{product-below}
-use borrow.Author.Needs.{needs}
 use Rattle.row_compare.proofs.mix.Statement.{statement}
 use Rattle.row_compare.proofs.mix.Tie as tie
 
