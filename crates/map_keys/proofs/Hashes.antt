@@ -34,8 +34,8 @@ square-below x l = let h : x * x ≤ x * 4294967295 = mul-le-mul-left x (omega a
 module _ (m places lengths : List ℕ) where
   -- ---- a row
 
-  pub row-mixed : (h w r k p t o s : ℕ) (c : Content) → k ≡ kind-in w → p ≡ parts-in w → t ≡ term-kind k → s ≡ mix h (16 * p + t) → o ≡ offset-in w
-      → c ≡ content-of m places lengths k o → r ≡ hash-contents m places s c → r ≡ hash-row m places lengths h w
+  pub row-mixed : (h w r k p t o s : ℕ) (c : Content) → k ≡ kind-in w → p ≡ parts-in w → t ≡ term-kind k → s ≡ mix 22695477 h (16 * p + t) → o ≡ offset-in w
+      → c ≡ content-of m places lengths k o → r ≡ hash-contents 22695477 m places s c → r ≡ hash-row m places lengths h w
   unfolding hash-row
   row-mixed h w r k p t o s c a b d e f g i = i ∙ rw (g, e, d, f, b, a)
 
@@ -47,7 +47,7 @@ module _ (m places lengths : List ℕ) where
       let f = both-true (eqb (parts-in v) (parts-in w)) _ (g .1) in
       let k : term-kind (kind-in v) ≡ term-kind (kind-in w) = eqb-true _ _ (g .0) in
       let p : parts-in v ≡ parts-in w = eqb-true _ _ (f .0) in
-      rw (k, p) (hash-alike m places _ (content-of m places lengths (kind-in v) (offset-in v)) (content-of m places lengths (kind-in w) (offset-in w)) (f .1))
+      rw (k, p) (hash-alike 22695477 m places _ (content-of m places lengths (kind-in v) (offset-in v)) (content-of m places lengths (kind-in w) (offset-in w)) (f .1))
 
   module _ (T : List ℕ) where
     -- ---- the rows of a term one by one

@@ -127,7 +127,7 @@ module _ (flags : ℕ) (list : AtomList) (message : List ℕ) (lent : Lent list 
   abbrev pub Known : Row → Type 0
   Known r = Small-row r × Backed-row message cap given r
 
-  row-agrees : (r q : Row) → Known r → Known q → Agree (same-row message (list .places) (list .lengths) (word r) (word q)) (own r ≡ own q)
+  pub row-agrees : (r q : Row) → Known r → Known q → Agree (same-row message (list .places) (list .lengths) (word r) (word q)) (own r ≡ own q)
   unfolding same-row same-fields
   row-agrees r q k m =
       let v : Word-of r (word r) = word-packed r (k .0) in
@@ -147,7 +147,7 @@ module _ (flags : ℕ) (list : AtomList) (message : List ℕ) (lent : Lent list 
           (and-then (eqb i j) _ (numbers-agree i j) (λ e. and-then (eqb n n′) c (numbers-agree n n′) (λ _. g e)))
 
   -- a row's kind is a map's exactly where its label is
-  map-agrees : (r : Row) → Known r → Agree (eqb (kind-at (r .label) (r .place)) 9) (r .label ≡ map)
+  pub map-agrees : (r : Row) → Known r → Agree (eqb (kind-at (r .label) (r .place)) 9) (r .label ≡ map)
   map-agrees r k =
       let e : term-kind (kind-at (r .label) (r .place)) ≡ kind-of (r .label) = term-kind-of message cap given (r .label) (r .place) (k .1) in
       through (λ f. of-nine (r .label) (ap term-kind (sym f) ∙ e)) (λ f. nine-of (kind-at (r .label) (r .place)) (e ∙ ap kind-of f)) (numbers-agree (kind-at (r .label) (r .place)) 9)

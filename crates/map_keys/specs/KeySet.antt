@@ -47,7 +47,7 @@ module _ (m places lengths : List ℕ) where
   -- what a row says: its kind, its number of parts and its own fields
   unfoldable pub hash-row : ℕ → ℕ → ℕ
   hash-row h w =
-      hash-contents m places (mix h (16 * parts-in w + term-kind (kind-in w))) (content-of m places lengths (kind-in w) (offset-in w))
+      hash-contents 22695477 m places (mix 22695477 h (16 * parts-in w + term-kind (kind-in w))) (content-of m places lengths (kind-in w) (offset-in w))
 
   -- n rows of a table from a on, of which the first s stand in no order. A map of two pairs or more counts by its own row alone where it has more rows than are left
   unfoldable pub hash-rows : List ℕ → ℕ → ℕ → ℕ → ℕ → ℕ

@@ -61,7 +61,7 @@ pub fn row_at(table: &[u64], i: usize) -> u64
 }
 
 // A character of a 107 is an integer.
-fn term_kind(kind: usize) -> usize
+pub fn term_kind(kind: usize) -> usize
     ensures { λ r. ⌜ r ≡ term-kind kind ⌝ }
 {
     if kind == kinds::CHARACTER {
@@ -111,7 +111,7 @@ fn same_row(msg: &[u8], places: &[u8], lengths: &[u16], v: u64, w: u64) -> bool
 }
 
 // How many rows after a row stand in no order: of a map of two pairs or more all others of its term, else none.
-fn unordered_rows(w: u64) -> usize
+pub fn unordered_rows(w: u64) -> usize
     ensures { λ r. ⌜ (r ≡ unordered-rows w) × (r < 16384) ⌝ }
 {
     if kind_in(w) != kinds::MAP {
@@ -128,7 +128,7 @@ fn unordered_rows(w: u64) -> usize
 }
 
 // How many rows the term at a row and the next one have.
-fn pair_size(table: &[u64], at: usize) -> usize
+pub fn pair_size(table: &[u64], at: usize) -> usize
     requires { ⌜ at < 4611686018427387904 ⌝ }
     ensures { λ r. ⌜ (r ≡ pair-size (now (table .entry)) at) × (r < 32768) ⌝ }
 {
@@ -623,9 +623,9 @@ fn hash_row(msg: &[u8], places: &[u8], lengths: &[u16], h: u64, w: u64) -> u64
     ensures { λ r. ⌜ (r ≡ hash-row (now (msg .entry)) (now (places .entry)) (now (lengths .entry)) h w) × (r < 4294967296) ⌝ }
 {
     let kind = kind_in(w);
-    let sum = mix(h, (16 * parts_in(w) + term_kind(kind)) as u64);
+    let sum = mix(HASH_FACTOR, h, (16 * parts_in(w) + term_kind(kind)) as u64);
     let own = content_at(msg, places, lengths, kind, offset_in(w));
-    hash_content(msg, places, sum, own)
+    hash_content(HASH_FACTOR, msg, places, sum, own)
 }
 
 // A hash to which x is added, in any order.

@@ -351,76 +351,88 @@ pub fn same_content(msg: &[u8], places: &[u8], a: Content, b: Content) -> bool
     same_flat(msg, places, flatten(a), flatten(b))
 }
 
-// A hash is below 2^32; how the factor was chosen is in docs/DECISIONS.md.
+// A hash, and the factor that it is made with, is below 2^32; how factors were chosen is in docs/DECISIONS.md.
 const HASH_SIZE: u64 = 4294967296;
 
-const HASH_FACTOR: u64 = 22695477;
-
 // Of more bytes than WHOLE_STRETCH only so many first and so many last ones count in a hash.
-const END_OF_STRETCH: usize = 32;
+const END_OF_STRETCH: usize = 512;
 
 const WHOLE_STRETCH: usize = 2 * END_OF_STRETCH;
 
 // A hash after one number more: its high half is added before the factor, its low half after it.
-pub fn mix(h: u64, x: u64) -> u64
-    requires { ⌜ h < 4294967296 ⌝ }
-    ensures { λ r. ⌜ (r ≡ mix h x) × (r < 4294967296) ⌝ }
+pub fn mix(factor: u64, h: u64, x: u64) -> u64
+    requires { ⌜ (factor < 4294967296) × (h < 4294967296) ⌝ }
+    ensures { λ r. ⌜ (r ≡ mix factor h x) × (r < 4294967296) ⌝ }
 {
-    ((h + x / HASH_SIZE) * HASH_FACTOR + x % HASH_SIZE) % HASH_SIZE
+    ((h + x / HASH_SIZE) % HASH_SIZE * factor + x % HASH_SIZE) % HASH_SIZE
 }
 
 // A hash after the byte c, or after the Latin-1 character c in UTF-8.
-fn mix_byte(latin1: bool, h: u64, c: usize) -> u64
-    requires { ⌜ (h < 4294967296) × (c < 256) ⌝ }
-    ensures { λ r. ⌜ (r ≡ mix-all h (as-utf8 latin1 (c ∷ []))) × (r < 4294967296) ⌝ }
+fn mix_byte(factor: u64, latin1: bool, h: u64, c: usize) -> u64
+    requires { ⌜ (factor < 4294967296) × (h < 4294967296) × (c < 256) ⌝ }
+    ensures { λ r. ⌜ (r ≡ mix-all factor h (as-utf8 latin1 (c ∷ []))) × (r < 4294967296) ⌝ }
 {
     if !latin1 {
-        return mix(h, c as u64);
+        return mix(factor, h, c as u64);
     }
     if c < 128 {
-        return mix(h, c as u64);
+        return mix(factor, h, c as u64);
     }
-    let lead = mix(h, (192 + c / 64) as u64);
-    mix(lead, (128 + c % 64) as u64)
+    let lead = mix(factor, h, (192 + c / 64) as u64);
+    mix(factor, lead, (128 + c % 64) as u64)
 }
 
 // A hash after the n bytes of s from `at` on.
-fn mix_bytes(s: &[u8], at: usize, n: usize, latin1: bool, h: u64) -> u64
-    requires { ⌜ (at + n ≤ length (now s)) × (h < 4294967296) ⌝ }
-    ensures { λ r. ⌜ (r ≡ mix-all h (as-utf8 latin1 (take n (drop at (now (s .entry)))))) × (r < 4294967296) ⌝ }
+fn mix_bytes(factor: u64, s: &[u8], at: usize, n: usize, latin1: bool, h: u64) -> u64
+    requires { ⌜ (factor < 4294967296) × (at + n ≤ length (now s)) × (h < 4294967296) ⌝ }
+    ensures { λ r. ⌜ (r ≡ mix-all factor h (as-utf8 latin1 (take n (drop at (now (s .entry)))))) × (r < 4294967296) ⌝ }
 {
     let mut sum = h;
     let mut i = 0usize;
     while i < n {
-        sum = mix_byte(latin1, sum, octets::wide(s[at + i]));
+        sum = mix_byte(factor, latin1, sum, octets::wide(s[at + i]));
         i += 1;
     }
     sum
 }
 
-fn hash_part(s: &[u8], at: usize, n: usize, latin1: bool, h: u64) -> u64
-    requires { ⌜ h < 4294967296 ⌝ }
-    ensures { λ r. ⌜ (r ≡ hash-part (now (s .entry)) at n latin1 h) × (r < 4294967296) ⌝ }
+fn hash_part(factor: u64, s: &[u8], at: usize, n: usize, latin1: bool, h: u64) -> u64
+    requires { ⌜ (factor < 4294967296) × (h < 4294967296) ⌝ }
+    ensures { λ r. ⌜ (r ≡ hash-part factor (now (s .entry)) at n latin1 h) × (r < 4294967296) ⌝ }
 {
     if !inside(s, at, n) {
         return h;
     }
-    mix_bytes(s, at, n, latin1, h)
+    mix_bytes(factor, s, at, n, latin1, h)
 }
 
 // A hash after the n bytes of s from `at` on: where they are many, after their number and those at both ends.
-fn hash_ends(s: &[u8], at: usize, n: usize, h: u64) -> u64
-    requires { ⌜ h < 4294967296 ⌝ }
-    ensures { λ r. ⌜ (r ≡ hash-ends (now (s .entry)) at n h) × (r < 4294967296) ⌝ }
+fn hash_ends(factor: u64, s: &[u8], at: usize, n: usize, h: u64) -> u64
+    requires { ⌜ (factor < 4294967296) × (h < 4294967296) ⌝ }
+    ensures { λ r. ⌜ (r ≡ hash-ends factor (now (s .entry)) at n h) × (r < 4294967296) ⌝ }
 {
     if !inside(s, at, n) {
         return h;
     }
     if n <= WHOLE_STRETCH {
-        return mix_bytes(s, at, n, false, h);
+        return mix_bytes(factor, s, at, n, false, h);
     }
-    let begun = mix_bytes(s, at, END_OF_STRETCH, false, mix(h, n as u64));
-    mix_bytes(s, at + (n - END_OF_STRETCH), END_OF_STRETCH, false, begun)
+    let begun = mix_bytes(
+        factor,
+        s,
+        at,
+        END_OF_STRETCH,
+        false,
+        mix(factor, h, n as u64),
+    );
+    mix_bytes(
+        factor,
+        s,
+        at + (n - END_OF_STRETCH),
+        END_OF_STRETCH,
+        false,
+        begun,
+    )
 }
 
 // How many bytes of a stretch that is no text count in a hash.
@@ -462,39 +474,43 @@ fn last_bits(msg: &[u8], bits: usize, at: usize, n: usize) -> u64
 }
 
 // A hash after what a content says beside its first two numbers.
-fn hash_stretch(msg: &[u8], places: &[u8], h: u64, code: usize, f: Flat) -> u64
-    requires { ⌜ h < 4294967296 ⌝ }
-    ensures { λ r. ⌜ (r ≡ hash-stretch (now (msg .entry)) (now (places .entry)) h code f) × (r < 4294967296) ⌝ }
+fn hash_stretch(factor: u64, msg: &[u8], places: &[u8], h: u64, code: usize, f: Flat) -> u64
+    requires { ⌜ (factor < 4294967296) × (h < 4294967296) ⌝ }
+    ensures { λ r. ⌜ (r ≡ hash-stretch factor (now (msg .entry)) (now (places .entry)) h code f) × (r < 4294967296) ⌝ }
 {
     if code == codes::PID {
-        return mix(h, f.third);
+        return mix(factor, h, f.third);
     }
     if code != codes::TEXT {
         let n = hashed(msg, code, f.length);
-        let sum = hash_ends(msg, f.start, n, h);
+        let sum = hash_ends(factor, msg, f.start, n, h);
         if code != codes::BITS {
             return sum;
         }
-        return mix(sum, last_bits(msg, f.first as usize, f.start, f.length));
+        return mix(
+            factor,
+            sum,
+            last_bits(msg, f.first as usize, f.start, f.length),
+        );
     }
     if f.listed {
-        return hash_part(places, f.start, f.length, f.latin1, h);
+        return hash_part(factor, places, f.start, f.length, f.latin1, h);
     }
-    hash_part(msg, f.start, f.length, f.latin1, h)
+    hash_part(factor, msg, f.start, f.length, f.latin1, h)
 }
 
-fn hash_flat(msg: &[u8], places: &[u8], h: u64, f: Flat) -> u64
-    requires { ⌜ h < 4294967296 ⌝ }
-    ensures { λ r. ⌜ (r ≡ hash-flat (now (msg .entry)) (now (places .entry)) h f) × (r < 4294967296) ⌝ }
+fn hash_flat(factor: u64, msg: &[u8], places: &[u8], h: u64, f: Flat) -> u64
+    requires { ⌜ (factor < 4294967296) × (h < 4294967296) ⌝ }
+    ensures { λ r. ⌜ (r ≡ hash-flat factor (now (msg .entry)) (now (places .entry)) h f) × (r < 4294967296) ⌝ }
 {
-    let sum = mix(mix(h, f.first), f.second);
-    hash_stretch(msg, places, sum, f.code, f)
+    let sum = mix(factor, mix(factor, h, f.first), f.second);
+    hash_stretch(factor, msg, places, sum, f.code, f)
 }
 
 // A hash after what a content says: the same for contents that say the same.
-pub fn hash_content(msg: &[u8], places: &[u8], h: u64, c: Content) -> u64
-    requires { ⌜ h < 4294967296 ⌝ }
-    ensures { λ r. ⌜ (r ≡ hash-contents (now (msg .entry)) (now (places .entry)) h c) × (r < 4294967296) ⌝ }
+pub fn hash_content(factor: u64, msg: &[u8], places: &[u8], h: u64, c: Content) -> u64
+    requires { ⌜ (factor < 4294967296) × (h < 4294967296) ⌝ }
+    ensures { λ r. ⌜ (r ≡ hash-contents factor (now (msg .entry)) (now (places .entry)) h c) × (r < 4294967296) ⌝ }
 {
-    hash_flat(msg, places, h, flatten(c))
+    hash_flat(factor, msg, places, h, flatten(c))
 }

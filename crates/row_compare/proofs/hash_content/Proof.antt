@@ -11,7 +11,7 @@ hash-flat-requires : tie.Need-hash-flat-requires
 hash-flat-requires c κs = search needs
 
 returns : tie.Need-returns
-returns c = (content-mixed _ _ _ _ _ _ (c .before .flatten .ensures) (c .hash-flat .ensures .0), c .hash-flat .ensures .1)
+returns c = (content-mixed _ _ _ _ _ _ _ (c .before .flatten .ensures) (c .hash-flat .ensures .0), c .hash-flat .ensures .1)
 
 pub hash-content-spec : {M : Type 1} → statement M
 hash-content-spec = tie.close (tie.spec flatten-requires hash-flat-requires returns)

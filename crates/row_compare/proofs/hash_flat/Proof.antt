@@ -14,7 +14,7 @@ hash-stretch-requires : tie.Need-hash-stretch-requires
 hash-stretch-requires c κs = search needs
 
 returns : tie.Need-returns
-returns c = (flat-mixed _ _ _ _ _ _ _ (c .before .before .mix .ensures .0) (c .before .mix2 .ensures .0) (c .hash-stretch .ensures .0), c .hash-stretch .ensures .1)
+returns c = (flat-mixed _ _ _ _ _ _ _ _ (c .before .before .mix .ensures .0) (c .before .mix2 .ensures .0) (c .hash-stretch .ensures .0), c .hash-stretch .ensures .1)
 
 pub hash-flat-spec : {M : Type 1} → statement M
 hash-flat-spec = tie.close (tie.spec mix-requires mix-requires-2 hash-stretch-requires returns)

@@ -10,13 +10,13 @@ use Rattle.row_compare.proofs.mix_bytes.Statement.{statement}
 use Rattle.row_compare.proofs.mix_bytes.Tie as tie
 
 abbrev Inv-loop : tie.InvT-loop
-Inv-loop s at n latin1 h sum₀ i₀ sum i = (i ≤ n) × (sum < 4294967296) × (left-after s at n latin1 i sum ≡ mix-all h (as-utf8 latin1 (take n (drop at s))))
+Inv-loop factor s at n latin1 h sum₀ i₀ sum i = (i ≤ n) × (sum < 4294967296) × (left-after factor s at n latin1 i sum ≡ mix-all factor h (as-utf8 latin1 (take n (drop at s))))
 
 abbrev μ-loop : tie.MeasureT-loop
-μ-loop s at n latin1 h sum₀ i₀ sum i = n - i
+μ-loop factor s at n latin1 h sum₀ i₀ sum i = n - i
 
 loop-holds : tie.Need-loop-holds Inv-loop μ-loop
-loop-holds c = (omega arith, omega arith, bytes-start _ _ _ _ _)
+loop-holds c = (omega arith, omega arith, bytes-start _ _ _ _ _ _)
 
 add-wide : tie.Need-add-wide Inv-loop μ-loop
 add-wide c = omega arith
@@ -40,11 +40,11 @@ loop-again : tie.Need-loop-again Inv-loop μ-loop
 loop-again c = (
   omega arith,
   c .mix-byte .ensures .1,
-  bytes-next _ _ _ _ _ _ _ _ _ (c .before .before .before .before .loop .inv .2) (c .before .before .before .loop-test .taken) (c .before .before .before .before .before .before .pre .0) (c .before .wide .ensures .0) (c .mix-byte .ensures .0),
+  bytes-next _ _ _ _ _ _ _ _ _ _ (c .before .before .before .before .loop .inv .2) (c .before .before .before .loop-test .taken) (c .before .before .before .before .before .before .pre .1) (c .before .wide .ensures .0) (c .mix-byte .ensures .0),
 )
 
 returns : tie.Need-returns Inv-loop μ-loop
-returns c = (bytes-end _ _ _ _ _ _ _ (c .before .loop .inv .2) (c .loop-test .left), c .before .loop .inv .1)
+returns c = (bytes-end _ _ _ _ _ _ _ _ (c .before .loop .inv .2) (c .loop-test .left), c .before .loop .inv .1)
 
 pub mix-bytes-spec : {M : Type 1} → statement M
 mix-bytes-spec =

@@ -1,0 +1,169 @@
+// Hashes of terms by their rows, over what the terms mean and not over how they are encoded: the order of a map's pairs does not count.
+ghost use mathlib.Core.Path.{_≡_};
+ghost use Prim.Native.Nat.{_+_, _*_, _<_};
+ghost use Rattle.term_hash.specs.Hash.{hash-row, added, hash-rows, hash-pairs, factor-of, hashed-rows, term-hash};
+use map_keys::pair_size;
+use map_keys::row_at;
+use map_keys::term_kind;
+use map_keys::unordered_rows;
+use row::kind_in;
+use row::offset_in;
+use row::parts_in;
+use row::size_in;
+use row_compare::hash_content;
+use row_compare::mix;
+use row_fields::content_at;
+
+// A key and its value.
+const PAIR_PARTS: usize = 2;
+
+// More levels than any term of a table has rows. Calls nest no deeper than the terms do.
+const LEVELS: usize = 16384;
+
+// Of a term of more rows only the first counts.
+const MOST_ROWS: usize = 2048;
+
+// A hash is below 2^32; its high half, below 2^16, is what a term gets.
+const HASH_SIZE: u64 = 4294967296;
+
+const HALF: u64 = 65536;
+
+// The factor of the first round, and what each later one adds; how they were chosen is in docs/DECISIONS.md.
+const FACTOR: u64 = 2246822519;
+
+const FACTOR_STEP: u64 = 2135587862;
+
+// A hash after what a row says of its term.
+fn hash_row(factor: u64, msg: &[u8], places: &[u8], lengths: &[u16], h: u64, w: u64) -> u64
+    requires { ⌜ (factor < 4294967296) × (h < 4294967296) ⌝ }
+    ensures { λ r. ⌜ (r ≡ hash-row factor (now (msg .entry)) (now (places .entry)) (now (lengths .entry)) h w) × (r < 4294967296) ⌝ }
+{
+    let kind = kind_in(w);
+    let sum = mix(factor, h, (16 * parts_in(w) + term_kind(kind)) as u64);
+    let own = content_at(msg, places, lengths, kind, offset_in(w));
+    hash_content(factor, msg, places, sum, own)
+}
+
+// A hash to which x is added, in any order.
+fn add(h: u64, x: u64) -> u64
+    requires { ⌜ (h < 4294967296) × (x < 4294967296) ⌝ }
+    ensures { λ r. ⌜ (r ≡ added h x) × (r < 4294967296) ⌝ }
+{
+    (h + x * x / HALF) % HASH_SIZE
+}
+
+// A hash after the n rows from a row on: one after the other, but the pairs of a map of two or more in any order.
+fn hash_rows(
+    factor: u64,
+    msg: &[u8],
+    places: &[u8],
+    lengths: &[u16],
+    table: &[u64],
+    levels: usize,
+    h: u64,
+    n: usize,
+    row: usize,
+) -> u64
+    requires { ⌜ (factor < 4294967296) × (h < 4294967296) × (n < 32768) × (row + 268435456 * levels + 268435456 < 4611686018427387904) ⌝ }
+    ensures { λ r. ⌜ (r ≡ hash-rows (hash-row factor (now (msg .entry)) (now (places .entry)) (now (lengths .entry))) (now (table .entry)) (hash-pairs (hash-row factor (now (msg .entry)) (now (places .entry)) (now (lengths .entry))) (now (table .entry)) levels) h n 0 row) × (r < 4294967296) ⌝ }
+{
+    let mut sum = h;
+    let mut i = 0usize;
+    while i < n {
+        let w = row_at(table, row + i);
+        sum = hash_row(factor, msg, places, lengths, sum, w);
+        let unordered = unordered_rows(w);
+        if unordered == 0 {
+            i += 1;
+            continue;
+        }
+        let pairs = parts_in(w) / PAIR_PARTS;
+        sum = hash_pairs(
+            factor,
+            msg,
+            places,
+            lengths,
+            table,
+            levels,
+            sum,
+            pairs,
+            row + i + 1,
+        );
+        i += 1 + unordered;
+    }
+    sum
+}
+
+// A hash to which those of the n pairs from a row on are added, maps of two pairs or more being at most `levels` deep.
+fn hash_pairs(
+    factor: u64,
+    msg: &[u8],
+    places: &[u8],
+    lengths: &[u16],
+    table: &[u64],
+    levels: usize,
+    h: u64,
+    n: usize,
+    row: usize,
+) -> u64
+    requires { ⌜ (factor < 4294967296) × (h < 4294967296) × (row + 32768 * n + 268435456 * levels < 4611686018427387904) ⌝ }
+    ensures { λ r. ⌜ (r ≡ hash-pairs (hash-row factor (now (msg .entry)) (now (places .entry)) (now (lengths .entry))) (now (table .entry)) levels h n row) × (r < 4294967296) ⌝ }
+{
+    if levels == 0 {
+        return h;
+    }
+    let mut sum = h;
+    let mut at = row;
+    let mut left = n;
+    while 0 < left {
+        let size = pair_size(table, at);
+        let own = hash_rows(factor, msg, places, lengths, table, levels - 1, 0, size, at);
+        sum = add(sum, own);
+        at += size;
+        left -= 1;
+    }
+    sum
+}
+
+// Each round has a factor of its own.
+fn factor_of(round: usize) -> u64
+    requires { ⌜ round < 65536 ⌝ }
+    ensures { λ r. ⌜ (r ≡ factor-of round) × (r < 4294967296) ⌝ }
+{
+    (FACTOR + round as u64 * FACTOR_STEP) % HASH_SIZE
+}
+
+// How many rows of a term of n rows count in its hash.
+fn hashed_rows(n: usize) -> usize
+    ensures { λ r. ⌜ (r ≡ hashed-rows n) × (r < 2049) ⌝ }
+{
+    if n <= MOST_ROWS {
+        return n;
+    }
+    1
+}
+
+// The hash of the term at a row in a round, as a key of the map whose first key is at the row `first`.
+pub fn term_hash(
+    msg: &[u8],
+    places: &[u8],
+    lengths: &[u16],
+    table: &[u64],
+    round: usize,
+    first: usize,
+    row: usize,
+) -> usize
+    requires { ⌜ (round < 65536) × (row < 2305843009213693952) ⌝ }
+    ensures { λ r. ⌜ (r ≡ term-hash (now (msg .entry)) (now (places .entry)) (now (lengths .entry)) (now (table .entry)) round first row) × (r < 65536) ⌝ }
+{
+    let factor = factor_of(round);
+    let start = mix(factor, 0, first as u64);
+    let w = row_at(table, row);
+    let n = hashed_rows(size_in(w));
+    if n < 2 {
+        let one = hash_row(factor, msg, places, lengths, start, w);
+        return (mix(factor, one, n as u64) / HALF) as usize;
+    }
+    let all = hash_rows(factor, msg, places, lengths, table, LEVELS, start, n, row);
+    (mix(factor, all, n as u64) / HALF) as usize
+}
