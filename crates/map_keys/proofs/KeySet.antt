@@ -3,9 +3,9 @@ use mathlib.Core.Path.{_≡_, refl, sym, _∙_, ap, subst}
 use mathlib.Core.Bool.{Bool, true, false}
 use mathlib.Core.List.{List}
 use mathlib.Core.Option.{Option}
-use Prim.Native.Nat.{ℕ, zero, suc, _+_, _-_, _/_, min}
+use Prim.Native.Nat.{ℕ, zero, suc, _+_, _-_}
 use native.Mathlib.Omega.{arith}
-use lib.ListN.{length, getD}
+use lib.ListN.{getD}
 use Rattle.term_spec.specs.Tree.{node, empty, _▹_, _▹▹_, size, sizes}
 use Rattle.term_spec.specs.Term.{Term}
 use Rattle.term_spec.specs.Equal.{among}
@@ -14,18 +14,18 @@ use Rattle.term_spec.specs.AtomList.{AtomList, given-of}
 use Rattle.term_spec.specs.Valid.{Valid, Valids}
 use Rattle.term_spec.specs.Reading.{Located, as-read, meaning}
 use Rattle.term_spec.specs.Message.{Terms, all-as-read}
-use Rattle.term_spec.specs.Rows.{tree-rows, row-words, whole-code, whole-in, size-in, Tree-here}
-use Rattle.term_spec.proofs.Rows.{length-tree-rows}
-use Rattle.term_spec.proofs.Words.{Each-row, Small-row, length-words-of, node-here, node-packed}
+use Rattle.term_spec.specs.Rows.{tree-rows, whole-code, whole-in, Tree-here}
+use Rattle.term_spec.proofs.Words.{Each-row, Small-row, node-packed}
 use Rattle.row_fields.proofs.Says.{Lent}
-use Rattle.row_compare.specs.Hash.{mix}
-use Rattle.map_keys.specs.Compare.{pair-size, same-terms-raw}
-use Rattle.map_keys.specs.KeySet.{Contains, Keeps, term-hash, key-hashes, Contains-from, Contains-before, Contains-or-insert}
-use Rattle.map_keys.proofs.Compare.{Known-tree, Known-rows, tree-size, pair-sizes, valids-left, valids-right, Keys-of}
+use Rattle.term_rows.specs.Rows.{pair-size}
+use Rattle.term_rows.proofs.Known.{Known-rows, pair-sizes, valids-left, valids-right}
+use Rattle.term_rows.proofs.InTable.{Term-in-table, Rows-in-table, held-left, held-right, held-first, known-tree}
+use Rattle.term_hash.proofs.InTable.{same-terms-hash}
+use Rattle.map_keys.specs.KeySet.{Contains, Keeps, key-hashes, same-terms-raw, Contains-from, Contains-before, Contains-or-insert}
+use Rattle.map_keys.proofs.Compare.{Keys-of}
 use Rattle.map_keys.proofs.Slots.{contains-as, contains-kept}
 pub use Rattle.map_keys.proofs.Slots.{keeps-refl, keeps-trans}
-use Rattle.map_keys.proofs.Hashes.{hash-here}
-use Rattle.map_keys.proofs.InTable.{Term-in-table, Rows-in-table, held-left, held-right, held-first, known-tree, same-terms-same, same-terms-hash, last-among}
+use Rattle.map_keys.proofs.InTable.{same-terms-same, last-among}
 
 -- the set contains the key whose rows start at the row `row`: in each table where they stand, by its hashes there, which start from the row `first`
 pub record Contains-key (m places lengths : List ℕ) (whole : Option ℕ) (first row : ℕ) (k : Located) (L : List ℕ) : Type 0 where
@@ -58,26 +58,6 @@ module _ {m places lengths : List ℕ} {whole : Option ℕ} {first : ℕ} where
 
 -- ---- rows that stand in a table
 
--- in another table where they stand a term has the same hash in each round
-hash-tree : (m places lengths S S′ : List ℕ) (whole : Option ℕ) (first n : ℕ) (t : Located) → Known-tree Small-row S whole n t → Tree-here S′ whole n t → (round : ℕ)
-    → key-hashes m places lengths S first n round ≡ key-hashes m places lengths S′ first n round
-unfolding key-hashes term-hash
-hash-tree m places lengths S S′ whole first n (node l ts) h g round =
-    let ws : List ℕ = row-words (tree-rows whole n (node l ts)) in
-    let e : size-in (getD S n 0) ≡ length ws = tree-size (λ r k. k) (node l ts) h ∙ sym (length-words-of (tree-rows whole n (node l ts)) ∙ length-tree-rows whole n (node l ts)) in
-    let one : getD S n 0 ≡ getD S′ n 0 = node-here (h .stands) ∙ sym (node-here g) in
-    rw (← one, e) (ap (λ (x : ℕ). mix x 0 / 65536) (hash-here m places lengths S S′ (mix (mix 0 first) round) (min (length ws) 16) 0 n ws (omega arith) (h .stands .tree-words) (g .tree-words)))
-
--- the rows of pairs, and of one more term, stand in the table
-module _ (m places lengths : List ℕ) (cap : ℕ) (given : Given) {S : List ℕ} {whole : Option ℕ} {first : ℕ} (us : Terms) (u : Located)
-    (h : Rows-in-table m cap given S whole first (us ▹▹ (u ▹ empty))) where
-  -- a key that is inserted is contained
-  pub key-inserted : {L L′ : List ℕ} {answer : Bool} → Contains-or-insert m places lengths S first (first + sizes us) L answer L′ → answer ≡ false
-      → Contains-key m places lengths whole first (first + sizes us) u L′
-  key-inserted c e =
-      let g = held-first m cap given u empty (held-right m cap given us (u ▹ empty) h) in
-      record { by-hash = λ S′ k. contains-as (hash-tree m places lengths S S′ whole first (first + sizes us) u (record { stands = g .stands; known = g .small }) k) (c .inserted e) }
-
 -- a term's row says which term it is a part of
 term-whole : (m : List ℕ) (cap : ℕ) (given : Given) {S : List ℕ} {whole : Option ℕ} {row : ℕ} (t : Located) → Term-in-table m cap given S whole row t
     → whole-in (getD S row 0) ≡ whole-code whole
@@ -101,13 +81,13 @@ module _ (flags : ℕ) (list : AtomList) (m : List ℕ) (lent : Lent list m) (ca
 
   -- a key that is equal has the same hashes
   one-hash : {row : ℕ} {L : List ℕ} (k : Located) → Valid flags (as-read k) → Term-in-table m cap (given-of flags list) S whole row k
-      → Contains-key m places lengths whole first row k L → same-terms-raw m places lengths S key row ≡ true → Contains L (key-hashes m places lengths S first key) row
+      → Contains-key m places lengths whole first row k L → same-terms-raw m places lengths S L key row ≡ true → Contains L (key-hashes m places lengths S first key) row
   unfolding key-hashes
-  one-hash {row} k v g o e =
+  one-hash {row} {L} k v g o e =
       let known-u = known-tree flags list m lent cap S u key-held in
       let known-k = known-tree flags list m lent cap S k g in
-      let f : meaning u ≡ meaning k = same-terms-same flags list m lent cap S u k (valids-right flags us (u ▹ empty) valid .0) v known-u known-k .sure e in
-      contains-as (λ round. sym (same-terms-hash flags list m lent cap S u k known-u known-k f round first)) (o .by-hash S (g .stands))
+      let f : meaning u ≡ meaning k = same-terms-same flags list m lent cap S L u k (valids-right flags us (u ▹ empty) valid .0) v known-u known-k .sure e in
+      contains-as (λ round. sym (same-terms-hash flags list m lent cap S S u k known-u known-k f round first)) (o .by-hash S (g .stands))
 
   contains-from : {L : List ℕ} (n row : ℕ) (ts : Terms) → Contains-keys m places lengths whole first row ts L → key ≡ row + sizes ts → Valids flags (all-as-read ts)
       → Rows-in-table m cap (given-of flags list) S whole row ts → Contains-from m places lengths S first key L n row
@@ -134,4 +114,14 @@ module _ (flags : ℕ) (list : AtomList) (m : List ℕ) (lent : Lent list m) (ca
   -- a call answers whether the key is among those of the pairs, where the set contains them
   pub key-judged : {ks : List Term} {L L′ : List ℕ} {answer : Bool} → Keys-of us ks → Contains-keys m places lengths whole first first us L
       → Contains-or-insert m places lengths S first key L answer L′ → answer ≡ among (meaning u) ks
-  key-judged p r c = c .judged (contains-before r) ∙ last-among flags list m lent cap S us u p valid h
+  key-judged {L = L} p r c = c .judged (contains-before r) ∙ last-among flags list m lent cap S L us u p valid h
+
+-- a key that is inserted is contained: in another table where its rows stand it has the same hashes
+pub key-inserted : (flags : ℕ) (list : AtomList) (m : List ℕ) (lent : Lent list m) (cap : ℕ) {S : List ℕ} {whole : Option ℕ} {first : ℕ} (us : Terms) (u : Located)
+    → Rows-in-table m cap (given-of flags list) S whole first (us ▹▹ (u ▹ empty)) → {L L′ : List ℕ} {answer : Bool}
+    → Contains-or-insert m (list .places) (list .lengths) S first (first + sizes us) L answer L′ → answer ≡ false
+    → Contains-key m (list .places) (list .lengths) whole first (first + sizes us) u L′
+unfolding key-hashes
+key-inserted flags list m lent cap {S} {first = first} us u h c e =
+    let g = known-tree flags list m lent cap S u (held-first m cap (given-of flags list) u empty (held-right m cap (given-of flags list) us (u ▹ empty) h)) in
+    record { by-hash = λ S′ k. contains-as (λ round. same-terms-hash flags list m lent cap S S′ u u g (record { stands = k; known = g .known }) refl round first) (c .inserted e) }

@@ -1,12 +1,9 @@
-pub mod Marks
-pub mod Found
 pub mod Pairs
+pub mod Marks
 pub mod Compare
 pub mod Steps
 pub mod Slots
-pub mod Hashes
-pub mod Sums
-pub mod EqualHash
+pub mod Found
+pub mod Absent
 pub mod InTable
 pub mod KeySet
-pub mod Accepted

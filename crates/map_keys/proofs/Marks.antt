@@ -1,5 +1,5 @@
 -- Steps over pairs: where they lead, from a row and from a mark.
-use mathlib.Core.Path.{_≡_, refl, sym, _∙_, subst}
+use mathlib.Core.Path.{_≡_, refl, sym, _∙_}
 use mathlib.Core.Bool.{Bool, true, false, cond}
 use mathlib.Core.List.{List}
 use Prim.Native.Nat.{ℕ, zero, suc, _+_, _-_, _≤_, _<_}
@@ -7,9 +7,10 @@ use native.Mathlib.Omega.{arith}
 use lib.Dec.{eqb, leb, ltb}
 use lib.ListN.{length, getD, set, replicate}
 use lib.Seq.{getD-set-same, getD-set-other}
-use borrow.Author.Tests.{le-leb, lt-leb, lt-ltb, le-ltb, eq-eqb, ne-eqb, eqb-true, eqb-false, leb-false, ltb-false}
+use borrow.Author.Tests.{le-leb, lt-leb, lt-ltb, le-ltb, eq-eqb, ne-eqb, eqb-true, eqb-false, leb-false}
 use Rattle.term_spec.proofs.Tests.{never, by-less}
-use Rattle.map_keys.specs.Compare.{pair-size, leads-steps, leads, at-key}
+use Rattle.term_rows.specs.Rows.{pair-size}
+use Rattle.map_keys.specs.Compare.{leads-steps, leads, at-key}
 use Rattle.map_keys.specs.Marks.{Reached, here, next, Marks, Mark-of, no-mark, a-mark}
 
 module _ (T : List ℕ) where

@@ -2,12 +2,12 @@
 use mathlib.Core.Path.{_≡_, refl, sym, _∙_, ap}
 use mathlib.Core.Logic.{_⊎_, inl, inr}
 use mathlib.Core.Bool.{Bool, true, false, _||_}
-use mathlib.Core.List.{List, [], _∷_}
-use Prim.Native.Nat.{ℕ, zero, suc, _+_, _<_}
+use mathlib.Core.List.{List, _∷_}
+use Prim.Native.Nat.{ℕ, zero, suc, _+_}
 use native.Mathlib.Omega.{arith}
 use Rattle.term_spec.specs.Tree.{Forest, empty, _▹_, _▹▹_, count}
 use Rattle.term_spec.specs.Term.{Label, Term}
-use Rattle.term_spec.specs.Pairs.{Pair, put-in, in-order, arranged}
+use Rattle.term_spec.specs.Pairs.{in-order, arranged}
 use Rattle.term_spec.specs.Meaning.{pair-before, ordered, all-ordered}
 use Rattle.term_spec.specs.Same.{Rearranged, stay, keep, swap, chain}
 use Rattle.term_spec.specs.Equal.{same, among}
@@ -167,15 +167,6 @@ mutual
   all-in-value-by k empty us h n e = absurd (omega arith)
   all-in-value-by k (v ▹ ts) us h zero e = absurd (omega arith)
   all-in-value-by k (v ▹ ts) us h (suc n) e = (h k v (inl (refl, refl)), all-in-by ts us (λ i x m. h i x (inr m)) n (omega arith))
-
--- at most one pair is in order
-pub few-in-order : (before : Pair → Pair → Bool) (ts : Forest Label) → count ts < 4 → in-order before ts ≡ ts
-unfolding in-order put-in
-few-in-order before empty l = refl
-few-in-order before (k ▹ empty) l = refl
-few-in-order before (k ▹ v ▹ empty) l = refl
-few-in-order before (k ▹ v ▹ j ▹ empty) l = refl
-few-in-order before (k ▹ v ▹ j ▹ w ▹ ts) l = absurd (omega arith)
 
 -- two runs of as many pairs, none of whose keys stands twice, have one order exactly where each pair of the first is one of the second
 pub ordered-in : (ts us : Forest Label) (n : ℕ) → count ts ≡ n + n → count us ≡ n + n → Distinct ts → All-in ts us → in-order pair-before ts ≡ in-order pair-before us

@@ -9,11 +9,13 @@ use lib.Dec.{eqb}
 use lib.ListN.{length, getD, set, length-set}
 use lib.Seq.{getD-set-same, getD-set-other}
 use borrow.Author.Count.{below-none, below-more}
-use borrow.Author.Tests.{eqb-true, eqb-false}
+use borrow.Author.Tests.{eqb-true, eqb-false, eq-eqb}
 use Rattle.term_spec.specs.Rows.{whole-in}
 use Rattle.term_spec.proofs.Tests.{by-less}
-use Rattle.map_keys.specs.Compare.{same-terms-raw}
-use Rattle.map_keys.specs.KeySet.{place, slot, Contains, First-empty, Keeps, term-hash, key-hashes, Absent}
+use Rattle.term_hash.specs.Hash.{term-hash}
+use Rattle.map_keys.specs.Path.{place, slot}
+use Rattle.map_keys.specs.Found.{same-key}
+use Rattle.map_keys.specs.KeySet.{Contains, First-empty, Keeps, key-hashes, same-terms-raw, Absent}
 
 -- ---- the slot to which a hash points
 
@@ -147,16 +149,17 @@ module _ (P : ℕ → Type 0) (L : List ℕ) (hs : ℕ → ℕ) where
 
 -- ---- a path to the first empty slot
 
--- a row of another term, whose word is w
-pub other-whole : {P : Type 0} (w first v x : ℕ) → v ≡ w → x ≡ whole-in v → (x ≡ first → ⊥) → whole-in w ≡ first → P
-other-whole w first v x e f n g = absurd (n (f ∙ ap whole-in e ∙ g))
+-- a part of the map is compared
+part-compared : (T : List ℕ) (terms : ℕ → ℕ → Bool) (first key row : ℕ) → whole-in (getD T row 0) ≡ first → same-key T terms first key row ≡ terms key row
+unfolding same-key
+part-compared T terms first key row e = rw (eq-eqb (whole-in (getD T row 0)) first e)
 
-module _ (m places lengths T : List ℕ) (first key : ℕ) where
+module _ (m places lengths T : List ℕ) (first key : ℕ) (L : List ℕ) where
   -- what is known of a slot that is passed: it is occupied, and the row in it, if it is a part of the map, means something else
   abbrev pub Other : ℕ → Type 0
-  Other x = (x ≡ 0 → ⊥) × (whole-in (getD T (x - 1) 0) ≡ first → same-terms-raw m places lengths T key (x - 1) ≡ false)
+  Other x = (x ≡ 0 → ⊥) × (whole-in (getD T (x - 1) 0) ≡ first → same-terms-raw m places lengths T L key (x - 1) ≡ false)
 
-  module _ (L : List ℕ) {n i d : ℕ} (p : Walked Other L (key-hashes m places lengths T first key) n i d) (j x : ℕ) (l : d < 32)
+  module _ {n i d : ℕ} (p : Walked Other L (key-hashes m places lengths T first key) n i d) (j x : ℕ) (l : d < 32)
       (e : j ≡ place (key-hashes m places lengths T first key) n d) (f : x ≡ getD L j 0) where
     pub free-found : x ≡ 0 → Absent m places lengths T first key L j
     free-found z =
@@ -166,9 +169,11 @@ module _ (m places lengths T : List ℕ) (first key : ℕ) where
           others = λ e k. p .passed e k .1;
         }
 
-    pub free-later : (s : Bool) → (x ≡ 0 → ⊥) → (whole-in (getD T (x - 1) 0) ≡ first → s ≡ same-terms-raw m places lengths T key (x - 1)) → s ≡ false
+    pub free-later : (s : Bool) → (x ≡ 0 → ⊥) → s ≡ same-key T (same-terms-raw m places lengths T L) first key (x - 1) → s ≡ false
         → Walked Other L (key-hashes m places lengths T first key) n j (d + 1)
-    free-later s o g z = walk-next Other L (key-hashes m places lengths T first key) p j e l (subst Other f (o, λ w. sym (g w) ∙ z))
+    free-later s o g z =
+        walk-next Other L (key-hashes m places lengths T first key) p j e l
+        (subst Other f (o, λ w. sym (part-compared T (same-terms-raw m places lengths T L) first key (x - 1) w) ∙ sym g ∙ z))
 
 -- ---- insert
 

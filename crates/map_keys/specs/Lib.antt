@@ -1,4 +1,5 @@
+pub mod Path
 pub mod Compare
 pub mod Found
-pub mod KeySet
 pub mod Marks
+pub mod KeySet

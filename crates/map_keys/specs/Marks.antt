@@ -4,7 +4,7 @@ use mathlib.Core.Path.{_≡_}
 use mathlib.Core.List.{List}
 use Prim.Native.Nat.{ℕ, _+_}
 use lib.ListN.{getD}
-use Rattle.map_keys.specs.Compare.{pair-size}
+use Rattle.term_rows.specs.Rows.{pair-size}
 
 -- steps over pairs lead from the row b to a row
 pub data Reached (T : List ℕ) (b : ℕ) : ℕ → Type 0 where

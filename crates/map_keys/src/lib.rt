@@ -1,30 +1,25 @@
 // Terms compared by their rows, whatever their encoding, and the hash set of a map's keys.
 ghost use mathlib.Core.Path.{_≡_};
-ghost use mathlib.Core.Bool.{false, cond};
-ghost use Prim.Native.Nat.{_+_, _*_, _-_, _/_, _%_, _≤_, _<_, min};
-ghost use lib.Dec.{ltb};
-ghost use lib.ListN.{length, getD};
-ghost use Rattle.term_spec.specs.Rows.{size-in, whole-in};
-ghost use Rattle.row_fields.specs.Meaning.{term-kind};
-ghost use Rattle.map_keys.specs.Compare.{same-fields, same-row, unordered-rows, same-rows, pair-size, pair-among, pair-around, pairs-among, same-maps, same-terms, same-terms-raw, among-rows};
-ghost use Rattle.map_keys.specs.KeySet.{place, Contains, Keeps, added, hash-row, hash-rows, term-hash, key-hashes, Absent, Contains-or-insert};
+ghost use Prim.Native.Nat.{_+_, _*_, _-_, _/_, _%_, _≤_, _<_};
+ghost use lib.ListN.{length};
+ghost use Rattle.term_rows.specs.Rows.{same-row};
+ghost use Rattle.map_keys.specs.Path.{place};
+ghost use Rattle.map_keys.specs.Compare.{same-rows, pair-among, pair-around, pairs-among, leads, at-key, pair-marked, pairs-marked};
+ghost use Rattle.map_keys.specs.Found.{same-key};
+ghost use Rattle.map_keys.specs.Marks.{Reached, Marks, Mark-of};
+ghost use Rattle.map_keys.specs.KeySet.{Contains, Keeps, key-hashes, key-found, maps-at, terms-at, among-rows, Absent, Contains-or-insert};
 use octets::wide16;
-use row::kind_in;
-use row::offset_in;
 use row::parts_in;
 use row::size_in;
 use row::whole_in;
-use row_compare::hash_content;
-use row_compare::mix;
-use row_compare::same_content;
-use row_fields::content_at;
-use term_spec::kinds;
+use term_hash::term_hash;
+use term_rows::pair_size;
+use term_rows::row_at;
+use term_rows::same_row;
+use term_rows::unordered_rows;
 
 // A key and its value.
 const PAIR_PARTS: usize = 2;
-
-// A map of two pairs has so many parts: from there on the order of pairs does not count.
-const UNORDERED_PARTS: usize = 2 * PAIR_PARTS;
 
 // More levels than any term of a table has rows. Calls nest no deeper than the terms do.
 const LEVELS: usize = 16384;
@@ -35,12 +30,6 @@ const MANY_PAIRS: usize = 32;
 // So many keys of a map are marked.
 const MARKS: usize = 64;
 
-// So many slots are probed for a key of a map.
-const MOST_PROBED: usize = 32;
-
-// So many rows of a key count in its hash.
-const HASHED_ROWS: usize = 16;
-
 // So many hashes there are of 16 bits.
 const HASHES: usize = 65536;
 
@@ -49,93 +38,6 @@ const WINDOW: usize = 2;
 
 // The path of a key has so many steps, in rounds of WINDOW.
 const PATH: usize = 32;
-
-// The row at an index of the table as its word, 0 past its end.
-pub fn row_at(table: &[u64], i: usize) -> u64
-    ensures { λ r. ⌜ r ≡ getD (now (table .entry)) i 0 ⌝ }
-{
-    if i < table.len() {
-        return table[i];
-    }
-    0
-}
-
-// A character of a 107 is an integer.
-pub fn term_kind(kind: usize) -> usize
-    ensures { λ r. ⌜ r ≡ term-kind kind ⌝ }
-{
-    if kind == kinds::CHARACTER {
-        return kinds::INTEGER;
-    }
-    kind
-}
-
-// Whether the own fields of the terms of these kinds at these offsets are equal.
-fn same_fields(
-    msg: &[u8],
-    places: &[u8],
-    lengths: &[u16],
-    kind: usize,
-    offset: usize,
-    kind2: usize,
-    offset2: usize,
-) -> bool
-    ensures { λ r. ⌜ r ≡ same-fields (now (msg .entry)) (now (places .entry)) (now (lengths .entry)) kind offset kind2 offset2 ⌝ }
-{
-    let a = content_at(msg, places, lengths, kind, offset);
-    let b = content_at(msg, places, lengths, kind2, offset2);
-    same_content(msg, places, a, b)
-}
-
-// Whether two words of rows say the same fields and number of parts.
-fn same_row(msg: &[u8], places: &[u8], lengths: &[u16], v: u64, w: u64) -> bool
-    ensures { λ r. ⌜ r ≡ same-row (now (msg .entry)) (now (places .entry)) (now (lengths .entry)) v w ⌝ }
-{
-    let kind = kind_in(v);
-    let other = kind_in(w);
-    if term_kind(kind) != term_kind(other) {
-        return false;
-    }
-    if parts_in(v) != parts_in(w) {
-        return false;
-    }
-    same_fields(
-        msg,
-        places,
-        lengths,
-        kind,
-        offset_in(v),
-        other,
-        offset_in(w),
-    )
-}
-
-// How many rows after a row stand in no order: of a map of two pairs or more all others of its term, else none.
-pub fn unordered_rows(w: u64) -> usize
-    ensures { λ r. ⌜ (r ≡ unordered-rows w) × (r < 16384) ⌝ }
-{
-    if kind_in(w) != kinds::MAP {
-        return 0;
-    }
-    if parts_in(w) < UNORDERED_PARTS {
-        return 0;
-    }
-    let n = size_in(w);
-    if n == 0 {
-        return 0;
-    }
-    n - 1
-}
-
-// How many rows the term at a row and the next one have.
-pub fn pair_size(table: &[u64], at: usize) -> usize
-    requires { ⌜ at < 4611686018427387904 ⌝ }
-    ensures { λ r. ⌜ (r ≡ pair-size (now (table .entry)) at) × (r < 32768) ⌝ }
-{
-    let k = size_in(row_at(table, at));
-    let v = size_in(row_at(table, at + k));
-    k + v
-}
 
 // Whether the n rows from a on mean the same as those from b on: row by row, but maps of two pairs or more as wholes.
 fn same_rows(
@@ -455,18 +357,19 @@ fn found_key(
     first: usize,
     key: usize,
 ) -> usize
-    requires { ⌜ key < 4611686018427387904 ⌝ }
+    requires { ⌜ key < 3458764513820540928 ⌝ }
     ensures { λ r. ⌜ (r ≡ key-found (now (msg .entry)) (now (places .entry)) (now (lengths .entry)) (now (table .entry)) (now (slots .entry)) (terms-at (now (msg .entry)) (now (places .entry)) (now (lengths .entry)) (now (table .entry)) (now (slots .entry)) levels) first key) × (r < 65536) ⌝ }
 {
     let n = slots.len();
     if n == 0 {
         return 0;
     }
-    let mut i = term_hash(msg, places, lengths, table, first, key) % n;
+    let mut i = 0usize;
     let mut d = 0usize;
-    while d < MOST_PROBED {
-        let slot = wide16(slots[i]);
-        if slot == 0 {
+    while d < PATH {
+        i = path_slot(msg, places, lengths, table, n, first, key, d, i);
+        let entry = wide16(slots[i]);
+        if entry == 0 {
             return 0;
         }
         if same_key(
@@ -478,11 +381,10 @@ fn found_key(
             levels,
             first,
             key,
-            slot - 1,
+            entry - 1,
         ) {
-            return slot - 1;
+            return entry - 1;
         }
-        i = next_slot(i, n);
         d += 1;
     }
     0
@@ -502,7 +404,7 @@ fn pair_marked(
     b: usize,
     end: usize,
 ) -> bool
-    requires { ⌜ (k < 4611686018427387904) × (b + 32768 * n < 4611686018427387904) × (0 < b) × Marks (now table) b (now marks) ⌝ }
+    requires { ⌜ (k < 3458764513820540928) × (b + 32768 * n < 4611686018427387904) × (0 < b) × Marks (now table) b (now marks) ⌝ }
     ensures { λ r. ⌜ r ≡ pair-marked (now (table .entry)) (terms-at (now (msg .entry)) (now (places .entry)) (now (lengths .entry)) (now (table .entry)) (now (slots .entry)) levels) (key-found (now (msg .entry)) (now (places .entry)) (now (lengths .entry)) (now (table .entry)) (now (slots .entry)) (terms-at (now (msg .entry)) (now (places .entry)) (now (lengths .entry)) (now (table .entry)) (now (slots .entry)) levels)) n k b end ⌝ }
 {
     let x = found_key(msg, places, lengths, table, slots, levels, b, k);
@@ -528,7 +430,7 @@ fn pairs_marked(
     b: usize,
     end: usize,
 ) -> bool
-    requires { ⌜ (a + 32768 * n < 4611686018427387904) × (b + 32768 * n < 4611686018427387904) × (0 < b) × Marks (now table) b (now marks) ⌝ }
+    requires { ⌜ (a + 32768 * n < 3458764513820540928) × (b + 32768 * n < 4611686018427387904) × (0 < b) × Marks (now table) b (now marks) ⌝ }
     ensures { λ r. ⌜ r ≡ pairs-marked (now (table .entry)) (terms-at (now (msg .entry)) (now (places .entry)) (now (lengths .entry)) (now (table .entry)) (now (slots .entry)) levels) (key-found (now (msg .entry)) (now (places .entry)) (now (lengths .entry)) (now (table .entry)) (now (slots .entry)) (terms-at (now (msg .entry)) (now (places .entry)) (now (lengths .entry)) (now (table .entry)) (now (slots .entry)) levels)) n n a b end ⌝ }
 {
     let mut i = 0usize;
@@ -568,7 +470,7 @@ fn many_among(
     b: usize,
     end: usize,
 ) -> bool
-    requires { ⌜ (n < 4096) × (a + 32768 * n < 4611686018427387904) × (b + 32768 * n < 4611686018427387904) × (0 < b) ⌝ }
+    requires { ⌜ (n < 4096) × (a + 32768 * n < 3458764513820540928) × (b + 32768 * n < 4611686018427387904) × (0 < b) ⌝ }
     ensures { λ r. ⌜ r ≡ pairs-marked (now (table .entry)) (terms-at (now (msg .entry)) (now (places .entry)) (now (lengths .entry)) (now (table .entry)) (now (slots .entry)) levels) (key-found (now (msg .entry)) (now (places .entry)) (now (lengths .entry)) (now (table .entry)) (now (slots .entry)) (terms-at (now (msg .entry)) (now (places .entry)) (now (lengths .entry)) (now (table .entry)) (now (slots .entry)) levels)) n n a b end ⌝ }
 {
     let mut marks = [0u16; MARKS];
@@ -617,120 +519,6 @@ fn key_among(
     false
 }
 
-// A hash after what a row says of its term.
-fn hash_row(msg: &[u8], places: &[u8], lengths: &[u16], h: u64, w: u64) -> u64
-    requires { ⌜ h < 4294967296 ⌝ }
-    ensures { λ r. ⌜ (r ≡ hash-row (now (msg .entry)) (now (places .entry)) (now (lengths .entry)) h w) × (r < 4294967296) ⌝ }
-{
-    let kind = kind_in(w);
-    let sum = mix(HASH_FACTOR, h, (16 * parts_in(w) + term_kind(kind)) as u64);
-    let own = content_at(msg, places, lengths, kind, offset_in(w));
-    hash_content(HASH_FACTOR, msg, places, sum, own)
-}
-
-// A hash to which x is added, in any order.
-fn add(h: u64, x: u64) -> u64
-    requires { ⌜ (h < 4294967296) × (x < 4294967296) ⌝ }
-    ensures { λ r. ⌜ (r ≡ added h x) × (r < 4294967296) ⌝ }
-{
-    (h + x * x / 65536) % 4294967296
-}
-
-// What the hash of row i starts from: 0 where its place does not count, which is so below `end`, else the hash before it.
-fn before_row(i: usize, end: usize, h: u64) -> u64
-    requires { ⌜ h < 4294967296 ⌝ }
-    ensures { λ r. ⌜ (r ≡ cond (ltb i end) 0 h) × (r < 4294967296) ⌝ }
-{
-    if i < end {
-        return 0;
-    }
-    h
-}
-
-// The hash after row i, whose own is x.
-fn after_row(i: usize, end: usize, h: u64, x: u64) -> u64
-    requires { ⌜ (h < 4294967296) × (x < 4294967296) ⌝ }
-    ensures { λ r. ⌜ (r ≡ cond (ltb i end) (added h x) x) × (r < 4294967296) ⌝ }
-{
-    if i < end {
-        return add(h, x);
-    }
-    x
-}
-
-// Up to where rows stand in no order, after row i, whose word is w.
-fn end_after(i: usize, end: usize, w: u64) -> usize
-    requires { ⌜ i < 16 ⌝ }
-    ensures { λ r. ⌜ r ≡ cond (ltb i end) end (i + 1 + unordered-rows w) ⌝ }
-{
-    if i < end {
-        return end;
-    }
-    i + 1 + unordered_rows(w)
-}
-
-// How many rows of the term at a row count in its hash.
-fn hashed_rows(table: &[u64], row: usize) -> usize
-    ensures { λ r. ⌜ r ≡ min (size-in (getD (now (table .entry)) row 0)) 16 ⌝ }
-{
-    let n = size_in(row_at(table, row));
-    if n < HASHED_ROWS {
-        return n;
-    }
-    HASHED_ROWS
-}
-
-// A hash after the first n rows of the term at a row. Rows of a map of two pairs or more are added, or left out where there are more of them than of the n.
-fn hash_rows(
-    msg: &[u8],
-    places: &[u8],
-    lengths: &[u16],
-    table: &[u64],
-    n: usize,
-    row: usize,
-    start: u64,
-) -> u64
-    requires { ⌜ (n ≤ 16) × (row < 4611686018427387904) × (start < 4294967296) ⌝ }
-    ensures { λ r. ⌜ (r ≡ hash-rows (now (msg .entry)) (now (places .entry)) (now (lengths .entry)) (now (table .entry)) start n 0 row) × (r < 4294967296) ⌝ }
-{
-    let mut h = start;
-    let mut end = 0usize;
-    let mut i = 0usize;
-    while i < n {
-        let w = row_at(table, row + i);
-        let x = hash_row(msg, places, lengths, before_row(i, end, h), w);
-        if n < 2 {
-            return x;
-        }
-        h = after_row(i, end, h, x);
-        end = end_after(i, end, w);
-        if n < end {
-            return h;
-        }
-        i += 1;
-    }
-    h
-}
-
-// The hash of the term at a row in a round, as a key of the map whose first key is at the row `first`.
-fn term_hash(
-    msg: &[u8],
-    places: &[u8],
-    lengths: &[u16],
-    table: &[u64],
-    round: usize,
-    first: usize,
-    row: usize,
-) -> usize
-    requires { ⌜ (round < 65536) × (row < 4611686018427387904) ⌝ }
-    ensures { λ r. ⌜ (r ≡ term-hash (now (msg .entry)) (now (places .entry)) (now (lengths .entry)) (now (table .entry)) round first row) × (r < 65536) ⌝ }
-{
-    let n = hashed_rows(table, row);
-    let start = mix(mix(0, first as u64), round as u64);
-    let h = hash_rows(msg, places, lengths, table, n, row, start);
-    (mix(h, 0) / 65536) as usize
-}
-
 // The slot to which a hash points, of n.
 fn hashed_slot(hash: usize, n: usize) -> usize
     requires { ⌜ (hash < 65536) × (0 < n) ⌝ }
@@ -762,7 +550,7 @@ fn path_slot(
     d: usize,
     i: usize,
 ) -> usize
-    requires { ⌜ (0 < n) × (key < 65535) × (d < 32) × (0 < d → i ≡ place (key-hashes (now msg) (now places) (now lengths) (now table) first key) n (d - 1)) ⌝ }
+    requires { ⌜ (0 < n) × (key < 3458764513820540928) × (d < 32) × (0 < d → i ≡ place (key-hashes (now msg) (now places) (now lengths) (now table) first key) n (d - 1)) ⌝ }
     ensures { λ r. ⌜ (r ≡ place (key-hashes (now (msg .entry)) (now (places .entry)) (now (lengths .entry)) (now (table .entry)) first key) n d) × (r < n) ⌝ }
 {
     if d % WINDOW == 0 {
@@ -770,24 +558,6 @@ fn path_slot(
         return hashed_slot(hash, n);
     }
     next_slot(i, n)
-}
-
-// Whether the term at a row, if it is a part of the map, means the same as the key.
-fn same_key(
-    msg: &[u8],
-    places: &[u8],
-    lengths: &[u16],
-    table: &[u64],
-    first: usize,
-    key: usize,
-    row: usize,
-) -> bool
-    ensures { λ r. ⌜ (whole-in (getD (now (table .entry)) row 0) ≡ first → r ≡ same-terms-raw (now (msg .entry)) (now (places .entry)) (now (lengths .entry)) (now (table .entry)) key row) ⌝ }
-{
-    if whole_in(row_at(table, row)) != first {
-        return false;
-    }
-    same_terms(msg, places, lengths, table, LEVELS, key, row)
 }
 
 // The first empty slot of a key's path; the number of slots where there is none, or where a row before it means the same as the key.
@@ -812,7 +582,17 @@ fn free_slot(
         if entry == 0 {
             return i;
         }
-        if same_key(msg, places, lengths, table, first, key, entry - 1) {
+        if same_key(
+            msg,
+            places,
+            lengths,
+            table,
+            slots,
+            LEVELS,
+            first,
+            key,
+            entry - 1,
+        ) {
             return n;
         }
         d += 1;
@@ -864,7 +644,7 @@ pub fn contains_or_insert(
         slots[i] = (key + 1) as u16;
         return false;
     }
-    if key_among(msg, places, lengths, table, first, key) {
+    if key_among(msg, places, lengths, table, slots, first, key) {
         return true;
     }
     insert(msg, places, lengths, table, slots, first, key);

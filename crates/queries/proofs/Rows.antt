@@ -30,8 +30,8 @@ use Rattle.row_fields.specs.declared.Content.{Content}
 use Rattle.row_fields.specs.Found.{content-of}
 use Rattle.row_fields.proofs.Says.{Lent, Says}
 use Rattle.row_fields.proofs.Again.{content-says}
-use Rattle.map_keys.proofs.InTable.{Rows-in-table, Backed-row, backed-rows}
-use Rattle.map_keys.proofs.Accepted.{held-rows}
+use Rattle.term_rows.proofs.InTable.{Rows-in-table, Backed-row, backed-rows}
+use Rattle.term_rows.proofs.Accepted.{held-rows}
 use Rattle.queries.specs.declared.TextAt.{TextAt}
 use Rattle.queries.specs.declared.TextAt.the-variants as texts
 use Rattle.queries.specs.Code.{content-number, numbered, atom-row, atom-among, text-said, located}

@@ -10,7 +10,6 @@ ghost use Rattle.queries.specs.Code.{signed-number, float-number, conten
 ghost use Rattle.queries.specs.Promises.{Text-inside, Number-call, Locate-call, Text-call, Mark-call};
 ghost use Rattle.term_spec.specs.AtomList.{lent-list};
 use connection::Connection;
-use map_keys::row_at;
 use reader::FEW_BYTES;
 use reader::Framing;
 use reader::SOME_BYTES;
@@ -20,6 +19,7 @@ use row::kind_in;
 use row::offset_in;
 use row_fields::Content;
 use row_fields::content_at;
+use term_rows::row_at;
 use term_spec::MarkAnswer;
 use term_spec::NumberAnswer;
 use term_spec::ReadAnswer;

@@ -21,8 +21,8 @@ use Rattle.term_spec.proofs.Rows.{size-meaning, count-le-sizes}
 use Rattle.term_spec.proofs.Words.{Small-row, Word-of, node-here, node-packed, row-of}
 use Rattle.row_compare.specs.Hash.{mix}
 use Rattle.row_compare.proofs.Alike.{Agree}
-use Rattle.map_keys.specs.Compare.{unordered-rows}
-use Rattle.map_keys.proofs.Compare.{agree-same, own, Known-tree, Known-rows, node-known, parts-known, first-known, others-known, tree-size, pair-sizes, meanings-count, same-labels, same-parts, same-counts, Sort, in-turn, in-no-order, sort-of}
+use Rattle.term_rows.specs.Rows.{unordered-rows}
+use Rattle.term_rows.proofs.Known.{agree-same, own, Known-tree, Known-rows, node-known, parts-known, first-known, others-known, tree-size, pair-sizes, meanings-count, same-labels, same-parts, same-counts, Sort, in-turn, in-no-order, sort-of}
 use Rattle.term_hash.specs.Hash.{hash-row, hash-rows, add-pairs, hash-pairs, factor-of, hashed-rows, hash-term, term-hash}
 use Rattle.term_hash.proofs.Steps.{stepped}
 use Rattle.term_hash.proofs.Parts.{part, pairs-sum, pairs-added, Sum, none, alone, pair, sum-rearranged}

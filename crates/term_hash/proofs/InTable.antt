@@ -13,9 +13,9 @@ use Rattle.row_fields.specs.Found.{content-of}
 use Rattle.row_fields.specs.Meaning.{term-kind}
 use Rattle.row_fields.proofs.Says.{Lent}
 use Rattle.row_compare.proofs.Hashes.{both-true, hash-alike}
-use Rattle.map_keys.specs.Compare.{same-fields, same-row}
-use Rattle.map_keys.proofs.Compare.{Known-tree}
-use Rattle.map_keys.proofs.InTable.{Known, row-agrees, map-agrees}
+use Rattle.term_rows.specs.Rows.{same-fields, same-row}
+use Rattle.term_rows.proofs.Known.{Known-tree}
+use Rattle.term_rows.proofs.InTable.{Known, row-agrees, map-agrees}
 use Rattle.term_hash.specs.Hash.{hash-row, term-hash}
 use Rattle.term_hash.proofs.EqualHash.{equal-hash}
 

@@ -7,7 +7,7 @@ use native.Mathlib.Omega.{arith}
 use Rattle.term_spec.specs.Tree.{Forest, empty, _▹_}
 use Rattle.term_spec.specs.Term.{Label, Term}
 use Rattle.term_spec.specs.Same.{Rearranged, stay, keep, swap, chain}
-use Rattle.map_keys.specs.Compare.{pair-size}
+use Rattle.term_rows.specs.Rows.{pair-size}
 use Rattle.term_hash.specs.Hash.{added, add-pairs}
 
 -- ---- what pairs add, as a sum

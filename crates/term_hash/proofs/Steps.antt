@@ -1,8 +1,11 @@
 -- One law for each way through the functions that hash rows.
 use mathlib.Core.Path.{_≡_, refl, sym, ap, _∙_}
+use mathlib.Core.Bool.{Bool, true, false, cond}
 use mathlib.Core.List.{List}
 use Prim.Native.Nat.{ℕ, zero, suc, _+_, _*_, _-_, _/_, _≤_, _<_}
+use native.Mathlib.Nat.{mul-le-mul-left}
 use native.Mathlib.Omega.{arith}
+use lib.Dec.{eqb}
 use lib.ListN.{getD}
 use borrow.Author.Tests.{lt-ltb, le-ltb, le-leb, lt-leb, eq-eqb, ne-eqb}
 use Rattle.term_spec.specs.Rows.{kind-in, offset-in, parts-in, size-in}
@@ -10,8 +13,21 @@ use Rattle.row_fields.specs.declared.Content.{Content}
 use Rattle.row_fields.specs.Found.{content-of}
 use Rattle.row_fields.specs.Meaning.{term-kind}
 use Rattle.row_compare.specs.Hash.{mix, hash-contents}
-use Rattle.map_keys.specs.Compare.{unordered-rows, pair-size}
+use Rattle.term_rows.specs.Rows.{unordered-rows, pair-size}
 use Rattle.term_hash.specs.Hash.{hash-row, added, hash-rows, add-pairs, hash-pairs, factor-of, hashed-rows, hash-term, term-hash}
+
+-- ---- numbers that stay small
+
+pub kind-small : (x k : ℕ) → x ≡ term-kind k → k < 16 → x < 16
+unfolding term-kind
+kind-small x k e l = go (eqb k 14) e
+  where
+    go : (t : Bool) → x ≡ cond t 1 k → x < 16
+    go true f = omega arith
+    go false f = omega arith
+
+pub square-below : (x : ℕ) → x < 4294967296 → x * x < 18446744073709551616
+square-below x l = let h : x * x ≤ x * 4294967295 = mul-le-mul-left x (omega arith) in omega arith
 
 -- ---- a row
 

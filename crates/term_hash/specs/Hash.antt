@@ -9,7 +9,7 @@ use Rattle.term_spec.specs.Rows.{kind-in, offset-in, parts-in, size-in}
 use Rattle.row_fields.specs.Found.{content-of}
 use Rattle.row_fields.specs.Meaning.{term-kind}
 use Rattle.row_compare.specs.Hash.{mix, hash-contents}
-use Rattle.map_keys.specs.Compare.{unordered-rows, pair-size}
+use Rattle.term_rows.specs.Rows.{unordered-rows, pair-size}
 
 -- what a row says: its kind, its number of parts and its own fields
 unfoldable pub hash-row : ℕ → List ℕ → List ℕ → List ℕ → ℕ → ℕ → ℕ

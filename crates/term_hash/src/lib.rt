@@ -2,10 +2,6 @@
 ghost use mathlib.Core.Path.{_≡_};
 ghost use Prim.Native.Nat.{_+_, _*_, _<_};
 ghost use Rattle.term_hash.specs.Hash.{hash-row, added, hash-rows, hash-pairs, factor-of, hashed-rows, term-hash};
-use map_keys::pair_size;
-use map_keys::row_at;
-use map_keys::term_kind;
-use map_keys::unordered_rows;
 use row::kind_in;
 use row::offset_in;
 use row::parts_in;
@@ -13,6 +9,10 @@ use row::size_in;
 use row_compare::hash_content;
 use row_compare::mix;
 use row_fields::content_at;
+use term_rows::pair_size;
+use term_rows::row_at;
+use term_rows::term_kind;
+use term_rows::unordered_rows;
 
 // A key and its value.
 const PAIR_PARTS: usize = 2;
@@ -153,7 +153,7 @@ pub fn term_hash(
     first: usize,
     row: usize,
 ) -> usize
-    requires { ⌜ (round < 65536) × (row < 2305843009213693952) ⌝ }
+    requires { ⌜ (round < 65536) × (row < 3458764513820540928) ⌝ }
     ensures { λ r. ⌜ (r ≡ term-hash (now (msg .entry)) (now (places .entry)) (now (lengths .entry)) (now (table .entry)) round first row) × (r < 65536) ⌝ }
 {
     let factor = factor_of(round);

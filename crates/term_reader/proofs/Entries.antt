@@ -27,9 +27,10 @@ use Rattle.term_spec.proofs.RoundTrip.{join-none}
 use Rattle.term_spec.proofs.Rows.{size-positive, each-nodes-join, sizes-join, count-join, count-le-sizes, length-rows}
 use Rattle.term_spec.proofs.Text.{under-all}
 use Rattle.term_spec.proofs.Words.{small-rows, sets-here, length-words-of}
+use Rattle.row_fields.proofs.Says.{Lent}
 use Rattle.map_keys.specs.KeySet.{Keeps, Contains-or-insert}
 use Rattle.map_keys.proofs.Compare.{Keys-of, no-keys, one-more-key}
-use Rattle.map_keys.proofs.InTable.{Rows-in-table}
+use Rattle.term_rows.proofs.InTable.{Rows-in-table}
 use Rattle.map_keys.proofs.KeySet.{keeps-trans, Contains-key, Contains-keys, no-key, key-kept, keys-kept, keys-more, key-inserted, key-judged}
 use Rattle.term_reader.specs.declared.Step.{Step}
 use Rattle.term_reader.specs.declared.Step.the-variants as step
@@ -58,19 +59,23 @@ parts-sound flags n places lengths m cap deep under few at row low t s e =
     (record { bytes-under = under-from at m (under-all m (λ i _. under i)); rows-are = refl }) low .known t s e in
     f .valid
 
--- where the set contains the keys of pairs, a key past them is judged by whether it is among theirs
+-- where the set contains the keys of pairs, a key past them is judged by whether it is among theirs, and is contained if it is not
 pub record Told (m : List ℕ) (cap : ℕ) (given : Given) (places lengths : List ℕ) (first : ℕ) : Type 0 where
   pub judges : (S : List ℕ) (us : Terms) (u : Located) (ks : List Term) (L L′ : List ℕ) (b : Bool) → Rows-in-table m cap given S (whole-of first) first (us ▹▹ (u ▹ empty))
       → Valids (given .flags) (all-as-read (us ▹▹ (u ▹ empty))) → Keys-of us ks → Contains-keys m places lengths (whole-of first) first first us L
       → Contains-or-insert m places lengths S first (first + sizes us) L b L′ → b ≡ among (meaning u) ks
+  pub enters : (S : List ℕ) (us : Terms) (u : Located) (L L′ : List ℕ) (b : Bool) → Rows-in-table m cap given S (whole-of first) first (us ▹▹ (u ▹ empty))
+      → Contains-or-insert m places lengths S first (first + sizes us) L b L′ → b ≡ false → Contains-key m places lengths (whole-of first) first (first + sizes us) u L′
 
 pub keys-told : (flags n : ℕ) (places lengths m : List ℕ) (cap first : ℕ) → of-size (lent-list n places lengths) ≡ true → n < 256 → ((i : ℕ) → getD m i 0 < 256)
     → Told m cap (given-of flags (lent-list n places lengths)) places lengths first
 unfolding given-of
 keys-told flags n places lengths m cap first sized few under =
+    let list : AtomList = lent-list n places lengths in
+    let lent : Lent list m = record { sized = sized; few = omega arith; under = under-all m (λ i _. under i) } in
     record {
-      judges = λ S us u ks L L′ b h v.
-          key-judged flags (lent-list n places lengths) m (record { sized = sized; few = omega arith; under = under-all m (λ i _. under i) }) cap us u h v (code-of-whole first);
+      judges = λ S us u ks L L′ b h v. key-judged flags list m lent cap us u h v (code-of-whole first);
+      enters = λ S us u L L′ b h. key-inserted flags list m lent cap us u h;
     }
 
 -- a term that was read has a row
@@ -310,6 +315,6 @@ module _ (given : Given) (cap deep : ℕ) (m places lengths : List ℕ) (start f
                 left = omega (arith, i .left);
                 keys = i .keys;
                 remembered = keys-kept (keeps-trans kept (judged .keys-kept)) (i .remembered);
-                contained = key-inserted m places lengths cap given ts k held judged-key new;
+                contained = tell .enters T′ ts k L₁ L₂ b held judged-key new;
                 goes = key-goes i k next end some (part .is) (sym is-among ∙ new);
               })

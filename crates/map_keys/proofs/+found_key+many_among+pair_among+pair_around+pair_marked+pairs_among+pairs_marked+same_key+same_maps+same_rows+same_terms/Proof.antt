@@ -1,14 +1,13 @@
 -- The functions that compare terms call each other and meet their contracts: each level counts 8, and a function that calls another at its own level counts more.
 use Rattle.map_keys.proofs.Marks.{no-marks}
-use Rattle.map_keys.proofs.Found.{other-map, key-compared, no-slots, found-start, found-empty, found-here, found-later, found-none, same-there}
+use Rattle.map_keys.proofs.Found.{other-map, key-compared, Finding, no-slots, found-start, found-empty, found-here, found-later, found-none, same-there}
 use Rattle.map_keys.proofs.Steps.{rows-start, rows-differ, rows-next, maps-differ, maps-next, rows-ended, past-first, past-second, sizes-differ, sizes-same, no-level, maps-sizes, maps-few, maps-many, pairs-start, pairs-differ, pairs-next, pairs-ended, around-first, around-second, pair-start, pair-here, pair-next, pair-none, no-key-there, key-there, marked-start, marked-differ, marked-next, marked-ended}
-use Rattle.map_keys.specs.Compare.{same-row, same-rows, pair-among, pairs-among, pairs-marked}
-use Rattle.map_keys.specs.Found.{found-steps}
-use Rattle.map_keys.specs.KeySet.{key-found, maps-at, terms-at}
+use Rattle.term_rows.specs.Rows.{same-row}
+use Rattle.map_keys.specs.Compare.{same-rows, pair-among, pairs-among, pairs-marked}
+use Rattle.map_keys.specs.KeySet.{key-hashes, key-found, maps-at, terms-at}
 use borrow.Author.Tests.{not-true, not-false}
 use borrow.Author.Needs.{needs}
 use native.Mathlib.Omega.{arith}
-use native.Mathlib.Nat.{mod-lt}
 use mathlib.Core.Path.{_≡_}
 use Prim.Native.Nat.{ℕ, _+_, _*_, _-_, _≤_, _<_}
 use borrow.Fn.Kinds.{In}
@@ -48,12 +47,11 @@ use Rattle.map_keys.proofs.same_terms.Kinds as same-terms-kinds
 use Rattle.map_keys.proofs.+found_key+many_among+pair_among+pair_around+pair_marked+pairs_among+pairs_marked+same_key+same_maps+same_rows+same_terms.Lts-same_terms as same-terms-lts
 use Rattle.map_keys.proofs.at_key.Reads as at-key-reads
 use Rattle.map_keys.proofs.mark_keys.Reads as mark-keys-reads
-use Rattle.map_keys.proofs.next_slot.Reads as next-slot-reads
-use Rattle.map_keys.proofs.pair_size.Reads as pair-size-reads
-use Rattle.map_keys.proofs.row_at.Reads as row-at-reads
-use Rattle.map_keys.proofs.same_row.Reads as same-row-reads
-use Rattle.map_keys.proofs.term_hash.Reads as term-hash-reads
-use Rattle.map_keys.proofs.unordered_rows.Reads as unordered-rows-reads
+use Rattle.term_rows.proofs.pair_size.Reads as pair-size-reads
+use Rattle.term_rows.proofs.row_at.Reads as row-at-reads
+use Rattle.term_rows.proofs.same_row.Reads as same-row-reads
+use Rattle.map_keys.proofs.path_slot.Reads as path-slot-reads
+use Rattle.term_rows.proofs.unordered_rows.Reads as unordered-rows-reads
 use Rattle.octets.proofs.wide16.Reads as wide16-reads
 use Rattle.row.proofs.parts_in.Reads as parts-in-reads
 use Rattle.row.proofs.size_in.Reads as size-in-reads
@@ -188,214 +186,160 @@ same-terms-below t =
 
 abbrev found-key-Inv-loop : found-key-lts.InvT-loop
 found-key-Inv-loop msg places lengths table slots levels first key n i₀ d₀ i d =
-    (i < n) × (found-steps table slots (terms-at msg places lengths table slots levels) first key (32 - d) i ≡ key-found msg places lengths table slots (terms-at msg places lengths table slots levels) first key)
+    Finding table slots (terms-at msg places lengths table slots levels) first key (key-hashes msg places lengths table first key) (key-found msg places lengths table slots (terms-at msg places lengths table slots levels) first key) n i d
 
 abbrev found-key-μ-loop : found-key-lts.MeasureT-loop
 found-key-μ-loop msg places lengths table slots levels first key n i₀ d₀ i d = 32 - d
 
 found-key-returns : (t : ℕ) → found-key-lts.Need-returns (
-  term-hash-reads.Asked,
-  term-hash-reads.Learnt,
+  path-slot-reads.Asked,
+  path-slot-reads.Learnt,
   wide16-reads.Asked,
   wide16-reads.Learnt,
   same-key-below t,
   same-key.Post,
-  next-slot-reads.Asked,
-  next-slot-reads.Learnt,
 ) (found-key-at t) found-key.Post found-key-Inv-loop found-key-μ-loop
 found-key-returns t c = (no-slots _ _ _ _ _ _ _ _ (c .if1 .taken), omega arith)
 
-found-key-term-hash-requires : (t : ℕ) → found-key-lts.Need-term-hash-requires (
-  term-hash-reads.Asked,
-  term-hash-reads.Learnt,
+found-key-path-slot-requires : (t : ℕ) → found-key-lts.Need-path-slot-requires (
+  path-slot-reads.Asked,
+  path-slot-reads.Learnt,
   wide16-reads.Asked,
   wide16-reads.Learnt,
   same-key-below t,
   same-key.Post,
-  next-slot-reads.Asked,
-  next-slot-reads.Learnt,
 ) (found-key-at t) found-key.Post found-key-Inv-loop found-key-μ-loop
-found-key-term-hash-requires t c κs = c .before .before .before .before .before .before .pre .1
-
-found-key-rem-i : (t : ℕ) → found-key-lts.Need-rem-i (
-  term-hash-reads.Asked,
-  term-hash-reads.Learnt,
-  wide16-reads.Asked,
-  wide16-reads.Learnt,
-  same-key-below t,
-  same-key.Post,
-  next-slot-reads.Asked,
-  next-slot-reads.Learnt,
-) (found-key-at t) found-key.Post found-key-Inv-loop found-key-μ-loop
-found-key-rem-i t c = omega arith
+found-key-path-slot-requires t c κs = (omega arith, c .before .before .before .before .before .before .before .before .pre .1, omega arith, c .before .loop .inv .last)
 
 found-key-loop-holds : (t : ℕ) → found-key-lts.Need-loop-holds (
-  term-hash-reads.Asked,
-  term-hash-reads.Learnt,
+  path-slot-reads.Asked,
+  path-slot-reads.Learnt,
   wide16-reads.Asked,
   wide16-reads.Learnt,
   same-key-below t,
   same-key.Post,
-  next-slot-reads.Asked,
-  next-slot-reads.Learnt,
 ) (found-key-at t) found-key.Post found-key-Inv-loop found-key-μ-loop
-found-key-loop-holds t c = (mod-lt _ (omega arith), found-start _ _ _ _ _ _ _ _ (c .before .if1 .left) _ (c .term-hash .ensures))
+found-key-loop-holds t c = found-start _ _ _ _ _ _ _ _ (c .if1 .left)
 
 found-key-mul-wide16 : (t : ℕ) → found-key-lts.Need-mul-wide16 (
-  term-hash-reads.Asked,
-  term-hash-reads.Learnt,
+  path-slot-reads.Asked,
+  path-slot-reads.Learnt,
   wide16-reads.Asked,
   wide16-reads.Learnt,
   same-key-below t,
   same-key.Post,
-  next-slot-reads.Asked,
-  next-slot-reads.Learnt,
 ) (found-key-at t) found-key.Post found-key-Inv-loop found-key-μ-loop
 found-key-mul-wide16 t c = omega arith
 
 found-key-shared-slice-read-wide16 : (t : ℕ) → found-key-lts.Need-shared-slice-read-wide16 (
-  term-hash-reads.Asked,
-  term-hash-reads.Learnt,
+  path-slot-reads.Asked,
+  path-slot-reads.Learnt,
   wide16-reads.Asked,
   wide16-reads.Learnt,
   same-key-below t,
   same-key.Post,
-  next-slot-reads.Asked,
-  next-slot-reads.Learnt,
 ) (found-key-at t) found-key.Post found-key-Inv-loop found-key-μ-loop
 found-key-shared-slice-read-wide16 t c = omega arith
 
 found-key-wide16-requires : (t : ℕ) → found-key-lts.Need-wide16-requires (
-  term-hash-reads.Asked,
-  term-hash-reads.Learnt,
+  path-slot-reads.Asked,
+  path-slot-reads.Learnt,
   wide16-reads.Asked,
   wide16-reads.Learnt,
   same-key-below t,
   same-key.Post,
-  next-slot-reads.Asked,
-  next-slot-reads.Learnt,
 ) (found-key-at t) found-key.Post found-key-Inv-loop found-key-μ-loop
 found-key-wide16-requires t c κs = search needs
 
 found-key-returns-2 : (t : ℕ) → found-key-lts.Need-returns-2 (
-  term-hash-reads.Asked,
-  term-hash-reads.Learnt,
+  path-slot-reads.Asked,
+  path-slot-reads.Learnt,
   wide16-reads.Asked,
   wide16-reads.Learnt,
   same-key-below t,
   same-key.Post,
-  next-slot-reads.Asked,
-  next-slot-reads.Learnt,
 ) (found-key-at t) found-key.Post found-key-Inv-loop found-key-μ-loop
-found-key-returns-2 t c = (found-empty _ _ _ _ _ _ _ _ (c .before .before .before .before .loop .inv .1) (c .before .before .before .loop-test .taken) _ (c .before .wide16 .ensures) (c .if2 .taken), omega arith)
+found-key-returns-2 t c = (found-empty _ _ _ _ _ _ (c .before .before .before .before .before .loop .inv) (c .before .before .before .before .loop-test .taken) _ _ (c .before .before .before .path-slot .ensures .0) (c .before .wide16 .ensures) (c .if2 .taken), omega arith)
 
 found-key-sub-same-key : (t : ℕ) → found-key-lts.Need-sub-same-key (
-  term-hash-reads.Asked,
-  term-hash-reads.Learnt,
+  path-slot-reads.Asked,
+  path-slot-reads.Learnt,
   wide16-reads.Asked,
   wide16-reads.Learnt,
   same-key-below t,
   same-key.Post,
-  next-slot-reads.Asked,
-  next-slot-reads.Learnt,
 ) (found-key-at t) found-key.Post found-key-Inv-loop found-key-μ-loop
 found-key-sub-same-key t c = omega arith
 
 found-key-same-key-requires : (t : ℕ) → found-key-lts.Need-same-key-requires (
-  term-hash-reads.Asked,
-  term-hash-reads.Learnt,
+  path-slot-reads.Asked,
+  path-slot-reads.Learnt,
   wide16-reads.Asked,
   wide16-reads.Learnt,
   same-key-below t,
   same-key.Post,
-  next-slot-reads.Asked,
-  next-slot-reads.Learnt,
 ) (found-key-at t) found-key.Post found-key-Inv-loop found-key-μ-loop
 found-key-same-key-requires t c κs = (omega (arith, c .before .before .before .before .before .before .before .before .before .before .before .before .pre .0), tt)
 
 found-key-sub-result : (t : ℕ) → found-key-lts.Need-sub-result (
-  term-hash-reads.Asked,
-  term-hash-reads.Learnt,
+  path-slot-reads.Asked,
+  path-slot-reads.Learnt,
   wide16-reads.Asked,
   wide16-reads.Learnt,
   same-key-below t,
   same-key.Post,
-  next-slot-reads.Asked,
-  next-slot-reads.Learnt,
 ) (found-key-at t) found-key.Post found-key-Inv-loop found-key-μ-loop
 found-key-sub-result t c = omega arith
 
 found-key-returns-3 : (t : ℕ) → found-key-lts.Need-returns-3 (
-  term-hash-reads.Asked,
-  term-hash-reads.Learnt,
+  path-slot-reads.Asked,
+  path-slot-reads.Learnt,
   wide16-reads.Asked,
   wide16-reads.Learnt,
   same-key-below t,
   same-key.Post,
-  next-slot-reads.Asked,
-  next-slot-reads.Learnt,
 ) (found-key-at t) found-key.Post found-key-Inv-loop found-key-μ-loop
-found-key-returns-3 t c = (found-here _ _ _ _ _ _ _ _ (c .before .before .before .before .before .before .loop .inv .1) (c .before .before .before .before .before .loop-test .taken) _ (c .before .before .before .wide16 .ensures) (c .before .before .if2 .left) _ (c .before .same-key .ensures) (c .if3 .taken), omega (arith, c .before .before .before .wide16 .ensures, c .before .before .before .before .shared-slice-known6 .given (c .before .before .before .before .before .before .loop .i)))
-
-found-key-next-slot-requires : (t : ℕ) → found-key-lts.Need-next-slot-requires (
-  term-hash-reads.Asked,
-  term-hash-reads.Learnt,
-  wide16-reads.Asked,
-  wide16-reads.Learnt,
-  same-key-below t,
-  same-key.Post,
-  next-slot-reads.Asked,
-  next-slot-reads.Learnt,
-) (found-key-at t) found-key.Post found-key-Inv-loop found-key-μ-loop
-found-key-next-slot-requires t c κs = c .before .before .before .before .before .before .loop .inv .0
+found-key-returns-3 t c = (found-here _ _ _ _ _ _ (c .before .before .before .before .before .before .before .loop .inv) (c .before .before .before .before .before .before .loop-test .taken) _ _ (c .before .before .before .before .before .path-slot .ensures .0) (c .before .before .before .wide16 .ensures) (c .before .before .if2 .left) _ (c .before .same-key .ensures) (c .if3 .taken), omega (arith, c .before .before .before .wide16 .ensures, c .before .before .before .before .shared-slice-known6 .given (c .before .before .before .before .before .path-slot .result)))
 
 found-key-add-d : (t : ℕ) → found-key-lts.Need-add-d (
-  term-hash-reads.Asked,
-  term-hash-reads.Learnt,
+  path-slot-reads.Asked,
+  path-slot-reads.Learnt,
   wide16-reads.Asked,
   wide16-reads.Learnt,
   same-key-below t,
   same-key.Post,
-  next-slot-reads.Asked,
-  next-slot-reads.Learnt,
 ) (found-key-at t) found-key.Post found-key-Inv-loop found-key-μ-loop
 found-key-add-d t c = omega arith
 
 found-key-loop-less : (t : ℕ) → found-key-lts.Need-loop-less (
-  term-hash-reads.Asked,
-  term-hash-reads.Learnt,
+  path-slot-reads.Asked,
+  path-slot-reads.Learnt,
   wide16-reads.Asked,
   wide16-reads.Learnt,
   same-key-below t,
   same-key.Post,
-  next-slot-reads.Asked,
-  next-slot-reads.Learnt,
 ) (found-key-at t) found-key.Post found-key-Inv-loop found-key-μ-loop
 found-key-loop-less t c = omega arith
 
 found-key-loop-again : (t : ℕ) → found-key-lts.Need-loop-again (
-  term-hash-reads.Asked,
-  term-hash-reads.Learnt,
+  path-slot-reads.Asked,
+  path-slot-reads.Learnt,
   wide16-reads.Asked,
   wide16-reads.Learnt,
   same-key-below t,
   same-key.Post,
-  next-slot-reads.Asked,
-  next-slot-reads.Learnt,
 ) (found-key-at t) found-key.Post found-key-Inv-loop found-key-μ-loop
-found-key-loop-again t c = (c .next-slot .ensures .1, found-later _ _ _ _ _ _ _ _ (c .before .before .before .before .before .before .before .loop .inv .1) (c .before .before .before .before .before .before .loop-test .taken) _ (c .before .before .before .before .wide16 .ensures) (c .before .before .before .if2 .left) _ (c .before .before .same-key .ensures) (c .before .if3 .left) _ (c .next-slot .ensures .0))
+found-key-loop-again t c = found-later _ _ _ _ _ _ (c .before .before .before .before .before .before .before .loop .inv) (c .before .before .before .before .before .before .loop-test .taken) _ _ (c .before .before .before .before .before .path-slot .ensures .0) (c .before .before .before .wide16 .ensures) (c .before .before .if2 .left) _ (c .before .same-key .ensures) (c .if3 .left)
 
 found-key-returns-4 : (t : ℕ) → found-key-lts.Need-returns-4 (
-  term-hash-reads.Asked,
-  term-hash-reads.Learnt,
+  path-slot-reads.Asked,
+  path-slot-reads.Learnt,
   wide16-reads.Asked,
   wide16-reads.Learnt,
   same-key-below t,
   same-key.Post,
-  next-slot-reads.Asked,
-  next-slot-reads.Learnt,
 ) (found-key-at t) found-key.Post found-key-Inv-loop found-key-μ-loop
-found-key-returns-4 t c = (found-none _ _ _ _ _ _ _ _ (c .before .loop .inv .1) (c .loop-test .left), omega arith)
+found-key-returns-4 t c = (found-none _ _ _ _ _ _ (c .before .loop .inv) (c .loop-test .left), omega arith)
 
 many-among-slice-aggregate-mark-keys : (t : ℕ) → many-among-lts.Need-slice-aggregate-mark-keys (
   mark-keys-reads.Asked,
@@ -709,7 +653,7 @@ pair-marked-pair-among-requires : (t : ℕ) → pair-marked-lts.Need-pair-among-
   same-terms-below t,
   same-terms.Post,
 ) (pair-marked-at t) pair-marked.Post
-pair-marked-pair-among-requires t c κs = (omega (arith, c .before .before .before .before .before .before .before .before .before .pre .0), (c .before .before .before .before .before .before .before .before .before .pre .1 .0, c .before .before .before .before .before .before .before .before .before .pre .1 .1))
+pair-marked-pair-among-requires t c κs = (omega (arith, c .before .before .before .before .before .before .before .before .before .pre .0), (omega (arith, c .before .before .before .before .before .before .before .before .before .pre .1 .0), c .before .before .before .before .before .before .before .before .before .pre .1 .1))
 
 pair-marked-returns : (t : ℕ) → pair-marked-lts.Need-returns (
   found-key-below t,
@@ -960,7 +904,7 @@ pairs-among-returns-2 t c = pairs-ended _ _ _ _ _ _ _ _ (c .before .loop .inv .3
 
 abbrev pairs-marked-Inv-loop : pairs-marked-lts.InvT-loop
 pairs-marked-Inv-loop msg places lengths table slots marks levels n a b end i₀ x₀ i x =
-    (i ≤ n) × (x + 32768 * (n - i) < 4611686018427387904) × (pairs-marked table (terms-at msg places lengths table slots levels) (key-found msg places lengths table slots (terms-at msg places lengths table slots levels)) n (n - i) x b end ≡ pairs-marked table (terms-at msg places lengths table slots levels) (key-found msg places lengths table slots (terms-at msg places lengths table slots levels)) n n a b end)
+    (i ≤ n) × (x + 32768 * (n - i) < 3458764513820540928) × (pairs-marked table (terms-at msg places lengths table slots levels) (key-found msg places lengths table slots (terms-at msg places lengths table slots levels)) n (n - i) x b end ≡ pairs-marked table (terms-at msg places lengths table slots levels) (key-found msg places lengths table slots (terms-at msg places lengths table slots levels)) n n a b end)
 
 abbrev pairs-marked-μ-loop : pairs-marked-lts.MeasureT-loop
 pairs-marked-μ-loop msg places lengths table slots marks levels n a b end i₀ x₀ i x = n - i
@@ -1704,23 +1648,20 @@ pub +found-key+many-among+pair-among+pair-around+pair-marked+pairs-among+pairs-m
     μ-same-rows
     μ-same-terms
     (λ t. found-key-lts.spec (
-      term-hash-reads.Asked,
-      term-hash-reads.Learnt,
+      path-slot-reads.Asked,
+      path-slot-reads.Learnt,
       wide16-reads.Asked,
       wide16-reads.Learnt,
       same-key-below t,
       same-key.Post,
-      next-slot-reads.Asked,
-      next-slot-reads.Learnt,
     )
     (found-key-at t)
     found-key.Post
     found-key-Inv-loop
     found-key-μ-loop
     (found-key-returns t)
-    (found-key-term-hash-requires t)
-    (found-key-rem-i t)
     (found-key-loop-holds t)
+    (found-key-path-slot-requires t)
     (found-key-mul-wide16 t)
     (found-key-shared-slice-read-wide16 t)
     (found-key-wide16-requires t)
@@ -1729,7 +1670,6 @@ pub +found-key+many-among+pair-among+pair-around+pair-marked+pairs-among+pairs-m
     (found-key-same-key-requires t)
     (found-key-sub-result t)
     (found-key-returns-3 t)
-    (found-key-next-slot-requires t)
     (found-key-add-d t)
     (found-key-loop-less t)
     (found-key-loop-again t)

@@ -3,7 +3,7 @@ use mathlib.Core.Path.{sym, _∙_}
 use borrow.Author.Needs.{needs}
 use Rattle.term_spec.proofs.Tests.{never}
 use Rattle.map_keys.proofs.Slots.{keeps-refl}
-use Rattle.map_keys.proofs.Hashes.{absent-inserted}
+use Rattle.map_keys.proofs.Absent.{absent-inserted}
 use Rattle.map_keys.proofs.contains_or_insert.Statement.{statement}
 use Rattle.map_keys.proofs.contains_or_insert.Tie as tie
 

@@ -8,7 +8,7 @@ use Rattle.map_keys.proofs.free_slot.Statement.{statement}
 use Rattle.map_keys.proofs.free_slot.Tie as tie
 
 abbrev Inv-loop : tie.InvT-loop
-Inv-loop msg places lengths table slots first key n i₀ d₀ i d = Walked (Other msg places lengths table first key) slots (key-hashes msg places lengths table first key) n i d
+Inv-loop msg places lengths table slots first key n i₀ d₀ i d = Walked (Other msg places lengths table first key slots) slots (key-hashes msg places lengths table first key) n i d
 
 abbrev μ-loop : tie.MeasureT-loop
 μ-loop msg places lengths table slots first key n i₀ d₀ i d = 32 - d

@@ -13,9 +13,9 @@ use Rattle.term_hash.proofs.+hash_pairs+hash_rows.Lts-hash_pairs as has
 use Rattle.term_hash.proofs.hash_rows.Reads as hash-rows
 use Rattle.term_hash.proofs.hash_rows.Kinds as hash-rows-kinds
 use Rattle.term_hash.proofs.+hash_pairs+hash_rows.Lts-hash_rows as hash-rows-lts
-use Rattle.map_keys.proofs.pair_size.Reads as pair-size-reads
-use Rattle.map_keys.proofs.row_at.Reads as row-at-reads
-use Rattle.map_keys.proofs.unordered_rows.Reads as unordered-rows-reads
+use Rattle.term_rows.proofs.pair_size.Reads as pair-size-reads
+use Rattle.term_rows.proofs.row_at.Reads as row-at-reads
+use Rattle.term_rows.proofs.unordered_rows.Reads as unordered-rows-reads
 use Rattle.row.proofs.parts_in.Reads as parts-in-reads
 use Rattle.term_hash.proofs.add.Reads as add-reads
 use Rattle.term_hash.proofs.hash_row.Reads as hash-row-reads

@@ -2,7 +2,7 @@
 use Rattle.term_hash.specs.Hash.{added}
 use native.Mathlib.Omega.{arith}
 use mathlib.Core.Path.{refl}
-use Rattle.map_keys.proofs.Hashes.{square-below}
+use Rattle.term_hash.proofs.Steps.{square-below}
 use Rattle.term_hash.proofs.add.Statement.{statement}
 use Rattle.term_hash.proofs.add.Tie as tie
 

@@ -1,7 +1,7 @@
 -- `hash_row` meets its contract.
 use native.Mathlib.Omega.{arith}
 use Rattle.term_hash.proofs.Steps.{row-mixed}
-use Rattle.map_keys.proofs.Hashes.{kind-small}
+use Rattle.term_hash.proofs.Steps.{kind-small}
 use borrow.Author.Needs.{needs}
 use Rattle.term_hash.proofs.hash_row.Statement.{statement}
 use Rattle.term_hash.proofs.hash_row.Tie as tie

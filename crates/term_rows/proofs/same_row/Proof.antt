@@ -1,8 +1,8 @@
 -- `same_row` meets its contract: one law for each answer.
 use borrow.Author.Needs.{needs}
-use Rattle.map_keys.proofs.Steps.{kinds-differ, parts-differ, fields-decide}
-use Rattle.map_keys.proofs.same_row.Statement.{statement}
-use Rattle.map_keys.proofs.same_row.Tie as tie
+use Rattle.term_rows.proofs.Steps.{kinds-differ, parts-differ, fields-decide}
+use Rattle.term_rows.proofs.same_row.Statement.{statement}
+use Rattle.term_rows.proofs.same_row.Tie as tie
 
 kind-in-requires : tie.Need-kind-in-requires
 kind-in-requires c κs = search needs

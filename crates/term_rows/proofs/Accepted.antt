@@ -15,7 +15,7 @@ use Rattle.term_spec.proofs.Backed.{Backed, Backeds}
 use Rattle.term_spec.proofs.Message.{Accepted-message}
 use Rattle.term_spec.proofs.Words.{small-rows, table-rows}
 use Rattle.row_fields.proofs.Read.{label-inside}
-use Rattle.map_keys.proofs.InTable.{Rows-in-table}
+use Rattle.term_rows.proofs.InTable.{Rows-in-table}
 
 -- ---- every node stands below the message's end
 

@@ -1,9 +1,9 @@
 -- `pair_size` meets its contract.
 use native.Mathlib.Omega.{arith}
 use borrow.Author.Needs.{needs}
-use Rattle.map_keys.proofs.Steps.{pair-is}
-use Rattle.map_keys.proofs.pair_size.Statement.{statement}
-use Rattle.map_keys.proofs.pair_size.Tie as tie
+use Rattle.term_rows.proofs.Steps.{pair-is}
+use Rattle.term_rows.proofs.pair_size.Statement.{statement}
+use Rattle.term_rows.proofs.pair_size.Tie as tie
 
 row-at-requires : tie.Need-row-at-requires
 row-at-requires c κs = search needs

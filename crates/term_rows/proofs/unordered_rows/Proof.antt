@@ -1,10 +1,10 @@
 -- `unordered_rows` meets its contract: one law for each answer.
-use Rattle.map_keys.proofs.Steps.{unordered-other, unordered-few, unordered-all}
+use Rattle.term_rows.proofs.Steps.{unordered-other, unordered-few, unordered-all}
 use native.Mathlib.Omega.{arith}
 use mathlib.Core.Path.{refl}
 use borrow.Author.Needs.{needs}
-use Rattle.map_keys.proofs.unordered_rows.Statement.{statement}
-use Rattle.map_keys.proofs.unordered_rows.Tie as tie
+use Rattle.term_rows.proofs.unordered_rows.Statement.{statement}
+use Rattle.term_rows.proofs.unordered_rows.Tie as tie
 
 kind-in-requires : tie.Need-kind-in-requires
 kind-in-requires c κs = search needs

@@ -1,7 +1,7 @@
 -- `term_kind` meets its contract.
-use Rattle.map_keys.proofs.Steps.{kind-character, kind-plain}
-use Rattle.map_keys.proofs.term_kind.Statement.{statement}
-use Rattle.map_keys.proofs.term_kind.Tie as tie
+use Rattle.term_rows.proofs.Steps.{kind-character, kind-plain}
+use Rattle.term_rows.proofs.term_kind.Statement.{statement}
+use Rattle.term_rows.proofs.term_kind.Tie as tie
 
 returns : tie.Need-returns
 returns c = kind-character _ (c .if1 .taken)

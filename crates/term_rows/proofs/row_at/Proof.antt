@@ -2,8 +2,8 @@
 use mathlib.Core.Path.{sym}
 use lib.ListN.{List·getD-eq-default}
 use borrow.Author.Needs.{needs}
-use Rattle.map_keys.proofs.row_at.Statement.{statement}
-use Rattle.map_keys.proofs.row_at.Tie as tie
+use Rattle.term_rows.proofs.row_at.Statement.{statement}
+use Rattle.term_rows.proofs.row_at.Tie as tie
 
 mul-result : tie.Need-mul-result
 mul-result c = search needs

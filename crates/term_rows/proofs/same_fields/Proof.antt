@@ -1,8 +1,8 @@
 -- `same_fields` meets its contract.
 use borrow.Author.Needs.{needs}
-use Rattle.map_keys.proofs.Steps.{fields-found}
-use Rattle.map_keys.proofs.same_fields.Statement.{statement}
-use Rattle.map_keys.proofs.same_fields.Tie as tie
+use Rattle.term_rows.proofs.Steps.{fields-found}
+use Rattle.term_rows.proofs.same_fields.Statement.{statement}
+use Rattle.term_rows.proofs.same_fields.Tie as tie
 
 content-at-requires : tie.Need-content-at-requires
 content-at-requires c κs = search needs

@@ -1,0 +1,13 @@
+-- The path of a key through the slots of the set: 32 steps in 16 rounds of two.
+-- About the code alone, proved against the definitions of term_spec: nothing here has to be believed.
+use mathlib.Core.List.{List}
+use Prim.Native.Nat.{ℕ, _+_, _*_, _/_, _%_}
+use lib.ListN.{length, getD}
+
+-- which of n slots a path comes to at step d, where hs are the hashes of all rounds: each round looks at the slot to which its hash points and at the next one
+unfoldable pub place : (ℕ → ℕ) → ℕ → ℕ → ℕ
+place hs n d = (hs (d / 2) * n / 65536 + d % 2) % n
+
+-- the slot at step d
+abbrev pub slot : List ℕ → (ℕ → ℕ) → ℕ → ℕ
+slot L hs d = getD L (place hs (length L) d) 0

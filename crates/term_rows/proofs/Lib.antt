@@ -1,0 +1,4 @@
+pub mod Steps
+pub mod Known
+pub mod InTable
+pub mod Accepted
