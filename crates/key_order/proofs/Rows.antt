@@ -3,7 +3,7 @@ use mathlib.Core.Path.{_≡_, refl, sym, subst, _∙_}
 use mathlib.Core.List.{List}
 use Prim.Native.Nat.{ℕ, suc, _+_, _*_, _-_, _≤_, _<_}
 use native.Mathlib.Omega.{arith}
-use lib.ListN.{length, drop}
+use lib.ListN.{length, getD, drop}
 use Rattle.term_spec.specs.Tree.{node, empty, _▹_, count, size, sizes, Each-node, Each-nodes}
 use Rattle.term_spec.specs.Term.{Label, map}
 use Rattle.term_spec.specs.Reading.{Offset, Located}
@@ -14,8 +14,8 @@ use Rattle.term_writer.specs.InTable.{Term-in-table, Run-in-table}
 use Rattle.term_writer.specs.PairOrder.{Pairs-ordered, Ordered, All-ordered}
 use Rattle.term_writer.proofs.InTable.{run-first, run-others, held-parts}
 use Rattle.term_writer.proofs.PairOrder.{all-ordered-least}
-use Rattle.key_order.specs.Code.{Parts-ready, Map-fits, Map-ordered, Run-fits, All-in-order}
-use Rattle.key_order.proofs.Slots.{map-whole, slots-same}
+use Rattle.key_order.specs.Code.{Slots-for, Parts-ready, Map-fits, Map-ordered, Run-fits, All-in-order}
+use Rattle.key_order.proofs.Slots.{map-whole, first-whole, slots-same}
 use Rattle.key_order.proofs.Rooms.{Map-room, run-roomy}
 
 -- ---- past the last row
@@ -76,17 +76,18 @@ module _ {m places lengths T : List ℕ} (R : List ℕ) (r room : ℕ) where
 
 module _ {m places lengths T R : List ℕ} {r : ℕ} {R′ O P : List ℕ} (h : Map-ordered m places lengths T R r R′ O P) where
   -- other maps stay as they are
-  pairs-kept : {row : ℕ} {l : Label × Offset} {ts : Terms} → Term-in-table m places lengths T row (node l ts) → r < row → Pairs-ordered R (row + 1) ts → Pairs-ordered R′ (row + 1) ts
-  pairs-kept {row} {ts = ts} t x p =
+  pairs-kept : {row : ℕ} {l : Label × Offset} {ts : Terms} → Term-in-table m places lengths T row (node l ts) → r < row → 4 ≤ count ts → Pairs-ordered R (row + 1) ts → Pairs-ordered R′ (row + 1) ts
+  pairs-kept {row} {ts = ts} t x c p =
       let e = slots-same R R′ (row + 1) ts (λ q k v y. h .other-maps q (λ z. let w = map-whole t y in omega arith)) in
-      record { sorted = p .sorted; listed = rw e (p .listed); same-pairs = p .same-pairs; rises = p .rises }
+      let f : getD R′ (row + 1) 0 ≡ getD R (row + 1) 0 = h .other-maps (row + 1) (λ z. let w = first-whole t (omega arith) in omega arith) in
+      record { sorted = p .sorted; as-they-stand = λ z. p .as-they-stand (omega arith); listed = λ z. rw e (p .listed (omega arith)); same-pairs = p .same-pairs; rises = p .rises }
 
   -- the pairs of the map at a row
   own-pairs : (row : ℕ) (l : Label × Offset) (ts : Terms) → Term-in-table m places lengths T row (node l ts) → Ordered R (r + 1) row (node l ts)
       → r ≤ row → l .0 ≡ map → 4 ≤ count ts → Pairs-ordered R′ (row + 1) ts
   unfolding Ordered
   own-pairs row l ts t o a e c =
-      by-less r row (λ x. pairs-kept t x (o .0 (omega arith) e c))
+      by-less r row (λ x. pairs-kept t x c (o .0 (omega arith) e c))
       (λ x.
       let i : row ≡ r = omega arith in
       let within : All-ordered R 0 (row + 1) ts = all-ordered-least R (r + 1) (row + 1) ts (omega arith) (o .1) in
@@ -135,13 +136,15 @@ module _ {m places lengths T : List ℕ} {rows : ℕ} {R S O R′ S′ P : List 
         (subst (λ (i : ℕ). All-ordered R′ i 0 (f .terms)) e (g .from-here (f .terms) h n))
         (run-roomy m places lengths (h .run-flags) room (f .terms) (h .run-nodes) (f .terms-room))
 
-    pub row-fits : Run-fits m places lengths T rows (length O) → rows ≤ length R → rows ≤ 2 * length S
+    pub row-fits : Run-fits m places lengths T rows (length O) → Slots-for rows (length R) (length S)
         → Map-fits m places lengths T R′ (row - 1) (length P) (length R′) (length S′)
-    row-fits f a b =
+    row-fits f enough =
         let x = row-found f in
         let n : sizes (f .terms) ≡ rows = f .terms-rows in
         let e : row - 1 + 1 + sizes (x .ready .parts) ≤ 0 + sizes (f .terms) = x .ends in
         let c = count-le-sizes (x .ready .parts) in
+        let slots : rows ≤ length R = enough .0 in
+        let keys : rows ≤ 2 * length S = enough .1 in
         rw (g .slots-long, g .run-long, g .out-long) (record { ready = x .ready; enough-slots = omega arith; enough-rows = omega arith })
 
     pub ordering-next : {R″ S″ Q : List ℕ} → Map-ordered m places lengths T R′ (row - 1) R″ P Q → length R″ ≡ length R′ → length S″ ≡ length S′ → length Q ≡ length P

@@ -15,8 +15,9 @@ use Rattle.term_spec.specs.Rows.{whole-code, whole-in, size-in, Rows-here}
 use Rattle.term_spec.proofs.Rows.{size-positive}
 use Rattle.term_spec.proofs.Words.{first-here, others-here, parts-here}
 use Rattle.term_writer.specs.InTable.{Writable, Term-in-table, Run-in-table}
-use Rattle.term_writer.specs.PairOrder.{Pair-at, the-first, a-later, slots-at, slot-then}
+use Rattle.term_writer.specs.PairOrder.{Pair-at, the-first, a-later, Listed, one-listed, slots-at, slot-then}
 use Rattle.term_writer.proofs.InTable.{held-whole}
+use Rattle.term_writer.proofs.PairOrder.{pair-held}
 use Rattle.key_order.specs.Code.{Slots-fit, Slots-filled}
 use Rattle.key_order.proofs.Walk.{Walk, none-walked, walk-count, walk-past, walk-all, walk-slots, Pair-here, pair-here, value-step}
 
@@ -60,6 +61,15 @@ pub first-whole : {m places lengths T : List ℕ} {row : ℕ} {l : Label × Offs
 first-whole {ts = empty} h c = absurd (omega arith)
 first-whole {ts = k ▹ empty} h c = absurd (omega arith)
 first-whole {ts = k ▹ v ▹ ts} h c = map-whole h the-first
+
+-- ---- the slot at the first key, where slots list the pairs
+
+pub first-slot : {m places lengths T : List ℕ} (R : List ℕ) {row : ℕ} (ts : Terms) {us : Terms} → Run-in-table m places lengths T row ts → 2 ≤ count ts
+    → Listed row ts (slots-at R row ts) us → row ≤ getD R row 0
+unfolding slots-at
+first-slot R empty h c l = absurd (omega arith)
+first-slot R (k ▹ empty) h c l = absurd (omega arith)
+first-slot R (k ▹ v ▹ ts) h c (one-listed p l) = pair-held p h .pair-from
 
 -- ---- slots that stay
 

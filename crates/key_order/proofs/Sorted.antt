@@ -1,6 +1,6 @@
 -- Keys put in order one by one: each goes to its place among those before it.
 use mathlib.Core.Path.{_≡_, refl, sym, ap, subst, _∙_}
-use mathlib.Core.Bool.{true}
+use mathlib.Core.Bool.{Bool, true}
 use mathlib.Core.List.{List, _∷_, _++_}
 use Prim.Native.Nat.{ℕ, zero, suc, _+_, _*_, _-_, _≤_, _<_}
 use native.Mathlib.Omega.{arith}
@@ -38,6 +38,7 @@ record Put-in (row : ℕ) (ts : Terms) (key : ℕ) (k v : Located) (at : ℕ) (r
   its-rows : Listed row ts (take at rs ++ (key ∷ drop at rs)) with-it
   its-pairs : Rearranged (as-read k ▹ as-read v ▹ all-as-read us) (all-as-read with-it)
   its-rise : Rising key-before (in-form with-it)
+  its-end : at ≡ length rs → with-it ≡ (us ▹▹ (k ▹ v ▹ empty))
   its-first : (q : Pair) → (at ≡ 0 → key-before q (in-pair k v) ≡ true) → (0 < at → Next key-before q (in-form us)) → Next key-before q (in-form with-it)
 
 module _ {m places lengths T R : List ℕ} {row : ℕ} {ts : Terms} (held : Run-in-table m places lengths T row ts) (each : All-ordered R 0 row ts) where
@@ -65,6 +66,7 @@ module _ {m places lengths T R : List ℕ} {row : ℕ} {ts : Terms} (held : Run-
           its-rows = one-listed q (i .its-rows);
           its-pairs = chain (swap (as-read k) (as-read v) (as-read j) (as-read w)) (keep (as-read j) (as-read w) (i .its-pairs));
           its-rise = (i .its-first (in-pair j w) (λ z. in-turn q p (rw z at b)) (λ x. n), i .its-rise);
+          its-end = λ e. ap (λ (ws : Terms). j ▹ w ▹ ws) (i .its-end (omega arith));
           its-first = λ q a b. b (omega arith);
         }
 
@@ -76,7 +78,18 @@ module _ {m places lengths T R : List ℕ} {row : ℕ} {ts : Terms} (held : Run-
         → (0 < at → Before m places lengths T R (getD rs (at - 1) 0) key) → (at < length rs → Before m places lengths T R key (getD rs at 0)) → Put-in row ts key k v at rs us
     unfolding arranged
     put-in zero {us = us} l h rise f g =
-        record { with-it = k ▹ v ▹ us; its-rows = one-listed p l; its-pairs = stay; its-rise = (next-to l g, rise); its-first = λ q a b. a refl }
+        record {
+          with-it = k ▹ v ▹ us;
+          its-rows = one-listed p l;
+          its-pairs = stay;
+          its-rise = (next-to l g, rise);
+          its-end = λ e. ends l e;
+          its-first = λ q a b. a refl;
+        }
+      where
+        ends : {rs : List ℕ} {us : Terms} → Listed row ts rs us → 0 ≡ length rs → (k ▹ v ▹ us) ≡ (us ▹▹ (k ▹ v ▹ empty))
+        ends none-listed e = refl
+        ends (one-listed q l) e = absurd (omega arith)
     put-in (suc at) none-listed h rise f g = absurd (omega arith)
     put-in (suc at) (one-listed {r = r} {rs = rs} q l) h rise f g =
         let e : suc at - 1 ≡ at = omega arith in
@@ -111,32 +124,32 @@ listed-key (one-listed {k = k} {v = v} {us = us} p l) (suc j) h =
 
 -- ---- the first i keys in order
 
-pub record Sorted-so-far (S : List ℕ) (row : ℕ) (ts : Terms) (i key : ℕ) : Type 0 where
+pub record Sorted-so-far (S : List ℕ) (row : ℕ) (ts : Terms) (rising : Bool) (i key : ℕ) : Type 0 where
   pub done : Terms
   pub rest : Terms
   pub walk : Walk row ts done i key rest
-  pub sorted : Sorted row ts done (take i S)
+  pub sorted : Sorted row ts done (take i S) rising
 
-pub record Sorting (m places lengths T R : List ℕ) (row n : ℕ) (N O S P : List ℕ) (key i : ℕ) : Type 0 where
+pub record Sorting (m places lengths T R : List ℕ) (row n : ℕ) (N O S P : List ℕ) (rising : Bool) (key i : ℕ) : Type 0 where
   pub few : i ≤ n
   pub run-long : length S ≡ length N
   pub out-long : length P ≡ length O
-  pub so-far : (ts : Terms) → Run-in-table m places lengths T row ts → All-ordered R 0 row ts → count ts ≡ 2 * n → Sorted-so-far S row ts i key
+  pub so-far : (ts : Terms) → Run-in-table m places lengths T row ts → All-ordered R 0 row ts → count ts ≡ 2 * n → Sorted-so-far S row ts rising i key
   pub past : (total : ℕ) → Pairs-fit m places lengths T R row n total → drop total P ≡ drop total O
 
-pub sorting-start : (m places lengths T R : List ℕ) (row n : ℕ) (N O : List ℕ) → Sorting m places lengths T R row n N O N O row 0
+pub sorting-start : (m places lengths T R : List ℕ) (row n : ℕ) (N O : List ℕ) → Sorting m places lengths T R row n N O N O true row 0
 unfolding arranged
 sorting-start m places lengths T R row n N O =
     record {
       few = omega arith;
       run-long = refl;
       out-long = refl;
-      so-far = λ ts h o c. record { done = empty; rest = ts; walk = none-walked; sorted = record { in-turn = empty; listed = none-listed; same-pairs = stay; rises = tt } };
+      so-far = λ ts h o c. record { done = empty; rest = ts; walk = none-walked; sorted = record { in-turn = empty; listed = none-listed; same-pairs = stay; rises = tt; as-they-stand = λ e. refl } };
       past = λ total f. refl;
     }
 
-module _ {m places lengths T R : List ℕ} {row n : ℕ} {N O S P : List ℕ} {key i : ℕ} (g : Sorting m places lengths T R row n N O S P key i) where
-  pub now-sorted : {room : ℕ} (f : Pairs-fit m places lengths T R row n room) → Sorted-so-far S row (f .pairs) i key
+module _ {m places lengths T R : List ℕ} {row n : ℕ} {N O S P : List ℕ} {rising : Bool} {key i : ℕ} (g : Sorting m places lengths T R row n N O S P rising key i) where
+  pub now-sorted : {room : ℕ} (f : Pairs-fit m places lengths T R row n room) → Sorted-so-far S row (f .pairs) rising i key
   now-sorted f = g .so-far (f .pairs) (f .pairs-held) (f .pairs-ready) (f .pairs-count)
 
   module _ (l : i < n) where
@@ -173,10 +186,11 @@ module _ {m places lengths T R : List ℕ} {row n : ℕ} {N O S P : List ℕ} {k
                 both-fit = omega arith;
               }
 
-      module _ {at : ℕ} {Q S′ : List ℕ} (p : Place-found m places lengths T R S i key P at Q) (e : S′ ≡ sets S at (key ∷ stretch S at (i - at))) where
+      module _ {at : ℕ} {Q S′ : List ℕ} (p : Place-found m places lengths T R S i key P at Q) (e : S′ ≡ sets S at (key ∷ stretch S at (i - at)))
+          {still : Bool} (last : still ≡ true → (rising ≡ true) × (i ≤ at)) where
         put-here : {ts done rest : Terms} → Run-in-table m places lengths T row ts → All-ordered R 0 row ts → Walk row ts done i key rest
-            → Sorted row ts done (take i S) → (k v : Located) → Pair-at row ts key k v
-            → Sorted row ts (done ▹▹ (k ▹ v ▹ empty)) (take (i + 1) S′)
+            → Sorted row ts done (take i S) rising → (k v : Located) → Pair-at row ts key k v
+            → Sorted row ts (done ▹▹ (k ▹ v ▹ empty)) (take (i + 1) S′) still
         put-here h o w x k v q =
             let j : length (take i S) ≡ i = length-take-le i S short-run in
             let in-run : (z : ℕ) → z < i → getD S z 0 ≡ getD (take i S) z 0 = λ z c. sym (getD-take i S z 0 c) in
@@ -191,10 +205,13 @@ module _ {m places lengths T R : List ℕ} {row n : ℕ} {N O S P : List ℕ} {k
               listed = rw rows (it .its-rows);
               same-pairs = chain (walk-last k v w) (chain (keep (as-read k) (as-read v) (x .same-pairs)) (it .its-pairs));
               rises = it .its-rise;
+              as-they-stand = λ z.
+                  let b : i ≤ at = last z .1 in
+                  it .its-end (omega arith) ∙ ap (λ (us : Terms). us ▹▹ (k ▹ v ▹ empty)) (x .as-they-stand (last z .0));
             }
 
         pub sorting-next : {s t : ℕ} → length Q ≡ length P → s ≡ size-in (getD T key 0) → t ≡ size-in (getD T (key + s) 0)
-            → Sorting m places lengths T R row n N O S′ Q (key + s + t) (i + 1)
+            → Sorting m places lengths T R row n N O S′ Q still (key + s + t) (i + 1)
         sorting-next {s} {t} d a c =
             record {
               few = omega arith;
@@ -213,7 +230,7 @@ module _ {m places lengths T R : List ℕ} {row n : ℕ} {N O S P : List ℕ} {k
               past = λ total f. p .past-keys total (keys-fit f) ∙ g .past total f;
             }
 
-  pub sorting-end : n ≤ i → Keys-sorted m places lengths T R row n O S P
+  pub sorting-end : n ≤ i → Keys-sorted m places lengths T R row n O S rising P
   sorting-end l =
       let few : i ≤ n = g .few in
       let e : i ≡ n = omega arith in

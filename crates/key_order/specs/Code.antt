@@ -18,12 +18,13 @@ use Rattle.octets.specs.Parts.{stretch}
 use Rattle.term_writer.specs.InTable.{Term-in-table, Run-in-table}
 use Rattle.term_writer.specs.PairOrder.{Listed, slots-at, Pairs-ordered, Ordered, All-ordered}
 
--- pairs of a run of them, the first one's key at `row`, listed by their keys' rows in rising byte order of the keys' canonical forms: those in `done`
-pub record Sorted (row : ℕ) (ts done : Terms) (rs : List ℕ) : Type 0 where
+-- pairs of a run of them, the first one's key at `row`, listed by their keys' rows in rising byte order of the keys' canonical forms: those in `done`, as they stand there if it is told so
+pub record Sorted (row : ℕ) (ts done : Terms) (rs : List ℕ) (told : Bool) : Type 0 where
   pub in-turn : Terms
   pub listed : Listed row ts rs in-turn
   pub same-pairs : Rearranged (all-as-read done) (all-as-read in-turn)
   pub rises : Rising key-before (all-arranged key-before (all-as-read in-turn))
+  pub as-they-stand : told ≡ true → in-turn ≡ done
 
 -- ---- the slots at the keys of a map, from the row of its first key on
 
@@ -42,6 +43,10 @@ module _ (T : List ℕ) (row n : ℕ) where
   pub record Slots-filled (S R R′ : List ℕ) : Type 0 where
     pub in-slots : {message places lengths : List ℕ} (ts : Terms) → Run-in-table message places lengths T row ts → count ts ≡ 2 * n → slots-at R′ row ts ≡ take n S
     pub other-slots : (i : ℕ) → (whole-in (getD T i 0) ≡ whole-in (getD T row 0) → ⊥) → getD R′ i 0 ≡ getD R i 0
+
+-- so many slots, and room for so many keys, are enough for terms of so many rows
+abbrev pub Slots-for : ℕ → ℕ → ℕ → Type 0
+Slots-for rows slots keys = (rows ≤ slots) × (rows ≤ 2 * keys)
 
 -- the canonical form of the term at a row is the n bytes of the message from its tag on
 pub record Form-stands (m T : List ℕ) (row n : ℕ) (t : Located) : Type 0 where
@@ -98,8 +103,8 @@ module _ (m places lengths T : List ℕ) where
         pub pairs-count : count pairs ≡ 2 * n
         pub pairs-room : length (all-bytes (all-as-read pairs)) ≤ room
 
-      pub record Keys-sorted (O S P : List ℕ) : Type 0 where
-        pub sorted-rows : (ts : Terms) → Run-in-table m places lengths T row ts → All-ordered R 0 row ts → count ts ≡ 2 * n → Sorted row ts ts (take n S)
+      pub record Keys-sorted (O S : List ℕ) (r : Bool) (P : List ℕ) : Type 0 where
+        pub sorted-rows : (ts : Terms) → Run-in-table m places lengths T row ts → All-ordered R 0 row ts → count ts ≡ 2 * n → Sorted row ts ts (take n S) r
         pub past-pairs : (total : ℕ) → Pairs-fit total → drop total P ≡ drop total O
 
     -- ---- the term at a row, all maps in it ordered

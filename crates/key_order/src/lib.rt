@@ -1,15 +1,14 @@
 // The order in which the pairs of maps are written: slots, one for each row, filled so that the keys' canonical forms rise in byte order.
-use term_spec::kinds;
-use term_writer::ORDERED_PARTS;
 ghost use mathlib.Core.Path.{_≡_};
 ghost use mathlib.Core.List.{List, _∷_};
-ghost use Prim.Native.Nat.{ℕ, _+_, _*_, _-_, _≤_, _<_};
-ghost use lib.ListN.{length};
+ghost use Prim.Native.Nat.{ℕ, _-_, _≤_, _<_};
+ghost use lib.ListN.{length, getD};
 ghost use lib.Seq.{sets};
 ghost use Rattle.octets.specs.Parts.{stretch};
 ghost use Rattle.term_spec.specs.Reading.{Located};
 ghost use Rattle.term_writer.specs.InTable.{Term-in-table};
-ghost use Rattle.key_order.specs.Code.{Slots-fit, Slots-filled, Form-stands, Two-fit, Compared, Keys-fit, Place-found, Pairs-fit, Keys-sorted, Map-fits, Map-ordered, Run-fits, All-in-order};
+ghost use Rattle.term_writer.specs.PairOrder.{Has-order};
+ghost use Rattle.key_order.specs.Code.{Slots-fit, Slots-filled, Form-stands, Two-fit, Compared, Keys-fit, Place-found, Pairs-fit, Keys-sorted, Map-fits, Map-ordered, Run-fits, Slots-for, All-in-order};
 
 // The parts of a pair: a key and its value.
 const PAIR_PARTS: usize = 2;
@@ -143,7 +142,7 @@ fn put_at(run: &mut [u16], n: usize, at: usize, key: usize)
     run[at] = key as u16;
 }
 
-// Puts the rows of the n keys of a map, its first at `row`, into `run`, in rising byte order of their canonical forms.
+// Puts the rows of the n keys of a map, its first at `row`, into `run`, in rising byte order of their canonical forms; whether they stand so.
 fn sort_keys(
     msg: &[u8],
     places: &[u8],
@@ -154,10 +153,11 @@ fn sort_keys(
     out: &mut [u8],
     row: usize,
     n: usize,
-)
+) -> bool
     requires { ⌜ Pairs-fit (now msg) (now places) (now lengths) (now table) (now order) row n (length (now out)) × (n ≤ length (now run)) ⌝ }
-    ensures { λ _. ⌜ Keys-sorted (now (msg .entry)) (now (places .entry)) (now (lengths .entry)) (now (table .entry)) (now (order .entry)) row n (now (out .entry)) (now (run .exit)) (now (out .exit)) ⌝ }
+    ensures { λ r. ⌜ Keys-sorted (now (msg .entry)) (now (places .entry)) (now (lengths .entry)) (now (table .entry)) (now (order .entry)) row n (now (out .entry)) (now (run .exit)) r (now (out .exit)) ⌝ }
 {
+    let mut rising = true;
     let mut key = row;
     let mut i = 0;
     while i < n {
@@ -166,7 +166,11 @@ fn sort_keys(
         let value = key + row::size_in(table[key]);
         key = value + row::size_in(table[value]);
         i += 1;
+        if at + 1 < i {
+            rising = false;
+        }
     }
+    rising
 }
 
 // Copies the first n rows in `run` into the slots at the keys of a map, its first at `row`, in turn.
@@ -184,7 +188,7 @@ fn fill_slots(table: &[u64], order: &mut [u16], run: &[u16], row: usize, n: usiz
     }
 }
 
-// Orders the pairs of the term at the row, if it is a map of two pairs or more; the maps in it are ordered.
+// Orders the pairs of the map at the row, which has two or more; the maps in it are ordered. Where they stand in order, the slot at the first key is 0.
 fn order_map(
     msg: &[u8],
     places: &[u8],
@@ -195,19 +199,14 @@ fn order_map(
     out: &mut [u8],
     row: usize,
 )
-    requires { ⌜ Map-fits (now msg) (now places) (now lengths) (now table) (now order) row (length (now out)) (length (now order)) (length (now run)) ⌝ }
+    requires { ⌜ Map-fits (now msg) (now places) (now lengths) (now table) (now order) row (length (now out)) (length (now order)) (length (now run)) × Has-order (getD (now table) row 0) ⌝ }
     ensures { λ _. ⌜ Map-ordered (now (msg .entry)) (now (places .entry)) (now (lengths .entry)) (now (table .entry)) (now (order .entry)) row (now (order .exit)) (now (out .entry)) (now (out .exit)) ⌝ }
 {
-    let word = table[row];
-    if row::kind_in(word) != kinds::MAP {
+    let n = row::parts_in(table[row]) / PAIR_PARTS;
+    if sort_keys(msg, places, lengths, table, order, run, out, row + 1, n) {
+        order[row + 1] = 0;
         return;
     }
-    let parts = row::parts_in(word);
-    if parts < ORDERED_PARTS {
-        return;
-    }
-    let n = parts / PAIR_PARTS;
-    sort_keys(msg, places, lengths, table, order, run, out, row + 1, n);
     fill_slots(table, order, run, row + 1, n);
 }
 
@@ -222,12 +221,14 @@ pub fn order_keys(
     run: &mut [u16],
     out: &mut [u8],
 )
-    requires { ⌜ Run-fits (now msg) (now places) (now lengths) (now table) rows (length (now out)) × (rows ≤ length (now order)) × (rows ≤ 2 * length (now run)) ⌝ }
+    requires { ⌜ Run-fits (now msg) (now places) (now lengths) (now table) rows (length (now out)) × Slots-for rows (length (now order)) (length (now run)) ⌝ }
     ensures { λ _. ⌜ All-in-order (now (msg .entry)) (now (places .entry)) (now (lengths .entry)) (now (table .entry)) rows (now (order .exit)) (now (out .entry)) (now (out .exit)) ⌝ }
 {
     let mut row = rows;
     while 0 < row {
         row -= 1;
-        order_map(msg, places, lengths, table, order, run, out, row);
+        if term_writer::has_order(table[row]) {
+            order_map(msg, places, lengths, table, order, run, out, row);
+        }
     }
 }

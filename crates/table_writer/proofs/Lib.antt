@@ -1,2 +1,1 @@
 pub mod Standalones
-pub mod Plain

@@ -1,5 +1,5 @@
 -- Standalone terms one after the other, measured and written from the rows of a table.
-use mathlib.Core.Path.{_≡_, refl, sym, _∙_, ap, ap₂, subst}
+use mathlib.Core.Path.{_≡_, refl, sym, _∙_, ap, ap₂}
 use mathlib.Core.Bool.{Bool, true, false}
 use mathlib.Core.List.{List, [], _∷_, _++_}
 use Prim.Native.Nat.{ℕ, suc, _+_, _≤_, _<_}
@@ -8,21 +8,14 @@ use lib.ListN.{length, take, drop, length-append}
 use lib.Seq.{sets, sets-eq}
 use borrow.Author.Tests.{lt-leb}
 use Rattle.term_spec.specs.Tree.{Forest, _▹_, count, sizes}
-use Rattle.term_spec.specs.Numbers.{in-bytes, Under}
+use Rattle.term_spec.specs.Numbers.{in-bytes}
 use Rattle.term_spec.specs.Term.{Label, Term}
 use Rattle.term_spec.specs.Answer.{Answer, good, refused}
 use Rattle.term_spec.specs.Reading.{as-read}
-use Rattle.term_spec.specs.AtomList.{AtomList}
-use Rattle.term_spec.specs.Message.{Framing, Terms, all-as-read, meanings, read}
-use Rattle.term_spec.specs.Rows.{table-after}
+use Rattle.term_spec.specs.Message.{Terms, all-as-read, meanings}
 use Rattle.term_spec.specs.Canonical.{bytes-of, all-bytes, canonical, canonical-standalone, standalones}
-use Rattle.term_spec.specs.Writing.{Written, written, write, output-after, scratch-after}
-use Rattle.term_spec.specs.Answers.{read-answer, write-answer}
-use Rattle.term_spec.specs.Promises.{Write-call}
-use Rattle.term_spec.specs.declared.Refusal.{Refusal}
-use Rattle.term_spec.specs.declared.ReadAnswer.{ReadAnswer}
-use Rattle.term_spec.specs.declared.ReadAnswer.the-variants as reads
-use Rattle.term_spec.specs.declared.WriteAnswer.{WriteAnswer}
+use Rattle.term_spec.specs.Writing.{Written, written, output-after}
+use Rattle.term_spec.specs.Answers.{write-answer}
 use Rattle.term_spec.specs.declared.WriteAnswer.the-variants as writes
 use Rattle.term_spec.specs.Pairs.{all-arranged}
 use Rattle.term_spec.specs.Meaning.{all-ordered}

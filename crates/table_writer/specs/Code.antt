@@ -2,22 +2,17 @@
 -- About the code alone, proved against the definitions of term_spec: nothing here has to be believed.
 use mathlib.Core.Path.{_≡_}
 use mathlib.Core.List.{List}
-use Prim.Native.Nat.{ℕ, _≤_, _<_}
-use lib.ListN.{length, getD}
+use Prim.Native.Nat.{ℕ, _≤_}
+use lib.ListN.{length}
 use lib.Seq.{sets}
 use Rattle.term_spec.specs.Tree.{count, sizes}
 use Rattle.term_spec.specs.Answer.{good}
 use Rattle.term_spec.specs.Message.{Terms, all-as-read}
 use Rattle.term_spec.specs.Canonical.{standalones}
-use Rattle.term_spec.specs.Rows.{kind-in, parts-in}
 use Rattle.term_spec.specs.Writing.{written, output-after}
 use Rattle.term_spec.specs.Answers.{write-answer}
 use Rattle.term_spec.specs.declared.WriteAnswer.{WriteAnswer}
 use Rattle.term_writer.specs.InTable.{Run-in-table}
-
--- none of the first n rows is a map of two pairs or more
-pub record No-pairs (T : List ℕ) (n : ℕ) : Type 0 where
-  pub fewer : (i : ℕ) → i < n → kind-in (getD T i 0) ≡ 9 → parts-in (getD T i 0) < 4
 
 -- the terms of a table, n of them with so many rows, written in an output
 module _ (m places lengths T : List ℕ) (n rows : ℕ) where

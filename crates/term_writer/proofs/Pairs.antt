@@ -1,7 +1,7 @@
 -- The pairs of a map written in the order that their slots give, and which parts are written so.
 use mathlib.Core.Path.{_≡_, refl, sym, _∙_, ap}
 use mathlib.Core.Bool.{Bool}
-use mathlib.Core.Logic.{_⊎_, inl, inr}
+use mathlib.Core.Logic.{_⊎_, inl, inr, ⊎-map}
 use mathlib.Core.List.{List, [], _∷_, _++_, append-assoc, append-nil}
 use Prim.Native.Nat.{ℕ, suc, _+_, _*_, _-_, _/_, _≤_, _<_}
 use native.Mathlib.Omega.{arith}
@@ -11,17 +11,18 @@ use Rattle.term_spec.specs.Tree.{Forest, node, empty, _▹_, count, sizes}
 use Rattle.term_spec.specs.Term.{Label, Term, map}
 use Rattle.term_spec.specs.Reading.{Offset, Located, as-read}
 use Rattle.term_spec.specs.Message.{Terms, all-as-read}
-use Rattle.term_spec.specs.Rows.{kind-in, parts-in, size-in}
+use Rattle.term_spec.specs.Rows.{parts-in, size-in}
 use Rattle.term_spec.specs.Pairs.{Pair, put-in, in-order, arranged-parts, all-arranged}
 use Rattle.term_spec.specs.Canonical.{all-bytes, key-before}
 use Rattle.term_spec.specs.Valid.{Keys}
 use Rattle.term_spec.proofs.Pairs.{Kind, a-map, no-map, kind, count-arranged}
 use Rattle.term_spec.proofs.RoundTrip.{even}
+use Rattle.term_spec.proofs.Tests.{by-less}
 use Rattle.octets.proofs.Stores.{sets-at}
 use Rattle.layout.specs.Layout.{Put}
 use Rattle.layout.proofs.Puts.{put-same}
 use Rattle.term_writer.specs.InTable.{Term-in-table, Run-in-table}
-use Rattle.term_writer.specs.PairOrder.{Pair-at, Listed, none-listed, one-listed, slots-at, Pairs-ordered, Ordered, All-ordered}
+use Rattle.term_writer.specs.PairOrder.{Has-order, Pair-at, Listed, none-listed, one-listed, slots-at, Pairs-ordered, Ordered, All-ordered}
 use Rattle.term_writer.specs.Code.{canonicals, in-writing, Run-put, Run-fits, Pairs-put, Pairs-fit, Parts-put, Parts-fit}
 use Rattle.term_writer.proofs.InTable.{run-first, run-others, held-parts, held-writable, held-map, held-below, held-kind, held-count, held-size, kind-map, tag-kind}
 use Rattle.term_writer.proofs.PairOrder.{pair-held, pair-run-ordered, writable-valids, pairs-sorted}
@@ -183,9 +184,9 @@ module _ {m places lengths T : List ℕ} where
               }
 
   pub pairs-start : (O : List ℕ) (at n row : ℕ) (R : List ℕ) (ts : Terms) → Run-in-table m places lengths T row ts → (p : Pairs-ordered R row ts) → count ts ≡ 2 * n
-      → Pairs-left m places lengths T R row ts (p .sorted) O at row n O at
-  pairs-start O at n row R ts h p c =
-      record { rest = ts; rest-held = h; rest-count = c; to-come = p .sorted; to-come-listed = p .listed; past = refl; stored = refl }
+      → 0 < getD R row 0 → Pairs-left m places lengths T R row ts (p .sorted) O at row n O at
+  pairs-start O at n row R ts h p c l =
+      record { rest = ts; rest-held = h; rest-count = c; to-come = p .sorted; to-come-listed = p .listed l; past = refl; stored = refl }
 
   pub pairs-end : {R : List ℕ} {row : ℕ} {ts us : Terms} {O : List ℕ} {at key left : ℕ} {out : List ℕ} {end : ℕ} → Pairs-left m places lengths T R row ts us O at key left out end
       → left ≤ 0 → Put O at (canonicals (all-as-read us)) end out
@@ -249,54 +250,66 @@ module _ {m places lengths T : List ℕ} {row : ℕ} {l : Label × Offset} {ts :
       ap (λ (x : Label). all-bytes (in-writing x ts)) e
       ∙ ap all-bytes (pairs-sorted (held-parts h .run-flags) p (map-keys e) (writable-valids m places lengths (held-parts h .run-flags) ts (held-parts h .run-nodes)))
 
-  run-written : (l .0 ≡ map → count ts < 4) → all-bytes (in-writing (l .0) ts) ≡ canonicals (all-as-read ts)
+  -- parts that are written in turn: any but a map's of two pairs or more, and those of a map whose pairs stand in order
+  run-written : {R : List ℕ} → ((p : Pairs-ordered R (row + 1) ts) × (l .0 ≡ map) × (getD R (row + 1) 0 ≡ 0)) ⊎ (l .0 ≡ map → count ts < 4)
+      → all-bytes (in-writing (l .0) ts) ≡ canonicals (all-as-read ts)
   unfolding canonicals
-  run-written few =
+  run-written (inl (p, e, z)) = pairs-written e p ∙ ap (λ (us : Terms). canonicals (all-as-read us)) (p .as-they-stand z)
+  run-written (inr few) =
       let c : count (all-arranged key-before (all-as-read ts)) ≡ count ts = count-arranged key-before (all-as-read ts) ∙ count-as-read ts in
       ap all-bytes (parts-stay key-before (l .0) (all-arranged key-before (all-as-read ts)) (λ e. rw c (few e)))
 
-module _ {m places lengths T : List ℕ} {row k n : ℕ} (e : k ≡ kind-in (getD T row 0)) (f : n ≡ parts-in (getD T row 0)) where
-  pub map-label : {l : Label × Offset} {ts : Terms} → Term-in-table m places lengths T row (node l ts) → k ≡ 9 → l .0 ≡ map
-  map-label {l} h nine = kind-map (l .0) (tag-kind (l .0) (l .1) 9 (omega arith) (sym (held-kind h) ∙ sym e ∙ nine))
+-- the row of a map of two pairs or more
+module _ {m places lengths T : List ℕ} {row : ℕ} (w : Has-order (getD T row 0)) where
+  pub map-label : {l : Label × Offset} {ts : Terms} → Term-in-table m places lengths T row (node l ts) → l .0 ≡ map
+  map-label {l} h = kind-map (l .0) (tag-kind (l .0) (l .1) 9 (omega arith) (sym (held-kind h) ∙ w .is-map))
 
-  -- a map of two pairs or more
-  module _ (nine : k ≡ 9) (many : 4 ≤ n) where
-    pairs-of : {R : List ℕ} {l : Label × Offset} {ts : Terms} → Term-in-table m places lengths T row (node l ts) → Ordered R 0 row (node l ts) → Pairs-ordered R (row + 1) ts
+  pub many-parts : {l : Label × Offset} {ts : Terms} → Term-in-table m places lengths T row (node l ts) → 4 ≤ count ts
+  many-parts h = let c = held-count h in omega (arith, w .two-pairs)
+
+  pub halves : {l : Label × Offset} {ts : Terms} (n : ℕ) → n ≡ parts-in (getD T row 0) → Term-in-table m places lengths T row (node l ts) → count ts ≡ 2 * (n / 2)
+  halves {l} {ts} n f h = let c : count ts ≡ n = sym (held-count h) ∙ sym f in map-pairs h (map-label h) ∙ ap (λ (j : ℕ). 2 * (j / 2)) c
+
+  pairs-of : {R : List ℕ} {l : Label × Offset} {ts : Terms} → Term-in-table m places lengths T row (node l ts) → Ordered R 0 row (node l ts) → Pairs-ordered R (row + 1) ts
+  unfolding Ordered
+  pairs-of h o = o .0 (omega arith) (map-label h) (many-parts h)
+
+-- any other row
+pub few-parts : {m places lengths T : List ℕ} {row : ℕ} {l : Label × Offset} {ts : Terms} → (Has-order (getD T row 0) → ⊥) → Term-in-table m places lengths T row (node l ts)
+    → l .0 ≡ map → count ts < 4
+few-parts {ts = ts} f h e =
+    by-less (count ts) 4 (λ x. x) (λ x. let c = held-count h in absurd (f (record { is-map = held-kind h ∙ held-map h e; two-pairs = omega arith })))
+
+module _ {m places lengths T : List ℕ} (R : List ℕ) {row n : ℕ} (f : n ≡ parts-in (getD T row 0)) where
+  -- a map of two pairs or more that slots list
+  module _ (w : Has-order (getD T row 0)) (some : 0 < getD R (row + 1) 0) where
+    pub pairs-room : {room at : ℕ} → Parts-fit m places lengths T row R room at → Pairs-fit m places lengths T (row + 1) R (n / 2) room at
     unfolding Ordered
-    pairs-of h o = let c = held-count h in o .0 (omega arith) (map-label h nine) (omega arith)
-
-    pub halves : {l : Label × Offset} {ts : Terms} → Term-in-table m places lengths T row (node l ts) → count ts ≡ 2 * (n / 2)
-    halves {l} {ts} h = let c : count ts ≡ n = sym (held-count h) ∙ sym f in map-pairs h (map-label h nine) ∙ ap (λ (j : ℕ). 2 * (j / 2)) c
-
-    pub pairs-room : {R : List ℕ} {room at : ℕ} → Parts-fit m places lengths T row R room at → Pairs-fit m places lengths T (row + 1) R (n / 2) room at
-    unfolding Ordered
-    pairs-room {R} {room} {at} a =
-        let p : Pairs-ordered R (row + 1) (a .fit-parts) = pairs-of (a .fit-node) (a .fit-node-ordered) in
+    pairs-room {room} {at} a =
+        let p : Pairs-ordered R (row + 1) (a .fit-parts) = pairs-of w (a .fit-node) (a .fit-node-ordered) in
         record {
           fit-pairs = a .fit-parts;
           fit-pairs-held = held-parts (a .fit-node);
           fit-each = a .fit-node-ordered .1;
           fit-sorted = p;
-          fit-pairs-count = halves (a .fit-node);
-          fit-pairs-room = rw (pairs-written (a .fit-node) (map-label (a .fit-node) nine) p) at (a .fit-parts-room);
+          fit-slots = some;
+          fit-pairs-count = halves w n f (a .fit-node);
+          fit-pairs-room = rw (pairs-written (a .fit-node) (map-label w (a .fit-node)) p) at (a .fit-parts-room);
         }
 
-    pub pairs-put : (R : List ℕ) {O P : List ℕ} {at r : ℕ} → Pairs-put m places lengths T (row + 1) R (n / 2) O at r P → Parts-put m places lengths T row R O at r P
+    pub pairs-put : {O P : List ℕ} {at r : ℕ} → Pairs-put m places lengths T (row + 1) R (n / 2) O at r P → Parts-put m places lengths T row R O at r P
     unfolding Ordered
-    pairs-put R w l ts h o =
-        let p : Pairs-ordered R (row + 1) ts = pairs-of h o in
-        put-same (sym (pairs-written h (map-label h nine) p)) (w ts (held-parts h) (o .1) p (halves h))
+    pairs-put v l ts h o =
+        let p : Pairs-ordered R (row + 1) ts = pairs-of w h o in
+        put-same (sym (pairs-written h (map-label w h) p)) (v ts (held-parts h) (o .1) p (halves w n f h))
 
-  -- any other term, and a map of one pair at most
-  module _ (few : ((k ≡ 9) × (n < 4)) ⊎ (k ≡ 9 → ⊥)) where
-    not-many : {l : Label × Offset} {ts : Terms} → Term-in-table m places lengths T row (node l ts) → l .0 ≡ map → count ts < 4
-    not-many {l} {ts} h x = go few
-      where
-        go : ((k ≡ 9) × (n < 4)) ⊎ (k ≡ 9 → ⊥) → count ts < 4
-        go (inl i) = let c = held-count h in let j : n < 4 = i .1 in omega arith
-        go (inr i) = absurd (i (e ∙ held-kind h ∙ held-map h x))
+  -- any other term, and a map whose pairs stand in order
+  module _ (few : (Has-order (getD T row 0) × (getD R (row + 1) 0 ≡ 0)) ⊎ (Has-order (getD T row 0) → ⊥)) where
+    in-turn : {l : Label × Offset} {ts : Terms} → Term-in-table m places lengths T row (node l ts) → Ordered R 0 row (node l ts)
+        → all-bytes (in-writing (l .0) ts) ≡ canonicals (all-as-read ts)
+    in-turn {l} {ts} h o = run-written h (⊎-map (λ x. (pairs-of (x .0) h o, map-label (x .0) h, x .1)) (λ x. few-parts x h) few)
 
-    pub run-room : {R : List ℕ} {room at : ℕ} → Parts-fit m places lengths T row R room at → Run-fits m places lengths T (row + 1) R canonicals n room at
+    pub run-room : {room at : ℕ} → Parts-fit m places lengths T row R room at → Run-fits m places lengths T (row + 1) R canonicals n room at
     unfolding Ordered
     run-room a =
         record {
@@ -304,9 +317,9 @@ module _ {m places lengths T : List ℕ} {row k n : ℕ} (e : k ≡ kind-in (get
           fit-run = held-parts (a .fit-node);
           fit-all-ordered = a .fit-node-ordered .1;
           fit-count = sym (held-count (a .fit-node)) ∙ sym f;
-          fit-space = rw (run-written (a .fit-node) (not-many (a .fit-node))) at (a .fit-parts-room);
+          fit-space = rw (in-turn (a .fit-node) (a .fit-node-ordered)) at (a .fit-parts-room);
         }
 
-    pub run-put : (R : List ℕ) {O P : List ℕ} {at r : ℕ} → Run-put m places lengths T (row + 1) R canonicals n O at r P → Parts-put m places lengths T row R O at r P
+    pub run-put : {O P : List ℕ} {at r : ℕ} → Run-put m places lengths T (row + 1) R canonicals n O at r P → Parts-put m places lengths T row R O at r P
     unfolding Ordered
-    run-put R w l ts h o = put-same (sym (run-written h (not-many h))) (w ts (held-parts h) (o .1) (sym (held-count h) ∙ sym f))
+    run-put v l ts h o = put-same (sym (in-turn h o)) (v ts (held-parts h) (o .1) (sym (held-count h) ∙ sym f))

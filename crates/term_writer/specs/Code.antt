@@ -4,8 +4,8 @@ use mathlib.Core.Path.{_≡_}
 use mathlib.Core.Bool.{Bool}
 use mathlib.Core.List.{List, _∷_, _++_}
 use mathlib.Core.Option.{some}
-use Prim.Native.Nat.{ℕ, _+_, _*_, _≤_}
-use lib.ListN.{length}
+use Prim.Native.Nat.{ℕ, _+_, _*_, _≤_, _<_}
+use lib.ListN.{length, getD}
 use Rattle.term_spec.specs.Tree.{Forest, node, count, size, sizes}
 use Rattle.term_spec.specs.Numbers.{in-bytes}
 use Rattle.term_spec.specs.Term.{Label, Term}
@@ -102,6 +102,7 @@ module _ (m places lengths T : List ℕ) (row : ℕ) where
       pub fit-pairs-held : Run-in-table m places lengths T row fit-pairs
       pub fit-each : All-ordered R 0 row fit-pairs
       pub fit-sorted : Pairs-ordered R row fit-pairs
+      pub fit-slots : 0 < getD R row 0
       pub fit-pairs-count : count fit-pairs ≡ 2 * n
       pub fit-pairs-room : at + length (canonicals (all-as-read (fit-sorted .sorted))) ≤ room
 

@@ -1,8 +1,8 @@
--- The order in which the pairs of maps are written, in a table of slots, one for each row: the slot at a key's row has the row of the key that is written in its place.
+-- The order in which the pairs of maps are written, in a table of slots, one for each row: the slot at a key's row has the row of the key that is written in its place. 0 at the first key: as they stand.
 -- About the code alone, proved against the definitions of term_spec: nothing here has to be believed.
 use mathlib.Core.Path.{_≡_}
 use mathlib.Core.List.{List, [], _∷_}
-use Prim.Native.Nat.{ℕ, _+_, _≤_}
+use Prim.Native.Nat.{ℕ, _+_, _≤_, _<_}
 use lib.ListN.{getD}
 use Rattle.term_spec.specs.Tree.{node, empty, _▹_, count, size}
 use Rattle.term_spec.specs.Term.{map}
@@ -11,6 +11,12 @@ use Rattle.term_spec.specs.Same.{Rearranged}
 use Rattle.term_spec.specs.Canonical.{key-before}
 use Rattle.term_spec.specs.Reading.{Located}
 use Rattle.term_spec.specs.Message.{Terms, all-as-read}
+use Rattle.term_spec.specs.Rows.{kind-in, parts-in}
+
+-- a row's word is that of a map of two pairs or more
+pub record Has-order (word : ℕ) : Type 0 where
+  pub is-map : kind-in word ≡ 9
+  pub two-pairs : 4 ≤ parts-in word
 
 -- a pair of a run of pairs, the first one's key at `row`, by its own key's row
 pub data Pair-at : ℕ → Terms → ℕ → Located → Located → Type 0 where
@@ -33,10 +39,11 @@ module _ (R : List ℕ) where
     slot-then row k empty = []
     slot-then row k (v ▹ ts) = getD R row 0 ∷ slots-at (row + size k + size v) ts
 
-  -- the slots list the pairs in rising byte order of the keys' canonical forms
+  -- the pairs in rising byte order of the keys' canonical forms: as they stand, or as the slots list them
   pub record Pairs-ordered (row : ℕ) (ts : Terms) : Type 0 where
     pub sorted : Terms
-    pub listed : Listed row ts (slots-at row ts) sorted
+    pub as-they-stand : getD R row 0 ≡ 0 → sorted ≡ ts
+    pub listed : 0 < getD R row 0 → Listed row ts (slots-at row ts) sorted
     pub same-pairs : Rearranged (all-as-read ts) (all-as-read sorted)
     pub rises : Rising key-before (all-arranged key-before (all-as-read sorted))
 

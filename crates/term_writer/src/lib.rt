@@ -2,9 +2,11 @@
 use term_spec::kinds;
 use term_spec::tags;
 ghost use mathlib.Core.Path.{_≡_};
+ghost use mathlib.Core.Bool.{true, false};
 ghost use Prim.Native.Nat.{_+_, _≤_, _<_};
 ghost use lib.ListN.{length, getD};
 ghost use Rattle.term_spec.specs.Canonical.{canonical};
+ghost use Rattle.term_writer.specs.PairOrder.{Has-order};
 ghost use Rattle.term_writer.specs.Code.{canonicals, Some-term, Some-run, Some-small, String-told, Small-told, Characters-put, String-put, Term-length, Term-put, Term-fits, Run-length, Run-put, Run-fits, Pairs-put, Pairs-fit, Parts-put, Parts-fit};
 
 const STRING: usize = tags::STRING_EXT as usize;
@@ -13,10 +15,23 @@ const STRING: usize = tags::STRING_EXT as usize;
 const PAIR_PARTS: usize = 2;
 
 // A map with so many parts has two pairs: fewer need no order.
-pub const ORDERED_PARTS: usize = 4;
+const ORDERED_PARTS: usize = 4;
+
+// Whether a row's word is that of a map of two pairs or more.
+pub fn has_order(word: u64) -> bool
+    ensures { λ r. ⌜ (r ≡ true → Has-order word) × (r ≡ false → Has-order word → ⊥) ⌝ }
+{
+    if row::kind_in(word) != kinds::MAP {
+        return false;
+    }
+    if row::parts_in(word) < ORDERED_PARTS {
+        return false;
+    }
+    true
+}
 
 // The slot at a row, 0 past the end of them.
-pub fn slot_at(order: &[u16], row: usize) -> usize
+fn slot_at(order: &[u16], row: usize) -> usize
     ensures { λ r. ⌜ r ≡ getD (now (order .entry)) row 0 ⌝ }
 {
     if row < order.len() {
@@ -190,8 +205,8 @@ fn write_parts(
 {
     let word = table[row];
     let n = row::parts_in(word);
-    if row::kind_in(word) == kinds::MAP {
-        if ORDERED_PARTS <= n {
+    if has_order(word) {
+        if slot_at(order, row + 1) != 0 {
             return write_pairs(
                 msg,
                 places,

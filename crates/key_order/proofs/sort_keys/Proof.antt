@@ -2,16 +2,17 @@
 use Prim.Native.Nat.{_-_}
 use native.Mathlib.Omega.{arith}
 use borrow.Author.Needs.{needs}
+use Rattle.term_spec.proofs.Tests.{never}
 use Rattle.key_order.proofs.Walk.{key-step, value-few}
 use Rattle.key_order.proofs.Sorted.{Sorting, sorting-start, sorting-pair, keys-fit, sorting-next, sorting-end}
 use Rattle.key_order.proofs.sort_keys.Statement.{statement}
 use Rattle.key_order.proofs.sort_keys.Tie as tie
 
 abbrev Inv-loop : tie.InvT-loop
-Inv-loop msg places lengths table order run₀ out₀ row n key₀ i₀ run out key i = Sorting msg places lengths table order row n run₀ out₀ run out key i
+Inv-loop msg places lengths table order run₀ out₀ row n rising₀ key₀ i₀ run out rising key i = Sorting msg places lengths table order row n run₀ out₀ run out rising key i
 
 abbrev μ-loop : tie.MeasureT-loop
-μ-loop msg places lengths table order run₀ out₀ row n key₀ i₀ run out key i = n - i
+μ-loop msg places lengths table order run₀ out₀ row n rising₀ key₀ i₀ run out rising key i = n - i
 
 loop-holds : tie.Need-loop-holds Inv-loop μ-loop
 loop-holds c = sorting-start _ _ _ _ _ _ _ _ _
@@ -49,11 +50,20 @@ add-key c = let b = value-few (sorting-pair (c .before .before .before .before .
 add-i : tie.Need-add-i Inv-loop μ-loop
 add-i c = omega arith
 
+add-if1 : tie.Need-add-if1 Inv-loop μ-loop
+add-if1 c = omega (arith, c .before .before .before .before .before .before .before .before .before .before .find-place .ensures .inside)
+
 loop-less : tie.Need-loop-less Inv-loop μ-loop
 loop-less c = omega arith
 
 loop-again : tie.Need-loop-again Inv-loop μ-loop
-loop-again c = sorting-next (c .before .before .before .before .before .before .before .before .before .before .before .before .before .before .loop .inv) (c .before .before .before .before .before .before .before .before .before .before .before .before .before .loop-test .taken) (c .before .before .before .before .before .before .before .before .before .before .before .before .before .before .before .before .before .before .before .before .before .before .pre .1) (c .before .before .before .before .before .before .before .before .before .before .find-place .ensures) (c .before .before .before .before .before .before .put-at .ensures) (c .before .before .before .before .before .before .before .before .before .before .find-place .kept .1 .1 .1 .1 .1 .0) (c .before .before .size-in .ensures .0) (c .size-in2 .ensures .0)
+loop-again c = sorting-next (c .before .before .before .before .before .before .before .before .before .before .before .before .before .before .before .loop .inv) (c .before .before .before .before .before .before .before .before .before .before .before .before .before .before .loop-test .taken) (c .before .before .before .before .before .before .before .before .before .before .before .before .before .before .before .before .before .before .before .before .before .before .before .pre .1) (c .before .before .before .before .before .before .before .before .before .before .before .find-place .ensures) (c .before .before .before .before .before .before .before .put-at .ensures) (λ e. never e) (c .before .before .before .before .before .before .before .before .before .before .before .find-place .kept .1 .1 .1 .1 .1 .0) (c .before .before .before .size-in .ensures .0) (c .before .size-in2 .ensures .0)
+
+loop-less-2 : tie.Need-loop-less-2 Inv-loop μ-loop
+loop-less-2 c = omega arith
+
+loop-again-2 : tie.Need-loop-again-2 Inv-loop μ-loop
+loop-again-2 c = sorting-next (c .before .before .before .before .before .before .before .before .before .before .before .before .before .before .before .loop .inv) (c .before .before .before .before .before .before .before .before .before .before .before .before .before .before .loop-test .taken) (c .before .before .before .before .before .before .before .before .before .before .before .before .before .before .before .before .before .before .before .before .before .before .before .pre .1) (c .before .before .before .before .before .before .before .before .before .before .before .find-place .ensures) (c .before .before .before .before .before .before .before .put-at .ensures) (λ e. (e, omega arith)) (c .before .before .before .before .before .before .before .before .before .before .before .find-place .kept .1 .1 .1 .1 .1 .0) (c .before .before .before .size-in .ensures .0) (c .before .size-in2 .ensures .0)
 
 same-length : tie.Need-same-length Inv-loop μ-loop
 same-length c = c .before .loop .inv .run-long
@@ -82,8 +92,11 @@ sort-keys-spec =
     size-in-requires-2
     add-key
     add-i
+    add-if1
     loop-less
     loop-again
+    loop-less-2
+    loop-again-2
     same-length
     same-length-2
     returns)

@@ -1,12 +1,11 @@
 -- `put_ordered` meets its contract. What the ordering left in the output is hidden by what is put.
-use native.Mathlib.Omega.{arith}
 use borrow.Author.Needs.{needs}
 use Rattle.table_writer.proofs.Standalones.{fit-run, order-room, ordered-put}
 use Rattle.table_writer.proofs.put_ordered.Statement.{statement}
 use Rattle.table_writer.proofs.put_ordered.Tie as tie
 
 order-keys-requires : tie.Need-order-keys-requires
-order-keys-requires c κs = let a = c .before .before .before .before .before .before .before .before .before .before .pre in (order-room (a .0), a .1, a .2)
+order-keys-requires c κs = let a = c .before .before .before .before .before .before .before .before .before .before .pre in (order-room (a .0), a .1)
 
 put-standalones-requires : tie.Need-put-standalones-requires
 put-standalones-requires c κs =

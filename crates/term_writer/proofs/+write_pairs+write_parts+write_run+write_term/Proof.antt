@@ -29,13 +29,13 @@ use Rattle.term_writer.proofs.+write_pairs+write_parts+write_run+write_
 use Rattle.term_writer.proofs.write_term.Reads as write-term
 use Rattle.term_writer.proofs.write_term.Kinds as write-term-kinds
 use Rattle.term_writer.proofs.+write_pairs+write_parts+write_run+write_term.Lts-write_term as write-term-lts
+use Rattle.term_writer.proofs.has_order.Reads as has-order-reads
 use Rattle.term_writer.proofs.is_string.Reads as is-string-reads
 use Rattle.term_writer.proofs.put_string.Reads as put-string-reads
 use Rattle.term_writer.proofs.slot_at.Reads as slot-at-reads
 use Rattle.field_writer.proofs.put_after.Reads as put-after-reads
 use Rattle.field_writer.proofs.put_before.Reads as put-before-reads
 use Rattle.field_writer.proofs.put_leaf.Reads as put-leaf-reads
-use Rattle.row.proofs.kind_in.Reads as kind-in-reads
 use Rattle.row.proofs.parts_in.Reads as parts-in-reads
 use Rattle.row.proofs.size_in.Reads as size-in-reads
 use Rattle.term_writer.proofs.+write_pairs+write_parts+write_run+write_term.{statement}
@@ -81,7 +81,7 @@ abbrev write-pairs-calls : ℕ → write-pairs-lts.Claims
 write-pairs-calls t = (slot-at-reads.Asked, slot-at-reads.Learnt, write-run-below t, write-run.Post, size-in-reads.Asked, size-in-reads.Learnt)
 
 abbrev write-parts-calls : ℕ → write-parts-lts.Claims
-write-parts-calls t = (parts-in-reads.Asked, parts-in-reads.Learnt, kind-in-reads.Asked, kind-in-reads.Learnt, write-pairs-below t, write-pairs.Post, write-run-below t, write-run.Post)
+write-parts-calls t = (parts-in-reads.Asked, parts-in-reads.Learnt, has-order-reads.Asked, has-order-reads.Learnt, slot-at-reads.Asked, slot-at-reads.Learnt, write-pairs-below t, write-pairs.Post, write-run-below t, write-run.Post)
 
 abbrev write-run-calls : ℕ → write-run-lts.Claims
 write-run-calls t = (write-term-below t, write-term.Post, size-in-reads.Asked, size-in-reads.Learnt)
@@ -99,7 +99,7 @@ abbrev write-pairs-μ-loop : write-pairs-lts.MeasureT-loop
 write-pairs-μ-loop msg places lengths table order row n out₀ at key₀ left₀ end₀ out key left end = left
 
 write-pairs-loop-holds : (t : ℕ) → write-pairs-lts.Need-loop-holds (write-pairs-calls t) (write-pairs-at t) write-pairs.Post write-pairs-Inv-loop write-pairs-μ-loop
-write-pairs-loop-holds t c = (refl, λ ts h o p e. pairs-start _ _ _ _ _ ts h p e)
+write-pairs-loop-holds t c = (refl, λ ts h o p e. pairs-start _ _ _ _ _ ts h p e (c .before .before .before .before .before .before .pre .1 .fit-slots))
 
 write-pairs-slot-at-requires : (t : ℕ) → write-pairs-lts.Need-slot-at-requires (write-pairs-calls t) (write-pairs-at t) write-pairs.Post write-pairs-Inv-loop write-pairs-μ-loop
 write-pairs-slot-at-requires t c κs = search needs
@@ -159,32 +159,38 @@ write-parts-shared-slice-read-word t c = term-below (parts-some (c .before .befo
 write-parts-parts-in-requires : (t : ℕ) → write-parts-lts.Need-parts-in-requires (write-parts-calls t) (write-parts-at t) write-parts.Post
 write-parts-parts-in-requires t c κs = search needs
 
-write-parts-kind-in-requires : (t : ℕ) → write-parts-lts.Need-kind-in-requires (write-parts-calls t) (write-parts-at t) write-parts.Post
-write-parts-kind-in-requires t c κs = search needs
+write-parts-has-order-requires : (t : ℕ) → write-parts-lts.Need-has-order-requires (write-parts-calls t) (write-parts-at t) write-parts.Post
+write-parts-has-order-requires t c κs = search needs
+
+write-parts-add-slot-at : (t : ℕ) → write-parts-lts.Need-add-slot-at (write-parts-calls t) (write-parts-at t) write-parts.Post
+write-parts-add-slot-at t c = omega (arith, c .before .before .before .before .before .before .before .before .before .before .pre .1 .fit-node .few)
+
+write-parts-slot-at-requires : (t : ℕ) → write-parts-lts.Need-slot-at-requires (write-parts-calls t) (write-parts-at t) write-parts.Post
+write-parts-slot-at-requires t c κs = search needs
 
 write-parts-add-write-pairs : (t : ℕ) → write-parts-lts.Need-add-write-pairs (write-parts-calls t) (write-parts-at t) write-parts.Post
-write-parts-add-write-pairs t c = omega (arith, c .before .before .before .before .before .before .before .before .before .before .before .pre .1 .fit-node .few)
+write-parts-add-write-pairs t c = omega (arith, c .before .before .before .before .before .before .before .before .before .before .before .before .pre .1 .fit-node .few)
 
 write-parts-write-pairs-requires : (t : ℕ) → write-parts-lts.Need-write-pairs-requires (write-parts-calls t) (write-parts-at t) write-parts.Post
-write-parts-write-pairs-requires t c κs = let a = c .before .before .before .before .before .before .before .before .before .before .before .before .pre .1 in let b = term-below (parts-some a) in (omega arith, pairs-room (c .before .before .before .kind-in .ensures .0) (c .before .before .before .before .parts-in .ensures .0) (c .before .before .if1 .taken) (c .before .if2 .taken) a)
+write-parts-write-pairs-requires t c κs = let a = c .before .before .before .before .before .before .before .before .before .before .before .before .before .pre .1 in let b = term-below (parts-some a) in (omega arith, pairs-room _ (c .before .before .before .before .before .parts-in .ensures .0) (c .before .before .before .before .has-order .ensures .0 (c .before .before .before .if1 .taken)) (omega arith) a)
 
 write-parts-same-length : (t : ℕ) → write-parts-lts.Need-same-length (write-parts-calls t) (write-parts-at t) write-parts.Post
 write-parts-same-length t c = c .before .before .write-pairs .kept .1 .1 .1 .1 .1 .1 .1 .0
 
 write-parts-returns : (t : ℕ) → write-parts-lts.Need-returns (write-parts-calls t) (write-parts-at t) write-parts.Post
-write-parts-returns t c = pairs-put (c .before .before .before .before .before .before .kind-in .ensures .0) (c .before .before .before .before .before .before .before .parts-in .ensures .0) (c .before .before .before .before .before .if1 .taken) (c .before .before .before .before .if2 .taken) _ (c .before .before .write-pairs .ensures)
+write-parts-returns t c = pairs-put _ (c .before .before .before .before .before .before .before .before .parts-in .ensures .0) (c .before .before .before .before .before .before .before .has-order .ensures .0 (c .before .before .before .before .before .before .if1 .taken)) (omega arith) (c .before .before .write-pairs .ensures)
 
 write-parts-add-write-run : (t : ℕ) → write-parts-lts.Need-add-write-run (write-parts-calls t) (write-parts-at t) write-parts.Post
 write-parts-add-write-run t c = omega (arith, c .before .before .before .before .before .before .before .before .before .before .pre .1 .fit-node .few)
 
 write-parts-write-run-requires : (t : ℕ) → write-parts-lts.Need-write-run-requires (write-parts-calls t) (write-parts-at t) write-parts.Post
-write-parts-write-run-requires t c κs = let a = c .before .before .before .before .before .before .before .before .before .before .before .pre .1 in let b = term-below (parts-some a) in (omega arith, run-room (c .before .before .kind-in .ensures .0) (c .before .before .before .parts-in .ensures .0) (⊎-map (λ w. (w .0 .taken, w .1 .left)) (λ w. w .left) (c .before .if1 .came)) a)
+write-parts-write-run-requires t c κs = let a = c .before .before .before .before .before .before .before .before .before .before .before .pre .1 in let b = term-below (parts-some a) in let o = c .before .before .has-order .ensures in (omega arith, run-room _ (c .before .before .before .parts-in .ensures .0) (⊎-map (λ w. (o .0 (w .0 .taken), sym (w .1 .ensures) ∙ w .2 .left)) (λ w. o .1 (w .left)) (c .before .if1 .came)) a)
 
 write-parts-same-length-2 : (t : ℕ) → write-parts-lts.Need-same-length-2 (write-parts-calls t) (write-parts-at t) write-parts.Post
 write-parts-same-length-2 t c = c .before .before .write-run .kept .1 .1 .1 .1 .1 .1 .1 .0
 
 write-parts-returns-2 : (t : ℕ) → write-parts-lts.Need-returns-2 (write-parts-calls t) (write-parts-at t) write-parts.Post
-write-parts-returns-2 t c = run-put (c .before .before .before .before .before .kind-in .ensures .0) (c .before .before .before .before .before .before .parts-in .ensures .0) (⊎-map (λ w. (w .0 .taken, w .1 .left)) (λ w. w .left) (c .before .before .before .before .if1 .came)) _ (c .before .before .write-run .ensures)
+write-parts-returns-2 t c = let o = c .before .before .before .before .before .has-order .ensures in run-put _ (c .before .before .before .before .before .before .parts-in .ensures .0) (⊎-map (λ w. (o .0 (w .0 .taken), sym (w .1 .ensures) ∙ w .2 .left)) (λ w. o .1 (w .left)) (c .before .before .before .before .if1 .came)) (c .before .before .write-run .ensures)
 
 abbrev write-run-Inv-loop : write-run-lts.InvT-loop
 write-run-Inv-loop msg places lengths table order row n out₀ at next₀ left₀ end₀ out next left end =
@@ -307,7 +313,9 @@ pub +write-pairs+write-parts+write-run+write-term-spec : {M : Type 1} → statem
     (write-parts-mul-word t)
     (write-parts-shared-slice-read-word t)
     (write-parts-parts-in-requires t)
-    (write-parts-kind-in-requires t)
+    (write-parts-has-order-requires t)
+    (write-parts-add-slot-at t)
+    (write-parts-slot-at-requires t)
     (write-parts-add-write-pairs t)
     (write-parts-write-pairs-requires t)
     (write-parts-same-length t)
