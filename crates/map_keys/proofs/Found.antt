@@ -50,30 +50,30 @@ module _ (T L : List ℕ) (terms : ℕ → ℕ → Bool) (first key : ℕ) where
     pub record Finding (r n i d : ℕ) : Type 0 where
       pub all : n ≡ length L
       pub last : 0 < d → i ≡ place hs n (d - 1)
-      pub left : found-steps T L terms first key hs (32 - d) d ≡ r
+      pub left : found-steps T L terms first key hs (256 - d) d ≡ r
 
     module _ {r n i d : ℕ} (h : Finding r n i d) where
-      pub found-none : 32 ≤ d → 0 ≡ r
+      pub found-none : 256 ≤ d → 0 ≡ r
       unfolding found-steps
-      found-none l = let e : 32 - d ≡ 0 = omega arith in rw e at (h .left)
+      found-none l = let e : 256 - d ≡ 0 = omega arith in rw e at (h .left)
 
-      module _ (l : d < 32) (j x : ℕ) (o : j ≡ place hs n d) (p : x ≡ getD L j 0) where
+      module _ (l : d < 256) (j x : ℕ) (o : j ≡ place hs n d) (p : x ≡ getD L j 0) where
         here : slot L hs d ≡ x
         here = ap (λ (k : ℕ). getD L (place hs k d) 0) (sym (h .all)) ∙ ap (λ (k : ℕ). getD L k 0) (sym o) ∙ sym p
 
         pub found-empty : x ≡ 0 → 0 ≡ r
         unfolding found-steps
-        found-empty f = let e : 32 - d ≡ suc (32 - (d + 1)) = omega arith in rw (e, here, eq-eqb x 0 f) at (h .left)
+        found-empty f = let e : 256 - d ≡ suc (256 - (d + 1)) = omega arith in rw (e, here, eq-eqb x 0 f) at (h .left)
 
         module _ (f : x ≡ 0 → ⊥) (s : Bool) (q : s ≡ same-key T terms first key (x - 1)) where
           pub found-here : s ≡ true → x - 1 ≡ r
           unfolding found-steps
-          found-here g = let e : 32 - d ≡ suc (32 - (d + 1)) = omega arith in rw (e, here, ne-eqb x 0 f, ← q, g) at (h .left)
+          found-here g = let e : 256 - d ≡ suc (256 - (d + 1)) = omega arith in rw (e, here, ne-eqb x 0 f, ← q, g) at (h .left)
 
           pub found-later : s ≡ false → Finding r n j (d + 1)
           unfolding found-steps
           found-later g =
-              let e : 32 - d ≡ suc (32 - (d + 1)) = omega arith in
+              let e : 256 - d ≡ suc (256 - (d + 1)) = omega arith in
               let k : d + 1 - 1 ≡ d = omega arith in
               record { all = h .all; last = λ _. o ∙ ap (place hs n) (sym k); left = rw (e, here, ne-eqb x 0 f, ← q, g) at (h .left) }
 
@@ -88,7 +88,7 @@ module _ (m places lengths T L : List ℕ) (terms : ℕ → ℕ → Bool) (first
 
   found-same : (key-found m places lengths T L terms first key ≡ 0 → ⊥) → terms key (key-found m places lengths T L terms first key) ≡ true
   unfolding key-found found-key
-  found-same e = go (eqb (length L) 0) _ (steps-same T L terms first key (key-hashes m places lengths T first key) 32 0) e
+  found-same e = go (eqb (length L) 0) _ (steps-same T L terms first key (key-hashes m places lengths T first key) 256 0) e
     where
       go : (t : Bool) (x : ℕ) → ((x ≡ 0 → ⊥) → terms key x ≡ true) → (cond t 0 x ≡ 0 → ⊥) → terms key (cond t 0 x) ≡ true
       go true x h f = absurd (f refl)

@@ -138,7 +138,7 @@ module _ (P : ℕ → Type 0) (L : List ℕ) (hs : ℕ → ℕ) where
     slot-here : slot L hs d ≡ getD L j 0
     slot-here = rw (e, p .all)
 
-    pub walk-next : d < 32 → P (getD L j 0) → Walked P L hs n j (d + 1)
+    pub walk-next : d < 256 → P (getD L j 0) → Walked P L hs n j (d + 1)
     walk-next l x =
         let s : d + 1 - 1 ≡ d = omega arith in
         record {
@@ -159,7 +159,7 @@ module _ (m places lengths T : List ℕ) (first key : ℕ) (L : List ℕ) where
   abbrev pub Other : ℕ → Type 0
   Other x = (x ≡ 0 → ⊥) × (whole-in (getD T (x - 1) 0) ≡ first → same-terms-raw m places lengths T L key (x - 1) ≡ false)
 
-  module _ {n i d : ℕ} (p : Walked Other L (key-hashes m places lengths T first key) n i d) (j x : ℕ) (l : d < 32)
+  module _ {n i d : ℕ} (p : Walked Other L (key-hashes m places lengths T first key) n i d) (j x : ℕ) (l : d < 256)
       (e : j ≡ place (key-hashes m places lengths T first key) n d) (f : x ≡ getD L j 0) where
     pub free-found : x ≡ 0 → Absent m places lengths T first key L j
     free-found z =
@@ -205,13 +205,13 @@ module _ (L : List ℕ) (hs : ℕ → ℕ) (k : ℕ) {i : ℕ} (f : First-empty 
 
 -- slots S that are still as they were, L
 module _ (L S : List ℕ) (hs : ℕ → ℕ) (k : ℕ) {n i d : ℕ} (e : S ≡ L) (p : Walked Occupied S hs n i d) where
-  pub insert-empty : (j : ℕ) → d < 32 → j ≡ place hs n d → j < n → getD S j 0 ≡ 0 → Keeps L (set S j (k + 1)) × Contains (set S j (k + 1)) hs k
+  pub insert-empty : (j : ℕ) → d < 256 → j ≡ place hs n d → j < n → getD S j 0 ≡ 0 → Keeps L (set S j (k + 1)) × Contains (set S j (k + 1)) hs k
   insert-empty j l g b z =
       let f : First-empty S hs j = record { step = d; on-path = l; place-is = g ∙ ap (λ (k : ℕ). place hs k d) (p .all); is-empty = z; passed = p .passed } in
       let inside : j < length S = omega (arith, p .all) in
       (subst (λ (l : List ℕ). Keeps l (set S j (k + 1))) e (keeps-set S hs k f inside), contains-set S hs k f inside)
 
   -- no slot of the path is empty
-  pub insert-full : 32 ≤ d → Keeps L S × Contains S hs k
+  pub insert-full : 256 ≤ d → Keeps L S × Contains S hs k
   insert-full l =
       (subst (λ (l : List ℕ). Keeps l S) e (keeps-refl S), record { stands = λ e b z. absurd (p .passed e (omega arith) z) })

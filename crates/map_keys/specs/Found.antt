@@ -23,4 +23,4 @@ module _ (T L : List ℕ) (terms : ℕ → ℕ → Bool) (first key : ℕ) (hs :
 
   -- on the whole path
   unfoldable pub found-key : ℕ
-  found-key = cond (eqb (length L) 0) 0 (found-steps 32 0)
+  found-key = cond (eqb (length L) 0) 0 (found-steps 256 0)

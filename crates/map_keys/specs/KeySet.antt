@@ -12,14 +12,14 @@ use Rattle.map_keys.specs.Path.{place, slot}
 use Rattle.map_keys.specs.Compare.{same-maps, same-terms, among-from}
 use Rattle.map_keys.specs.Found.{found-key}
 
--- the set contains the key at the row k, whose hashes are hs: in a slot before the first empty one of its path of 32 steps, if one is empty
+-- the set contains the key at the row k, whose hashes are hs: in a slot before the first empty one of its path of 256 steps, if one is empty
 pub record Contains (L : List ℕ) (hs : ℕ → ℕ) (k : ℕ) : Type 0 where
-  pub stands : (d : ℕ) → d < 32 → slot L hs d ≡ 0 → (e : ℕ) × (e < d) × (slot L hs e ≡ k + 1)
+  pub stands : (d : ℕ) → d < 256 → slot L hs d ≡ 0 → (e : ℕ) × (e < d) × (slot L hs e ≡ k + 1)
 
 -- slot i is the first empty one of a path
 pub record First-empty (L : List ℕ) (hs : ℕ → ℕ) (i : ℕ) : Type 0 where
   pub step : ℕ
-  pub on-path : step < 32
+  pub on-path : step < 256
   pub place-is : i ≡ place hs (length L) step
   pub is-empty : getD L i 0 ≡ 0
   pub passed : (e : ℕ) → e < step → slot L hs e ≡ 0 → ⊥

@@ -1,4 +1,4 @@
--- The path of a key through the slots of the set: 32 steps in 16 rounds of two.
+-- The path of a key through the slots of the set: 256 steps in 128 rounds of two.
 -- About the code alone, proved against the definitions of term_spec: nothing here has to be believed.
 use mathlib.Core.List.{List}
 use Prim.Native.Nat.{ℕ, _+_, _*_, _/_, _%_}

@@ -37,7 +37,7 @@ const HASHES: usize = 65536;
 const WINDOW: usize = 2;
 
 // The path of a key has so many steps, in rounds of WINDOW.
-const PATH: usize = 32;
+const PATH: usize = 256;
 
 // Whether the n rows from a on mean the same as those from b on: row by row, but maps of two pairs or more as wholes.
 fn same_rows(
@@ -368,8 +368,8 @@ fn found_key(
     let mut d = 0usize;
     while d < PATH {
         i = path_slot(msg, places, lengths, table, n, first, key, d, i);
-        let entry = wide16(slots[i]);
-        if entry == 0 {
+        let named = wide16(slots[i]);
+        if named == 0 {
             return 0;
         }
         if same_key(
@@ -381,9 +381,9 @@ fn found_key(
             levels,
             first,
             key,
-            entry - 1,
+            named - 1,
         ) {
-            return entry - 1;
+            return named - 1;
         }
         d += 1;
     }
@@ -550,7 +550,7 @@ fn path_slot(
     d: usize,
     i: usize,
 ) -> usize
-    requires { ⌜ (0 < n) × (key < 3458764513820540928) × (d < 32) × (0 < d → i ≡ place (key-hashes (now msg) (now places) (now lengths) (now table) first key) n (d - 1)) ⌝ }
+    requires { ⌜ (0 < n) × (key < 3458764513820540928) × (d < 256) × (0 < d → i ≡ place (key-hashes (now msg) (now places) (now lengths) (now table) first key) n (d - 1)) ⌝ }
     ensures { λ r. ⌜ (r ≡ place (key-hashes (now (msg .entry)) (now (places .entry)) (now (lengths .entry)) (now (table .entry)) first key) n d) × (r < n) ⌝ }
 {
     if d % WINDOW == 0 {

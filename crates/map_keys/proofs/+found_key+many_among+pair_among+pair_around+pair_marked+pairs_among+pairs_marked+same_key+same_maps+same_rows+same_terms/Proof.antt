@@ -189,7 +189,7 @@ found-key-Inv-loop msg places lengths table slots levels first key n i₀ d₀ i
     Finding table slots (terms-at msg places lengths table slots levels) first key (key-hashes msg places lengths table first key) (key-found msg places lengths table slots (terms-at msg places lengths table slots levels) first key) n i d
 
 abbrev found-key-μ-loop : found-key-lts.MeasureT-loop
-found-key-μ-loop msg places lengths table slots levels first key n i₀ d₀ i d = 32 - d
+found-key-μ-loop msg places lengths table slots levels first key n i₀ d₀ i d = 256 - d
 
 found-key-returns : (t : ℕ) → found-key-lts.Need-returns (
   path-slot-reads.Asked,

@@ -11,7 +11,7 @@ abbrev Inv-loop : tie.InvT-loop
 Inv-loop msg places lengths table slots first key n i₀ d₀ i d = Walked (Other msg places lengths table first key slots) slots (key-hashes msg places lengths table first key) n i d
 
 abbrev μ-loop : tie.MeasureT-loop
-μ-loop msg places lengths table slots first key n i₀ d₀ i d = 32 - d
+μ-loop msg places lengths table slots first key n i₀ d₀ i d = 256 - d
 
 loop-holds : tie.Need-loop-holds Inv-loop μ-loop
 loop-holds c = walk-start _ _ _

@@ -12,7 +12,7 @@ abbrev Inv-loop : tie.InvT-loop
 Inv-loop msg places lengths table slots₀ first key n i₀ d₀ slots i d = (slots ≡ slots₀) × Walked Occupied slots (key-hashes msg places lengths table first key) n i d
 
 abbrev μ-loop : tie.MeasureT-loop
-μ-loop msg places lengths table slots₀ first key n i₀ d₀ slots i d = 32 - d
+μ-loop msg places lengths table slots₀ first key n i₀ d₀ slots i d = 256 - d
 
 loop-holds : tie.Need-loop-holds Inv-loop μ-loop
 loop-holds c = (refl, walk-start _ _ _)
