@@ -35,11 +35,11 @@ module _ (T : List ℕ) where
       go false e f = f (eqb-false (pair-size T at) 0 e)
 
   module _ (at row : ℕ) where
-    pub leads-ended : row ≤ at → leads T at row ≡ eqb at row
+    leads-ended : row ≤ at → leads T at row ≡ eqb at row
     unfolding leads
     leads-ended l = steps-ended (row - at) at row l
 
-    pub leads-stuck : at < row → pair-size T at ≡ 0 → leads T at row ≡ false
+    leads-stuck : at < row → pair-size T at ≡ 0 → leads T at row ≡ false
     unfolding leads leads-steps
     leads-stuck l e = let s : row - at ≡ suc (row - at - 1) = omega arith in rw (s, lt-leb row at l, eq-eqb (pair-size T at) 0 e)
 
@@ -60,7 +60,7 @@ module _ (T : List ℕ) where
         (λ g. let e : at + pair-size T at ≡ at = omega arith in rw e)
 
   -- from a row that is reached on the way it is the same
-  pub leads-reached : {b at : ℕ} → Reached T b at → (row : ℕ) → at ≤ row → leads T b row ≡ leads T at row
+  leads-reached : {b at : ℕ} → Reached T b at → (row : ℕ) → at ≤ row → leads T b row ≡ leads T at row
   leads-reached here row l = refl
   leads-reached (next {at} r) row l = leads-reached r row (omega arith) ∙ leads-next at row l
 
@@ -108,7 +108,7 @@ module _ (T : List ℕ) where
             let g : getD (set M i at) j 0 ≡ getD M j 0 = getD-set-other M i j at 0 (λ z. eqb-false i j f (sym z)) in
             rw g (h .reached j (λ z. e (g ∙ z)))
 
-    pub mark-reached : {at : ℕ} → Mark-of M b at → Reached T b at
+    mark-reached : {at : ℕ} → Mark-of M b at → Reached T b at
     mark-reached no-mark = here
     mark-reached (a-mark i e) = h .reached i e
 

@@ -122,32 +122,14 @@ fn same_maps(
         return false;
     }
     let n = parts_in(v) / PAIR_PARTS;
+    let deep = levels - 1;
+    let x = a + 1;
+    let y = b + 1;
     if n < MANY_PAIRS {
-        return pairs_among(
-            msg,
-            places,
-            lengths,
-            table,
-            slots,
-            levels - 1,
-            n,
-            a + 1,
-            b + 1,
-        );
+        return pairs_among(msg, places, lengths, table, slots, deep, n, x, y);
     }
     let end = b + size_in(v);
-    many_among(
-        msg,
-        places,
-        lengths,
-        table,
-        slots,
-        levels - 1,
-        n,
-        a + 1,
-        b + 1,
-        end,
-    )
+    many_among(msg, places, lengths, table, slots, deep, n, x, y, end)
 }
 
 // Whether each of the n pairs from a on is one of the n from b on. A pair is looked for from the place on that it has itself, and then from b on.
@@ -372,18 +354,9 @@ fn found_key(
         if named == 0 {
             return 0;
         }
-        if same_key(
-            msg,
-            places,
-            lengths,
-            table,
-            slots,
-            levels,
-            first,
-            key,
-            named - 1,
-        ) {
-            return named - 1;
+        let row = named - 1;
+        if same_key(msg, places, lengths, table, slots, levels, first, key, row) {
+            return row;
         }
         d += 1;
     }

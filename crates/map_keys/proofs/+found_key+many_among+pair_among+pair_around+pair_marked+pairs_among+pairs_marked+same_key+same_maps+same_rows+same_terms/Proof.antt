@@ -261,7 +261,7 @@ found-key-returns-2 : (t : ℕ) → found-key-lts.Need-returns-2 (
 ) (found-key-at t) found-key.Post found-key-Inv-loop found-key-μ-loop
 found-key-returns-2 t c = (found-empty _ _ _ _ _ _ (c .before .before .before .before .before .loop .inv) (c .before .before .before .before .loop-test .taken) _ _ (c .before .before .before .path-slot .ensures .0) (c .before .wide16 .ensures) (c .if2 .taken), omega arith)
 
-found-key-sub-same-key : (t : ℕ) → found-key-lts.Need-sub-same-key (
+found-key-sub-row : (t : ℕ) → found-key-lts.Need-sub-row (
   path-slot-reads.Asked,
   path-slot-reads.Learnt,
   wide16-reads.Asked,
@@ -269,7 +269,7 @@ found-key-sub-same-key : (t : ℕ) → found-key-lts.Need-sub-same-key (
   same-key-below t,
   same-key.Post,
 ) (found-key-at t) found-key.Post found-key-Inv-loop found-key-μ-loop
-found-key-sub-same-key t c = omega arith
+found-key-sub-row t c = omega arith
 
 found-key-same-key-requires : (t : ℕ) → found-key-lts.Need-same-key-requires (
   path-slot-reads.Asked,
@@ -280,16 +280,6 @@ found-key-same-key-requires : (t : ℕ) → found-key-lts.Need-same-key-requires
   same-key.Post,
 ) (found-key-at t) found-key.Post found-key-Inv-loop found-key-μ-loop
 found-key-same-key-requires t c κs = (omega (arith, c .before .before .before .before .before .before .before .before .before .before .before .before .pre .0), tt)
-
-found-key-sub-result : (t : ℕ) → found-key-lts.Need-sub-result (
-  path-slot-reads.Asked,
-  path-slot-reads.Learnt,
-  wide16-reads.Asked,
-  wide16-reads.Learnt,
-  same-key-below t,
-  same-key.Post,
-) (found-key-at t) found-key.Post found-key-Inv-loop found-key-μ-loop
-found-key-sub-result t c = omega arith
 
 found-key-returns-3 : (t : ℕ) → found-key-lts.Need-returns-3 (
   path-slot-reads.Asked,
@@ -1129,7 +1119,7 @@ same-maps-parts-in-requires : (t : ℕ) → same-maps-lts.Need-parts-in-requires
 ) (same-maps-at t) same-maps.Post
 same-maps-parts-in-requires t c κs = search needs
 
-same-maps-sub-pairs-among : (t : ℕ) → same-maps-lts.Need-sub-pairs-among (
+same-maps-sub-deep : (t : ℕ) → same-maps-lts.Need-sub-deep (
   row-at-reads.Asked,
   row-at-reads.Learnt,
   size-in-reads.Asked,
@@ -1141,9 +1131,9 @@ same-maps-sub-pairs-among : (t : ℕ) → same-maps-lts.Need-sub-pairs-among (
   many-among-below t,
   many-among.Post,
 ) (same-maps-at t) same-maps.Post
-same-maps-sub-pairs-among t c = search needs
+same-maps-sub-deep t c = search needs
 
-same-maps-add-pairs-among : (t : ℕ) → same-maps-lts.Need-add-pairs-among (
+same-maps-add-x : (t : ℕ) → same-maps-lts.Need-add-x (
   row-at-reads.Asked,
   row-at-reads.Learnt,
   size-in-reads.Asked,
@@ -1155,9 +1145,9 @@ same-maps-add-pairs-among : (t : ℕ) → same-maps-lts.Need-add-pairs-among (
   many-among-below t,
   many-among.Post,
 ) (same-maps-at t) same-maps.Post
-same-maps-add-pairs-among t c = omega arith
+same-maps-add-x t c = omega arith
 
-same-maps-add-pairs-among-2 : (t : ℕ) → same-maps-lts.Need-add-pairs-among-2 (
+same-maps-add-y : (t : ℕ) → same-maps-lts.Need-add-y (
   row-at-reads.Asked,
   row-at-reads.Learnt,
   size-in-reads.Asked,
@@ -1169,7 +1159,7 @@ same-maps-add-pairs-among-2 : (t : ℕ) → same-maps-lts.Need-add-pairs-among-2
   many-among-below t,
   many-among.Post,
 ) (same-maps-at t) same-maps.Post
-same-maps-add-pairs-among-2 t c = omega arith
+same-maps-add-y t c = omega arith
 
 same-maps-pairs-among-requires : (t : ℕ) → same-maps-lts.Need-pairs-among-requires (
   row-at-reads.Asked,
@@ -1226,48 +1216,6 @@ same-maps-add-end : (t : ℕ) → same-maps-lts.Need-add-end (
   many-among.Post,
 ) (same-maps-at t) same-maps.Post
 same-maps-add-end t c = omega (arith, c .before .before .before .before .before .before .before .before .before .before .before .before .before .before .pre .1, c .size-in3 .ensures .1)
-
-same-maps-sub-many-among : (t : ℕ) → same-maps-lts.Need-sub-many-among (
-  row-at-reads.Asked,
-  row-at-reads.Learnt,
-  size-in-reads.Asked,
-  size-in-reads.Learnt,
-  parts-in-reads.Asked,
-  parts-in-reads.Learnt,
-  pairs-among-below t,
-  pairs-among.Post,
-  many-among-below t,
-  many-among.Post,
-) (same-maps-at t) same-maps.Post
-same-maps-sub-many-among t c = search needs
-
-same-maps-add-many-among : (t : ℕ) → same-maps-lts.Need-add-many-among (
-  row-at-reads.Asked,
-  row-at-reads.Learnt,
-  size-in-reads.Asked,
-  size-in-reads.Learnt,
-  parts-in-reads.Asked,
-  parts-in-reads.Learnt,
-  pairs-among-below t,
-  pairs-among.Post,
-  many-among-below t,
-  many-among.Post,
-) (same-maps-at t) same-maps.Post
-same-maps-add-many-among t c = omega arith
-
-same-maps-add-many-among-2 : (t : ℕ) → same-maps-lts.Need-add-many-among-2 (
-  row-at-reads.Asked,
-  row-at-reads.Learnt,
-  size-in-reads.Asked,
-  size-in-reads.Learnt,
-  parts-in-reads.Asked,
-  parts-in-reads.Learnt,
-  pairs-among-below t,
-  pairs-among.Post,
-  many-among-below t,
-  many-among.Post,
-) (same-maps-at t) same-maps.Post
-same-maps-add-many-among-2 t c = omega arith
 
 same-maps-many-among-requires : (t : ℕ) → same-maps-lts.Need-many-among-requires (
   row-at-reads.Asked,
@@ -1666,9 +1614,8 @@ pub +found-key+many-among+pair-among+pair-around+pair-marked+pairs-among+pairs-m
     (found-key-shared-slice-read-wide16 t)
     (found-key-wide16-requires t)
     (found-key-returns-2 t)
-    (found-key-sub-same-key t)
+    (found-key-sub-row t)
     (found-key-same-key-requires t)
-    (found-key-sub-result t)
     (found-key-returns-3 t)
     (found-key-add-d t)
     (found-key-loop-less t)
@@ -1830,16 +1777,13 @@ pub +found-key+many-among+pair-among+pair-around+pair-marked+pairs-among+pairs-m
     (same-maps-size-in-requires-2 t)
     (same-maps-returns-2 t)
     (same-maps-parts-in-requires t)
-    (same-maps-sub-pairs-among t)
-    (same-maps-add-pairs-among t)
-    (same-maps-add-pairs-among-2 t)
+    (same-maps-sub-deep t)
+    (same-maps-add-x t)
+    (same-maps-add-y t)
     (same-maps-pairs-among-requires t)
     (same-maps-returns-3 t)
     (same-maps-size-in-requires-3 t)
     (same-maps-add-end t)
-    (same-maps-sub-many-among t)
-    (same-maps-add-many-among t)
-    (same-maps-add-many-among-2 t)
     (same-maps-many-among-requires t)
     (same-maps-returns-4 t))
     (λ t. same-rows-lts.spec (

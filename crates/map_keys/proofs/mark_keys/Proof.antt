@@ -1,5 +1,5 @@
 -- `mark_keys` meets its contract. What is stored is reached; the measure is the number of marks left.
-use mathlib.Core.Path.{_≡_, refl, ap, _∙_}
+use mathlib.Core.Path.{_≡_, refl}
 use Prim.Native.Nat.{_-_}
 use native.Mathlib.Omega.{arith}
 use lib.ListN.{length, length-set}
