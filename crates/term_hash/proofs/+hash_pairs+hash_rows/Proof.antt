@@ -43,6 +43,12 @@ abbrev hash-rows-below : ℕ → In 4 hash-rows-kinds.ps
 hash-rows-below t =
     and 4 hash-rows-kinds.ps (falls 4 hash-rows-kinds.ps _<_ μ-hash-rows t) hash-rows.Pre
 
+abbrev hash-pairs-calls : ℕ → hash-pairs-lts.Claims
+hash-pairs-calls t = (pair-size-reads.Asked, pair-size-reads.Learnt, hash-rows-below t, hash-rows.Post, add-reads.Asked, add-reads.Learnt)
+
+abbrev hash-rows-calls : ℕ → hash-rows-lts.Claims
+hash-rows-calls t = (row-at-reads.Asked, row-at-reads.Learnt, hash-row-reads.Asked, hash-row-reads.Learnt, unordered-rows-reads.Asked, unordered-rows-reads.Learnt, parts-in-reads.Asked, parts-in-reads.Learnt, hash-pairs-below t, hash-pairs.Post)
+
 abbrev hash-pairs-Inv-loop : hash-pairs-lts.InvT-loop
 hash-pairs-Inv-loop factor msg places lengths table levels h n row sum₀ at₀ left₀ sum at left =
     (levels ≡ 0 → ⊥) × (sum < 4294967296) × (at + 32768 * left + 268435456 * levels < 4611686018427387904) × (add-pairs table (λ i a. hash-rows (hash-row factor msg places lengths) table (hash-pairs (hash-row factor msg places lengths) table (levels - 1)) 0 i 0 a) sum left at ≡ hash-pairs (hash-row factor msg places lengths) table levels h n row)
@@ -50,114 +56,37 @@ hash-pairs-Inv-loop factor msg places lengths table levels h n row sum₀ at₀ 
 abbrev hash-pairs-μ-loop : hash-pairs-lts.MeasureT-loop
 hash-pairs-μ-loop factor msg places lengths table levels h n row sum₀ at₀ left₀ sum at left = left
 
-hash-pairs-returns : (t : ℕ) → hash-pairs-lts.Need-returns (
-  pair-size-reads.Asked,
-  pair-size-reads.Learnt,
-  hash-rows-below t,
-  hash-rows.Post,
-  add-reads.Asked,
-  add-reads.Learnt,
-) (hash-pairs-at t) hash-pairs.Post hash-pairs-Inv-loop hash-pairs-μ-loop
+hash-pairs-returns : (t : ℕ) → hash-pairs-lts.Need-returns (hash-pairs-calls t) (hash-pairs-at t) hash-pairs.Post hash-pairs-Inv-loop hash-pairs-μ-loop
 hash-pairs-returns t c = (no-level _ _ _ _ _ _ (c .if1 .taken), c .before .before .before .before .before .pre .1 .1)
 
-hash-pairs-loop-holds : (t : ℕ) → hash-pairs-lts.Need-loop-holds (
-  pair-size-reads.Asked,
-  pair-size-reads.Learnt,
-  hash-rows-below t,
-  hash-rows.Post,
-  add-reads.Asked,
-  add-reads.Learnt,
-) (hash-pairs-at t) hash-pairs.Post hash-pairs-Inv-loop hash-pairs-μ-loop
+hash-pairs-loop-holds : (t : ℕ) → hash-pairs-lts.Need-loop-holds (hash-pairs-calls t) (hash-pairs-at t) hash-pairs.Post hash-pairs-Inv-loop hash-pairs-μ-loop
 hash-pairs-loop-holds t c = (c .if1 .left, c .before .before .before .before .before .pre .1 .1, c .before .before .before .before .before .pre .1 .2, pairs-start _ _ _ _ _ _ (c .if1 .left))
 
-hash-pairs-pair-size-requires : (t : ℕ) → hash-pairs-lts.Need-pair-size-requires (
-  pair-size-reads.Asked,
-  pair-size-reads.Learnt,
-  hash-rows-below t,
-  hash-rows.Post,
-  add-reads.Asked,
-  add-reads.Learnt,
-) (hash-pairs-at t) hash-pairs.Post hash-pairs-Inv-loop hash-pairs-μ-loop
+hash-pairs-pair-size-requires : (t : ℕ) → hash-pairs-lts.Need-pair-size-requires (hash-pairs-calls t) (hash-pairs-at t) hash-pairs.Post hash-pairs-Inv-loop hash-pairs-μ-loop
 hash-pairs-pair-size-requires t c κs = omega (arith, c .before .loop .inv .2)
 
-hash-pairs-sub-hash-rows : (t : ℕ) → hash-pairs-lts.Need-sub-hash-rows (
-  pair-size-reads.Asked,
-  pair-size-reads.Learnt,
-  hash-rows-below t,
-  hash-rows.Post,
-  add-reads.Asked,
-  add-reads.Learnt,
-) (hash-pairs-at t) hash-pairs.Post hash-pairs-Inv-loop hash-pairs-μ-loop
+hash-pairs-sub-hash-rows : (t : ℕ) → hash-pairs-lts.Need-sub-hash-rows (hash-pairs-calls t) (hash-pairs-at t) hash-pairs.Post hash-pairs-Inv-loop hash-pairs-μ-loop
 hash-pairs-sub-hash-rows t c = omega (arith, c .before .before .loop .inv .0)
 
-hash-pairs-hash-rows-requires : (t : ℕ) → hash-pairs-lts.Need-hash-rows-requires (
-  pair-size-reads.Asked,
-  pair-size-reads.Learnt,
-  hash-rows-below t,
-  hash-rows.Post,
-  add-reads.Asked,
-  add-reads.Learnt,
-) (hash-pairs-at t) hash-pairs.Post hash-pairs-Inv-loop hash-pairs-μ-loop
+hash-pairs-hash-rows-requires : (t : ℕ) → hash-pairs-lts.Need-hash-rows-requires (hash-pairs-calls t) (hash-pairs-at t) hash-pairs.Post hash-pairs-Inv-loop hash-pairs-μ-loop
 hash-pairs-hash-rows-requires t c κs = (omega (arith, c .before .before .before .before .before .before .before .before .pre .0, c .before .before .loop .inv .0), (c .before .before .before .before .before .before .before .before .pre .1 .0, omega arith, c .pair-size .ensures .1, omega (arith, c .before .before .loop .inv .2, c .before .before .loop .inv .0, c .before .loop-test .taken)))
 
-hash-pairs-add-requires : (t : ℕ) → hash-pairs-lts.Need-add-requires (
-  pair-size-reads.Asked,
-  pair-size-reads.Learnt,
-  hash-rows-below t,
-  hash-rows.Post,
-  add-reads.Asked,
-  add-reads.Learnt,
-) (hash-pairs-at t) hash-pairs.Post hash-pairs-Inv-loop hash-pairs-μ-loop
+hash-pairs-add-requires : (t : ℕ) → hash-pairs-lts.Need-add-requires (hash-pairs-calls t) (hash-pairs-at t) hash-pairs.Post hash-pairs-Inv-loop hash-pairs-μ-loop
 hash-pairs-add-requires t c κs = (c .before .before .before .loop .inv .1, c .hash-rows .ensures .1)
 
-hash-pairs-add-at : (t : ℕ) → hash-pairs-lts.Need-add-at (
-  pair-size-reads.Asked,
-  pair-size-reads.Learnt,
-  hash-rows-below t,
-  hash-rows.Post,
-  add-reads.Asked,
-  add-reads.Learnt,
-) (hash-pairs-at t) hash-pairs.Post hash-pairs-Inv-loop hash-pairs-μ-loop
+hash-pairs-add-at : (t : ℕ) → hash-pairs-lts.Need-add-at (hash-pairs-calls t) (hash-pairs-at t) hash-pairs.Post hash-pairs-Inv-loop hash-pairs-μ-loop
 hash-pairs-add-at t c = omega (arith, c .before .before .before .before .loop .inv .2, c .before .before .pair-size .ensures .1)
 
-hash-pairs-sub-left : (t : ℕ) → hash-pairs-lts.Need-sub-left (
-  pair-size-reads.Asked,
-  pair-size-reads.Learnt,
-  hash-rows-below t,
-  hash-rows.Post,
-  add-reads.Asked,
-  add-reads.Learnt,
-) (hash-pairs-at t) hash-pairs.Post hash-pairs-Inv-loop hash-pairs-μ-loop
+hash-pairs-sub-left : (t : ℕ) → hash-pairs-lts.Need-sub-left (hash-pairs-calls t) (hash-pairs-at t) hash-pairs.Post hash-pairs-Inv-loop hash-pairs-μ-loop
 hash-pairs-sub-left t c = omega arith
 
-hash-pairs-loop-less : (t : ℕ) → hash-pairs-lts.Need-loop-less (
-  pair-size-reads.Asked,
-  pair-size-reads.Learnt,
-  hash-rows-below t,
-  hash-rows.Post,
-  add-reads.Asked,
-  add-reads.Learnt,
-) (hash-pairs-at t) hash-pairs.Post hash-pairs-Inv-loop hash-pairs-μ-loop
+hash-pairs-loop-less : (t : ℕ) → hash-pairs-lts.Need-loop-less (hash-pairs-calls t) (hash-pairs-at t) hash-pairs.Post hash-pairs-Inv-loop hash-pairs-μ-loop
 hash-pairs-loop-less t c = omega arith
 
-hash-pairs-loop-again : (t : ℕ) → hash-pairs-lts.Need-loop-again (
-  pair-size-reads.Asked,
-  pair-size-reads.Learnt,
-  hash-rows-below t,
-  hash-rows.Post,
-  add-reads.Asked,
-  add-reads.Learnt,
-) (hash-pairs-at t) hash-pairs.Post hash-pairs-Inv-loop hash-pairs-μ-loop
+hash-pairs-loop-again : (t : ℕ) → hash-pairs-lts.Need-loop-again (hash-pairs-calls t) (hash-pairs-at t) hash-pairs.Post hash-pairs-Inv-loop hash-pairs-μ-loop
 hash-pairs-loop-again t c = (c .before .before .before .before .loop .inv .0, c .add .ensures .1, omega (arith, c .before .before .before .before .loop .inv .2, c .before .before .before .loop-test .taken, c .before .before .pair-size .ensures .1), pairs-next _ _ _ _ _ _ (c .before .before .before .before .loop .inv .3) (c .before .before .before .loop-test .taken) _ _ _ (c .before .before .pair-size .ensures .0) (c .before .hash-rows .ensures .0) (c .add .ensures .0))
 
-hash-pairs-returns-2 : (t : ℕ) → hash-pairs-lts.Need-returns-2 (
-  pair-size-reads.Asked,
-  pair-size-reads.Learnt,
-  hash-rows-below t,
-  hash-rows.Post,
-  add-reads.Asked,
-  add-reads.Learnt,
-) (hash-pairs-at t) hash-pairs.Post hash-pairs-Inv-loop hash-pairs-μ-loop
+hash-pairs-returns-2 : (t : ℕ) → hash-pairs-lts.Need-returns-2 (hash-pairs-calls t) (hash-pairs-at t) hash-pairs.Post hash-pairs-Inv-loop hash-pairs-μ-loop
 hash-pairs-returns-2 t c = (pairs-ended _ _ _ _ _ _ (c .before .loop .inv .3) (c .loop-test .left), c .before .loop .inv .1)
 
 abbrev hash-rows-Inv-loop : hash-rows-lts.InvT-loop
@@ -167,242 +96,55 @@ hash-rows-Inv-loop factor msg places lengths table levels h n row sum₀ i₀ su
 abbrev hash-rows-μ-loop : hash-rows-lts.MeasureT-loop
 hash-rows-μ-loop factor msg places lengths table levels h n row sum₀ i₀ sum i = n - i
 
-hash-rows-loop-holds : (t : ℕ) → hash-rows-lts.Need-loop-holds (
-  row-at-reads.Asked,
-  row-at-reads.Learnt,
-  hash-row-reads.Asked,
-  hash-row-reads.Learnt,
-  unordered-rows-reads.Asked,
-  unordered-rows-reads.Learnt,
-  parts-in-reads.Asked,
-  parts-in-reads.Learnt,
-  hash-pairs-below t,
-  hash-pairs.Post,
-) (hash-rows-at t) hash-rows.Post hash-rows-Inv-loop hash-rows-μ-loop
+hash-rows-loop-holds : (t : ℕ) → hash-rows-lts.Need-loop-holds (hash-rows-calls t) (hash-rows-at t) hash-rows.Post hash-rows-Inv-loop hash-rows-μ-loop
 hash-rows-loop-holds t c = (c .before .before .before .before .pre .1 .1, rows-start _ _ _ _ _ _)
 
-hash-rows-add-row-at : (t : ℕ) → hash-rows-lts.Need-add-row-at (
-  row-at-reads.Asked,
-  row-at-reads.Learnt,
-  hash-row-reads.Asked,
-  hash-row-reads.Learnt,
-  unordered-rows-reads.Asked,
-  unordered-rows-reads.Learnt,
-  parts-in-reads.Asked,
-  parts-in-reads.Learnt,
-  hash-pairs-below t,
-  hash-pairs.Post,
-) (hash-rows-at t) hash-rows.Post hash-rows-Inv-loop hash-rows-μ-loop
+hash-rows-add-row-at : (t : ℕ) → hash-rows-lts.Need-add-row-at (hash-rows-calls t) (hash-rows-at t) hash-rows.Post hash-rows-Inv-loop hash-rows-μ-loop
 hash-rows-add-row-at t c = omega arith
 
-hash-rows-row-at-requires : (t : ℕ) → hash-rows-lts.Need-row-at-requires (
-  row-at-reads.Asked,
-  row-at-reads.Learnt,
-  hash-row-reads.Asked,
-  hash-row-reads.Learnt,
-  unordered-rows-reads.Asked,
-  unordered-rows-reads.Learnt,
-  parts-in-reads.Asked,
-  parts-in-reads.Learnt,
-  hash-pairs-below t,
-  hash-pairs.Post,
-) (hash-rows-at t) hash-rows.Post hash-rows-Inv-loop hash-rows-μ-loop
+hash-rows-row-at-requires : (t : ℕ) → hash-rows-lts.Need-row-at-requires (hash-rows-calls t) (hash-rows-at t) hash-rows.Post hash-rows-Inv-loop hash-rows-μ-loop
 hash-rows-row-at-requires t c κs = search needs
 
-hash-rows-hash-row-requires : (t : ℕ) → hash-rows-lts.Need-hash-row-requires (
-  row-at-reads.Asked,
-  row-at-reads.Learnt,
-  hash-row-reads.Asked,
-  hash-row-reads.Learnt,
-  unordered-rows-reads.Asked,
-  unordered-rows-reads.Learnt,
-  parts-in-reads.Asked,
-  parts-in-reads.Learnt,
-  hash-pairs-below t,
-  hash-pairs.Post,
-) (hash-rows-at t) hash-rows.Post hash-rows-Inv-loop hash-rows-μ-loop
+hash-rows-hash-row-requires : (t : ℕ) → hash-rows-lts.Need-hash-row-requires (hash-rows-calls t) (hash-rows-at t) hash-rows.Post hash-rows-Inv-loop hash-rows-μ-loop
 hash-rows-hash-row-requires t c κs = (c .before .before .before .before .before .before .before .pre .1 .0, c .before .before .loop .inv .0)
 
-hash-rows-unordered-rows-requires : (t : ℕ) → hash-rows-lts.Need-unordered-rows-requires (
-  row-at-reads.Asked,
-  row-at-reads.Learnt,
-  hash-row-reads.Asked,
-  hash-row-reads.Learnt,
-  unordered-rows-reads.Asked,
-  unordered-rows-reads.Learnt,
-  parts-in-reads.Asked,
-  parts-in-reads.Learnt,
-  hash-pairs-below t,
-  hash-pairs.Post,
-) (hash-rows-at t) hash-rows.Post hash-rows-Inv-loop hash-rows-μ-loop
+hash-rows-unordered-rows-requires : (t : ℕ) → hash-rows-lts.Need-unordered-rows-requires (hash-rows-calls t) (hash-rows-at t) hash-rows.Post hash-rows-Inv-loop hash-rows-μ-loop
 hash-rows-unordered-rows-requires t c κs = search needs
 
-hash-rows-add-i : (t : ℕ) → hash-rows-lts.Need-add-i (
-  row-at-reads.Asked,
-  row-at-reads.Learnt,
-  hash-row-reads.Asked,
-  hash-row-reads.Learnt,
-  unordered-rows-reads.Asked,
-  unordered-rows-reads.Learnt,
-  parts-in-reads.Asked,
-  parts-in-reads.Learnt,
-  hash-pairs-below t,
-  hash-pairs.Post,
-) (hash-rows-at t) hash-rows.Post hash-rows-Inv-loop hash-rows-μ-loop
+hash-rows-add-i : (t : ℕ) → hash-rows-lts.Need-add-i (hash-rows-calls t) (hash-rows-at t) hash-rows.Post hash-rows-Inv-loop hash-rows-μ-loop
 hash-rows-add-i t c = omega arith
 
-hash-rows-loop-less : (t : ℕ) → hash-rows-lts.Need-loop-less (
-  row-at-reads.Asked,
-  row-at-reads.Learnt,
-  hash-row-reads.Asked,
-  hash-row-reads.Learnt,
-  unordered-rows-reads.Asked,
-  unordered-rows-reads.Learnt,
-  parts-in-reads.Asked,
-  parts-in-reads.Learnt,
-  hash-pairs-below t,
-  hash-pairs.Post,
-) (hash-rows-at t) hash-rows.Post hash-rows-Inv-loop hash-rows-μ-loop
+hash-rows-loop-less : (t : ℕ) → hash-rows-lts.Need-loop-less (hash-rows-calls t) (hash-rows-at t) hash-rows.Post hash-rows-Inv-loop hash-rows-μ-loop
 hash-rows-loop-less t c = omega arith
 
-hash-rows-loop-again : (t : ℕ) → hash-rows-lts.Need-loop-again (
-  row-at-reads.Asked,
-  row-at-reads.Learnt,
-  hash-row-reads.Asked,
-  hash-row-reads.Learnt,
-  unordered-rows-reads.Asked,
-  unordered-rows-reads.Learnt,
-  parts-in-reads.Asked,
-  parts-in-reads.Learnt,
-  hash-pairs-below t,
-  hash-pairs.Post,
-) (hash-rows-at t) hash-rows.Post hash-rows-Inv-loop hash-rows-μ-loop
+hash-rows-loop-again : (t : ℕ) → hash-rows-lts.Need-loop-again (hash-rows-calls t) (hash-rows-at t) hash-rows.Post hash-rows-Inv-loop hash-rows-μ-loop
 hash-rows-loop-again t c = (c .before .before .hash-row .ensures .1, rows-next _ _ _ _ _ _ _ _ (c .before .before .before .before .before .loop .inv .1) (c .before .before .before .before .loop-test .taken) _ _ _ (c .before .before .before .row-at .ensures) (c .before .before .hash-row .ensures .0) (c .before .unordered-rows .ensures .0) (c .if1 .taken))
 
-hash-rows-parts-in-requires : (t : ℕ) → hash-rows-lts.Need-parts-in-requires (
-  row-at-reads.Asked,
-  row-at-reads.Learnt,
-  hash-row-reads.Asked,
-  hash-row-reads.Learnt,
-  unordered-rows-reads.Asked,
-  unordered-rows-reads.Learnt,
-  parts-in-reads.Asked,
-  parts-in-reads.Learnt,
-  hash-pairs-below t,
-  hash-pairs.Post,
-) (hash-rows-at t) hash-rows.Post hash-rows-Inv-loop hash-rows-μ-loop
+hash-rows-parts-in-requires : (t : ℕ) → hash-rows-lts.Need-parts-in-requires (hash-rows-calls t) (hash-rows-at t) hash-rows.Post hash-rows-Inv-loop hash-rows-μ-loop
 hash-rows-parts-in-requires t c κs = search needs
 
-hash-rows-add-hash-pairs : (t : ℕ) → hash-rows-lts.Need-add-hash-pairs (
-  row-at-reads.Asked,
-  row-at-reads.Learnt,
-  hash-row-reads.Asked,
-  hash-row-reads.Learnt,
-  unordered-rows-reads.Asked,
-  unordered-rows-reads.Learnt,
-  parts-in-reads.Asked,
-  parts-in-reads.Learnt,
-  hash-pairs-below t,
-  hash-pairs.Post,
-) (hash-rows-at t) hash-rows.Post hash-rows-Inv-loop hash-rows-μ-loop
+hash-rows-add-hash-pairs : (t : ℕ) → hash-rows-lts.Need-add-hash-pairs (hash-rows-calls t) (hash-rows-at t) hash-rows.Post hash-rows-Inv-loop hash-rows-μ-loop
 hash-rows-add-hash-pairs t c = omega arith
 
-hash-rows-add-hash-pairs-2 : (t : ℕ) → hash-rows-lts.Need-add-hash-pairs-2 (
-  row-at-reads.Asked,
-  row-at-reads.Learnt,
-  hash-row-reads.Asked,
-  hash-row-reads.Learnt,
-  unordered-rows-reads.Asked,
-  unordered-rows-reads.Learnt,
-  parts-in-reads.Asked,
-  parts-in-reads.Learnt,
-  hash-pairs-below t,
-  hash-pairs.Post,
-) (hash-rows-at t) hash-rows.Post hash-rows-Inv-loop hash-rows-μ-loop
+hash-rows-add-hash-pairs-2 : (t : ℕ) → hash-rows-lts.Need-add-hash-pairs-2 (hash-rows-calls t) (hash-rows-at t) hash-rows.Post hash-rows-Inv-loop hash-rows-μ-loop
 hash-rows-add-hash-pairs-2 t c = omega arith
 
-hash-rows-hash-pairs-requires : (t : ℕ) → hash-rows-lts.Need-hash-pairs-requires (
-  row-at-reads.Asked,
-  row-at-reads.Learnt,
-  hash-row-reads.Asked,
-  hash-row-reads.Learnt,
-  unordered-rows-reads.Asked,
-  unordered-rows-reads.Learnt,
-  parts-in-reads.Asked,
-  parts-in-reads.Learnt,
-  hash-pairs-below t,
-  hash-pairs.Post,
-) (hash-rows-at t) hash-rows.Post hash-rows-Inv-loop hash-rows-μ-loop
+hash-rows-hash-pairs-requires : (t : ℕ) → hash-rows-lts.Need-hash-pairs-requires (hash-rows-calls t) (hash-rows-at t) hash-rows.Post hash-rows-Inv-loop hash-rows-μ-loop
 hash-rows-hash-pairs-requires t c κs = (omega (arith, c .before .before .before .before .before .before .before .before .before .before .before .pre .0), (c .before .before .before .before .before .before .before .before .before .before .before .pre .1 .0, c .before .before .before .hash-row .ensures .1, omega (arith, c .parts-in .ensures .1, c .before .before .before .before .before .before .before .before .before .before .before .pre .1 .2, c .before .before .before .before .before .before .before .before .before .before .before .pre .1 .3, c .before .before .before .before .before .loop-test .taken)))
 
-hash-rows-add-i-2 : (t : ℕ) → hash-rows-lts.Need-add-i-2 (
-  row-at-reads.Asked,
-  row-at-reads.Learnt,
-  hash-row-reads.Asked,
-  hash-row-reads.Learnt,
-  unordered-rows-reads.Asked,
-  unordered-rows-reads.Learnt,
-  parts-in-reads.Asked,
-  parts-in-reads.Learnt,
-  hash-pairs-below t,
-  hash-pairs.Post,
-) (hash-rows-at t) hash-rows.Post hash-rows-Inv-loop hash-rows-μ-loop
+hash-rows-add-i-2 : (t : ℕ) → hash-rows-lts.Need-add-i-2 (hash-rows-calls t) (hash-rows-at t) hash-rows.Post hash-rows-Inv-loop hash-rows-μ-loop
 hash-rows-add-i-2 t c = omega (arith, c .before .before .before .unordered-rows .ensures .1)
 
-hash-rows-add-i-3 : (t : ℕ) → hash-rows-lts.Need-add-i-3 (
-  row-at-reads.Asked,
-  row-at-reads.Learnt,
-  hash-row-reads.Asked,
-  hash-row-reads.Learnt,
-  unordered-rows-reads.Asked,
-  unordered-rows-reads.Learnt,
-  parts-in-reads.Asked,
-  parts-in-reads.Learnt,
-  hash-pairs-below t,
-  hash-pairs.Post,
-) (hash-rows-at t) hash-rows.Post hash-rows-Inv-loop hash-rows-μ-loop
+hash-rows-add-i-3 : (t : ℕ) → hash-rows-lts.Need-add-i-3 (hash-rows-calls t) (hash-rows-at t) hash-rows.Post hash-rows-Inv-loop hash-rows-μ-loop
 hash-rows-add-i-3 t c = omega (arith, c .before .before .before .unordered-rows .ensures .1)
 
-hash-rows-loop-less-2 : (t : ℕ) → hash-rows-lts.Need-loop-less-2 (
-  row-at-reads.Asked,
-  row-at-reads.Learnt,
-  hash-row-reads.Asked,
-  hash-row-reads.Learnt,
-  unordered-rows-reads.Asked,
-  unordered-rows-reads.Learnt,
-  parts-in-reads.Asked,
-  parts-in-reads.Learnt,
-  hash-pairs-below t,
-  hash-pairs.Post,
-) (hash-rows-at t) hash-rows.Post hash-rows-Inv-loop hash-rows-μ-loop
+hash-rows-loop-less-2 : (t : ℕ) → hash-rows-lts.Need-loop-less-2 (hash-rows-calls t) (hash-rows-at t) hash-rows.Post hash-rows-Inv-loop hash-rows-μ-loop
 hash-rows-loop-less-2 t c = omega arith
 
-hash-rows-loop-again-2 : (t : ℕ) → hash-rows-lts.Need-loop-again-2 (
-  row-at-reads.Asked,
-  row-at-reads.Learnt,
-  hash-row-reads.Asked,
-  hash-row-reads.Learnt,
-  unordered-rows-reads.Asked,
-  unordered-rows-reads.Learnt,
-  parts-in-reads.Asked,
-  parts-in-reads.Learnt,
-  hash-pairs-below t,
-  hash-pairs.Post,
-) (hash-rows-at t) hash-rows.Post hash-rows-Inv-loop hash-rows-μ-loop
+hash-rows-loop-again-2 : (t : ℕ) → hash-rows-lts.Need-loop-again-2 (hash-rows-calls t) (hash-rows-at t) hash-rows.Post hash-rows-Inv-loop hash-rows-μ-loop
 hash-rows-loop-again-2 t c = (c .hash-pairs .ensures .1, map-next _ _ _ _ _ _ _ _ (c .before .before .before .before .before .before .before .loop .inv .1) (c .before .before .before .before .before .before .loop-test .taken) _ _ _ (c .before .before .before .before .before .row-at .ensures) (c .before .before .before .before .hash-row .ensures .0) (c .before .before .before .unordered-rows .ensures .0) (c .before .before .if1 .left) _ _ (c .before .parts-in .ensures .0) (c .hash-pairs .ensures .0))
 
-hash-rows-returns : (t : ℕ) → hash-rows-lts.Need-returns (
-  row-at-reads.Asked,
-  row-at-reads.Learnt,
-  hash-row-reads.Asked,
-  hash-row-reads.Learnt,
-  unordered-rows-reads.Asked,
-  unordered-rows-reads.Learnt,
-  parts-in-reads.Asked,
-  parts-in-reads.Learnt,
-  hash-pairs-below t,
-  hash-pairs.Post,
-) (hash-rows-at t) hash-rows.Post hash-rows-Inv-loop hash-rows-μ-loop
+hash-rows-returns : (t : ℕ) → hash-rows-lts.Need-returns (hash-rows-calls t) (hash-rows-at t) hash-rows.Post hash-rows-Inv-loop hash-rows-μ-loop
 hash-rows-returns t c = (rows-ended _ _ _ _ _ _ _ _ (c .before .loop .inv .1) (c .loop-test .left), c .before .loop .inv .0)
 
 pub +hash-pairs+hash-rows-spec : {M : Type 1} → statement M
