@@ -8,8 +8,9 @@
 -define(BYTES_MOST, 65536).
 -define(ROWS_MOST, 8192).
 -define(EACH, 256).
-%% What the first hash of a key multiplies by (crate term_hash): keys whose halves cancel meet in it.
+%% What the hash of a key multiplies by in the first round, and what each later round adds (crate term_hash).
 -define(FACTOR, 2246822519).
+-define(FACTOR_STEP, 2135587862).
 
 %% Writes all files; prints their names, the sizes of a kind upward.
 make(Dir) ->
@@ -88,6 +89,7 @@ kinds() ->
 worst() ->
     [{"halves-of-one-sum", map(1, fun(_, I) -> <<110, 8, 0, (mixed_up(I)):32/little, (100000 - mixed_up(I)):32/little>> end)},
      {"one-hash", map(1, fun(_, I) -> <<110, 8, 0, (-?FACTOR * (I + 1)):32/little, (I + 1):32/little>> end)},
+     {"one-half-of-slots", map(1, fun(_, I) -> crowded((I + 1) bsl 40) end)},
      {"strings-late", map(37, fun(_, I) -> <<107, 36:16, (binary:copy(<<"a">>, 32))/binary, (mixed_up(I)):32>> end)},
      {"tuples-late", map(18, fun(_, I) -> [104, 17, binary:copy(<<97, 1>>, 16), <<98, (mixed_up(I)):32>>] end)},
      {"binaries-middle", map(1, fun(_, I) -> middle(33, I) end)},
@@ -102,6 +104,16 @@ worst() ->
 
 list(Rows, Element) -> {run, <<108>>, 4, fun(I) -> iolist_to_binary(Element(I)) end, <<106>>, Rows}.
 map(Rows, Key) -> {map, fun(N, I) -> iolist_to_binary(Key(N, I)) end, Rows}.
+
+%% The first integer from N on, of one row in a standalone map, whose first eight rounds all point to the lower half of the slots.
+crowded(N) ->
+    case lists:all(fun(Round) -> hash(Round, N) < 32768 end, lists:seq(0, 7)) of
+        true -> <<110, 8, 0, N:64/little>>;
+        false -> crowded(N + 1)
+    end.
+hash(Round, N) ->
+    Factor = (?FACTOR + Round * ?FACTOR_STEP) band 16#ffffffff,
+    lists:foldl(fun(X, H) -> ((H + (X bsr 32)) * Factor + X) band 16#ffffffff end, 0, [1, 1, N, 0, 1]) bsr 16.
 
 %% N bytes, a number and N bytes.
 middle(N, I) -> [<<109, (2 * N + 4):32>>, binary:copy(<<"a">>, N), <<(mixed_up(I)):32>>, binary:copy(<<"b">>, N)].
