@@ -192,6 +192,62 @@ static void many_meet(void)
     each_again(5, 1, add_moved);
 }
 
+/* ---- a key again in another encoding: hashes go by the meaning */
+
+static const struct { struct bytes one, other; } encodings[] = {
+    {{BYTES(97, 7)}, {BYTES(98, 0, 0, 0, 7)}},
+    {{BYTES(97, 7)}, {BYTES(110, 4, 0, 7, 0, 0, 0)}},
+    {{BYTES(98, 255, 255, 255, 255)}, {BYTES(111, 0, 0, 0, 2, 1, 1, 0)}},
+    {{BYTES(110, 9, 1, 1, 2, 3, 4, 5, 6, 7, 8, 9)}, {BYTES(111, 0, 0, 0, 11, 1, 1, 2, 3, 4, 5, 6, 7, 8, 9, 0, 0)}},
+    {{BYTES(110, 1, 1, 0)}, {BYTES(97, 0)}},
+    {{BYTES(119, 2, 195, 169)}, {BYTES(115, 1, 233)}},
+    {{BYTES(118, 0, 2, 195, 169)}, {BYTES(100, 0, 1, 233)}},
+    {{BYTES(82, 0)}, {BYTES(119, 2, 'o', 'k')}},
+    {{BYTES(107, 0, 2, 1, 2)}, {BYTES(108, 0, 0, 0, 1, 98, 0, 0, 0, 1, 107, 0, 1, 2)}},
+    {{BYTES(106)}, {BYTES(108, 0, 0, 0, 0, 107, 0, 0)}},
+    {{BYTES(109, 0, 0, 0, 2, 1, 2)}, {BYTES(77, 0, 0, 0, 2, 8, 1, 2)}},
+    {{BYTES(77, 0, 0, 0, 2, 3, 1, 160)}, {BYTES(77, 0, 0, 0, 2, 3, 1, 191)}},
+    {{BYTES(104, 1, 97, 7)}, {BYTES(105, 0, 0, 0, 1, 110, 1, 0, 7)}},
+    {{BYTES(88, 82, 0, 0, 0, 0, 1, 0, 0, 0, 2, 0, 0, 0, 3)}, {BYTES(103, 119, 2, 'o', 'k', 0, 0, 0, 1, 0, 0, 0, 2, 3)}},
+    {{BYTES(89, 82, 0, 0, 0, 0, 1, 0, 0, 0, 3)}, {BYTES(120, 119, 2, 'o', 'k', 0, 0, 0, 0, 0, 0, 0, 1, 0, 0, 0, 3)}},
+    {{BYTES(90, 0, 1, 82, 0, 0, 0, 0, 3, 0, 0, 0, 9)}, {BYTES(101, 119, 2, 'o', 'k', 0, 0, 0, 9, 3)}},
+    {{BYTES(116, 0, 0, 0, 2, 97, 1, 97, 7, 97, 2, 82, 0)}, {BYTES(116, 0, 0, 0, 2, 98, 0, 0, 0, 2, 119, 2, 'o', 'k', 110, 1, 0, 1, 98, 0, 0, 0, 7)}},
+    {{BYTES(116, 0, 0, 0, 1, 116, 0, 0, 0, 2, 97, 1, 106, 97, 2, 106, 97, 7)}, {BYTES(116, 0, 0, 0, 1, 116, 0, 0, 0, 2, 97, 2, 107, 0, 0, 98, 0, 0, 0, 1, 106, 97, 7)}},
+};
+
+/* After n other keys, in either order, by itself and in a tuple. */
+static void encoded(size_t n, struct bytes one, struct bytes other, int inside)
+{
+    static uint8_t memory[ROOM];
+    struct made m = {memory, 0};
+    add(&m, BYTES(131));
+    add_map(&m, n + 2);
+    for (size_t i = 0; i < n; i++) {
+        add_number(&m, 1000 + i, 0);
+        add(&m, BYTES(106));
+    }
+    size_t later = 0;
+    for (int second = 0; second < 2; second++) {
+        later = m.size;
+        if (inside)
+            add(&m, BYTES(104, 2, 97, 9));
+        add(&m, second ? other.bytes : one.bytes, second ? other.size : one.size);
+        add(&m, BYTES(106));
+    }
+    equal_at(&m, later);
+}
+
+static void other_encodings(void)
+{
+    static const size_t counts[] = {0, 1, 20, 100, 1000, 4000};
+    for (size_t i = 0; i < sizeof encodings / sizeof *encodings; i++)
+        for (size_t k = 0; k < sizeof counts / sizeof *counts; k++)
+            for (int inside = 0; inside < 2; inside++) {
+                encoded(counts[k], encodings[i].one, encodings[i].other, inside);
+                encoded(counts[k], encodings[i].other, encodings[i].one, inside);
+            }
+}
+
 /* ---- the same keys in many maps: at one level, and at each level of maps in values */
 
 static void same_keys(void)
@@ -232,6 +288,7 @@ int main(void)
 {
     large_maps();
     many_meet();
+    other_encodings();
     same_keys();
     return ended("keys");
 }
