@@ -102,6 +102,38 @@ static void equal_keys(void)
     tuples(wholes - 1);
     PUT(106);
 }
+/* Maps in one another by value or by key, each with so many pairs, these turned or not. */
+static void maps_in(int count, int pairs, int by_key, int turned)
+{
+    if (count == 0) {
+        PUT(106);
+        return;
+    }
+    PUT(116, 0, 0, 0, (uint8_t)pairs);
+    for (int i = 0; i < pairs; i++) {
+        int pair = turned ? pairs - 1 - i : i;
+        if (pair == 0 && by_key)
+            maps_in(count - 1, pairs, by_key, turned);
+        else
+            PUT(97, (uint8_t)pair);
+        if (pair == 0 && !by_key)
+            maps_in(count - 1, pairs, by_key, turned);
+        else
+            PUT(106);
+    }
+}
+static void equal_maps(int pairs, int by_key)
+{
+    PUT(116, 0, 0, 0, 2);
+    for (int turned = 0; turned < 2; turned++) {
+        maps_in(wholes - 1, pairs, by_key, turned);
+        PUT(106);
+    }
+}
+static void by_value_2(void) { equal_maps(2, 0); }
+static void by_key_2(void) { equal_maps(2, 1); }
+static void by_value_32(void) { equal_maps(32, 0); }
+static void by_key_32(void) { equal_maps(32, 1); }
 static void pid_in(int count)
 {
     for (int i = 0; i < count; i++)
@@ -130,7 +162,8 @@ static void wide(void)
 
 static const struct { const char *name; void (*build)(void); } builds[] = {
     {"tuples", in_tuples}, {"lists", in_lists}, {"improper tails", in_tails}, {"maps by value", in_maps}, {"maps by key", in_keys},
-    {"two equal keys", equal_keys}, {"a pid in tuples", pids}, {"8,191 joined tails", joined}, {"13,000 lists of length 0", wrapped}, {"8,191 parts", wide},
+    {"two equal keys", equal_keys}, {"equal maps of 2 by value", by_value_2}, {"equal maps of 2 by key", by_key_2},
+    {"equal maps of 32 by value", by_value_32}, {"equal maps of 32 by key", by_key_32}, {"a pid in tuples", pids}, {"8,191 joined tails", joined}, {"13,000 lists of length 0", wrapped}, {"8,191 parts", wide},
 };
 static const struct { const char *name; void (*run)(void); } on_terms[] = {
     {"ik_read_*", read_it}, {"ik_write_*", write_it}, {"ik_number_*", number_it}, {"ik_text_*", text_it}, {"ik_mark_*", mark_it},
