@@ -113,7 +113,7 @@ static void large_maps(void)
 /* Halves that cancel in the first hash (crate term_hash). */
 static void add_cancelling(struct made *m, size_t number)
 {
-    uint32_t high = (uint32_t)number + 1, low = -2246822519u * high;
+    uint32_t high = (uint32_t)number + 1, low = -4248335397u * high;
     add(m, BYTES(110, 8, 0, (uint8_t)low, (uint8_t)(low >> 8), (uint8_t)(low >> 16), (uint8_t)(low >> 24)));
     add(m, BYTES((uint8_t)high, (uint8_t)(high >> 8), (uint8_t)(high >> 16), (uint8_t)(high >> 24)));
 }

@@ -9,7 +9,7 @@
 -define(ROWS_MOST, 8192).
 -define(EACH, 256).
 %% What the hash of a key multiplies by in the first round, and what each later round adds (crate term_hash).
--define(FACTOR, 2246822519).
+-define(FACTOR, 4248335397).
 -define(FACTOR_STEP, 2135587862).
 
 %% Writes all files; prints their names, the sizes of a kind upward.

@@ -43,7 +43,7 @@ module _ (hash : ℕ → ℕ → ℕ) (T : List ℕ) where
 
 -- each round has a factor of its own
 unfoldable pub factor-of : ℕ → ℕ
-factor-of round = (2246822519 + round * 2135587862) % 4294967296
+factor-of round = (4248335397 + round * 2135587862) % 4294967296
 
 -- of a term of more than 2048 rows only the first counts
 unfoldable pub hashed-rows : ℕ → ℕ

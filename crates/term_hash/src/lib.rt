@@ -29,7 +29,7 @@ const HASH_SIZE: u64 = 4294967296;
 const HALF: u64 = 65536;
 
 // The factor of the first round, and what each later one adds; how they were chosen is in docs/DECISIONS.md.
-const FACTOR: u64 = 2246822519;
+const FACTOR: u64 = 4248335397;
 
 const FACTOR_STEP: u64 = 2135587862;
 
