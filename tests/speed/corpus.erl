@@ -8,8 +8,8 @@
 -define(BYTES_MOST, 65536).
 -define(ROWS_MOST, 8192).
 -define(EACH, 256).
-%% What the hash of a key multiplies by in the first round, and what each later round adds (crate term_hash).
--define(FACTOR, 4248335397).
+%% What the hash of a key multiplies by in the first pass, and what each later pass or round adds (crate term_hash).
+-define(FACTOR, 3266489909).
 -define(FACTOR_STEP, 2135587862).
 
 %% Writes all files; prints their names, the sizes of a kind upward.
@@ -51,8 +51,8 @@ pid(I) -> binary_to_term(<<131, (pid_bytes(I))/binary>>).
 reference(I) -> binary_to_term(<<131, (reference_bytes(I))/binary>>).
 
 %% ---- kinds of one message: a run of elements {run, tag, width of the number field, element I, what ends it, rows of an element}, a map of
-%% keys {map, key I of N, rows of a key}, bytes {filled, tag, fields after the length, byte} or {string, tag}, a binary in maps
-%% {in_maps, pairs of each}, or two maps as keys {two_maps, the order of the second}
+%% keys {map, key I of N, rows of a key}, bytes {filled, tag, fields after the length, byte} or {string, tag}, a key in maps
+%% {in_maps, how many, pairs of each, the key of so many bytes}, or two maps as keys {two_maps, the order of the second}
 
 kinds() ->
     [{"small-integers", list(1, fun(I) -> <<97, I>> end)},
@@ -80,6 +80,7 @@ kinds() ->
      {"keys-upward", map(1, fun(_, I) -> <<98, I:32>> end)},
      {"keys-downward", map(1, fun(N, I) -> <<98, (N - I):32>> end)},
      {"keys-mixed", map(1, fun(_, I) -> <<98, (mixed_up(I)):32>> end)},
+     {"keys-apart", map(1, fun(_, I) -> <<98, (I * 7919):32>> end)},
      {"keys-binary", map(1, fun(_, I) -> <<109, 8:32, I:64>> end)},
      {"keys-atom", map(1, fun(_, I) -> atom_bytes(I) end)},
      {"keys-atom-mixed", map(1, fun(_, I) -> atom_bytes(mixed_up(I)) end)},
@@ -88,7 +89,8 @@ kinds() ->
 %% Keys of one hash, keys that differ late or in their middle, keys that are long or deep, and keys that are maps.
 worst() ->
     [{"halves-of-one-sum", map(1, fun(_, I) -> <<110, 8, 0, (mixed_up(I)):32/little, (100000 - mixed_up(I)):32/little>> end)},
-     {"one-hash", map(1, fun(_, I) -> <<110, 8, 0, (-?FACTOR * (I + 1)):32/little, (I + 1):32/little>> end)},
+     {"one-hash", map(1, fun(_, I) -> one_hash(I + 1) end)},
+     {"one-sum-for-odd-factors", map(1, fun(_, I) -> one_sum(I) end)},
      {"one-half-of-slots", map(1, fun(_, I) -> crowded((I + 1) bsl 40) end)},
      {"strings-late", map(37, fun(_, I) -> <<107, 36:16, (binary:copy(<<"a">>, 32))/binary, (mixed_up(I)):32>> end)},
      {"tuples-late", map(18, fun(_, I) -> [104, 17, binary:copy(<<97, 1>>, 16), <<98, (mixed_up(I)):32>>] end)},
@@ -96,27 +98,59 @@ worst() ->
      {"long-binaries-middle", map(1, fun(_, I) -> middle(524, I) end)},
      {"maps-of-one-size", map(5, fun(_, I) -> [<<116, 2:32, 97, 1, 97, 2>>, <<98, (mixed_up(I)):32, 106>>] end)},
      {"maps-values-swapped", map(13, fun(_, I) -> swapped_map(I) end)},
+     {"maps-late", map(13, fun(_, I) -> [binary:copy(<<116, 1:32>>, 6), <<98, I:32>>, binary:copy(<<106>>, 6)] end)},
      {"maps-turned", map(89, fun(_, I) -> turned_map(I) end)},
      {"two-maps-turned", {two_maps, fun lists:reverse/1}},
      {"two-maps-mixed", {two_maps, fun mixed_list/1}},
-     {"key-63-deep", {in_maps, 1}},
-     {"key-63-deep-of-two", {in_maps, 2}}].
+     {"key-63-deep", {in_maps, 63, 1, fun long_binary/1}},
+     {"key-63-deep-of-two", {in_maps, 63, 2, fun long_binary/1}},
+     {"binaries-62-deep", {in_maps, 62, 2, fun(N) -> tuple_of(N, binary(1000)) end}},
+     {"atoms-62-deep", {in_maps, 62, 2, fun(N) -> tuple_of(N, [<<100, 255:16>>, binary:copy(<<233>>, 255)]) end}},
+     {"integers-62-deep", {in_maps, 62, 2, fun(N) -> tuple_of(min(N, 2 * 1900), [97, 1]) end}}].
 
 list(Rows, Element) -> {run, <<108>>, 4, fun(I) -> iolist_to_binary(Element(I)) end, <<106>>, Rows}.
 map(Rows, Key) -> {map, fun(N, I) -> iolist_to_binary(Key(N, I)) end, Rows}.
 
 %% The first integer from N on, of one row in a standalone map, whose first eight rounds all point to the lower half of the slots.
 crowded(N) ->
-    case lists:all(fun(Round) -> hash(Round, N) < 32768 end, lists:seq(0, 7)) of
+    First = pass(0, [1, 1, N, 0, 1]),
+    case lower(mix(0, 0, First)) andalso crowded_later(First, pass(1, [1, 1, N, 0, 1]), 1) of
         true -> <<110, 8, 0, N:64/little>>;
         false -> crowded(N + 1)
     end.
-hash(Round, N) ->
-    Factor = (?FACTOR + Round * ?FACTOR_STEP) band 16#ffffffff,
-    lists:foldl(fun(X, H) -> ((H + (X bsr 32)) * Factor + X) band 16#ffffffff end, 0, [1, 1, N, 0, 1]) bsr 16.
+crowded_later(_, _, 8) -> true;
+crowded_later(A, B, Round) -> lower(mix(Round, Round, mix(Round, Round, mix(Round, B, A)))) andalso crowded_later(A, B, Round + 1).
+lower(Hash) -> Hash < 16#80000000.
+
+%% An integer of one row in a standalone map that has the hash of all others in the first pass.
+one_hash(High) ->
+    Low = -(mix(0, High bsl 32, pass(0, [1, 1]))),
+    <<110, 8, 0, Low:32/little, High:32/little>>.
+
+pass(Pass, Numbers) -> lists:foldl(fun(X, H) -> mix(Pass, X, H) end, 0, Numbers).
+mix(I, X, H) ->
+    Factor = (?FACTOR + I * ?FACTOR_STEP) band 16#ffffffff,
+    ((((H + (X bsr 32)) band 16#ffffffff) * Factor bsr 16) + X) band 16#ffffffff.
+
+%% Binaries of 40 bytes with one sum of byte I times the factor to the I, modulo 2^32, whichever odd number the factor is: they differ by
+%% multiples of (x^2 - 1) * (x^4 - 1)^6 * (x^8 - 1).
+one_sum(I) ->
+    Step = lists:foldl(fun(N, P) -> times_less(N, P) end, [1], [2, 4, 4, 4, 4, 4, 4, 8]),
+    Digits = [I div D rem 5 - 2 || D <- [1, 5, 25, 125, 625, 3125]],
+    Sums = [[lists:duplicate(At, 0) ++ [D * C || C <- Step] ++ lists:duplicate(5 - At, 0)] || {At, D} <- lists:zip(lists:seq(0, 5), Digits)],
+    [<<109, 40:32>>, lists:foldl(fun([L], Acc) -> lists:zipwith(fun(X, Y) -> X + Y end, L, Acc) end, lists:duplicate(40, 128), Sums)].
+%% A polynomial times x^N - 1.
+times_less(N, P) -> lists:zipwith(fun(X, Y) -> X - Y end, lists:duplicate(N, 0) ++ P, P ++ lists:duplicate(N, 0)).
 
 %% N bytes, a number and N bytes.
 middle(N, I) -> [<<109, (2 * N + 4):32>>, binary:copy(<<"a">>, N), <<(mixed_up(I)):32>>, binary:copy(<<"b">>, N)].
+
+binary(N) -> [<<109, N:32>>, binary:copy(<<65>>, N)].
+long_binary(Bytes) -> binary(Bytes - 5).
+%% A tuple of as many of the element as there is room for.
+tuple_of(Bytes, Element) ->
+    N = (Bytes - 5) div iolist_size(Element),
+    [<<105, N:32>>, lists:duplicate(N, Element)].
 
 %% Six pairs whose values are the same six in another order, one of 720.
 swapped_map(I) -> [<<116, 6:32>>, [[97, K, 97, V] || {K, V} <- lists:zip(lists:seq(1, 6), permuted(I rem 720, lists:seq(101, 106)))]].
@@ -153,11 +187,10 @@ sized({map, Key, Rows}, Bytes) ->
     Size = byte_size(Key(0, 0)) + 2,
     N = min((Bytes - 6) div Size, (?ROWS_MOST - 1) div (Rows + 1)),
     iolist_to_binary([131, 116, <<N:32>>, [[Key(N, I), 97, I rem 256] || I <- lists:seq(1, N)]]);
-%% 63 maps, each the key of the next, of one pair or with another pair before it.
-sized({in_maps, Pairs}, Bytes) ->
-    Before = binary:copy(<<116, Pairs:32, (binary:copy(<<97, 1, 106>>, Pairs - 1))/binary>>, 63),
-    N = Bytes - 1 - byte_size(Before) - 5 - 63,
-    <<131, Before/binary, 109, N:32, (binary:copy(<<65>>, N))/binary, (binary:copy(<<106>>, 63))/binary>>;
+%% A key in so many maps, each the key of the next, of one pair or with another pair before it.
+sized({in_maps, Maps, Pairs, Key}, Bytes) ->
+    Before = binary:copy(<<116, Pairs:32, (binary:copy(<<97, 1, 106>>, Pairs - 1))/binary>>, Maps),
+    iolist_to_binary([131, Before, Key(Bytes - 1 - byte_size(Before) - Maps), binary:copy(<<106>>, Maps)]);
 %% The second has the pairs of the first, in another order, but for the value of one.
 sized({two_maps, Order}, Bytes) ->
     N = min((Bytes - 18) div 14, (?ROWS_MOST - 5) div 4),

@@ -133,7 +133,7 @@ module _
   no-rows maps a b = refl
 
   module _ (flags : ℕ) where
-    -- a comparison of maps of two pairs or more, at most d levels deep
+    -- a comparison of maps with pairs, at most d levels deep
     abbrev Finds-maps : ℕ → (ℕ → ℕ → Bool) → Type 0
     Finds-maps d maps =
         (l m : Label × Offset) (ts us : Terms) → l .0 ≡ map → m .0 ≡ map → count ts ≡ count us → suc (deepest ts) ≤ d → Valid flags (as-read (node l ts)) → Valid flags (as-read (node m us))

@@ -1,6 +1,6 @@
 -- The slots of the set of keys: where a path comes to, one law for each way through the functions that walk it, and that occupied slots stay.
 use mathlib.Core.Path.{_≡_, refl, sym, _∙_, ap, subst}
-use mathlib.Core.Bool.{Bool, true, false}
+use mathlib.Core.Bool.{Bool, true, false, cond}
 use mathlib.Core.List.{List}
 use Prim.Native.Nat.{ℕ, _+_, _*_, _-_, _/_, _%_, _≤_, _<_}
 use native.Mathlib.Nat.{mul-comm, add-mul, mul-assoc, mul-le-mul, mul-le-mul-right, mul-add-div, div-add-mod, mod-lt, mod-eq-of-lt, mod-self, mod-add-mod}
@@ -9,13 +9,13 @@ use lib.Dec.{eqb}
 use lib.ListN.{length, getD, set, length-set}
 use lib.Seq.{getD-set-same, getD-set-other}
 use borrow.Author.Count.{below-none, below-more}
-use borrow.Author.Tests.{eqb-true, eqb-false, eq-eqb}
+use borrow.Author.Tests.{eqb-true, eqb-false, eq-eqb, ne-eqb}
 use Rattle.term_spec.specs.Rows.{whole-in}
 use Rattle.term_spec.proofs.Tests.{by-less}
-use Rattle.term_hash.specs.Hash.{term-hash}
-use Rattle.map_keys.specs.Path.{place, slot}
+use Rattle.term_hash.specs.Hash.{pass-hash, seed-of, round-hash, term-hash}
+use Rattle.map_keys.specs.Path.{place, next-place, slot}
 use Rattle.map_keys.specs.Found.{same-key}
-use Rattle.map_keys.specs.KeySet.{Contains, First-empty, Keeps, key-hashes, same-terms-raw, Absent}
+use Rattle.map_keys.specs.KeySet.{Contains, First-empty, Keeps, key-hashes, key-seed, Seeded, same-terms-raw, Absent}
 
 -- ---- the slot to which a hash points
 
@@ -59,10 +59,7 @@ module _ (hs : ℕ → ℕ) where
     last-place : i ≡ place hs n (d - 1)
     last-place = e (omega arith)
 
-    pub last-inside : 0 < n → i < n
-    last-inside l = let b : place hs n (d - 1) < n = place-below n (d - 1) l in omega (arith, last-place)
-
-    pub place-next : (r : ℕ) → r ≡ (i + 1) % n → r ≡ place hs n d
+    place-next : (r : ℕ) → r ≡ (i + 1) % n → r ≡ place hs n d
     unfolding place
     place-next r f =
         let x : ℕ = hs (d / 2) * n / 65536 in
@@ -75,10 +72,51 @@ module _ (hs : ℕ → ℕ) where
   unfolding place
   place-as f n d = ap (λ (h : ℕ). (h * n / 65536 + d % 2) % n) (f (d / 2))
 
-pub path-start : (m places lengths T : List ℕ) (first key n d h r : ℕ) → d % 2 ≡ 0 → h ≡ term-hash m places lengths T (d / 2) first key → r ≡ h * n / 65536 → r < n
-    → r ≡ place (key-hashes m places lengths T first key) n d
-unfolding key-hashes
-path-start m places lengths T first key n d h r z e f l = place-start (key-hashes m places lengths T first key) n d r z (f ∙ ap (λ (k : ℕ). k * n / 65536) e) l
+module _ (seed n d i r : ℕ) where
+  pub start-place : (h : ℕ) → d % 2 ≡ 0 → h ≡ round-hash seed (d / 2) → r ≡ h * n / 65536 → r ≡ next-place seed n d i
+  unfolding next-place
+  start-place h z e f = rw (eq-eqb (d % 2) 0 z, ← e) f
+
+  pub on-place : (d % 2 ≡ 0 → ⊥) → r ≡ (i + 1) % n → r ≡ next-place seed n d i
+  unfolding next-place
+  on-place z f = rw (ne-eqb (d % 2) 0 z) f
+
+module _ (m places lengths T : List ℕ) (first key n d : ℕ) where
+  -- the slot before is inside
+  pub slot-inside : (i : ℕ) → (0 < d → i ≡ place (key-hashes m places lengths T first key) n (d - 1)) → 0 < n → 0 < d → i < n
+  slot-inside i last l k = let b : place (key-hashes m places lengths T first key) n (d - 1) < n = place-below (key-hashes m places lengths T first key) n (d - 1) l in omega (arith, last k)
+
+  -- the next one, by the seed of its round
+  pub place-at : (i seed r : ℕ) → (0 < d → i ≡ place (key-hashes m places lengths T first key) n (d - 1)) → seed ≡ key-seed m places lengths T first key (d / 2) → r ≡ next-place seed n d i → r < n
+      → r ≡ place (key-hashes m places lengths T first key) n d
+  unfolding next-place key-hashes key-seed term-hash
+  place-at i seed r last s e l = go (eqb (d % 2) 0) refl e
+    where
+      go : (t : Bool) → eqb (d % 2) 0 ≡ t → r ≡ cond t (round-hash seed (d / 2) * n / 65536) ((i + 1) % n) → r ≡ place (key-hashes m places lengths T first key) n d
+      go true z f = place-start (key-hashes m places lengths T first key) n d r (eqb-true (d % 2) 0 z) (f ∙ ap (λ (x : ℕ). round-hash x (d / 2) * n / 65536) s) l
+      go false z f = place-next (key-hashes m places lengths T first key) n d i (eqb-false (d % 2) 0 z) last r f
+
+pub no-seed : (m places lengths T : List ℕ) (first key seed : ℕ) → Seeded m places lengths T first key 0 seed
+no-seed m places lengths T first key seed l = absurd (omega arith)
+
+module _ (m places lengths T : List ℕ) (first key d seed : ℕ) where
+  module _ (last : Seeded m places lengths T first key d seed) where
+    -- a round starts
+    pub round-before : d % 2 ≡ 0 → 0 < d / 2 → seed ≡ seed-of (pass-hash m places lengths T first key) (d / 2 - 1)
+    unfolding key-seed
+    round-before z l = let e : (d - 1) / 2 ≡ d / 2 - 1 = omega arith in rw e at (last (omega arith))
+
+    -- or goes on
+    pub round-goes-on : (d % 2 ≡ 0 → ⊥) → seed ≡ key-seed m places lengths T first key (d / 2)
+    round-goes-on z = let e : (d - 1) / 2 ≡ d / 2 = omega arith in rw e at (last (omega arith))
+
+  pub seed-is : seed ≡ seed-of (pass-hash m places lengths T first key) (d / 2) → seed ≡ key-seed m places lengths T first key (d / 2)
+  unfolding key-seed
+  seed-is e = e
+
+  -- the next step
+  pub next-seeded : seed ≡ key-seed m places lengths T first key (d / 2) → Seeded m places lengths T first key (d + 1) seed
+  next-seeded e l = let k : d + 1 - 1 ≡ d = omega arith in rw k e
 
 -- ---- occupied slots stay
 

@@ -8,7 +8,7 @@ use lib.ListN.{length, getD}
 use Rattle.term_spec.specs.Rows.{parts-in, size-in}
 use Rattle.term_rows.specs.Rows.{unordered-rows, pair-size}
 
--- over a comparison of words and one of the maps of two pairs or more at two rows
+-- over a comparison of words and one of the maps with pairs at two rows
 module _ (alike : ℕ → ℕ → Bool) (T : List ℕ) (maps : ℕ → ℕ → Bool) where
   -- n rows from a on and from b on, of which the first s are stepped over
   unfoldable pub same-rows : ℕ → ℕ → ℕ → ℕ → Bool
@@ -85,7 +85,7 @@ module _ (T : List ℕ) (terms : ℕ → ℕ → Bool) (hint : ℕ → ℕ → �
   pairs-marked n zero a b end = true
   pairs-marked n (suc m) a b end = cond (pair-marked n a b end) (pairs-marked n m (a + pair-size T a) b end) false
 
-  -- the maps of two pairs or more at a and b: of few pairs, or of 32 or more
+  -- the maps with pairs at a and b: of few, or of 32 or more
   unfoldable pub maps-from : ℕ → ℕ → Bool
   maps-from a b =
       cond (eqb (size-in (getD T a 0)) (size-in (getD T b 0)))
@@ -96,7 +96,7 @@ module _ (T : List ℕ) (terms : ℕ → ℕ → Bool) (hint : ℕ → ℕ → �
 
 -- over a hint that may compare terms
 module _ (alike : ℕ → ℕ → Bool) (T : List ℕ) (hint : (ℕ → ℕ → Bool) → ℕ → ℕ → ℕ) where
-  -- the maps of two pairs or more at a and b, in at most so many levels of such maps
+  -- the maps with pairs at a and b, in at most so many levels of maps
   unfoldable pub same-maps : ℕ → ℕ → ℕ → Bool
   same-maps zero a b = false
   same-maps (suc d) a b = maps-from T (same-from alike T (same-maps d)) (hint (same-from alike T (same-maps d))) a b

@@ -3,11 +3,11 @@
 use mathlib.Core.Path.{_≡_}
 use mathlib.Core.Bool.{Bool, true, false}
 use mathlib.Core.List.{List}
-use Prim.Native.Nat.{ℕ, zero, suc, _+_, _-_, _<_}
+use Prim.Native.Nat.{ℕ, zero, suc, _+_, _-_, _/_, _<_}
 use lib.ListN.{length, getD}
 use Rattle.term_spec.specs.Rows.{whole-in}
 use Rattle.term_rows.specs.Rows.{same-row, pair-size}
-use Rattle.term_hash.specs.Hash.{term-hash}
+use Rattle.term_hash.specs.Hash.{pass-hash, seed-of, term-hash}
 use Rattle.map_keys.specs.Path.{place, slot}
 use Rattle.map_keys.specs.Compare.{same-maps, same-terms, among-from}
 use Rattle.map_keys.specs.Found.{found-key}
@@ -33,6 +33,14 @@ module _ (m places lengths : List ℕ) where
   -- the hashes of a key in all rounds
   unfoldable pub key-hashes : List ℕ → ℕ → ℕ → ℕ → ℕ
   key-hashes T first row round = term-hash m places lengths T round first row
+
+  -- what a round of a key's path goes by
+  unfoldable pub key-seed : List ℕ → ℕ → ℕ → ℕ → ℕ
+  key-seed T first row round = seed-of (pass-hash m places lengths T first row) round
+
+  -- the step before step d had this seed
+  abbrev pub Seeded : List ℕ → ℕ → ℕ → ℕ → ℕ → Type 0
+  Seeded T first row d seed = 0 < d → seed ≡ key-seed T first row ((d - 1) / 2)
 
   -- ---- comparisons whose hint is what the slots name, in at most so many levels
 

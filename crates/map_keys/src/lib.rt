@@ -3,16 +3,17 @@ ghost use mathlib.Core.Path.{_≡_};
 ghost use Prim.Native.Nat.{_+_, _*_, _-_, _/_, _%_, _≤_, _<_};
 ghost use lib.ListN.{length};
 ghost use Rattle.term_rows.specs.Rows.{same-row};
-ghost use Rattle.map_keys.specs.Path.{place};
+ghost use Rattle.map_keys.specs.Path.{next-place};
 ghost use Rattle.map_keys.specs.Compare.{same-rows, pair-among, pair-around, pairs-among, leads, at-key, pair-marked, pairs-marked};
 ghost use Rattle.map_keys.specs.Found.{same-key};
 ghost use Rattle.map_keys.specs.Marks.{Reached, Marks, Mark-of};
-ghost use Rattle.map_keys.specs.KeySet.{Contains, Keeps, key-hashes, key-found, maps-at, terms-at, among-rows, Absent, Contains-or-insert};
+ghost use Rattle.map_keys.specs.KeySet.{Contains, Keeps, key-hashes, key-seed, Seeded, key-found, maps-at, terms-at, among-rows, Absent, Contains-or-insert};
 use octets::wide16;
 use row::parts_in;
 use row::size_in;
 use row::whole_in;
-use term_hash::term_hash;
+use term_hash::next_seed;
+use term_hash::round_hash;
 use term_rows::pair_size;
 use term_rows::row_at;
 use term_rows::same_row;
@@ -39,7 +40,7 @@ const WINDOW: usize = 2;
 // The path of a key has so many steps, in rounds of WINDOW.
 const PATH: usize = 256;
 
-// Whether the n rows from a on mean the same as those from b on: row by row, but maps of two pairs or more as wholes.
+// Whether the n rows from a on mean the same as those from b on: row by row, but maps that have pairs as wholes.
 fn same_rows(
     msg: &[u8],
     places: &[u8],
@@ -74,7 +75,7 @@ fn same_rows(
     true
 }
 
-// Whether the terms whose rows start at a and b mean the same, maps of two pairs or more being at most `levels` deep in them.
+// Whether the terms whose rows start at a and b mean the same, maps being at most `levels` deep in them.
 fn same_terms(
     msg: &[u8],
     places: &[u8],
@@ -346,10 +347,12 @@ fn found_key(
     if n == 0 {
         return 0;
     }
+    let mut seed = 0u64;
     let mut i = 0usize;
     let mut d = 0usize;
     while d < PATH {
-        i = path_slot(msg, places, lengths, table, n, first, key, d, i);
+        seed = path_seed(msg, places, lengths, table, first, key, d, seed);
+        i = path_slot(n, seed, d, i);
         let named = wide16(slots[i]);
         if named == 0 {
             return 0;
@@ -511,24 +514,33 @@ fn next_slot(i: usize, n: usize) -> usize
     i + 1
 }
 
-// The slot at step d of a key's path, of n; i is the one at the step before. Each round starts at a slot of its own.
-fn path_slot(
+// What the round of step d of a key's path goes by; `seed` is what that of the step before went by.
+fn path_seed(
     msg: &[u8],
     places: &[u8],
     lengths: &[u16],
     table: &[u64],
-    n: usize,
     first: usize,
     key: usize,
     d: usize,
-    i: usize,
-) -> usize
-    requires { ⌜ (0 < n) × (key < 3458764513820540928) × (d < 256) × (0 < d → i ≡ place (key-hashes (now msg) (now places) (now lengths) (now table) first key) n (d - 1)) ⌝ }
-    ensures { λ r. ⌜ (r ≡ place (key-hashes (now (msg .entry)) (now (places .entry)) (now (lengths .entry)) (now (table .entry)) first key) n d) × (r < n) ⌝ }
+    seed: u64,
+) -> u64
+    requires { ⌜ (key < 3458764513820540928) × Seeded (now msg) (now places) (now lengths) (now table) first key d seed ⌝ }
+    ensures { λ r. ⌜ r ≡ key-seed (now (msg .entry)) (now (places .entry)) (now (lengths .entry)) (now (table .entry)) first key (d / 2) ⌝ }
 {
     if d % WINDOW == 0 {
-        let hash = term_hash(msg, places, lengths, table, d / WINDOW, first, key);
-        return hashed_slot(hash, n);
+        return next_seed(msg, places, lengths, table, first, key, d / WINDOW, seed);
+    }
+    seed
+}
+
+// The slot at step d of a path, of n; i is the one at the step before. Each round starts at a slot of its own.
+fn path_slot(n: usize, seed: u64, d: usize, i: usize) -> usize
+    requires { ⌜ (0 < n) × (d < 256) × (0 < d → i < n) ⌝ }
+    ensures { λ r. ⌜ (r ≡ next-place seed n d i) × (r < n) ⌝ }
+{
+    if d % WINDOW == 0 {
+        return hashed_slot(round_hash(seed, d / WINDOW), n);
     }
     next_slot(i, n)
 }
@@ -547,10 +559,12 @@ fn free_slot(
     ensures { λ r. ⌜ (r < length (now (slots .entry)) → Absent (now (msg .entry)) (now (places .entry)) (now (lengths .entry)) (now (table .entry)) first key (now (slots .entry)) r) ⌝ }
 {
     let n = slots.len();
+    let mut seed = 0u64;
     let mut i = 0usize;
     let mut d = 0usize;
     while d < PATH {
-        i = path_slot(msg, places, lengths, table, n, first, key, d, i);
+        seed = path_seed(msg, places, lengths, table, first, key, d, seed);
+        i = path_slot(n, seed, d, i);
         let entry = wide16(slots[i]);
         if entry == 0 {
             return i;
@@ -587,10 +601,12 @@ fn insert(
     ensures { λ _. ⌜ Keeps (now (slots .entry)) (now (slots .exit)) × Contains (now (slots .exit)) (key-hashes (now (msg .entry)) (now (places .entry)) (now (lengths .entry)) (now (table .entry)) first key) key ⌝ }
 {
     let n = slots.len();
+    let mut seed = 0u64;
     let mut i = 0usize;
     let mut d = 0usize;
     while d < PATH {
-        i = path_slot(msg, places, lengths, table, n, first, key, d, i);
+        seed = path_seed(msg, places, lengths, table, first, key, d, seed);
+        i = path_slot(n, seed, d, i);
         if slots[i] == 0 {
             slots[i] = (key + 1) as u16;
             return;

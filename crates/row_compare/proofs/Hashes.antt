@@ -24,6 +24,14 @@ use Rattle.row_compare.proofs.Alike.{Numbers, flats-agree, self-agrees}
 pub product-below : (a b : ℕ) → a < 4294967296 → b < 4294967296 → a * b + 4294967295 < 18446744073709551616
 product-below a b k l = let h : a * b ≤ a * 4294967295 = mul-le-mul-left a (omega arith) in omega arith
 
+pub odd-mixed : (factor h x : ℕ) → factor % 2 ≡ 1 → ((h + x / 4294967296) % 4294967296 * factor + x % 4294967296) % 4294967296 ≡ mix factor h x
+unfolding mix
+odd-mixed factor h x e = rw (eq-eqb (factor % 2) 1 e)
+
+pub even-mixed : (factor h x : ℕ) → (factor % 2 ≡ 1 → ⊥) → ((h + x / 4294967296) % 4294967296 * factor / 65536 + x % 4294967296) % 4294967296 ≡ mix factor h x
+unfolding mix
+even-mixed factor h x e = rw (ne-eqb (factor % 2) 1 e)
+
 utf8-cons : (latin1 : Bool) (c : ℕ) (cs : List ℕ) → as-utf8 latin1 (c ∷ cs) ≡ as-utf8 latin1 (c ∷ []) ++ as-utf8 latin1 cs
 unfolding as-utf8 encodes
 utf8-cons true c cs = ap (λ (l : List ℕ). l ++ encodes cs) (sym (append-nil (encode c)))

@@ -29,9 +29,12 @@ last-bits m bits at n = cond (eqb n 0) 0 (cond (leb (at + n) (length m)) (high (
 
 -- hashes made with a factor
 module _ (factor : ℕ) where
-  -- a hash after one number more, whose high half is added before the factor and whose low half after it; after all of a list
+  -- a hash after one number more, whose high half is added before the factor and whose low half after it; after all of a list. With an even factor a product loses 16 bits below, so that the hash is not linear
   unfoldable pub mix : ℕ → ℕ → ℕ
-  mix h x = ((h + x / 4294967296) % 4294967296 * factor + x % 4294967296) % 4294967296
+  mix h x =
+      cond (eqb (factor % 2) 1)
+      (((h + x / 4294967296) % 4294967296 * factor + x % 4294967296) % 4294967296)
+      (((h + x / 4294967296) % 4294967296 * factor / 65536 + x % 4294967296) % 4294967296)
 
   unfoldable pub mix-all : ℕ → List ℕ → ℕ
   mix-all h [] = h

@@ -359,12 +359,19 @@ const END_OF_STRETCH: usize = 512;
 
 const WHOLE_STRETCH: usize = 2 * END_OF_STRETCH;
 
+// So much of a product is dropped below where the factor is even, so that no keys can be found that have one hash with every factor.
+const DROPPED: u64 = 65536;
+
 // A hash after one number more: its high half is added before the factor, its low half after it.
 pub fn mix(factor: u64, h: u64, x: u64) -> u64
     requires { ⌜ (factor < 4294967296) × (h < 4294967296) ⌝ }
     ensures { λ r. ⌜ (r ≡ mix factor h x) × (r < 4294967296) ⌝ }
 {
-    ((h + x / HASH_SIZE) % HASH_SIZE * factor + x % HASH_SIZE) % HASH_SIZE
+    let product = (h + x / HASH_SIZE) % HASH_SIZE * factor;
+    if factor % 2 == 1 {
+        return (product + x % HASH_SIZE) % HASH_SIZE;
+    }
+    (product / DROPPED + x % HASH_SIZE) % HASH_SIZE
 }
 
 // A hash after the byte c, or after the Latin-1 character c in UTF-8.

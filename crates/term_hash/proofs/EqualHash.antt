@@ -23,8 +23,8 @@ use Rattle.row_compare.specs.Hash.{mix}
 use Rattle.row_compare.proofs.Alike.{Agree}
 use Rattle.term_rows.specs.Rows.{unordered-rows}
 use Rattle.term_rows.proofs.Known.{agree-same, own, Known-tree, Known-rows, node-known, parts-known, first-known, others-known, tree-size, pair-sizes, meanings-count, same-labels, same-parts, same-counts, Sort, in-turn, in-no-order, sort-of}
-use Rattle.term_hash.specs.Hash.{hash-row, hash-rows, add-pairs, hash-pairs, factor-of, hashed-rows, hash-term, term-hash}
-use Rattle.term_hash.proofs.Steps.{stepped}
+use Rattle.term_hash.specs.Hash.{hash-row, hash-rows, add-pairs, hash-pairs, factor-of, levels-of, hashed-rows, hash-term, pass-hash, round-hash, term-hash}
+use Rattle.term_hash.proofs.Steps.{stepped, seed-as}
 use Rattle.term_hash.proofs.Parts.{part, pairs-sum, pairs-added, Sum, none, alone, pair, sum-rearranged}
 
 -- ---- the rows of a node, and then k others
@@ -86,10 +86,10 @@ module _
 
   -- over a hash of pairs for each table
   module _ (pairs pairs′ : ℕ → ℕ → ℕ → ℕ) where
-    -- the same for maps of two pairs or more that mean the same
+    -- the same for maps with pairs that mean the same
     abbrev Alike-maps : Type 0
     Alike-maps =
-        (ts us : Terms) (whole whole′ : Option ℕ) (a b : ℕ) → Known-rows Known T whole a ts → Known-rows Known T′ whole′ b us → 4 ≤ count ts
+        (ts us : Terms) (whole whole′ : Option ℕ) (a b : ℕ) → Known-rows Known T whole a ts → Known-rows Known T′ whole′ b us → 2 ≤ count ts
         → in-order pair-before (meanings ts) ≡ in-order pair-before (meanings us) → (h : ℕ) → pairs h (count ts / 2) a ≡ pairs′ h (count us / 2) b
 
     -- n rows from a on and n′ from b on give one hash
@@ -140,7 +140,7 @@ module _
               two = λ n. rw g (turn-hashed hash T′ pairs′ h (sizes us) b n (sym (same-unordered l l′ ts us whole whole′ a b p q e) ∙ k) ∙ ap (λ (x : ℕ). hash-rows hash T′ pairs′ x (sizes us + n) 0 (b + 1)) i ∙ z .two n);
             }
 
-        in-sum : l .0 ≡ map → unordered-rows (getD T a 0) ≡ sizes ts → 4 ≤ count ts → Alike h a (suc (sizes ts)) b (suc (sizes us))
+        in-sum : l .0 ≡ map → unordered-rows (getD T a 0) ≡ sizes ts → 2 ≤ count ts → Alike h a (suc (sizes ts)) b (suc (sizes us))
         in-sum f k c =
             let s : sizes ts ≡ sizes us = same-size l l′ ts us whole whole′ a b p q e in
             let some-rows : 1 ≤ sizes ts = omega (arith, count-le-sizes ts) in
@@ -232,7 +232,7 @@ module _
           rw (f, pair-sizes small q, ← past) (ap₂ _+_ (p y z o b (first-known q) (first-known (others-known q)) i j) (sum-found r us o (b + size y + size z) (others-known (others-known q)) rest))
 
       -- maps one level up
-      maps-added : (ts us : Terms) (whole whole′ : Option ℕ) (a b : ℕ) → Known-rows Known T whole a ts → Known-rows Known T′ whole′ b us → 4 ≤ count ts
+      maps-added : (ts us : Terms) (whole whole′ : Option ℕ) (a b : ℕ) → Known-rows Known T whole a ts → Known-rows Known T′ whole′ b us → 2 ≤ count ts
           → in-order pair-before (meanings ts) ≡ in-order pair-before (meanings us) → (h : ℕ) → add-pairs T rows h (count ts / 2) a ≡ add-pairs T′ rows′ h (count us / 2) b
       maps-added ts us o o′ a b p q c e h =
           let back : Rearranged (in-order pair-before (meanings us)) (meanings us) = rearranged-back (order-rearranges pair-before (meanings us)) in
@@ -273,22 +273,22 @@ module _
     (row-hash : (factor : ℕ) (r q : Row) → Known r → Known q → own r ≡ own q → (h : ℕ) → hash-row factor m places lengths h (word r) ≡ hash-row factor m places lengths h (word q))
     (map-agrees : (r : Row) → Known r → Agree (eqb (kind-at (r .label) (r .place)) 9) (r .label ≡ map))
     (T T′ : List ℕ) where
-  -- terms that mean the same have the same hash
-  pub equal-hash : (t u : Located) (whole whole′ : Option ℕ) (a b : ℕ) → Known-tree Known T whole a t → Known-tree Known T′ whole′ b u → meaning t ≡ meaning u → (round first : ℕ)
-      → term-hash m places lengths T round first a ≡ term-hash m places lengths T′ round first b
-  unfolding term-hash hash-term hashed-rows
-  equal-hash t u o o′ a b p q e round first =
+  -- terms that mean the same have the same hash, in each pass and so in each round
+  equal-pass : (t u : Located) (whole whole′ : Option ℕ) (a b : ℕ) → Known-tree Known T whole a t → Known-tree Known T′ whole′ b u → meaning t ≡ meaning u → (first pass : ℕ)
+      → pass-hash m places lengths T first a pass ≡ pass-hash m places lengths T′ first b pass
+  unfolding pass-hash hash-term hashed-rows
+  equal-pass t u o o′ a b p q e first pass =
       let s : size u ≡ size t = sym (size-meaning u) ∙ ap size (sym e) ∙ size-meaning t in
-      rw (tree-size small t p, tree-size small u q, s) (ap (λ (x : ℕ). x / 65536) (go s (leb (size t) 2048)))
+      rw (tree-size small t p, tree-size small u q, s) (go s (leb (size t) 2048))
     where
       f : ℕ
-      f = factor-of round
+      f = factor-of pass
 
       h : ℕ
       h = mix f 0 first
 
       all : List ℕ → ℕ → ℕ → ℕ
-      all S n i = hash-rows (hash-row f m places lengths) S (hash-pairs (hash-row f m places lengths) S 16384) h n 0 i
+      all S n i = hash-rows (hash-row f m places lengths) S (hash-pairs (hash-row f m places lengths) S (levels-of pass)) h n 0 i
 
       one : hash-row f m places lengths h (getD T a 0) ≡ hash-row f m places lengths h (getD T′ b 0)
       one = first-alike (hash-row f m places lengths) Known small (row-hash f) map-agrees T T′ t u o o′ a b p q e h
@@ -298,6 +298,12 @@ module _
           ≡ mix f (cond (ltb (cond c (size t) 1) 2) (hash-row f m places lengths h (getD T′ b 0)) (all T′ (cond c (size t) 1) b)) (cond c (size t) 1)
       go s true =
           let rest : all T (size t) a ≡ all T′ (size t) b
-          = rw s at (rows-alike (hash-row f m places lengths) Known small (row-hash f) map-agrees T T′ 16384 t u o o′ a b p q e h) in
+          = rw s at (rows-alike (hash-row f m places lengths) Known small (row-hash f) map-agrees T T′ (levels-of pass) t u o o′ a b p q e h) in
           ap₂ (λ (x y : ℕ). mix f (cond (ltb (size t) 2) x y) (size t)) one rest
       go s false = ap (λ (x : ℕ). mix f x 1) one
+
+  pub equal-hash : (t u : Located) (whole whole′ : Option ℕ) (a b : ℕ) → Known-tree Known T whole a t → Known-tree Known T′ whole′ b u → meaning t ≡ meaning u → (round first : ℕ)
+      → term-hash m places lengths T round first a ≡ term-hash m places lengths T′ round first b
+  unfolding term-hash
+  equal-hash t u o o′ a b p q e round first =
+      ap (λ (x : ℕ). round-hash x round) (seed-as (pass-hash m places lengths T first a) (equal-pass t u o o′ a b p q e first) round)

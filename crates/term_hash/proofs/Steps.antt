@@ -2,19 +2,20 @@
 use mathlib.Core.Path.{_≡_, refl, sym, ap, _∙_}
 use mathlib.Core.Bool.{Bool, true, false, cond}
 use mathlib.Core.List.{List}
-use Prim.Native.Nat.{ℕ, zero, suc, _+_, _*_, _-_, _/_, _≤_, _<_}
-use native.Mathlib.Nat.{mul-le-mul-left}
+use Prim.Native.Nat.{ℕ, zero, suc, _+_, _*_, _-_, _/_, _%_, _≤_, _<_}
+use native.Mathlib.Nat.{mul-le-mul-left, mod-lt}
 use native.Mathlib.Omega.{arith}
 use lib.Dec.{eqb}
 use lib.ListN.{getD}
 use borrow.Author.Tests.{lt-ltb, le-ltb, le-leb, lt-leb, eq-eqb, ne-eqb}
 use Rattle.term_spec.specs.Rows.{kind-in, offset-in, parts-in, size-in}
+use Rattle.term_spec.proofs.Tests.{by-less}
 use Rattle.row_fields.specs.declared.Content.{Content}
 use Rattle.row_fields.specs.Found.{content-of}
 use Rattle.row_fields.specs.Meaning.{term-kind}
 use Rattle.row_compare.specs.Hash.{mix, hash-contents}
 use Rattle.term_rows.specs.Rows.{unordered-rows, pair-size}
-use Rattle.term_hash.specs.Hash.{hash-row, added, hash-rows, add-pairs, hash-pairs, factor-of, hashed-rows, hash-term, term-hash}
+use Rattle.term_hash.specs.Hash.{hash-row, added, hash-rows, add-pairs, hash-pairs, factor-of, levels-of, hashed-rows, hash-term, pass-hash, Adds, first-pass, second-pass, third-pass, fourth-pass, no-pass, seed-of, round-hash}
 
 -- ---- numbers that stay small
 
@@ -28,6 +29,14 @@ kind-small x k e l = go (eqb k 14) e
 
 pub square-below : (x : ℕ) → x < 4294967296 → x * x < 18446744073709551616
 square-below x l = let h : x * x ≤ x * 4294967295 = mul-le-mul-left x (omega arith) in omega arith
+
+pub first-factor : (i : ℕ) → i ≡ 0 → 4248335397 ≡ factor-of i
+unfolding factor-of
+first-factor i e = rw (eq-eqb i 0 e)
+
+pub later-factor : (i : ℕ) → (i ≡ 0 → ⊥) → (3266489908 + i * 2135587862) % 4294967296 ≡ factor-of i
+unfolding factor-of
+later-factor i e = rw (ne-eqb i 0 e)
 
 -- ---- a row
 
@@ -113,6 +122,15 @@ module _ (hash : ℕ → ℕ → ℕ) (T : List ℕ) (d h n at : ℕ) where
 
 -- ---- a term
 
+module _ (pass : ℕ) where
+  pub early-levels : pass < 2 → 4 ≡ levels-of pass
+  unfolding levels-of
+  early-levels l = rw (lt-ltb pass 2 l)
+
+  pub late-levels : 2 ≤ pass → 16384 ≡ levels-of pass
+  unfolding levels-of
+  late-levels l = rw (le-ltb pass 2 l)
+
 pub all-rows : (n : ℕ) → n ≤ 2048 → n ≡ hashed-rows n
 unfolding hashed-rows
 all-rows n l = rw (le-leb n 2048 l)
@@ -121,12 +139,91 @@ pub first-row : (n : ℕ) → 2048 < n → 1 ≡ hashed-rows n
 unfolding hashed-rows
 first-row n l = rw (lt-leb n 2048 l)
 
-module _ (m places lengths T : List ℕ) (round first row f s w z n : ℕ) (a : f ≡ factor-of round) (b : s ≡ mix f 0 first) (c : w ≡ getD T row 0) (d : z ≡ size-in w) (e : n ≡ hashed-rows z) where
-  pub term-one : n < 2 → (x r : ℕ) → x ≡ hash-row f m places lengths s w → r ≡ mix f x n → r / 65536 ≡ term-hash m places lengths T round first row
-  unfolding term-hash hash-term
+module _ (m places lengths T : List ℕ) (pass first row f s w z n : ℕ) (a : f ≡ factor-of pass) (b : s ≡ mix f 0 first) (c : w ≡ getD T row 0) (d : z ≡ size-in w) (e : n ≡ hashed-rows z) where
+  pub term-one : n < 2 → (x r : ℕ) → x ≡ hash-row f m places lengths s w → r ≡ mix f x n → r ≡ pass-hash m places lengths T first row pass
+  unfolding pass-hash hash-term
   term-one l x r g h = rw (← a, ← c, ← d, ← e, lt-ltb n 2 l, ← b, ← g, ← h)
 
-  pub term-all : 2 ≤ n → (x r : ℕ) → x ≡ hash-rows (hash-row f m places lengths) T (hash-pairs (hash-row f m places lengths) T 16384) s n 0 row → r ≡ mix f x n
-      → r / 65536 ≡ term-hash m places lengths T round first row
-  unfolding term-hash hash-term
-  term-all l x r g h = rw (← a, ← c, ← d, ← e, le-ltb n 2 l, ← b, ← g, ← h)
+  pub term-all : 2 ≤ n → (v x r : ℕ) → v ≡ levels-of pass → x ≡ hash-rows (hash-row f m places lengths) T (hash-pairs (hash-row f m places lengths) T v) s n 0 row → r ≡ mix f x n
+      → r ≡ pass-hash m places lengths T first row pass
+  unfolding pass-hash hash-term
+  term-all l v x r i g h = rw (← a, ← c, ← d, ← e, le-ltb n 2 l, ← b, ← i, ← g, ← h)
+
+-- ---- the rounds of a term
+
+mix-below : (f h x : ℕ) → mix f h x < 4294967296
+unfolding mix
+mix-below f h x = go (eqb (f % 2) 1)
+  where
+    go : (t : Bool) → cond t (((h + x / 4294967296) % 4294967296 * f + x % 4294967296) % 4294967296) (((h + x / 4294967296) % 4294967296 * f / 65536 + x % 4294967296) % 4294967296) < 4294967296
+    go true = mod-lt _ (omega arith)
+    go false = mod-lt _ (omega arith)
+
+pub hash-below : (m places lengths T : List ℕ) (first row pass : ℕ) → pass-hash m places lengths T first row pass < 4294967296
+unfolding pass-hash hash-term
+hash-below m places lengths T first row pass = mix-below _ _ _
+
+module _ (hs : ℕ → ℕ) where
+  -- a round that starts anew
+  pub seed-new : {pass : ℕ} (round h : ℕ) → Adds round pass → (pass ≡ 4 → ⊥) → pass % 2 ≡ 0 → h ≡ hs pass → h ≡ seed-of hs round
+  unfolding seed-of
+  seed-new round h (first-pass a) some even e = rw a e
+  seed-new round h (second-pass a) some even e = absurd (omega arith)
+  seed-new round h (third-pass a) some even e = rw a e
+  seed-new round h (fourth-pass a) some even e = absurd (omega arith)
+  seed-new round h (no-pass a b c d) some even e = absurd (some refl)
+
+  -- over the seed of the round before
+  module _ (seed round : ℕ) (last : 0 < round → seed ≡ seed-of hs (round - 1)) where
+    before : (i : ℕ) → round ≡ suc i → seed ≡ seed-of hs i
+    before i e = let f : round - 1 ≡ i = omega arith in rw f at (last (omega arith))
+
+    -- a round that adds to it
+    pub seed-added : {pass : ℕ} → Adds round pass → (pass ≡ 4 → ⊥) → (pass % 2 ≡ 0 → ⊥) → seed ≡ hs (pass - 1)
+    unfolding seed-of
+    seed-added (first-pass a) some odd = absurd (odd refl)
+    seed-added (second-pass a) some odd = before 0 a
+    seed-added (third-pass a) some odd = absurd (odd refl)
+    seed-added (fourth-pass a) some odd = before 4 a
+    seed-added (no-pass a b c d) some odd = absurd (some refl)
+
+    pub seed-more : {pass : ℕ} (h : ℕ) → Adds round pass → (pass ≡ 4 → ⊥) → (pass % 2 ≡ 0 → ⊥) → h ≡ hs pass → seed * 4294967296 + h ≡ seed-of hs round
+    unfolding seed-of
+    seed-more h (first-pass a) some odd e = absurd (odd refl)
+    seed-more h (second-pass a) some odd e = rw (a, e, before 0 a)
+    seed-more h (third-pass a) some odd e = absurd (odd refl)
+    seed-more h (fourth-pass a) some odd e = rw (a, e, before 4 a)
+    seed-more h (no-pass a b c d) some odd e = absurd (some refl)
+
+    -- and one that adds nothing
+    pub seed-same : {pass : ℕ} → Adds round pass → pass ≡ 4 → seed ≡ seed-of hs round
+    unfolding seed-of
+    seed-same (first-pass a) e = absurd (omega arith)
+    seed-same (second-pass a) e = absurd (omega arith)
+    seed-same (third-pass a) e = absurd (omega arith)
+    seed-same (fourth-pass a) e = absurd (omega arith)
+    seed-same (no-pass a b c d) e = last (omega arith) ∙ by-less round 4 early late
+      where
+        early : round < 4 → seed-of hs (round - 1) ≡ seed-of hs round
+        early l = rw (lt-ltb (round - 1) 4 (omega arith), lt-ltb round 4 l, ne-eqb (round - 1) 0 (λ z. omega arith), ne-eqb round 0 a)
+
+        late : 4 ≤ round → seed-of hs (round - 1) ≡ seed-of hs round
+        late l = rw (le-ltb (round - 1) 4 (omega arith), le-ltb round 4 l, ne-eqb (round - 1) 4 (λ z. omega arith), ne-eqb round 4 c)
+
+  pub seed-as : {gs : ℕ → ℕ} → ((pass : ℕ) → hs pass ≡ gs pass) → (round : ℕ) → seed-of hs round ≡ seed-of gs round
+  unfolding seed-of
+  seed-as f round = rw (f 0, f 1, f 2, f 3)
+
+pub seed-small : (m places lengths T : List ℕ) (first row seed round pass : ℕ) → (0 < round → seed ≡ seed-of (pass-hash m places lengths T first row) (round - 1))
+    → Adds round pass → (pass ≡ 4 → ⊥) → (pass % 2 ≡ 0 → ⊥) → seed < 4294967296
+seed-small m places lengths T first row seed round pass last adds some odd =
+    omega (arith, seed-added (pass-hash m places lengths T first row) seed round last adds some odd, hash-below m places lengths T first row (pass - 1))
+
+module _ (seed round : ℕ) where
+  pub first-round : round ≡ 0 → seed / 65536 % 65536 ≡ round-hash seed round
+  unfolding round-hash
+  first-round e = rw (eq-eqb round 0 e)
+
+  pub later-round : (round ≡ 0 → ⊥) → (f x y z : ℕ) → f ≡ factor-of round → x ≡ mix f (seed / 4294967296) (seed % 4294967296) → y ≡ mix f x round → z ≡ mix f y round → z / 65536 ≡ round-hash seed round
+  unfolding round-hash
+  later-round e f x y z a b c d = rw (ne-eqb round 0 e, ← a, ← b, ← c, ← d)

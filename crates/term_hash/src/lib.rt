@@ -1,7 +1,7 @@
 // Hashes of terms by their rows, over what the terms mean and not over how they are encoded: the order of a map's pairs does not count.
 ghost use mathlib.Core.Path.{_≡_};
-ghost use Prim.Native.Nat.{_+_, _*_, _<_};
-ghost use Rattle.term_hash.specs.Hash.{hash-row, added, hash-rows, hash-pairs, factor-of, hashed-rows, term-hash};
+ghost use Prim.Native.Nat.{_+_, _*_, _-_, _<_};
+ghost use Rattle.term_hash.specs.Hash.{hash-row, added, hash-rows, hash-pairs, factor-of, levels-of, hashed-rows, pass-hash, Adds, seed-of, round-hash};
 use row::kind_in;
 use row::offset_in;
 use row::parts_in;
@@ -17,6 +17,16 @@ use term_rows::unordered_rows;
 // A key and its value.
 const PAIR_PARTS: usize = 2;
 
+// In so many passes the maps in a key count down to EARLY_LEVELS alone, so that keys in keys are not hashed again at every level.
+const EARLY_PASSES: usize = 2;
+
+const EARLY_LEVELS: usize = 4;
+
+// Rounds before it go by the early passes, the others by two more.
+const LATE_ROUND: usize = 4;
+
+const NO_PASS: usize = 4;
+
 // More levels than any term of a table has rows. Calls nest no deeper than the terms do.
 const LEVELS: usize = 16384;
 
@@ -28,8 +38,10 @@ const HASH_SIZE: u64 = 4294967296;
 
 const HALF: u64 = 65536;
 
-// The factor of the first round, and what each later one adds; how they were chosen is in docs/DECISIONS.md.
-const FACTOR: u64 = 4248335397;
+// The first factor, what the others begin with and what each of them adds; how they were chosen is in docs/DECISIONS.md.
+const FIRST_FACTOR: u64 = 4248335397;
+
+const FACTOR: u64 = 3266489908;
 
 const FACTOR_STEP: u64 = 2135587862;
 
@@ -52,7 +64,7 @@ fn add(h: u64, x: u64) -> u64
     (h + x * x / HALF) % HASH_SIZE
 }
 
-// A hash after the n rows from a row on: one after the other, but the pairs of a map of two or more in any order.
+// A hash after the n rows from a row on: one after the other, but the pairs of a map in any order.
 fn hash_rows(
     factor: u64,
     msg: &[u8],
@@ -94,7 +106,7 @@ fn hash_rows(
     sum
 }
 
-// A hash to which those of the n pairs from a row on are added, maps of two pairs or more being at most `levels` deep.
+// A hash to which those of the n pairs from a row on are added, maps being at most `levels` deep.
 fn hash_pairs(
     factor: u64,
     msg: &[u8],
@@ -125,12 +137,25 @@ fn hash_pairs(
     sum
 }
 
-// Each round has a factor of its own.
-fn factor_of(round: usize) -> u64
-    requires { ⌜ round < 65536 ⌝ }
-    ensures { λ r. ⌜ (r ≡ factor-of round) × (r < 4294967296) ⌝ }
+// A factor for each pass, and for each round.
+fn factor_of(i: usize) -> u64
+    requires { ⌜ i < 65536 ⌝ }
+    ensures { λ r. ⌜ (r ≡ factor-of i) × (r < 4294967296) ⌝ }
 {
-    (FACTOR + round as u64 * FACTOR_STEP) % HASH_SIZE
+    if i == 0 {
+        return FIRST_FACTOR;
+    }
+    (FACTOR + i as u64 * FACTOR_STEP) % HASH_SIZE
+}
+
+// How many levels of maps count in a pass.
+fn levels_of(pass: usize) -> usize
+    ensures { λ r. ⌜ (r ≡ levels-of pass) × (r < 16385) ⌝ }
+{
+    if pass < EARLY_PASSES {
+        return EARLY_LEVELS;
+    }
+    LEVELS
 }
 
 // How many rows of a term of n rows count in its hash.
@@ -143,27 +168,86 @@ fn hashed_rows(n: usize) -> usize
     1
 }
 
-// The hash of the term at a row in a round, as a key of the map whose first key is at the row `first`.
-pub fn term_hash(
+// The hash that a pass gives the term at a row, as a key of the map whose first key is at the row `first`.
+fn pass_hash(
     msg: &[u8],
     places: &[u8],
     lengths: &[u16],
     table: &[u64],
-    round: usize,
+    pass: usize,
     first: usize,
     row: usize,
-) -> usize
-    requires { ⌜ (round < 65536) × (row < 3458764513820540928) ⌝ }
-    ensures { λ r. ⌜ (r ≡ term-hash (now (msg .entry)) (now (places .entry)) (now (lengths .entry)) (now (table .entry)) round first row) × (r < 65536) ⌝ }
+) -> u64
+    requires { ⌜ (pass < 65536) × (row < 3458764513820540928) ⌝ }
+    ensures { λ r. ⌜ (r ≡ pass-hash (now (msg .entry)) (now (places .entry)) (now (lengths .entry)) (now (table .entry)) first row pass) × (r < 4294967296) ⌝ }
 {
-    let factor = factor_of(round);
+    let factor = factor_of(pass);
     let start = mix(factor, 0, first as u64);
     let w = row_at(table, row);
     let n = hashed_rows(size_in(w));
     if n < 2 {
         let one = hash_row(factor, msg, places, lengths, start, w);
-        return (mix(factor, one, n as u64) / HALF) as usize;
+        return mix(factor, one, n as u64);
     }
-    let all = hash_rows(factor, msg, places, lengths, table, LEVELS, start, n, row);
-    (mix(factor, all, n as u64) / HALF) as usize
+    let levels = levels_of(pass);
+    let all = hash_rows(factor, msg, places, lengths, table, levels, start, n, row);
+    mix(factor, all, n as u64)
+}
+
+// The pass whose hash a round adds, NO_PASS where it adds none.
+fn pass_of(round: usize) -> usize
+    ensures { λ r. ⌜ Adds round r × (r < 5) ⌝ }
+{
+    if round == 0 {
+        return 0;
+    }
+    if round == 1 {
+        return 1;
+    }
+    if round == LATE_ROUND {
+        return 2;
+    }
+    if round == LATE_ROUND + 1 {
+        return 3;
+    }
+    NO_PASS
+}
+
+// What a round goes by, of the term at a row as a key of the map whose first key is at the row `first`; `seed` is what the round before went by.
+pub fn next_seed(
+    msg: &[u8],
+    places: &[u8],
+    lengths: &[u16],
+    table: &[u64],
+    first: usize,
+    row: usize,
+    round: usize,
+    seed: u64,
+) -> u64
+    requires { ⌜ (row < 3458764513820540928) × (0 < round → seed ≡ seed-of (pass-hash (now msg) (now places) (now lengths) (now table) first row) (round - 1)) ⌝ }
+    ensures { λ r. ⌜ r ≡ seed-of (pass-hash (now (msg .entry)) (now (places .entry)) (now (lengths .entry)) (now (table .entry)) first row) round ⌝ }
+{
+    let pass = pass_of(round);
+    if pass == NO_PASS {
+        return seed;
+    }
+    let hash = pass_hash(msg, places, lengths, table, pass, first, row);
+    if pass % 2 == 0 {
+        return hash;
+    }
+    seed * HASH_SIZE + hash
+}
+
+// The hash of a round by its seed.
+pub fn round_hash(seed: u64, round: usize) -> usize
+    requires { ⌜ round < 65536 ⌝ }
+    ensures { λ r. ⌜ (r ≡ round-hash seed round) × (r < 65536) ⌝ }
+{
+    if round == 0 {
+        return (seed / HALF % HALF) as usize;
+    }
+    let factor = factor_of(round);
+    let both = mix(factor, seed / HASH_SIZE, seed % HASH_SIZE);
+    let turned = mix(factor, both, round as u64);
+    (mix(factor, turned, round as u64) / HALF) as usize
 }

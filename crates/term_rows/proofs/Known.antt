@@ -184,27 +184,25 @@ module _ (w k : ℕ) (e : kind-in w ≡ k) where
   word-plain f = rw (e, f)
 
   module _ (f : eqb k 9 ≡ true) (n : ℕ) (g : parts-in w ≡ n) where
-    word-few : ltb n 4 ≡ true → unordered-rows w ≡ 0
+    word-few : ltb n 2 ≡ true → unordered-rows w ≡ 0
     unfolding unordered-rows
     word-few h = rw (e, f, g, h)
 
-    word-many : ltb n 4 ≡ false → (s : ℕ) → size-in w ≡ suc s → unordered-rows w ≡ s
+    word-many : ltb n 2 ≡ false → (s : ℕ) → size-in w ≡ suc s → unordered-rows w ≡ s
     unfolding unordered-rows
     word-many h s i = rw (e, f, g, h, i) (omega arith)
 
 -- the parts of a node count in turn, or they are pairs in no order
 pub data Sort (l : Label) (ts : Terms) (w : ℕ) : Type 0 where
   in-turn : unordered-rows w ≡ 0 → ((xs : Forest Label) → count xs ≡ count ts → arranged-parts pair-before l xs ≡ xs) → Sort l ts w
-  in-no-order : l ≡ map → unordered-rows w ≡ sizes ts → 4 ≤ count ts → Sort l ts w
+  in-no-order : l ≡ map → unordered-rows w ≡ sizes ts → 2 ≤ count ts → Sort l ts w
 
--- at most one pair is in order
-pub few-in-order : (before : Pair → Pair → Bool) (ts : Forest Label) → count ts < 4 → in-order before ts ≡ ts
+-- parts without a pair are in order
+pub few-in-order : (before : Pair → Pair → Bool) (ts : Forest Label) → count ts < 2 → in-order before ts ≡ ts
 unfolding in-order put-in
 few-in-order before empty l = refl
 few-in-order before (k ▹ empty) l = refl
-few-in-order before (k ▹ v ▹ empty) l = refl
-few-in-order before (k ▹ v ▹ j ▹ empty) l = refl
-few-in-order before (k ▹ v ▹ j ▹ w ▹ ts) l = absurd (omega arith)
+few-in-order before (k ▹ v ▹ ts) l = absurd (omega arith)
 
 module _
     (Known : Row → Type 0)
@@ -213,7 +211,7 @@ module _
     (T : List ℕ) where
   pub sort-of : {whole : Option ℕ} {n : ℕ} {l : Label × Offset} {ts : Terms} → Known-tree Known T whole n (node l ts) → Sort (l .0) ts (getD T n 0)
   unfolding arranged-parts
-  sort-of {whole} {n} {l} {ts} k = go (eqb (kind-at (l .0) (l .1)) 9) refl (ltb (count ts) 4) refl
+  sort-of {whole} {n} {l} {ts} k = go (eqb (kind-at (l .0) (l .1)) 9) refl (ltb (count ts) 2) refl
     where
       packed : Word-of (row-of whole l ts) (getD T n 0)
       packed = node-packed (k .stands) (small (row-of whole l ts) (node-known k))
@@ -225,10 +223,10 @@ module _
       other e f a-map xs = never (sym e ∙ is-map .back (sym f))
       other e f (no-map stays) xs = stays pair-before xs
 
-      go : (b : Bool) → eqb (kind-at (l .0) (l .1)) 9 ≡ b → (c : Bool) → ltb (count ts) 4 ≡ c → Sort (l .0) ts (getD T n 0)
+      go : (b : Bool) → eqb (kind-at (l .0) (l .1)) 9 ≡ b → (c : Bool) → ltb (count ts) 2 ≡ c → Sort (l .0) ts (getD T n 0)
       go false e c f = in-turn (word-plain (getD T n 0) _ (packed .kind-is) e) (λ xs g. other e refl (kind (l .0)) xs)
       go true e true f =
           in-turn (word-few (getD T n 0) _ (packed .kind-is) e (count ts) (packed .parts-is) f)
-          (λ xs g. let few : count ts < 4 = ltb-true (count ts) 4 f in rw (is-map .sure e) (few-in-order pair-before xs (omega arith)))
+          (λ xs g. let few : count ts < 2 = ltb-true (count ts) 2 f in rw (is-map .sure e) (few-in-order pair-before xs (omega arith)))
       go true e false f =
-          in-no-order (is-map .sure e) (word-many (getD T n 0) _ (packed .kind-is) e (count ts) (packed .parts-is) f (sizes ts) (packed .size-is)) (ltb-false (count ts) 4 f)
+          in-no-order (is-map .sure e) (word-many (getD T n 0) _ (packed .kind-is) e (count ts) (packed .parts-is) f (sizes ts) (packed .size-is)) (ltb-false (count ts) 2 f)

@@ -61,10 +61,10 @@ module _ (w k : ℕ) (e : k ≡ kind-in w) where
   unordered-other f = rw (← e, ne-eqb k 9 f)
 
   module _ (f : k ≡ 9) (p : ℕ) (g : p ≡ parts-in w) where
-    pub unordered-few : p < 4 → 0 ≡ unordered-rows w
+    pub unordered-few : p < 2 → 0 ≡ unordered-rows w
     unfolding unordered-rows
-    unordered-few h = rw (← e, eq-eqb k 9 f, ← g, lt-ltb p 4 h)
+    unordered-few h = rw (← e, eq-eqb k 9 f, ← g, lt-ltb p 2 h)
 
-    pub unordered-all : 4 ≤ p → (n r : ℕ) → n ≡ size-in w → r ≡ n - 1 → r ≡ unordered-rows w
+    pub unordered-all : 2 ≤ p → (n r : ℕ) → n ≡ size-in w → r ≡ n - 1 → r ≡ unordered-rows w
     unfolding unordered-rows
-    unordered-all h n r i c = rw (← e, eq-eqb k 9 f, ← g, le-ltb p 4 h, ← i) c
+    unordered-all h n r i c = rw (← e, eq-eqb k 9 f, ← g, le-ltb p 2 h, ← i) c

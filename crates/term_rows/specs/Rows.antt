@@ -22,9 +22,9 @@ same-row m places lengths v w =
     (cond (eqb (parts-in v) (parts-in w)) (same-fields m places lengths (kind-in v) (offset-in v) (kind-in w) (offset-in w)) false)
     false
 
--- how many rows after a row stand in no order: of a map (9) of two pairs or more all others of its term, else none
+-- how many rows after a row stand in no order: of a map (9) that has pairs all others of its term, else none
 unfoldable pub unordered-rows : ℕ → ℕ
-unordered-rows w = cond (eqb (kind-in w) 9) (cond (ltb (parts-in w) 4) 0 (size-in w - 1)) 0
+unordered-rows w = cond (eqb (kind-in w) 9) (cond (ltb (parts-in w) 2) 0 (size-in w - 1)) 0
 
 -- how many rows the term at a row and the next one have
 unfoldable pub pair-size : List ℕ → ℕ → ℕ

@@ -16,9 +16,6 @@ use term_spec::kinds;
 // A key and its value.
 const PAIR_PARTS: usize = 2;
 
-// A map of two pairs has so many parts: from there on the order of pairs does not count.
-const UNORDERED_PARTS: usize = 2 * PAIR_PARTS;
-
 // The row at an index of the table as its word, 0 past its end.
 pub fn row_at(table: &[u64], i: usize) -> u64
     ensures { λ r. ⌜ r ≡ getD (now (table .entry)) i 0 ⌝ }
@@ -79,14 +76,14 @@ pub fn same_row(msg: &[u8], places: &[u8], lengths: &[u16], v: u64, w: u64) -> b
     )
 }
 
-// How many rows after a row stand in no order: of a map of two pairs or more all others of its term, else none.
+// How many rows after a row stand in no order: of a map that has pairs all others of its term, else none.
 pub fn unordered_rows(w: u64) -> usize
     ensures { λ r. ⌜ (r ≡ unordered-rows w) × (r < 16384) ⌝ }
 {
     if kind_in(w) != kinds::MAP {
         return 0;
     }
-    if parts_in(w) < UNORDERED_PARTS {
+    if parts_in(w) < PAIR_PARTS {
         return 0;
     }
     let n = size_in(w);

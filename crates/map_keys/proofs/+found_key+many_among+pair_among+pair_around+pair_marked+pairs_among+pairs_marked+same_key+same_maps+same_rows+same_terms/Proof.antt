@@ -4,7 +4,8 @@ use Rattle.map_keys.proofs.Found.{other-map, key-compared, Finding, no-
 use Rattle.map_keys.proofs.Steps.{rows-start, rows-differ, rows-next, maps-differ, maps-next, rows-ended, past-first, past-second, sizes-differ, sizes-same, no-level, maps-sizes, maps-few, maps-many, pairs-start, pairs-differ, pairs-next, pairs-ended, around-first, around-second, pair-start, pair-here, pair-next, pair-none, no-key-there, key-there, marked-start, marked-differ, marked-next, marked-ended}
 use Rattle.term_rows.specs.Rows.{same-row}
 use Rattle.map_keys.specs.Compare.{same-rows, pair-among, pairs-among, pairs-marked}
-use Rattle.map_keys.specs.KeySet.{key-hashes, key-found, maps-at, terms-at}
+use Rattle.map_keys.specs.KeySet.{key-hashes, Seeded, key-found, maps-at, terms-at}
+use Rattle.map_keys.proofs.Slots.{slot-inside, place-at, no-seed, next-seeded}
 use borrow.Author.Tests.{not-true, not-false}
 use borrow.Author.Needs.{needs}
 use native.Mathlib.Omega.{arith}
@@ -50,6 +51,7 @@ use Rattle.map_keys.proofs.mark_keys.Reads as mark-keys-reads
 use Rattle.term_rows.proofs.pair_size.Reads as pair-size-reads
 use Rattle.term_rows.proofs.row_at.Reads as row-at-reads
 use Rattle.term_rows.proofs.same_row.Reads as same-row-reads
+use Rattle.map_keys.proofs.path_seed.Reads as path-seed-reads
 use Rattle.map_keys.proofs.path_slot.Reads as path-slot-reads
 use Rattle.term_rows.proofs.unordered_rows.Reads as unordered-rows-reads
 use Rattle.octets.proofs.wide16.Reads as wide16-reads
@@ -185,7 +187,7 @@ same-terms-below t =
     and 5 same-terms-kinds.ps (falls 5 same-terms-kinds.ps _<_ μ-same-terms t) same-terms.Pre
 
 abbrev found-key-calls : ℕ → found-key-lts.Claims
-found-key-calls t = (path-slot-reads.Asked, path-slot-reads.Learnt, wide16-reads.Asked, wide16-reads.Learnt, same-key-below t, same-key.Post)
+found-key-calls t = (path-seed-reads.Asked, path-seed-reads.Learnt, path-slot-reads.Asked, path-slot-reads.Learnt, wide16-reads.Asked, wide16-reads.Learnt, same-key-below t, same-key.Post)
 
 abbrev many-among-calls : ℕ → many-among-lts.Claims
 many-among-calls t = (mark-keys-reads.Asked, mark-keys-reads.Learnt, pairs-marked-below t, pairs-marked.Post)
@@ -218,20 +220,24 @@ abbrev same-terms-calls : ℕ → same-terms-lts.Claims
 same-terms-calls t = (size-in-reads.Asked, size-in-reads.Learnt, same-rows-below t, same-rows.Post)
 
 abbrev found-key-Inv-loop : found-key-lts.InvT-loop
-found-key-Inv-loop msg places lengths table slots levels first key n i₀ d₀ i d =
-    Finding table slots (terms-at msg places lengths table slots levels) first key (key-hashes msg places lengths table first key) (key-found msg places lengths table slots (terms-at msg places lengths table slots levels) first key) n i d
+found-key-Inv-loop msg places lengths table slots levels first key n seed₀ i₀ d₀ seed i d =
+    Seeded msg places lengths table first key d seed
+    × Finding table slots (terms-at msg places lengths table slots levels) first key (key-hashes msg places lengths table first key) (key-found msg places lengths table slots (terms-at msg places lengths table slots levels) first key) n i d
 
 abbrev found-key-μ-loop : found-key-lts.MeasureT-loop
-found-key-μ-loop msg places lengths table slots levels first key n i₀ d₀ i d = 256 - d
+found-key-μ-loop msg places lengths table slots levels first key n seed₀ i₀ d₀ seed i d = 256 - d
 
 found-key-returns : (t : ℕ) → found-key-lts.Need-returns (found-key-calls t) (found-key-at t) found-key.Post found-key-Inv-loop found-key-μ-loop
 found-key-returns t c = (no-slots _ _ _ _ _ _ _ _ (c .if1 .taken), omega arith)
 
+found-key-path-seed-requires : (t : ℕ) → found-key-lts.Need-path-seed-requires (found-key-calls t) (found-key-at t) found-key.Post found-key-Inv-loop found-key-μ-loop
+found-key-path-seed-requires t c κs = (c .before .before .before .before .before .before .before .before .pre .1, c .before .loop .inv .0)
+
 found-key-path-slot-requires : (t : ℕ) → found-key-lts.Need-path-slot-requires (found-key-calls t) (found-key-at t) found-key.Post found-key-Inv-loop found-key-μ-loop
-found-key-path-slot-requires t c κs = (omega arith, c .before .before .before .before .before .before .before .before .pre .1, omega arith, c .before .loop .inv .last)
+found-key-path-slot-requires t c κs = (omega arith, omega arith, slot-inside _ _ _ _ _ _ _ _ _ (c .before .before .loop .inv .1 .last) (omega arith))
 
 found-key-loop-holds : (t : ℕ) → found-key-lts.Need-loop-holds (found-key-calls t) (found-key-at t) found-key.Post found-key-Inv-loop found-key-μ-loop
-found-key-loop-holds t c = found-start _ _ _ _ _ _ _ _ (c .if1 .left)
+found-key-loop-holds t c = (no-seed _ _ _ _ _ _ _, found-start _ _ _ _ _ _ _ _ (c .if1 .left))
 
 found-key-mul-wide16 : (t : ℕ) → found-key-lts.Need-mul-wide16 (found-key-calls t) (found-key-at t) found-key.Post found-key-Inv-loop found-key-μ-loop
 found-key-mul-wide16 t c = omega arith
@@ -243,16 +249,16 @@ found-key-wide16-requires : (t : ℕ) → found-key-lts.Need-wide16-requires (fo
 found-key-wide16-requires t c κs = search needs
 
 found-key-returns-2 : (t : ℕ) → found-key-lts.Need-returns-2 (found-key-calls t) (found-key-at t) found-key.Post found-key-Inv-loop found-key-μ-loop
-found-key-returns-2 t c = (found-empty _ _ _ _ _ _ (c .before .before .before .before .before .loop .inv) (c .before .before .before .before .loop-test .taken) _ _ (c .before .before .before .path-slot .ensures .0) (c .before .wide16 .ensures) (c .if2 .taken), omega arith)
+found-key-returns-2 t c = (found-empty _ _ _ _ _ _ (c .before .before .before .before .before .before .loop .inv .1) (c .before .before .before .before .before .loop-test .taken) _ _ (place-at _ _ _ _ _ _ _ _ _ _ _ (c .before .before .before .before .before .before .loop .inv .1 .last) (c .before .before .before .before .path-seed .ensures) (c .before .before .before .path-slot .ensures .0) (c .before .before .before .path-slot .ensures .1)) (c .before .wide16 .ensures) (c .if2 .taken), omega arith)
 
 found-key-sub-row : (t : ℕ) → found-key-lts.Need-sub-row (found-key-calls t) (found-key-at t) found-key.Post found-key-Inv-loop found-key-μ-loop
 found-key-sub-row t c = omega arith
 
 found-key-same-key-requires : (t : ℕ) → found-key-lts.Need-same-key-requires (found-key-calls t) (found-key-at t) found-key.Post found-key-Inv-loop found-key-μ-loop
-found-key-same-key-requires t c κs = (omega (arith, c .before .before .before .before .before .before .before .before .before .before .before .before .pre .0), tt)
+found-key-same-key-requires t c κs = (omega (arith, c .before .before .before .before .before .before .before .before .before .before .before .before .before .pre .0), tt)
 
 found-key-returns-3 : (t : ℕ) → found-key-lts.Need-returns-3 (found-key-calls t) (found-key-at t) found-key.Post found-key-Inv-loop found-key-μ-loop
-found-key-returns-3 t c = (found-here _ _ _ _ _ _ (c .before .before .before .before .before .before .before .loop .inv) (c .before .before .before .before .before .before .loop-test .taken) _ _ (c .before .before .before .before .before .path-slot .ensures .0) (c .before .before .before .wide16 .ensures) (c .before .before .if2 .left) _ (c .before .same-key .ensures) (c .if3 .taken), omega (arith, c .before .before .before .wide16 .ensures, c .before .before .before .before .shared-slice-known6 .given (c .before .before .before .before .before .path-slot .result)))
+found-key-returns-3 t c = (found-here _ _ _ _ _ _ (c .before .before .before .before .before .before .before .before .loop .inv .1) (c .before .before .before .before .before .before .before .loop-test .taken) _ _ (place-at _ _ _ _ _ _ _ _ _ _ _ (c .before .before .before .before .before .before .before .before .loop .inv .1 .last) (c .before .before .before .before .before .before .path-seed .ensures) (c .before .before .before .before .before .path-slot .ensures .0) (c .before .before .before .before .before .path-slot .ensures .1)) (c .before .before .before .wide16 .ensures) (c .before .before .if2 .left) _ (c .before .same-key .ensures) (c .if3 .taken), omega (arith, c .before .before .before .wide16 .ensures, c .before .before .before .before .shared-slice-known6 .given (c .before .before .before .before .before .path-slot .result)))
 
 found-key-add-d : (t : ℕ) → found-key-lts.Need-add-d (found-key-calls t) (found-key-at t) found-key.Post found-key-Inv-loop found-key-μ-loop
 found-key-add-d t c = omega arith
@@ -261,10 +267,10 @@ found-key-loop-less : (t : ℕ) → found-key-lts.Need-loop-less (found-key-call
 found-key-loop-less t c = omega arith
 
 found-key-loop-again : (t : ℕ) → found-key-lts.Need-loop-again (found-key-calls t) (found-key-at t) found-key.Post found-key-Inv-loop found-key-μ-loop
-found-key-loop-again t c = found-later _ _ _ _ _ _ (c .before .before .before .before .before .before .before .loop .inv) (c .before .before .before .before .before .before .loop-test .taken) _ _ (c .before .before .before .before .before .path-slot .ensures .0) (c .before .before .before .wide16 .ensures) (c .before .before .if2 .left) _ (c .before .same-key .ensures) (c .if3 .left)
+found-key-loop-again t c = (next-seeded _ _ _ _ _ _ _ _ (c .before .before .before .before .before .before .path-seed .ensures), found-later _ _ _ _ _ _ (c .before .before .before .before .before .before .before .before .loop .inv .1) (c .before .before .before .before .before .before .before .loop-test .taken) _ _ (place-at _ _ _ _ _ _ _ _ _ _ _ (c .before .before .before .before .before .before .before .before .loop .inv .1 .last) (c .before .before .before .before .before .before .path-seed .ensures) (c .before .before .before .before .before .path-slot .ensures .0) (c .before .before .before .before .before .path-slot .ensures .1)) (c .before .before .before .wide16 .ensures) (c .before .before .if2 .left) _ (c .before .same-key .ensures) (c .if3 .left))
 
 found-key-returns-4 : (t : ℕ) → found-key-lts.Need-returns-4 (found-key-calls t) (found-key-at t) found-key.Post found-key-Inv-loop found-key-μ-loop
-found-key-returns-4 t c = (found-none _ _ _ _ _ _ (c .before .loop .inv) (c .loop-test .left), omega arith)
+found-key-returns-4 t c = (found-none _ _ _ _ _ _ (c .before .loop .inv .1) (c .loop-test .left), omega arith)
 
 many-among-slice-aggregate-mark-keys : (t : ℕ) → many-among-lts.Need-slice-aggregate-mark-keys (many-among-calls t) (many-among-at t) many-among.Post
 many-among-slice-aggregate-mark-keys t c = search needs
@@ -657,6 +663,7 @@ pub +found-key+many-among+pair-among+pair-around+pair-marked+pairs-among+pairs-m
     found-key-μ-loop
     (found-key-returns t)
     (found-key-loop-holds t)
+    (found-key-path-seed-requires t)
     (found-key-path-slot-requires t)
     (found-key-mul-wide16 t)
     (found-key-shared-slice-read-wide16 t)
