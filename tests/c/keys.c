@@ -113,7 +113,7 @@ static void large_maps(void)
 /* Halves that cancel in the first hash (crate term_hash). */
 static void add_cancelling(struct made *m, size_t number)
 {
-    uint32_t high = (uint32_t)number + 1, low = -4248335397u * high;
+    uint32_t high = (uint32_t)number + 1, low = -2554875531u * high;
     add(m, BYTES(110, 8, 0, (uint8_t)low, (uint8_t)(low >> 8), (uint8_t)(low >> 16), (uint8_t)(low >> 24)));
     add(m, BYTES((uint8_t)high, (uint8_t)(high >> 8), (uint8_t)(high >> 16), (uint8_t)(high >> 24)));
 }
@@ -156,6 +156,35 @@ static void add_moved(struct made *m, size_t number)
     }
 }
 
+/* 40 bytes with one sum of byte i times the factor to the i, modulo 2^32, whichever odd number the factor is: they differ by multiples of
+ * (x^2 - 1) * (x^4 - 1)^6 * (x^8 - 1). */
+static void add_one_sum(struct made *m, size_t number)
+{
+    static const size_t powers[] = {2, 4, 4, 4, 4, 4, 4, 8};
+    int step[35] = {1}, sum[40];
+    for (size_t k = 0; k < sizeof powers / sizeof *powers; k++)
+        for (size_t i = sizeof step / sizeof *step; i-- > 0;)
+            step[i] = (i < powers[k] ? 0 : step[i - powers[k]]) - step[i];
+    for (size_t i = 0; i < 40; i++)
+        sum[i] = 128;
+    for (size_t at = 0; at < 6; at++, number /= 5)
+        for (size_t i = 0; i < 35; i++)
+            sum[at + i] += ((int)(number % 5) - 2) * step[i];
+    add(m, BYTES(109, 0, 0, 0, 40));
+    for (size_t i = 0; i < 40; i++)
+        add(m, BYTES((uint8_t)sum[i]));
+}
+
+/* A number in seven maps of one pair, each the key of the next: deeper than the first hashes look. */
+static void add_deep(struct made *m, size_t number)
+{
+    for (size_t i = 0; i < 7; i++)
+        add_map(m, 1);
+    add_number(m, number, number % 2);
+    for (size_t i = 0; i < 7; i++)
+        add(m, BYTES(106));
+}
+
 /* n keys of a sort, then the one with a number again; all taken where that is n. */
 static void again(size_t n, size_t number, void (*add_key)(struct made *m, size_t number))
 {
@@ -190,6 +219,8 @@ static void many_meet(void)
     each_again(53, 1, add_middle);
     each_again(200, 7, add_late);
     each_again(5, 1, add_moved);
+    each_again(1300, 83, add_one_sum);
+    each_again(480, 37, add_deep);
 }
 
 /* ---- a key again in another encoding: hashes go by the meaning */

@@ -8,9 +8,9 @@
 -define(BYTES_MOST, 65536).
 -define(ROWS_MOST, 8192).
 -define(EACH, 256).
-%% What the hash of a key multiplies by in the first pass, and what each later pass or round adds (crate term_hash).
--define(FACTOR, 3266489909).
--define(FACTOR_STEP, 2135587862).
+%% What the hash of a key multiplies by in the first pass, and in the others and the later rounds (crate term_hash).
+-define(FIRST_FACTOR, 2554875531).
+-define(FACTOR(I), ((3266489908 + I * 2135587862) band 16#ffffffff)).
 
 %% Writes all files; prints their names, the sizes of a kind upward.
 make(Dir) ->
@@ -52,7 +52,8 @@ reference(I) -> binary_to_term(<<131, (reference_bytes(I))/binary>>).
 
 %% ---- kinds of one message: a run of elements {run, tag, width of the number field, element I, what ends it, rows of an element}, a map of
 %% keys {map, key I of N, rows of a key}, bytes {filled, tag, fields after the length, byte} or {string, tag}, a key in maps
-%% {in_maps, how many, pairs of each, the key of so many bytes}, or two maps as keys {two_maps, the order of the second}
+%% {in_maps, how many, pairs of each, the key of so many bytes}, or two maps as keys {two_maps, the order of the second}, or a
+%% key in maps behind integers in its slots {slots_filled, an element's bytes, what it says}
 
 kinds() ->
     [{"small-integers", list(1, fun(I) -> <<97, I>> end)},
@@ -89,7 +90,7 @@ kinds() ->
 %% Keys of one hash, keys that differ late or in their middle, keys that are long or deep, and keys that are maps.
 worst() ->
     [{"halves-of-one-sum", map(1, fun(_, I) -> <<110, 8, 0, (mixed_up(I)):32/little, (100000 - mixed_up(I)):32/little>> end)},
-     {"one-hash", map(1, fun(_, I) -> one_hash(I + 1) end)},
+     {"one-hash", map(1, fun(_, I) -> <<110, 8, 0, (-?FIRST_FACTOR * (I + 1)):32/little, (I + 1):32/little>> end)},
      {"one-sum-for-odd-factors", map(1, fun(_, I) -> one_sum(I) end)},
      {"one-half-of-slots", map(1, fun(_, I) -> crowded((I + 1) bsl 40) end)},
      {"strings-late", map(37, fun(_, I) -> <<107, 36:16, (binary:copy(<<"a">>, 32))/binary, (mixed_up(I)):32>> end)},
@@ -105,32 +106,60 @@ worst() ->
      {"key-63-deep", {in_maps, 63, 1, fun long_binary/1}},
      {"key-63-deep-of-two", {in_maps, 63, 2, fun long_binary/1}},
      {"binaries-62-deep", {in_maps, 62, 2, fun(N) -> tuple_of(N, binary(1000)) end}},
-     {"atoms-62-deep", {in_maps, 62, 2, fun(N) -> tuple_of(N, [<<100, 255:16>>, binary:copy(<<233>>, 255)]) end}},
-     {"integers-62-deep", {in_maps, 62, 2, fun(N) -> tuple_of(min(N, 2 * 1900), [97, 1]) end}}].
+     {"atoms-62-deep", {in_maps, 62, 2, fun(N) -> tuple_of(N, long_atom()) end}},
+     {"integers-62-deep", {in_maps, 62, 2, fun(N) -> tuple_of(min(N, 2 * 1900), [97, 1]) end}},
+     {"binaries-deep-slots-filled", {slots_filled, binary(1000), [7, 0, 0 | lists:duplicate(1000, 65)]}},
+     {"atoms-deep-slots-filled", {slots_filled, long_atom(), [3, 0, 0 | lists:append(lists:duplicate(125, [195, 169]))]}}].
 
 list(Rows, Element) -> {run, <<108>>, 4, fun(I) -> iolist_to_binary(Element(I)) end, <<106>>, Rows}.
 map(Rows, Key) -> {map, fun(N, I) -> iolist_to_binary(Key(N, I)) end, Rows}.
 
 %% The first integer from N on, of one row in a standalone map, whose first eight rounds all point to the lower half of the slots.
 crowded(N) ->
-    First = pass(0, [1, 1, N, 0, 1]),
-    case lower(mix(0, 0, First)) andalso crowded_later(First, pass(1, [1, 1, N, 0, 1]), 1) of
+    case crowded(N, pass(0, N), 0, 0) of
         true -> <<110, 8, 0, N:64/little>>;
         false -> crowded(N + 1)
     end.
-crowded_later(_, _, 8) -> true;
-crowded_later(A, B, Round) -> lower(mix(Round, Round, mix(Round, Round, mix(Round, B, A)))) andalso crowded_later(A, B, Round + 1).
-lower(Hash) -> Hash < 16#80000000.
+crowded(_, _, _, 8) -> true;
+crowded(N, A, B, Round) ->
+    {A1, B1} = case Round of
+        1 -> {A, pass(1, N)};
+        4 -> {0, pass(2, N)};
+        5 -> {B, pass(3, N)};
+        _ -> {A, B}
+    end,
+    round_hash(A1, B1, Round) < 16#80000000 andalso crowded(N, A1, B1, Round + 1).
 
-%% An integer of one row in a standalone map that has the hash of all others in the first pass.
-one_hash(High) ->
-    Low = -(mix(0, High bsl 32, pass(0, [1, 1]))),
-    <<110, 8, 0, Low:32/little, High:32/little>>.
+round_hash(A, _, 0) -> A;
+round_hash(A, B, Round) -> mix(Round, Round, mix(Round, Round, mix(Round, B, A))).
 
-pass(Pass, Numbers) -> lists:foldl(fun(X, H) -> mix(Pass, X, H) end, 0, Numbers).
-mix(I, X, H) ->
-    Factor = (?FACTOR + I * ?FACTOR_STEP) band 16#ffffffff,
-    ((((H + (X bsr 32)) band 16#ffffffff) * Factor bsr 16) + X) band 16#ffffffff.
+pass(Pass, N) -> pass(Pass, 1, 0, [1, N, 0], 1).
+%% The hash of a key of so many rows, over what its first row says and its others, where the first key of its map has the row First; in so many
+%% maps of one pair, each the key of the next, which count down to four levels.
+pass(Pass, First, Maps, Numbers, Rows) -> mix(Pass, Rows + 2 * Maps, rows(Pass, mix(Pass, First, 0), Maps, 4, Numbers)).
+rows(Pass, H, 0, _, Numbers) -> mixed(Pass, H, Numbers);
+rows(Pass, H, _, 0, _) -> mixed(Pass, H, [41, 0, 0]);
+rows(Pass, H, Maps, Levels, Numbers) ->
+    Pair = mixed(Pass, rows(Pass, 0, Maps - 1, Levels - 1, Numbers), [5, 0, 0]),
+    (mixed(Pass, H, [41, 0, 0]) + (Pair * Pair bsr 16)) band 16#ffffffff.
+mixed(Pass, H, Numbers) -> lists:foldl(fun(X, Sum) -> mix(Pass, X, Sum) end, H, Numbers).
+mix(0, X, H) -> ((H + (X bsr 32)) * ?FIRST_FACTOR + X) band 16#ffffffff;
+mix(I, X, H) -> ((((H + (X bsr 32)) band 16#ffffffff) * ?FACTOR(I) bsr 16) + X) band 16#ffffffff.
+
+%% The slots of the first four rounds of a key.
+first_slots(First, Maps, Numbers, Rows, Slots) ->
+    A = pass(0, First, Maps, Numbers, Rows),
+    B = pass(1, First, Maps, Numbers, Rows),
+    lists:append([[S, (S + 1) rem Slots] || R <- lists:seq(0, 3), S <- [(round_hash(A, B, R) bsr 16) * Slots div 65536]]).
+
+%% N integers from I on, among them one for each slot, to which its first round points in a map whose first key has row 2.
+in_slots([], I, _, N) -> lists:seq(I, I + N - 1);
+in_slots(Wanted, I, Slots, N) ->
+    Slot = (pass(0, 2, 0, [1, I, 0], 1) bsr 16) * Slots div 65536,
+    case lists:member(Slot, Wanted) of
+        true -> [I | in_slots(lists:delete(Slot, Wanted), I + 1, Slots, N - 1)];
+        false -> in_slots(Wanted, I + 1, Slots, N)
+    end.
 
 %% Binaries of 40 bytes with one sum of byte I times the factor to the I, modulo 2^32, whichever odd number the factor is: they differ by
 %% multiples of (x^2 - 1) * (x^4 - 1)^6 * (x^8 - 1).
@@ -147,6 +176,7 @@ middle(N, I) -> [<<109, (2 * N + 4):32>>, binary:copy(<<"a">>, N), <<(mixed_up(I
 
 binary(N) -> [<<109, N:32>>, binary:copy(<<65>>, N)].
 long_binary(Bytes) -> binary(Bytes - 5).
+long_atom() -> [<<119, 250>>, binary:copy(<<16#E9/utf8>>, 125)].
 %% A tuple of as many of the element as there is room for.
 tuple_of(Bytes, Element) ->
     N = (Bytes - 5) div iolist_size(Element),
@@ -191,6 +221,18 @@ sized({map, Key, Rows}, Bytes) ->
 sized({in_maps, Maps, Pairs, Key}, Bytes) ->
     Before = binary:copy(<<116, Pairs:32, (binary:copy(<<97, 1, 106>>, Pairs - 1))/binary>>, Maps),
     iolist_to_binary([131, Before, Key(Bytes - 1 - byte_size(Before) - Maps), binary:copy(<<106>>, Maps)]);
+%% A list: a map of integers, then a tuple of the element in 61 maps of one pair, each the key of the next. The integers stand in the eight slots where
+%% the key of each of these is looked for first, so that its later passes are made. Of a tuple's element there are the bytes and what its row says.
+sized({slots_filled, Element, Numbers}, Bytes) ->
+    Maps = 61,
+    Slots = if Bytes =< 4096 -> 2048; true -> 8192 end,
+    Row = 2 + 2 * 8 * Maps,
+    N = (Bytes - 12 - 6 * 8 * Maps - 6 * Maps - 11) div iolist_size(Element),
+    All = [16 * N + 4, 0, 0 | lists:append(lists:duplicate(N, Numbers))],
+    Wanted = lists:append([first_slots(Row + Maps - I, I, All, N + 1, Slots) || I <- lists:seq(0, Maps - 1)]),
+    Integers = in_slots(lists:usort(Wanted), 0, Slots, 8 * Maps),
+    iolist_to_binary([131, <<108, 2:32>>, 116, <<(length(Integers)):32>>, [<<98, I:32, 106>> || I <- Integers],
+                      binary:copy(<<116, 1:32>>, Maps), tuple_of(5 + N * iolist_size(Element), Element), binary:copy(<<106>>, Maps), 106]);
 %% The second has the pairs of the first, in another order, but for the value of one.
 sized({two_maps, Order}, Bytes) ->
     N = min((Bytes - 18) div 14, (?ROWS_MOST - 5) div 4),

@@ -138,7 +138,7 @@ END {
     printf "ik_reset: %.0f\n", reset["reset"]
     sizes("Reading", read_exact)
     sizes("Writing", write_exact)
-    print "\nThe dearest keys (docs/API.md, Cost): nanoseconds a message, then a byte, then how much dearer a byte of the largest is, each reading and writing; reading beside the largest map of binary keys, which is to be at most 20"
+    print "\nThe dearest keys (docs/API.md, Cost): nanoseconds a message, then a byte, then how much dearer a byte of the largest is, each reading and writing; reading beside the largest map of binary keys, which is to be at most 20 (that of slots filled is not: docs/DECISIONS.md)"
     printf "%-28s %7s %10s %10s %9s %9s %9s %9s %9s\n", "keys", "bytes", "reading", "writing", "ns/byte", "ns/byte", "growth", "growth", "/binary"
     for (i = 1; i <= worst_count; i++) worst_line(worst_keys[i], i % 2 ? "" : worst_keys[i - 1])
     printf "reading at most %.2f times the map of binary keys (%s)\n", worst_ratio["keys"], worst_name["keys"]

@@ -30,7 +30,7 @@ kind-small x k e l = go (eqb k 14) e
 pub square-below : (x : ℕ) → x < 4294967296 → x * x < 18446744073709551616
 square-below x l = let h : x * x ≤ x * 4294967295 = mul-le-mul-left x (omega arith) in omega arith
 
-pub first-factor : (i : ℕ) → i ≡ 0 → 4248335397 ≡ factor-of i
+pub first-factor : (i : ℕ) → i ≡ 0 → 2554875531 ≡ factor-of i
 unfolding factor-of
 first-factor i e = rw (eq-eqb i 0 e)
 

@@ -44,7 +44,7 @@ module _ (hash : ℕ → ℕ → ℕ) (T : List ℕ) where
 
 -- a factor for each pass over a term, and for each round: the first is odd, the others are even
 unfoldable pub factor-of : ℕ → ℕ
-factor-of i = cond (eqb i 0) 4248335397 ((3266489908 + i * 2135587862) % 4294967296)
+factor-of i = cond (eqb i 0) 2554875531 ((3266489908 + i * 2135587862) % 4294967296)
 
 -- in the first two passes maps count down to four levels, then to all
 unfoldable pub levels-of : ℕ → ℕ

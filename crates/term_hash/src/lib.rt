@@ -39,7 +39,7 @@ const HASH_SIZE: u64 = 4294967296;
 const HALF: u64 = 65536;
 
 // The first factor, what the others begin with and what each of them adds; how they were chosen is in docs/DECISIONS.md.
-const FIRST_FACTOR: u64 = 4248335397;
+const FIRST_FACTOR: u64 = 2554875531;
 
 const FACTOR: u64 = 3266489908;
 
