@@ -309,6 +309,17 @@ module _ (cap : ℕ) (given : Given) where
     list_fits : (us vs : Forest (Label × Offset)) (l : Label) (r : ℕ) → r + 1 + sizes (all_as_read (us ▹▹ vs)) ≤ cap → 0 < count (all_as_read us) → Ends l (all_as_read vs)
         → Fits given.flags l (all_as_read (us ▹▹ vs))
     list_fits us vs list r room some_us proper = omega (arith, count_le_sizes (all_as_read (us ▹▹ vs)))
+    list_fits us vs (integer _) r room some_us x = elim x [ ]
+    list_fits us vs (Rattle.term_spec.specs.Term.float _) r room some_us x = elim x [ ]
+    list_fits us vs (atom _) r room some_us x = elim x [ ]
+    list_fits us vs tuple r room some_us x = elim x [ ]
+    list_fits us vs (Rattle.term_spec.specs.Term.binary _) r room some_us x = elim x [ ]
+    list_fits us vs (Rattle.term_spec.specs.Term.bitstring _ _) r room some_us x = elim x [ ]
+    list_fits us vs map r room some_us x = elim x [ ]
+    list_fits us vs (pid _ _ _) r room some_us x = elim x [ ]
+    list_fits us vs (port _ _) r room some_us x = elim x [ ]
+    list_fits us vs (reference _ _) r room some_us x = elim x [ ]
+    list_fits us vs export r room some_us x = elim x [ ]
     list_fits empty vs improper_list r room some_us (improper h) = absurd (omega arith)
     list_fits (u ▹ us) vs improper_list r room some_us (improper h) = (omega (arith, count_le_sizes (all_as_read ((u ▹ us) ▹▹ vs))), improper_cons (as_read u) (all_as_read (us ▹▹ vs)) (last_join us vs h))
 
