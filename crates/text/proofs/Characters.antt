@@ -144,7 +144,9 @@ module _ (s : List ℕ) where
 
     pub counted_full : at < length s → count ≡ 255 → Bad at ≡ shown (check utf_8 s)
     unfolding text_from decode shown
-    counted_full h e = sym (so_far ∙ rw (e, byte_at s at h, decode, shown))
+    counted_full h e =
+        let none_left : 255 - count ≡ 0 = omega arith in
+        sym (so_far ∙ ap (λ (n : ℕ). text_from s n at) none_left ∙ rw (byte_at s at h, decode, shown))
 
     module _ (few : count ≤ 255) (not_full : count ≡ 255 → ⊥) where
       room : 255 - count ≡ suc (254 - count)

@@ -1,0 +1,26 @@
+-- `take_continuation` meets its contract.
+use Rattle.fragments.proofs.Continuations.{more_none, more_other, more_wrong, more_long, more_good}
+use Rattle.fragments.proofs.take_continuation.Goals as goal
+
+pub returns-then-pending-eq0 : goal.returns-then-pending-eq0
+returns-then-pending-eq0 c = let a = c.args in
+    rw c.refused.ensures (record { takes_continuation = λ agreed cache plain_list pending_list. more_none agreed cache plain_list pending_list a.pending a.gather.now a.packet.now a.sequence a.fragment c.if-pending-eq0.true })
+
+pub returns-then-sequence-pending : goal.returns-then-sequence-pending
+returns-then-sequence-pending c = let a = c.args in
+    rw c.refused-then-sequence-pending.ensures (record { takes_continuation = λ agreed cache plain_list pending_list. more_other agreed cache plain_list pending_list a.pending a.gather.now a.packet.now a.sequence a.fragment c.if-pending-eq0.false c.if-sequence-pending.true })
+
+pub returns-then-fragment-pending : goal.returns-then-fragment-pending
+returns-then-fragment-pending c = let a = c.args in
+    rw c.refused-then-fragment-pending.ensures (record { takes_continuation = λ agreed cache plain_list pending_list. more_wrong agreed cache plain_list pending_list a.pending a.gather.now a.packet.now a.sequence a.fragment c.if-pending-eq0.false c.if-sequence-pending.false c.if-fragment-pending.true })
+
+pub returns-then-before-size : goal.returns-then-before-size
+returns-then-before-size c = let a = c.args in
+    rw c.refused-then-before-size.ensures (record { takes_continuation = λ agreed cache plain_list pending_list. more_long agreed cache plain_list pending_list a.pending a.gather.now a.packet.now a.sequence a.fragment c.if-pending-eq0.false c.if-sequence-pending.false c.if-fragment-pending.false c.if-before-size.true c.requires.3 })
+
+pub returns : goal.returns
+returns c = record {
+  takes_continuation = λ agreed cache plain_list pending_list.
+      let a = c.args in
+      more_good agreed cache plain_list pending_list a.pending a.gather.now a.packet.now a.sequence a.fragment c.if-pending-eq0.false c.if-sequence-pending.false c.if-fragment-pending.false _ _ c.if-before-size.false c.requires.3 c.copy.ensures c.after_fragment.ensures;
+}
