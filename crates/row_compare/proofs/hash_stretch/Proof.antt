@@ -1,5 +1,5 @@
 -- `hash_stretch` meets its contract: one law for each answer.
-use Rattle.row_compare.proofs.Hashes.{stretch_third, stretch_plain, stretch_bits, stretch_text}
+use Rattle.row_compare.proofs.Hashes.{stretch_third, stretch_plain, stretch_bits, stretch_listed, stretch_own}
 use borrow.Author.Rules.{rules}
 use Rattle.row_compare.proofs.hash_stretch.Statement.{statement}
 use Rattle.row_compare.proofs.hash_stretch.Tie as tie
@@ -28,11 +28,17 @@ mix-requires-2 c κs = search rules
 returns-3 : tie.Need-returns-3
 returns-3 c = (stretch_bits _ _ _ _ _ _ _ c.before.before.before.before.before.before.if1.false c.before.before.before.before.before.if2.true _ c.before.before.before.before.hashed.ensures _ _ c.before.before.if3.false c.before.before.before.hash_ends.ensures.0 c.before.last_bits.ensures c.mix2.ensures.0, c.mix2.ensures.1)
 
-hash-text-requires : tie.Need-hash-text-requires
-hash-text-requires c κs = search rules
+hash-part-requires : tie.Need-hash-part-requires
+hash-part-requires c κs = search rules
 
 returns-4 : tie.Need-returns-4
-returns-4 c = (stretch_text _ _ _ _ _ _ _ c.before.if2.false c.hash-text.ensures.0, c.hash-text.ensures.1)
+returns-4 c = (stretch_listed _ _ _ _ _ _ _ c.before.before.if2.false c.before.if4.true c.hash_part.ensures.0, c.hash_part.ensures.1)
+
+hash-part-requires-2 : tie.Need-hash-part-requires-2
+hash-part-requires-2 c κs = search rules
+
+returns-5 : tie.Need-returns-5
+returns-5 c = (stretch_own _ _ _ _ _ _ _ c.before.before.if2.false c.before.if4.false c.hash-part2.ensures.0, c.hash-part2.ensures.1)
 
 pub hash_stretch_spec : {M : Type 1} → statement M
 hash_stretch_spec =
@@ -46,5 +52,7 @@ hash_stretch_spec =
     last-bits-requires
     mix-requires-2
     returns-3
-    hash-text-requires
-    returns-4)
+    hash-part-requires
+    returns-4
+    hash-part-requires-2
+    returns-5)

@@ -1,119 +1,102 @@
--- The functions that compare terms call each other and meet their contracts: each level counts 9, and a function that calls another at its own level counts more.
+-- The functions that compare terms call each other and meet their contracts: each level counts 8, and a function that calls another at its own level counts more.
 use Rattle.map_keys.proofs.Marks.{no_marks}
-use Rattle.map_keys.proofs.Found.{other_tag, other_map, key_equal, key_other, found_before, found_now, Finding, finding_start, found_next, no_slots, found_none, found_row, same_there, walk_free, walk_full}
+use Rattle.map_keys.proofs.Found.{other_map, key_compared, Finding, no_slots, found_start, found_empty, found_here, found_later, found_none, same_there}
 use Rattle.map_keys.proofs.Steps.{rows_start, rows_differ, rows_next, maps_differ, maps_next, rows_ended, past_first, past_second, sizes_differ, sizes_same, no_level, maps_sizes, maps_few, maps_many, pairs_start, pairs_differ, pairs_next, pairs_ended, around_first, around_second, pair_start, pair_here, pair_next, pair_none, no_key_there, key_there, marked_start, marked_differ, marked_next, marked_ended}
 use Rattle.term_rows.specs.Rows.{same_row}
 use Rattle.map_keys.specs.Compare.{same_rows, pair_among, pairs_among, pairs_marked}
-use Rattle.map_keys.specs.Found.{tag_of}
 use Rattle.map_keys.specs.KeySet.{key_hashes, Seeded, key_found, maps_at, terms_at}
-use Rattle.map_keys.proofs.Slots.{slot_inside, place_at, first_seed, next_seeded, Walked, walk_start, walk_next, slot_here}
+use Rattle.map_keys.proofs.Slots.{slot_inside, place_at, no_seed, next_seeded}
 use borrow.Author.Tests.{not-true, not-false}
 use borrow.Author.Rules.{rules}
 use native.Mathlib.Omega.{arith}
-use mathlib.Core.Path.{◌≡◌, sym, ◌∙◌}
+use mathlib.Core.Path.{◌≡◌}
 use Prim.Native.Nat.{ℕ, ◌+◌, ◌*◌, ◌-◌, ◌≤◌, ◌<◌}
 use borrow.Fn.Kinds.{In}
 use borrow.Fn.PlainCycle.{Measures, is, falls, and}
-use Rattle.map_keys.proofs.equal_row.Reads as equal_row
-use Rattle.map_keys.proofs.equal_row.Kinds as equal_row_kinds
-use Rattle.map_keys.proofs.+equal_row_found_key_many_among_pair_among_pair_around_pair_marked_pairs_among_pairs_marked_same_maps_same_rows_same_terms_walk.Lts-equal_row as equal_row_lts
 use Rattle.map_keys.proofs.found_key.Reads as found_key
 use Rattle.map_keys.proofs.found_key.Kinds as found_key_kinds
-use Rattle.map_keys.proofs.+equal_row_found_key_many_among_pair_among_pair_around_pair_marked_pairs_among_pairs_marked_same_maps_same_rows_same_terms_walk.Lts-found_key as found_key_lts
+use Rattle.map_keys.proofs.+found_key_many_among_pair_among_pair_around_pair_marked_pairs_among_pairs_marked_same_key_same_maps_same_rows_same_terms.Lts-found_key as found_key_lts
 use Rattle.map_keys.proofs.many_among.Reads as many_among
 use Rattle.map_keys.proofs.many_among.Kinds as many_among_kinds
-use Rattle.map_keys.proofs.+equal_row_found_key_many_among_pair_among_pair_around_pair_marked_pairs_among_pairs_marked_same_maps_same_rows_same_terms_walk.Lts-many_among as many_among_lts
+use Rattle.map_keys.proofs.+found_key_many_among_pair_among_pair_around_pair_marked_pairs_among_pairs_marked_same_key_same_maps_same_rows_same_terms.Lts-many_among as many_among_lts
 use Rattle.map_keys.proofs.pair_among.Reads as pair_among
 use Rattle.map_keys.proofs.pair_among.Kinds as pair_among_kinds
-use Rattle.map_keys.proofs.+equal_row_found_key_many_among_pair_among_pair_around_pair_marked_pairs_among_pairs_marked_same_maps_same_rows_same_terms_walk.Lts-pair_among as pair_among_lts
+use Rattle.map_keys.proofs.+found_key_many_among_pair_among_pair_around_pair_marked_pairs_among_pairs_marked_same_key_same_maps_same_rows_same_terms.Lts-pair_among as pair_among_lts
 use Rattle.map_keys.proofs.pair_around.Reads as pair_around
 use Rattle.map_keys.proofs.pair_around.Kinds as pair_around_kinds
-use Rattle.map_keys.proofs.+equal_row_found_key_many_among_pair_among_pair_around_pair_marked_pairs_among_pairs_marked_same_maps_same_rows_same_terms_walk.Lts-pair_around as pair_around_lts
+use Rattle.map_keys.proofs.+found_key_many_among_pair_among_pair_around_pair_marked_pairs_among_pairs_marked_same_key_same_maps_same_rows_same_terms.Lts-pair_around as pair_around_lts
 use Rattle.map_keys.proofs.pair_marked.Reads as pair_marked
 use Rattle.map_keys.proofs.pair_marked.Kinds as pair_marked_kinds
-use Rattle.map_keys.proofs.+equal_row_found_key_many_among_pair_among_pair_around_pair_marked_pairs_among_pairs_marked_same_maps_same_rows_same_terms_walk.Lts-pair_marked as pair_marked_lts
+use Rattle.map_keys.proofs.+found_key_many_among_pair_among_pair_around_pair_marked_pairs_among_pairs_marked_same_key_same_maps_same_rows_same_terms.Lts-pair_marked as pair_marked_lts
 use Rattle.map_keys.proofs.pairs_among.Reads as pairs_among
 use Rattle.map_keys.proofs.pairs_among.Kinds as pairs_among_kinds
-use Rattle.map_keys.proofs.+equal_row_found_key_many_among_pair_among_pair_around_pair_marked_pairs_among_pairs_marked_same_maps_same_rows_same_terms_walk.Lts-pairs_among as pairs_among_lts
+use Rattle.map_keys.proofs.+found_key_many_among_pair_among_pair_around_pair_marked_pairs_among_pairs_marked_same_key_same_maps_same_rows_same_terms.Lts-pairs_among as pairs_among_lts
 use Rattle.map_keys.proofs.pairs_marked.Reads as pairs_marked
 use Rattle.map_keys.proofs.pairs_marked.Kinds as pairs_marked_kinds
-use Rattle.map_keys.proofs.+equal_row_found_key_many_among_pair_among_pair_around_pair_marked_pairs_among_pairs_marked_same_maps_same_rows_same_terms_walk.Lts-pairs_marked as pairs_marked_lts
+use Rattle.map_keys.proofs.+found_key_many_among_pair_among_pair_around_pair_marked_pairs_among_pairs_marked_same_key_same_maps_same_rows_same_terms.Lts-pairs_marked as pairs_marked_lts
+use Rattle.map_keys.proofs.same_key.Reads as same_key
+use Rattle.map_keys.proofs.same_key.Kinds as same_key_kinds
+use Rattle.map_keys.proofs.+found_key_many_among_pair_among_pair_around_pair_marked_pairs_among_pairs_marked_same_key_same_maps_same_rows_same_terms.Lts-same_key as same_key_lts
 use Rattle.map_keys.proofs.same_maps.Reads as same_maps
 use Rattle.map_keys.proofs.same_maps.Kinds as same_maps_kinds
-use Rattle.map_keys.proofs.+equal_row_found_key_many_among_pair_among_pair_around_pair_marked_pairs_among_pairs_marked_same_maps_same_rows_same_terms_walk.Lts-same_maps as same_maps_lts
+use Rattle.map_keys.proofs.+found_key_many_among_pair_among_pair_around_pair_marked_pairs_among_pairs_marked_same_key_same_maps_same_rows_same_terms.Lts-same_maps as same_maps_lts
 use Rattle.map_keys.proofs.same_rows.Reads as same_rows
 use Rattle.map_keys.proofs.same_rows.Kinds as same_rows_kinds
-use Rattle.map_keys.proofs.+equal_row_found_key_many_among_pair_among_pair_around_pair_marked_pairs_among_pairs_marked_same_maps_same_rows_same_terms_walk.Lts-same_rows as same_rows_lts
+use Rattle.map_keys.proofs.+found_key_many_among_pair_among_pair_around_pair_marked_pairs_among_pairs_marked_same_key_same_maps_same_rows_same_terms.Lts-same_rows as same_rows_lts
 use Rattle.map_keys.proofs.same_terms.Reads as same_terms
 use Rattle.map_keys.proofs.same_terms.Kinds as same_terms_kinds
-use Rattle.map_keys.proofs.+equal_row_found_key_many_among_pair_among_pair_around_pair_marked_pairs_among_pairs_marked_same_maps_same_rows_same_terms_walk.Lts-same_terms as same_terms_lts
-use Rattle.map_keys.proofs.walk.Reads as walk
-use Rattle.map_keys.proofs.walk.Kinds as walk_kinds
-use Rattle.map_keys.proofs.+equal_row_found_key_many_among_pair_among_pair_around_pair_marked_pairs_among_pairs_marked_same_maps_same_rows_same_terms_walk.Lts-walk as walk_lts
+use Rattle.map_keys.proofs.+found_key_many_among_pair_among_pair_around_pair_marked_pairs_among_pairs_marked_same_key_same_maps_same_rows_same_terms.Lts-same_terms as same_terms_lts
 use Rattle.map_keys.proofs.at_key.Reads as at_key_reads
 use Rattle.map_keys.proofs.mark_keys.Reads as mark_keys_reads
+use Rattle.term_rows.proofs.pair_size.Reads as pair_size_reads
+use Rattle.term_rows.proofs.row_at.Reads as row_at_reads
+use Rattle.term_rows.proofs.same_row.Reads as same_row_reads
 use Rattle.map_keys.proofs.path_seed.Reads as path_seed_reads
 use Rattle.map_keys.proofs.path_slot.Reads as path_slot_reads
-use Rattle.map_keys.proofs.tag_of.Reads as tag_of_reads
-use Rattle.map_keys.proofs.walk_end.Reads as walk_end_reads
+use Rattle.term_rows.proofs.unordered_rows.Reads as unordered_rows_reads
 use Rattle.octets.proofs.wide16.Reads as wide16_reads
 use Rattle.row.proofs.parts_in.Reads as parts_in_reads
 use Rattle.row.proofs.size_in.Reads as size_in_reads
 use Rattle.row.proofs.whole_in.Reads as whole_in_reads
-use Rattle.term_hash.proofs.pass_hash.Reads as pass_hash_reads
-use Rattle.term_rows.proofs.pair_size.Reads as pair_size_reads
-use Rattle.term_rows.proofs.row_at.Reads as row_at_reads
-use Rattle.term_rows.proofs.same_row.Reads as same_row_reads
-use Rattle.term_rows.proofs.unordered_rows.Reads as unordered_rows_reads
-use Rattle.map_keys.proofs.+equal_row_found_key_many_among_pair_among_pair_around_pair_marked_pairs_among_pairs_marked_same_maps_same_rows_same_terms_walk.{
+use Rattle.map_keys.proofs.+found_key_many_among_pair_among_pair_around_pair_marked_pairs_among_pairs_marked_same_key_same_maps_same_rows_same_terms.{
   statement,
 }
-use Rattle.map_keys.proofs.+equal_row_found_key_many_among_pair_among_pair_around_pair_marked_pairs_among_pairs_marked_same_maps_same_rows_same_terms_walk.Tie.{
+use Rattle.map_keys.proofs.+found_key_many_among_pair_among_pair_around_pair_marked_pairs_among_pairs_marked_same_key_same_maps_same_rows_same_terms.Tie.{
   close,
 }
 
-abbrev μ_equal_row : Measures 5 equal_row_kinds.ps ℕ
-μ_equal_row κs a = a.1.1.1.1.1.0.levels * 9 + 3
-
 abbrev μ_found_key : Measures 5 found_key_kinds.ps ℕ
-μ_found_key κs a = a.1.1.1.1.1.0 * 9 + 5
+μ_found_key κs a = a.1.1.1.1.1.0 * 8 + 4
 
 abbrev μ_many_among : Measures 5 many_among_kinds.ps ℕ
-μ_many_among κs a = a.1.1.1.1.1.0 * 9 + 8
+μ_many_among κs a = a.1.1.1.1.1.0 * 8 + 7
 
 abbrev μ_pair_among : Measures 5 pair_among_kinds.ps ℕ
-μ_pair_among κs a = a.1.1.1.1.1.0 * 9 + 3
+μ_pair_among κs a = a.1.1.1.1.1.0 * 8 + 3
 
 abbrev μ_pair_around : Measures 5 pair_around_kinds.ps ℕ
-μ_pair_around κs a = a.1.1.1.1.1.0 * 9 + 4
+μ_pair_around κs a = a.1.1.1.1.1.0 * 8 + 4
 
 abbrev μ_pair_marked : Measures 6 pair_marked_kinds.ps ℕ
-μ_pair_marked κs a = a.1.1.1.1.1.1.0 * 9 + 6
+μ_pair_marked κs a = a.1.1.1.1.1.1.0 * 8 + 5
 
 abbrev μ_pairs_among : Measures 5 pairs_among_kinds.ps ℕ
-μ_pairs_among κs a = a.1.1.1.1.1.0 * 9 + 5
+μ_pairs_among κs a = a.1.1.1.1.1.0 * 8 + 5
 
 abbrev μ_pairs_marked : Measures 6 pairs_marked_kinds.ps ℕ
-μ_pairs_marked κs a = a.1.1.1.1.1.1.0 * 9 + 7
+μ_pairs_marked κs a = a.1.1.1.1.1.1.0 * 8 + 6
+
+abbrev μ_same_key : Measures 5 same_key_kinds.ps ℕ
+μ_same_key κs a = a.1.1.1.1.1.0 * 8 + 3
 
 abbrev μ_same_maps : Measures 5 same_maps_kinds.ps ℕ
-μ_same_maps κs a = a.1.1.1.1.1.0 * 9 + 0
+μ_same_maps κs a = a.1.1.1.1.1.0 * 8 + 0
 
 abbrev μ_same_rows : Measures 5 same_rows_kinds.ps ℕ
-μ_same_rows κs a = a.1.1.1.1.1.0 * 9 + 1
+μ_same_rows κs a = a.1.1.1.1.1.0 * 8 + 1
 
 abbrev μ_same_terms : Measures 5 same_terms_kinds.ps ℕ
-μ_same_terms κs a = a.1.1.1.1.1.0 * 9 + 2
-
-abbrev μ_walk : Measures 5 walk_kinds.ps ℕ
-μ_walk κs a = a.1.1.1.1.1.0.levels * 9 + 4
-
-abbrev equal_row_at : ℕ → In 5 equal_row_kinds.ps
-equal_row_at t = and 5 equal_row_kinds.ps (is 5 equal_row_kinds.ps μ_equal_row t) equal_row.Pre
-
-abbrev equal_row_below : ℕ → In 5 equal_row_kinds.ps
-equal_row_below t =
-    and 5 equal_row_kinds.ps (falls 5 equal_row_kinds.ps ◌<◌ μ_equal_row t) equal_row.Pre
+μ_same_terms κs a = a.1.1.1.1.1.0 * 8 + 2
 
 abbrev found_key_at : ℕ → In 5 found_key_kinds.ps
 found_key_at t = and 5 found_key_kinds.ps (is 5 found_key_kinds.ps μ_found_key t) found_key.Pre
@@ -174,6 +157,13 @@ pairs_marked_below t =
     (falls 6 pairs_marked_kinds.ps ◌<◌ μ_pairs_marked t)
     pairs_marked.Pre
 
+abbrev same_key_at : ℕ → In 5 same_key_kinds.ps
+same_key_at t = and 5 same_key_kinds.ps (is 5 same_key_kinds.ps μ_same_key t) same_key.Pre
+
+abbrev same_key_below : ℕ → In 5 same_key_kinds.ps
+same_key_below t =
+    and 5 same_key_kinds.ps (falls 5 same_key_kinds.ps ◌<◌ μ_same_key t) same_key.Pre
+
 abbrev same_maps_at : ℕ → In 5 same_maps_kinds.ps
 same_maps_at t = and 5 same_maps_kinds.ps (is 5 same_maps_kinds.ps μ_same_maps t) same_maps.Pre
 
@@ -196,17 +186,8 @@ abbrev same_terms_below : ℕ → In 5 same_terms_kinds.ps
 same_terms_below t =
     and 5 same_terms_kinds.ps (falls 5 same_terms_kinds.ps ◌<◌ μ_same_terms t) same_terms.Pre
 
-abbrev walk_at : ℕ → In 5 walk_kinds.ps
-walk_at t = and 5 walk_kinds.ps (is 5 walk_kinds.ps μ_walk t) walk.Pre
-
-abbrev walk_below : ℕ → In 5 walk_kinds.ps
-walk_below t = and 5 walk_kinds.ps (falls 5 walk_kinds.ps ◌<◌ μ_walk t) walk.Pre
-
-abbrev equal_row_calls : ℕ → equal_row_lts.Claims
-equal_row_calls t = (tag_of_reads.Asked, tag_of_reads.Learnt, row_at_reads.Asked, row_at_reads.Learnt, whole_in_reads.Asked, whole_in_reads.Learnt, same_terms_below t, same_terms.Post)
-
 abbrev found_key_calls : ℕ → found_key_lts.Claims
-found_key_calls t = (pass_hash_reads.Asked, pass_hash_reads.Learnt, walk_below t, walk.Post)
+found_key_calls t = (path_seed_reads.Asked, path_seed_reads.Learnt, path_slot_reads.Asked, path_slot_reads.Learnt, wide16_reads.Asked, wide16_reads.Learnt, same_key_below t, same_key.Post)
 
 abbrev many_among_calls : ℕ → many_among_lts.Claims
 many_among_calls t = (mark_keys_reads.Asked, mark_keys_reads.Learnt, pairs_marked_below t, pairs_marked.Post)
@@ -226,6 +207,9 @@ pairs_among_calls t = (pair_around_below t, pair_around.Post, pair_size_reads.As
 abbrev pairs_marked_calls : ℕ → pairs_marked_lts.Claims
 pairs_marked_calls t = (pair_marked_below t, pair_marked.Post, pair_size_reads.Asked, pair_size_reads.Learnt)
 
+abbrev same_key_calls : ℕ → same_key_lts.Claims
+same_key_calls t = (row_at_reads.Asked, row_at_reads.Learnt, whole_in_reads.Asked, whole_in_reads.Learnt, same_terms_below t, same_terms.Post)
+
 abbrev same_maps_calls : ℕ → same_maps_lts.Claims
 same_maps_calls t = (row_at_reads.Asked, row_at_reads.Learnt, size_in_reads.Asked, size_in_reads.Learnt, parts_in_reads.Asked, parts_in_reads.Learnt, pairs_among_below t, pairs_among.Post, many_among_below t, many_among.Post)
 
@@ -235,56 +219,58 @@ same_rows_calls t = (row_at_reads.Asked, row_at_reads.Learnt, same_row_reads.Ask
 abbrev same_terms_calls : ℕ → same_terms_lts.Claims
 same_terms_calls t = (size_in_reads.Asked, size_in_reads.Learnt, same_rows_below t, same_rows.Post)
 
-abbrev walk_calls : ℕ → walk_lts.Claims
-walk_calls t = (path_seed_reads.Asked, path_seed_reads.Learnt, path_slot_reads.Asked, path_slot_reads.Learnt, wide16_reads.Asked, wide16_reads.Learnt, walk_end_reads.Asked, walk_end_reads.Learnt, equal_row_below t, equal_row.Post)
+abbrev found_key_Inv_loop : found_key_lts.invariant-loop
+found_key_Inv_loop msg places lengths table slots levels first key n seed₀ i₀ d₀ seed i d =
+    Seeded msg places lengths table first key d seed
+    × Finding table slots (terms_at msg places lengths table slots levels) first key (key_hashes msg places lengths table first key) (key_found msg places lengths table slots (terms_at msg places lengths table slots levels) first key) n i d
 
-equal_row_returns : (t : ℕ) → equal_row_lts.Need-returns (equal_row_calls t) (equal_row_at t) equal_row.Post
-equal_row_returns t c = (found_before _ _ _ _ _ _ _ c.if1.true, c.before.before.before.before.before.before.requires.1)
+abbrev found_key_μ_loop : found_key_lts.decreases-loop
+found_key_μ_loop msg places lengths table slots levels first key n seed₀ i₀ d₀ seed i d = 256 - d
 
-equal_row_tag_of_requires : (t : ℕ) → equal_row_lts.Need-tag-of-requires (equal_row_calls t) (equal_row_at t) equal_row.Post
-equal_row_tag_of_requires t c κs = search rules
-
-equal_row_returns_2 : (t : ℕ) → equal_row_lts.Need-returns-2 (equal_row_calls t) (equal_row_at t) equal_row.Post
-equal_row_returns_2 t c = (found_now _ _ _ _ _ _ _ c.before.before.if1.false _ (other_tag _ _ _ _ _ _ (λ e. c.if2.true (e ∙ sym c.before.tag_of.ensures.0))), omega arith)
-
-equal_row_row_at_requires : (t : ℕ) → equal_row_lts.Need-row-at-requires (equal_row_calls t) (equal_row_at t) equal_row.Post
-equal_row_row_at_requires t c κs = search rules
-
-equal_row_whole_in_requires : (t : ℕ) → equal_row_lts.Need-whole-in-requires (equal_row_calls t) (equal_row_at t) equal_row.Post
-equal_row_whole_in_requires t c κs = search rules
-
-equal_row_returns_3 : (t : ℕ) → equal_row_lts.Need-returns-3 (equal_row_calls t) (equal_row_at t) equal_row.Post
-equal_row_returns_3 t c = (found_now _ _ _ _ _ _ _ c.before.before.before.before.before.before.if1.false _ (other_map _ _ _ _ _ _ (c.before.before.before.before.if2.false ∙ c.before.before.before.before.before.tag_of.ensures.0) _ _ c.before.before.before.row_at.ensures c.before.before.whole_in.ensures.0 c.if3.true), omega arith)
-
-equal_row_same_terms_requires : (t : ℕ) → equal_row_lts.Need-same-terms-requires (equal_row_calls t) (equal_row_at t) equal_row.Post
-equal_row_same_terms_requires t c κs = (omega (arith, c.before.before.before.before.before.before.before.before.before.before.before.before.requires.0), tt)
-
-equal_row_add_result : (t : ℕ) → equal_row_lts.Need-overflow-add-result (equal_row_calls t) (equal_row_at t) equal_row.Post
-equal_row_add_result t c = omega arith
-
-equal_row_returns_4 : (t : ℕ) → equal_row_lts.Need-returns-4 (equal_row_calls t) (equal_row_at t) equal_row.Post
-equal_row_returns_4 t c = (found_now _ _ _ _ _ _ _ c.before.before.before.before.before.before.before.before.if1.false _ (key_equal _ _ _ _ _ _ (c.before.before.before.before.before.before.if2.false ∙ c.before.before.before.before.before.before.before.tag_of.ensures.0) _ _ c.before.before.before.before.before.row_at.ensures c.before.before.before.before.whole_in.ensures.0 c.before.before.if3.false _ c.before.same_terms.ensures c.if4.true), omega arith)
-
-equal_row_returns_5 : (t : ℕ) → equal_row_lts.Need-returns-5 (equal_row_calls t) (equal_row_at t) equal_row.Post
-equal_row_returns_5 t c = (found_now _ _ _ _ _ _ _ c.before.before.before.before.before.before.before.before.if1.false _ (key_other _ _ _ _ _ _ (c.before.before.before.before.before.before.if2.false ∙ c.before.before.before.before.before.before.before.tag_of.ensures.0) _ _ c.before.before.before.before.before.row_at.ensures c.before.before.before.before.whole_in.ensures.0 c.before.before.if3.false _ c.before.same_terms.ensures c.if4.false), omega arith)
-
-found_key_returns : (t : ℕ) → found_key_lts.Need-returns (found_key_calls t) (found_key_at t) found_key.Post
+found_key_returns : (t : ℕ) → found_key_lts.Need-returns (found_key_calls t) (found_key_at t) found_key.Post found_key_Inv_loop found_key_μ_loop
 found_key_returns t c = (no_slots _ _ _ _ _ _ _ _ c.if1.true, omega arith)
 
-found_key_pass_hash_requires : (t : ℕ) → found_key_lts.Need-pass-hash-requires (found_key_calls t) (found_key_at t) found_key.Post
-found_key_pass_hash_requires t c κs = (omega arith, c.before.before.before.before.before.before.requires.1)
+found_key_path_seed_requires : (t : ℕ) → found_key_lts.Need-path-seed-requires (found_key_calls t) (found_key_at t) found_key.Post found_key_Inv_loop found_key_μ_loop
+found_key_path_seed_requires t c κs = (c.before.before.before.before.before.before.before.before.requires.1, c.before.loop.invariant.0)
 
-found_key_walk_requires : (t : ℕ) → found_key_lts.Need-walk-requires (found_key_calls t) (found_key_at t) found_key.Post
-found_key_walk_requires t c κs = (omega (arith, c.before.before.before.before.before.before.before.requires.0), (omega (arith, c.before.if1.false), c.before.before.before.before.before.before.before.requires.1, c.pass_hash.ensures.0))
+found_key_path_slot_requires : (t : ℕ) → found_key_lts.Need-path-slot-requires (found_key_calls t) (found_key_at t) found_key.Post found_key_Inv_loop found_key_μ_loop
+found_key_path_slot_requires t c κs = (omega arith, omega arith, slot_inside _ _ _ _ _ _ _ _ _ c.before.before.loop.invariant.1.last (omega arith))
 
-found_key_returns_2 : (t : ℕ) → found_key_lts.Need-returns-2 (found_key_calls t) (found_key_at t) found_key.Post
-found_key_returns_2 t c = (found_none _ _ _ _ _ _ _ _ c.before.before.before.before.if1.false _ c.before.before.walk.ensures.equal_is c.if2.true, omega arith)
+found_key_loop_holds : (t : ℕ) → found_key_lts.Need-loop-init (found_key_calls t) (found_key_at t) found_key.Post found_key_Inv_loop found_key_μ_loop
+found_key_loop_holds t c = (no_seed _ _ _ _ _ _ _, found_start _ _ _ _ _ _ _ _ c.if1.false)
 
-found_key_sub_result : (t : ℕ) → found_key_lts.Need-overflow-sub-result (found_key_calls t) (found_key_at t) found_key.Post
-found_key_sub_result t c = omega arith
+found_key_mul_wide16 : (t : ℕ) → found_key_lts.Need-overflow-mul-wide16 (found_key_calls t) (found_key_at t) found_key.Post found_key_Inv_loop found_key_μ_loop
+found_key_mul_wide16 t c = omega arith
 
-found_key_returns_3 : (t : ℕ) → found_key_lts.Need-returns-3 (found_key_calls t) (found_key_at t) found_key.Post
-found_key_returns_3 t c = (found_row _ _ _ _ _ _ _ _ c.before.before.before.before.before.if1.false _ c.before.before.before.walk.ensures.equal_is, omega (arith, c.before.before.before.walk.ensures.equal_small))
+found_key_shared_slice_read_wide16 : (t : ℕ) → found_key_lts.Need-shared-slice-read-wide16 (found_key_calls t) (found_key_at t) found_key.Post found_key_Inv_loop found_key_μ_loop
+found_key_shared_slice_read_wide16 t c = omega arith
+
+found_key_wide16_requires : (t : ℕ) → found_key_lts.Need-wide16-requires (found_key_calls t) (found_key_at t) found_key.Post found_key_Inv_loop found_key_μ_loop
+found_key_wide16_requires t c κs = search rules
+
+found_key_returns_2 : (t : ℕ) → found_key_lts.Need-returns-2 (found_key_calls t) (found_key_at t) found_key.Post found_key_Inv_loop found_key_μ_loop
+found_key_returns_2 t c = (found_empty _ _ _ _ _ _ c.before.before.before.before.before.before.loop.invariant.1 c.before.before.before.before.before.loop-test.true _ _ (place_at _ _ _ _ _ _ _ _ _ _ _ c.before.before.before.before.before.before.loop.invariant.1.last c.before.before.before.before.path-seed.ensures c.before.before.before.path-slot.ensures.0 c.before.before.before.path-slot.ensures.1) c.before.wide16.ensures c.if2.true, omega arith)
+
+found_key_sub_row : (t : ℕ) → found_key_lts.Need-overflow-sub-row (found_key_calls t) (found_key_at t) found_key.Post found_key_Inv_loop found_key_μ_loop
+found_key_sub_row t c = omega arith
+
+found_key_same_key_requires : (t : ℕ) → found_key_lts.Need-same-key-requires (found_key_calls t) (found_key_at t) found_key.Post found_key_Inv_loop found_key_μ_loop
+found_key_same_key_requires t c κs = (omega (arith, c.before.before.before.before.before.before.before.before.before.before.before.before.before.requires.0), tt)
+
+found_key_returns_3 : (t : ℕ) → found_key_lts.Need-returns-3 (found_key_calls t) (found_key_at t) found_key.Post found_key_Inv_loop found_key_μ_loop
+found_key_returns_3 t c = (found_here _ _ _ _ _ _ c.before.before.before.before.before.before.before.before.loop.invariant.1 c.before.before.before.before.before.before.before.loop-test.true _ _ (place_at _ _ _ _ _ _ _ _ _ _ _ c.before.before.before.before.before.before.before.before.loop.invariant.1.last c.before.before.before.before.before.before.path-seed.ensures c.before.before.before.before.before.path-slot.ensures.0 c.before.before.before.before.before.path-slot.ensures.1) c.before.before.before.wide16.ensures c.before.before.if2.false _ c.before.same_key.ensures c.if3.true, omega (arith, c.before.before.before.wide16.ensures, c.before.before.before.before.shared-slice-known6.given c.before.before.before.before.before.path-slot.result))
+
+found_key_add_d : (t : ℕ) → found_key_lts.Need-overflow-add-d (found_key_calls t) (found_key_at t) found_key.Post found_key_Inv_loop found_key_μ_loop
+found_key_add_d t c = omega arith
+
+found_key_loop_less : (t : ℕ) → found_key_lts.Need-loop-smaller (found_key_calls t) (found_key_at t) found_key.Post found_key_Inv_loop found_key_μ_loop
+found_key_loop_less t c = omega arith
+
+found_key_loop_again : (t : ℕ) → found_key_lts.Need-loop-preserved (found_key_calls t) (found_key_at t) found_key.Post found_key_Inv_loop found_key_μ_loop
+found_key_loop_again t c = (next_seeded _ _ _ _ _ _ _ _ c.before.before.before.before.before.before.path-seed.ensures, found_later _ _ _ _ _ _ c.before.before.before.before.before.before.before.before.loop.invariant.1 c.before.before.before.before.before.before.before.loop-test.true _ _ (place_at _ _ _ _ _ _ _ _ _ _ _ c.before.before.before.before.before.before.before.before.loop.invariant.1.last c.before.before.before.before.before.before.path-seed.ensures c.before.before.before.before.before.path-slot.ensures.0 c.before.before.before.before.before.path-slot.ensures.1) c.before.before.before.wide16.ensures c.before.before.if2.false _ c.before.same_key.ensures c.if3.false)
+
+found_key_returns_4 : (t : ℕ) → found_key_lts.Need-returns-4 (found_key_calls t) (found_key_at t) found_key.Post found_key_Inv_loop found_key_μ_loop
+found_key_returns_4 t c = (found_none _ _ _ _ _ _ c.before.loop.invariant.1 c.loop-test.false, omega arith)
 
 many_among_slice_aggregate_mark_keys : (t : ℕ) → many_among_lts.Need-slice-aggregate-mark-keys (many_among_calls t) (many_among_at t) many_among.Post
 many_among_slice_aggregate_mark_keys t c = search rules
@@ -492,6 +478,21 @@ pairs_marked_loop_again t c = (omega arith, omega (arith, c.before.before.before
 pairs_marked_returns_2 : (t : ℕ) → pairs_marked_lts.Need-returns-2 (pairs_marked_calls t) (pairs_marked_at t) pairs_marked.Post pairs_marked_Inv_loop pairs_marked_μ_loop
 pairs_marked_returns_2 t c = marked_ended _ _ _ _ _ _ _ _ _ c.before.loop.invariant.2 c.loop-test.false
 
+same_key_row_at_requires : (t : ℕ) → same_key_lts.Need-row-at-requires (same_key_calls t) (same_key_at t) same_key.Post
+same_key_row_at_requires t c κs = search rules
+
+same_key_whole_in_requires : (t : ℕ) → same_key_lts.Need-whole-in-requires (same_key_calls t) (same_key_at t) same_key.Post
+same_key_whole_in_requires t c κs = search rules
+
+same_key_returns : (t : ℕ) → same_key_lts.Need-returns (same_key_calls t) (same_key_at t) same_key.Post
+same_key_returns t c = other_map _ _ _ _ _ _ _ c.before.before.row_at.ensures c.before.whole_in.ensures.0 c.if1.true
+
+same_key_same_terms_requires : (t : ℕ) → same_key_lts.Need-same-terms-requires (same_key_calls t) (same_key_at t) same_key.Post
+same_key_same_terms_requires t c κs = (omega (arith, c.before.before.before.before.before.before.before.before.requires.0), tt)
+
+same_key_returns_2 : (t : ℕ) → same_key_lts.Need-returns-2 (same_key_calls t) (same_key_at t) same_key.Post
+same_key_returns_2 t c = key_compared _ _ _ _ _ _ _ c.before.before.before.row_at.ensures c.before.before.whole_in.ensures.0 c.before.if1.false _ c.same_terms.ensures
+
 same_maps_returns : (t : ℕ) → same_maps_lts.Need-returns (same_maps_calls t) (same_maps_at t) same_maps.Post
 same_maps_returns t c = no_level _ _ _ _ _ _ c.if1.true
 
@@ -640,61 +641,10 @@ same_terms_same_rows_requires t c κs = (omega (arith, c.before.before.before.be
 same_terms_returns_4 : (t : ℕ) → same_terms_lts.Need-returns-4 (same_terms_calls t) (same_terms_at t) same_terms.Post
 same_terms_returns_4 t c = sizes_same _ _ _ _ _ c.before.before.before.before.before.before.before.if1.false c.before.before.before.before.before.before.if2.false _ _ c.before.before.before.before.size_in.ensures.0 c.before.before.size-in2.ensures.0 _ c.before.if3.false c.same_rows.ensures
 
-abbrev walk_Inv_loop : walk_lts.invariant-loop
-walk_Inv_loop msg places lengths table slots sought n first key seed₀ equal₀ i₀ d₀ seed equal i d =
-    Walked slots (key_hashes msg places lengths table sought.first sought.key) n i d × Seeded msg places lengths table sought.first sought.key d seed
-    × Finding table slots (terms_at msg places lengths table slots sought.levels) sought.first sought.key (tag_of sought.hash) (key_hashes msg places lengths table sought.first sought.key) d equal × (equal < 8193)
-
-abbrev walk_μ_loop : walk_lts.decreases-loop
-walk_μ_loop msg places lengths table slots sought n first key seed₀ equal₀ i₀ d₀ seed equal i d = 256 - d
-
-walk_loop_holds : (t : ℕ) → walk_lts.Need-loop-init (walk_calls t) (walk_at t) walk.Post walk_Inv_loop walk_μ_loop
-walk_loop_holds t c = (walk_start _ _, first_seed _ _ _ _ _ _ _ c.before.before.before.before.before.requires.1.2, finding_start _ _ _ _ _ _ _, omega arith)
-
-walk_path_seed_requires : (t : ℕ) → walk_lts.Need-path-seed-requires (walk_calls t) (walk_at t) walk.Post walk_Inv_loop walk_μ_loop
-walk_path_seed_requires t c κs = (c.before.before.before.before.before.before.before.requires.1.1, c.before.loop.invariant.1)
-
-walk_path_slot_requires : (t : ℕ) → walk_lts.Need-path-slot-requires (walk_calls t) (walk_at t) walk.Post walk_Inv_loop walk_μ_loop
-walk_path_slot_requires t c κs = (omega (arith, c.before.before.before.before.before.before.before.before.requires.1.0), omega arith, slot_inside _ _ _ _ _ _ _ _ _ c.before.before.loop.invariant.0.last (omega (arith, c.before.before.before.before.before.before.before.before.requires.1.0)))
-
-walk_mul_wide16 : (t : ℕ) → walk_lts.Need-overflow-mul-wide16 (walk_calls t) (walk_at t) walk.Post walk_Inv_loop walk_μ_loop
-walk_mul_wide16 t c = omega arith
-
-walk_shared_slice_read_wide16 : (t : ℕ) → walk_lts.Need-shared-slice-read-wide16 (walk_calls t) (walk_at t) walk.Post walk_Inv_loop walk_μ_loop
-walk_shared_slice_read_wide16 t c = omega arith
-
-walk_wide16_requires : (t : ℕ) → walk_lts.Need-wide16-requires (walk_calls t) (walk_at t) walk.Post walk_Inv_loop walk_μ_loop
-walk_wide16_requires t c κs = search rules
-
-walk_walk_end_requires : (t : ℕ) → walk_lts.Need-walk-end-requires (walk_calls t) (walk_at t) walk.Post walk_Inv_loop walk_μ_loop
-walk_walk_end_requires t c κs = search rules
-
-walk_returns : (t : ℕ) → walk_lts.Need-returns (walk_calls t) (walk_at t) walk.Post walk_Inv_loop walk_μ_loop
-walk_returns t c = walk_free _ _ _ _ _ _ _ _ _ c.before.before.before.before.before.before.before.before.before.before.before.before.before.requires.1.2 c.before.before.before.before.before.before.before.loop.invariant.0 c.before.before.before.before.before.before.before.loop.invariant.2 c.before.before.before.before.before.before.before.loop.invariant.3 _ _ c.walk_end.ensures.1 _ _ c.walk_end.ensures.0 (place_at _ _ _ _ _ _ _ _ _ _ _ c.before.before.before.before.before.before.before.loop.invariant.0.last c.before.before.before.before.before.path-seed.ensures c.before.before.before.before.path-slot.ensures.0 c.before.before.before.before.path-slot.ensures.1) c.before.before.before.before.path-slot.ensures.1 c.before.before.wide16.ensures c.before.before.before.before.before.before.loop-test.true c.before.if1.true
-
-walk_equal_row_requires : (t : ℕ) → walk_lts.Need-equal-row-requires (walk_calls t) (walk_at t) walk.Post walk_Inv_loop walk_μ_loop
-walk_equal_row_requires t c κs = (omega (arith, c.before.before.before.before.before.before.before.before.before.before.before.before.requires.0), c.before.before.before.before.before.before.loop.invariant.3)
-
-walk_add_d : (t : ℕ) → walk_lts.Need-overflow-add-d (walk_calls t) (walk_at t) walk.Post walk_Inv_loop walk_μ_loop
-walk_add_d t c = omega arith
-
-walk_loop_less : (t : ℕ) → walk_lts.Need-loop-smaller (walk_calls t) (walk_at t) walk.Post walk_Inv_loop walk_μ_loop
-walk_loop_less t c = omega arith
-
-walk_loop_again : (t : ℕ) → walk_lts.Need-loop-preserved (walk_calls t) (walk_at t) walk.Post walk_Inv_loop walk_μ_loop
-walk_loop_again t c = (walk_next _ _ c.before.before.before.before.before.before.before.loop.invariant.0 _ _ (place_at _ _ _ _ _ _ _ _ _ _ _ c.before.before.before.before.before.before.before.loop.invariant.0.last c.before.before.before.before.before.path-seed.ensures c.before.before.before.before.path-slot.ensures.0 c.before.before.before.before.path-slot.ensures.1) c.before.before.wide16.ensures c.before.if1.false, next_seeded _ _ _ _ _ _ _ _ c.before.before.before.before.before.path-seed.ensures, found_next _ _ _ _ _ _ _ _ _ c.before.before.before.before.before.before.before.loop.invariant.2 c.before.before.before.before.before.before.loop-test.true _ (slot_here _ _ c.before.before.before.before.before.before.before.loop.invariant.0 _ _ (place_at _ _ _ _ _ _ _ _ _ _ _ c.before.before.before.before.before.before.before.loop.invariant.0.last c.before.before.before.before.before.path-seed.ensures c.before.before.before.before.path-slot.ensures.0 c.before.before.before.before.path-slot.ensures.1) c.before.before.wide16.ensures) c.before.if1.false _ c.equal_row.ensures.0, c.equal_row.ensures.1)
-
-walk_walk_end_requires_2 : (t : ℕ) → walk_lts.Need-walk-end-requires-2 (walk_calls t) (walk_at t) walk.Post walk_Inv_loop walk_μ_loop
-walk_walk_end_requires_2 t c κs = search rules
-
-walk_returns_2 : (t : ℕ) → walk_lts.Need-returns-2 (walk_calls t) (walk_at t) walk.Post walk_Inv_loop walk_μ_loop
-walk_returns_2 t c = walk_full _ _ _ _ _ _ _ _ _ c.before.before.before.before.before.before.before.before.requires.1.2 c.before.before.loop.invariant.0 c.before.before.loop.invariant.2 c.before.before.loop.invariant.3 _ _ c.walk-end2.ensures.1 c.walk-end2.ensures.0 c.before.loop-test.false
-
-pub +equal-row-found-key-many-among-pair-among-pair-around-pair-marked-pairs-among-pairs-marked-same-maps-same-rows-same-terms-walk-spec :
+pub +found-key-many-among-pair-among-pair-around-pair-marked-pairs-among-pairs-marked-same-key-same-maps-same-rows-same-terms-spec :
     {M : Type 1} → statement M
-+equal-row-found-key-many-among-pair-among-pair-around-pair-marked-pairs-among-pairs-marked-same-maps-same-rows-same-terms-walk-spec =
++found-key-many-among-pair-among-pair-around-pair-marked-pairs-among-pairs-marked-same-key-same-maps-same-rows-same-terms-spec =
     close
-    μ_equal_row
     μ_found_key
     μ_many_among
     μ_pair_among
@@ -702,32 +652,30 @@ pub +equal-row-found-key-many-among-pair-among-pair-around-pair-marked-pairs-amo
     μ_pair_marked
     μ_pairs_among
     μ_pairs_marked
+    μ_same_key
     μ_same_maps
     μ_same_rows
     μ_same_terms
-    μ_walk
-    (λ t. equal_row_lts.spec (equal_row_calls t)
-    (equal_row_at t)
-    equal_row.Post
-    (equal_row_returns t)
-    (equal_row_tag_of_requires t)
-    (equal_row_returns_2 t)
-    (equal_row_row_at_requires t)
-    (equal_row_whole_in_requires t)
-    (equal_row_returns_3 t)
-    (equal_row_same_terms_requires t)
-    (equal_row_add_result t)
-    (equal_row_returns_4 t)
-    (equal_row_returns_5 t))
     (λ t. found_key_lts.spec (found_key_calls t)
     (found_key_at t)
     found_key.Post
+    found_key_Inv_loop
+    found_key_μ_loop
     (found_key_returns t)
-    (found_key_pass_hash_requires t)
-    (found_key_walk_requires t)
+    (found_key_loop_holds t)
+    (found_key_path_seed_requires t)
+    (found_key_path_slot_requires t)
+    (found_key_mul_wide16 t)
+    (found_key_shared_slice_read_wide16 t)
+    (found_key_wide16_requires t)
     (found_key_returns_2 t)
-    (found_key_sub_result t)
-    (found_key_returns_3 t))
+    (found_key_sub_row t)
+    (found_key_same_key_requires t)
+    (found_key_returns_3 t)
+    (found_key_add_d t)
+    (found_key_loop_less t)
+    (found_key_loop_again t)
+    (found_key_returns_4 t))
     (λ t. many_among_lts.spec (many_among_calls t)
     (many_among_at t)
     many_among.Post
@@ -811,6 +759,14 @@ pub +equal-row-found-key-many-among-pair-among-pair-around-pair-marked-pairs-amo
     (pairs_marked_loop_less t)
     (pairs_marked_loop_again t)
     (pairs_marked_returns_2 t))
+    (λ t. same_key_lts.spec (same_key_calls t)
+    (same_key_at t)
+    same_key.Post
+    (same_key_row_at_requires t)
+    (same_key_whole_in_requires t)
+    (same_key_returns t)
+    (same_key_same_terms_requires t)
+    (same_key_returns_2 t))
     (λ t. same_maps_lts.spec (same_maps_calls t)
     (same_maps_at t)
     same_maps.Post
@@ -855,7 +811,8 @@ pub +equal-row-found-key-many-among-pair-among-pair-around-pair-marked-pairs-amo
     (same_rows_loop_less_2 t)
     (same_rows_loop_again_2 t)
     (same_rows_returns_3 t))
-    (λ t. same_terms_lts.spec (same_terms_calls t)
+    λ t. same_terms_lts.spec
+    (size_in_reads.Asked, size_in_reads.Learnt, same_rows_below t, same_rows.Post)
     (same_terms_at t)
     same_terms.Post
     (same_terms_returns t)
@@ -868,23 +825,4 @@ pub +equal-row-found-key-many-among-pair-among-pair-around-pair-marked-pairs-amo
     (same_terms_size_in_requires_2 t)
     (same_terms_returns_3 t)
     (same_terms_same_rows_requires t)
-    (same_terms_returns_4 t))
-    λ t. walk_lts.spec (walk_calls t)
-    (walk_at t)
-    walk.Post
-    walk_Inv_loop
-    walk_μ_loop
-    (walk_loop_holds t)
-    (walk_path_seed_requires t)
-    (walk_path_slot_requires t)
-    (walk_mul_wide16 t)
-    (walk_shared_slice_read_wide16 t)
-    (walk_wide16_requires t)
-    (walk_walk_end_requires t)
-    (walk_returns t)
-    (walk_equal_row_requires t)
-    (walk_add_d t)
-    (walk_loop_less t)
-    (walk_loop_again t)
-    (walk_walk_end_requires_2 t)
-    (walk_returns_2 t)
+    (same_terms_returns_4 t)
