@@ -10,7 +10,7 @@ ghost use Rattle.row_compare.specs.Hash.{mix, mix_all, as_utf8, hash_part, hash_
 use row_fields::Content;
 
 // A content as its case's number and its fields, zero and false where it has none; a sign is a number.
-#[derive(Drop)]
+#[derive(Clone, Copy)]
 pub struct Flat {
     pub code: usize,
     pub latin1: bool,
