@@ -59,7 +59,7 @@ pub const WORD_ELEMENTS: usize = 15;
 pub const WORD_PAIRS: usize = 0;
 
 // Which terms may stand at a place.
-#[derive(Drop)]
+#[derive(Clone, Copy)]
 pub enum Wanted {
     Any,
     Atom,
