@@ -1,4 +1,6 @@
 // The atom list as it is lent.
+#![tactic(auto)]
+
 ghost use Rattle.std.specs.Prelude.{◌≡◌, ℕ, ◌<◌, length};
 ghost use Rattle.term_spec.specs.AtomList.{of_size, place_text, lent_list};
 ghost use Rattle.text.specs.Shown.{is_valid};

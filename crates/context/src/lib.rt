@@ -1,4 +1,6 @@
 // What reading hands down unchanged, in one word: the atom list's count, the connection's flags, the number of rows that may be taken.
+#![tactic(auto)]
+
 ghost use Rattle.std.specs.Prelude.{◌≡◌, ◌≤◌, ◌<◌, ltb};
 ghost use Rattle.term_spec.specs.Connection.{v4_nc};
 ghost use Rattle.context.specs.Word.{Packed, count_in, flags_in, capacity_in};

@@ -10,13 +10,13 @@ use lib.Dec.{eqb}
 use borrow.Author.Tests.{eq-eqb, ne_eqb, le-leb, lt-leb}
 use Rattle.term_spec.specs.Numbers.{big_endian}
 use Rattle.term_spec.specs.Text.{Coding}
-use Rattle.term_spec.specs.Answer.{Answer, good, refused, Position, at_offset, after}
+use Rattle.term_spec.specs.Answer.{at_offset}
 use Rattle.term_spec.proofs.Bridge.{byte_at, byte_end, bytes_at, bytes_end, number_at, number_end}
 use Rattle.octets.specs.Parts.{Width}
 use Rattle.octets.proofs.Numbers.{big_joined, big_one}
 use Rattle.octets.proofs.Widths.{width_1, width_2}
 use Rattle.packet_spec.specs.Memory.{Held}
-use Rattle.packet_spec.specs.Header.{Reference, flag_bytes, half, is_new, place_at, length_width, new_reference, reference, references, header}
+use Rattle.packet_spec.specs.Header.{flag_bytes, half, is_new, place_at, length_width, reference, references, header}
 use Rattle.dist_header.specs.Code.{flags_of, HeaderAt, HeaderStarts, Spells}
 use Rattle.dist_header.specs.declared.HeaderStart.TheVariants as starts
 use Rattle.dist_header.specs.declared.Spelled.TheVariants as spelled

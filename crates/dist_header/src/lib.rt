@@ -1,4 +1,6 @@
 // Headers of packets: where their references stand, whether they may be taken, and the text of a new one as UTF-8.
+#![tactic(auto)]
+
 ghost use Rattle.std.specs.Prelude.{◌≡◌, List, ℕ, ◌+◌, ◌/◌, ◌≤◌, ◌<◌, length, take, drop};
 ghost use Rattle.term_spec.specs.Text.{coding_of, check, valid, encodes};
 ghost use Rattle.packet_spec.specs.Memory.{cache_of, CacheSized, held};

@@ -1,0 +1,8 @@
+-- `pack` meets its contract.
+use native.Mathlib.Omega.{arith}
+use Rattle.context.specs.Word.{count_in, flags_in, capacity_in}
+use Rattle.context.proofs.pack.Goals as goal
+
+pub returns : goal.returns
+unfolding count_in flags_in capacity_in
+returns c = record { count_is = omega (arith, c.wide-2.ensures, c.wide.ensures); flags_are = omega (arith, c.wide-2.ensures, c.wide.ensures); capacity_is = omega (arith, c.wide-2.ensures, c.wide.ensures) }
