@@ -116,28 +116,27 @@ map(Rows, Key) -> {map, fun(N, I) -> iolist_to_binary(Key(N, I)) end, Rows}.
 
 %% The first integer from N on, of one row in a standalone map, whose first eight rounds all point to the lower half of the slots.
 crowded(N) ->
-    case crowded(N, 0, pass(0, N), 0) of
+    case crowded(N, pass(0, N), 0, 0) of
         true -> <<110, 8, 0, N:64/little>>;
         false -> crowded(N + 1)
     end.
 crowded(_, _, _, 8) -> true;
 crowded(N, A, B, Round) ->
     {A1, B1} = case Round of
-        2 -> {B, pass(1, N)};
+        1 -> {A, pass(1, N)};
         4 -> {0, pass(2, N)};
         5 -> {B, pass(3, N)};
         _ -> {A, B}
     end,
     round_hash(A1, B1, Round) < 16#80000000 andalso crowded(N, A1, B1, Round + 1).
 
-%% The hash of a round by the hashes of the last two passes, the first 0 where one alone counts.
-round_hash(_, B, 0) -> B;
+round_hash(A, _, 0) -> A;
 round_hash(A, B, Round) -> mix(Round, Round, mix(Round, Round, mix(Round, B, A))).
 
 pass(Pass, N) -> pass(Pass, 1, 0, [1, N, 0], 1).
 %% The hash of a key of so many rows, over what its first row says and its others, where the first key of its map has the row First; in so many
 %% maps of one pair, each the key of the next, which count down to four levels.
-pass(Pass, First, Maps, Numbers, Rows) -> mix(Pass, Rows + 2 * Maps, rows(Pass, First, Maps, 4, Numbers)).
+pass(Pass, First, Maps, Numbers, Rows) -> mix(Pass, Rows + 2 * Maps, rows(Pass, mix(Pass, First, 0), Maps, 4, Numbers)).
 rows(Pass, H, 0, _, Numbers) -> mixed(Pass, H, Numbers);
 rows(Pass, H, _, 0, _) -> mixed(Pass, H, [41, 0, 0]);
 rows(Pass, H, Maps, Levels, Numbers) ->
@@ -151,8 +150,7 @@ mix(I, X, H) -> ((((H + (X bsr 32)) band 16#ffffffff) * ?FACTOR(I) bsr 16) + X) 
 first_slots(First, Maps, Numbers, Rows, Slots) ->
     A = pass(0, First, Maps, Numbers, Rows),
     B = pass(1, First, Maps, Numbers, Rows),
-    Hashes = [round_hash(0, A, 0), round_hash(0, A, 1), round_hash(A, B, 2), round_hash(A, B, 3)],
-    lists:append([[S, (S + 1) rem Slots] || H <- Hashes, S <- [(H bsr 16) * Slots div 65536]]).
+    lists:append([[S, (S + 1) rem Slots] || R <- lists:seq(0, 3), S <- [(round_hash(A, B, R) bsr 16) * Slots div 65536]]).
 
 %% N integers from I on, among them one for each slot, to which its first round points in a map whose first key has row 2.
 in_slots([], I, _, N) -> lists:seq(I, I + N - 1);

@@ -20,19 +20,16 @@ use Rattle.row_fields.proofs.Says.{Lent}
 use Rattle.term_rows.specs.Rows.{pair_size}
 use Rattle.term_rows.proofs.Known.{KnownRows, pair_sizes, valids_left, valids_right}
 use Rattle.term_rows.proofs.InTable.{TermInTable, RowsInTable, held_left, held_right, held_first, known_tree}
-use Rattle.term_hash.proofs.InTable.{same_terms_pass, same_terms_hash}
-use Rattle.term_hash.specs.Hash.{pass_hash}
-use Rattle.map_keys.specs.Found.{name_of}
+use Rattle.term_hash.proofs.InTable.{same_terms_hash}
 use Rattle.map_keys.specs.KeySet.{Contains, Keeps, key_hashes, same_terms_raw, ContainsFrom, ContainsBefore, ContainsOrInsert}
 use Rattle.map_keys.proofs.Compare.{KeysOf}
-use Rattle.map_keys.proofs.Found.{named}
 use Rattle.map_keys.proofs.Slots.{contains_as, contains_kept}
 pub use Rattle.map_keys.proofs.Slots.{keeps_refl, keeps_trans}
 use Rattle.map_keys.proofs.InTable.{same_terms_same, last_among}
 
 -- the set contains the key whose rows start at the row `row`: in each table where they stand, by its hashes there, which start from the row `first`
 pub record ContainsKey (m places lengths : List ℕ) (whole : Option ℕ) (first row : ℕ) (k : Located) (L : List ℕ) : Type 0 where
-  by_hash : (S : List ℕ) → TreeHere S whole row k → Contains L (key_hashes m places lengths S first row) (name_of (pass_hash m places lengths S first row 0) row)
+  by_hash : (S : List ℕ) → TreeHere S whole row k → Contains L (key_hashes m places lengths S first row) row
 
 -- the keys of these pairs, from the row `row` on
 pub data ContainsKeys (m places lengths : List ℕ) (whole : Option ℕ) (first : ℕ) : ℕ → Terms → List ℕ → Type 0 where
@@ -43,7 +40,7 @@ pub data ContainsKeys (m places lengths : List ℕ) (whole : Option ℕ) (first 
 module _ {m places lengths : List ℕ} {whole : Option ℕ} {first : ℕ} where
   -- where occupied slots stay, keys stay contained
   pub key_kept : {row : ℕ} {k : Located} {L L' : List ℕ} → Keeps L L' → ContainsKey m places lengths whole first row k L → ContainsKey m places lengths whole first row k L'
-  key_kept h k = record { by_hash = λ S g. contains_kept (named _ _) h (k.by_hash S g) }
+  key_kept h k = record { by_hash = λ S g. contains_kept h (k.by_hash S g) }
 
   pub keys_kept : {row : ℕ} {ts : Terms} {L L' : List ℕ} → Keeps L L' → ContainsKeys m places lengths whole first row ts L → ContainsKeys m places lengths whole first row ts L'
   keys_kept h no_key = no_key
@@ -84,15 +81,13 @@ module _ (flags : ℕ) (list : AtomList) (m : List ℕ) (lent : Lent list m) (ca
 
   -- a key that is equal has the same hashes
   one_hash : {row : ℕ} {L : List ℕ} (k : Located) → Valid flags (as_read k) → TermInTable m cap (given_of flags list) S whole row k
-      → ContainsKey m places lengths whole first row k L → same_terms_raw m places lengths S L key row ≡ true
-      → Contains L (key_hashes m places lengths S first key) (name_of (pass_hash m places lengths S first key 0) row)
+      → ContainsKey m places lengths whole first row k L → same_terms_raw m places lengths S L key row ≡ true → Contains L (key_hashes m places lengths S first key) row
   unfolding key_hashes
   one_hash {row} {L} k v g o e =
       let known_u = known_tree flags list m lent cap S u key_held in
       let known_k = known_tree flags list m lent cap S k g in
       let f : meaning u ≡ meaning k = (same_terms_same flags list m lent cap S L u k (valids_right flags us (u ▹ empty) valid).0 v known_u known_k).sure e in
-      contains_as (λ round. sym (same_terms_hash flags list m lent cap S S u k known_u known_k f round first))
-      (ap (λ (h : ℕ). name_of h row) (sym (same_terms_pass flags list m lent cap S S u k known_u known_k f first 0))) (o.by_hash S g.stands)
+      contains_as (λ round. sym (same_terms_hash flags list m lent cap S S u k known_u known_k f round first)) (o.by_hash S g.stands)
 
   contains_from : {L : List ℕ} (n row : ℕ) (ts : Terms) → ContainsKeys m places lengths whole first row ts L → key ≡ row + sizes ts → Valids flags (all_as_read ts)
       → RowsInTable m cap (given_of flags list) S whole row ts → ContainsFrom m places lengths S first key L n row
@@ -129,8 +124,4 @@ pub key_inserted : (flags : ℕ) (list : AtomList) (m : List ℕ) (lent : Lent l
 unfolding key_hashes
 key_inserted flags list m lent cap {S} {first = first} us u h c e =
     let g = known_tree flags list m lent cap S u (held_first m cap (given_of flags list) u empty (held_right m cap (given_of flags list) us (u ▹ empty) h)) in
-    record {
-      by_hash = λ S' k.
-          contains_as (λ round. same_terms_hash flags list m lent cap S S' u u g (record { stands = k; known = g.known }) refl round first)
-          (ap (λ (h : ℕ). name_of h (first + sizes us)) (same_terms_pass flags list m lent cap S S' u u g (record { stands = k; known = g.known }) refl first 0)) (c.inserted e);
-    }
+    record { by_hash = λ S' k. contains_as (λ round. same_terms_hash flags list m lent cap S S' u u g (record { stands = k; known = g.known }) refl round first) (c.inserted e) }

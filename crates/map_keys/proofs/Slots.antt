@@ -1,8 +1,8 @@
 -- The slots of the set of keys: where a path comes to, one law for each way through the functions that walk it, and that occupied slots stay.
 use mathlib.Core.Path.{◌≡◌, refl, sym, ◌∙◌, ap, subst}
 use mathlib.Core.Bool.{Bool, true, false, cond}
-use mathlib.Core.List.{List, [], ◌∷◌}
-use Prim.Native.Nat.{ℕ, zero, suc, ◌+◌, ◌*◌, ◌-◌, ◌/◌, ◌%◌, ◌≤◌, ◌<◌}
+use mathlib.Core.List.{List}
+use Prim.Native.Nat.{ℕ, ◌+◌, ◌*◌, ◌-◌, ◌/◌, ◌%◌, ◌≤◌, ◌<◌}
 use native.Mathlib.Nat.{mul_comm, add-mul, mul_assoc, mul-le-mul, mul-le-mul_right, mul-add-div, div-add-mod, mod-lt, mod-eq_of_lt, mod_self, mod-add-mod}
 use native.Mathlib.Omega.{arith}
 use lib.Dec.{eqb}
@@ -10,10 +10,12 @@ use lib.ListN.{length, get_or, set, length-set}
 use lib.Seq.{get_or-set_same, get_or-set_other}
 use borrow.Author.Count.{below_none, below_more}
 use borrow.Author.Tests.{eqb-true, eqb-false, eq-eqb, ne_eqb}
+use Rattle.term_spec.specs.Rows.{whole_in}
 use Rattle.term_spec.proofs.Tests.{by_less}
 use Rattle.term_hash.specs.Hash.{pass_hash, seed_of, round_hash, term_hash}
 use Rattle.map_keys.specs.Path.{place, next_place, slot}
-use Rattle.map_keys.specs.KeySet.{Contains, FirstEmpty, Keeps, key_hashes, key_seed, Seeded}
+use Rattle.map_keys.specs.Found.{same_key}
+use Rattle.map_keys.specs.KeySet.{Contains, FirstEmpty, Keeps, key_hashes, key_seed, Seeded, same_terms_raw, Absent}
 
 -- ---- the slot to which a hash points
 
@@ -94,20 +96,19 @@ module _ (m places lengths T : List ℕ) (first key n d : ℕ) where
       go true z f = place_start (key_hashes m places lengths T first key) n d r (eqb-true (d % 2) 0 z) (f ∙ ap (λ (x : ℕ). round_hash x (d / 2) * n / 65536) s) l
       go false z f = place_next (key_hashes m places lengths T first key) n d i (eqb-false (d % 2) 0 z) last r f
 
-pub first_seed : (m places lengths T : List ℕ) (first key hash : ℕ) → hash ≡ pass_hash m places lengths T first key 0 → Seeded m places lengths T first key 0 hash
-unfolding key_seed seed_of
-first_seed m places lengths T first key hash e = e
+pub no_seed : (m places lengths T : List ℕ) (first key seed : ℕ) → Seeded m places lengths T first key 0 seed
+no_seed m places lengths T first key seed l = absurd (omega arith)
 
 module _ (m places lengths T : List ℕ) (first key d seed : ℕ) where
   module _ (last : Seeded m places lengths T first key d seed) where
     -- a round starts
-    pub round_before : d % 2 ≡ 0 → seed ≡ seed_of (pass_hash m places lengths T first key) (d / 2 - 1)
+    pub round_before : d % 2 ≡ 0 → 0 < d / 2 → seed ≡ seed_of (pass_hash m places lengths T first key) (d / 2 - 1)
     unfolding key_seed
-    round_before z = let e : (d - 1) / 2 ≡ d / 2 - 1 = omega arith in rw e at last
+    round_before z l = let e : (d - 1) / 2 ≡ d / 2 - 1 = omega arith in rw e at (last (omega arith))
 
     -- or goes on
     pub round_goes_on : (d % 2 ≡ 0 → ⊥) → seed ≡ key_seed m places lengths T first key (d / 2)
-    round_goes_on z = let e : (d - 1) / 2 ≡ d / 2 = omega arith in rw e at last
+    round_goes_on z = let e : (d - 1) / 2 ≡ d / 2 = omega arith in rw e at (last (omega arith))
 
   pub seed_is : seed ≡ seed_of (pass_hash m places lengths T first key) (d / 2) → seed ≡ key_seed m places lengths T first key (d / 2)
   unfolding key_seed
@@ -115,7 +116,7 @@ module _ (m places lengths T : List ℕ) (first key d seed : ℕ) where
 
   -- the next step
   pub next_seeded : seed ≡ key_seed m places lengths T first key (d / 2) → Seeded m places lengths T first key (d + 1) seed
-  next_seeded e = let k : d + 1 - 1 ≡ d = omega arith in rw k e
+  next_seeded e l = let k : d + 1 - 1 ≡ d = omega arith in rw k e
 
 -- ---- occupied slots stay
 
@@ -144,76 +145,111 @@ module _ {L L' : List ℕ} (k : Keeps L L') where
   slot_was_empty hs d e = was_empty (place hs (length L) d) (sym (same_slot hs d) ∙ e)
 
 -- the same by equal hashes
-pub contains_as : {L : List ℕ} {hs hs' : ℕ → ℕ} {x y : ℕ} → ((round : ℕ) → hs round ≡ hs' round) → x ≡ y → Contains L hs x → Contains L hs' y
-contains_as {L} {hs} {hs'} f g c =
+pub contains_as : {L : List ℕ} {hs hs' : ℕ → ℕ} {k : ℕ} → ((round : ℕ) → hs round ≡ hs' round) → Contains L hs k → Contains L hs' k
+contains_as {L} {hs} {hs'} f c =
     let at : (d : ℕ) → slot L hs d ≡ slot L hs' d = λ d. ap (λ (i : ℕ). get_or L i 0) (place_as hs f (length L) d) in
-    record { stands = λ d l e. let w = c.stands d l (at d ∙ e) in (w.0, w.1, sym (at w.0) ∙ w.2 ∙ g) }
+    record { stands = λ d l e. let w = c.stands d l (at d ∙ e) in (w.0, w.1, sym (at w.0) ∙ w.2) }
 
 -- a key that is contained stays so
-pub contains_kept : {L L' : List ℕ} {hs : ℕ → ℕ} {x : ℕ} → (x ≡ 0 → ⊥) → Keeps L L' → Contains L hs x → Contains L' hs x
-contains_kept {L} {L'} {hs} {x} some g f =
+pub contains_kept : {L L' : List ℕ} {hs : ℕ → ℕ} {k : ℕ} → Keeps L L' → Contains L hs k → Contains L' hs k
+contains_kept {L} {L'} {hs} {k} g f =
     record {
       stands = λ d l e.
           let w = f.stands d l (slot_was_empty g hs d e) in
-          let here : slot L hs w.0 ≡ x = w.2 in
-          (w.0, w.1, same_slot g hs w.0 ∙ g.occupied (place hs (length L) w.0) (λ z. some (sym here ∙ z)) ∙ here);
+          let here : slot L hs w.0 ≡ k + 1 = w.2 in
+          (w.0, w.1, same_slot g hs w.0 ∙ g.occupied (place hs (length L) w.0) (λ z. omega arith) ∙ here);
     }
 
 -- ---- walking a path
 
--- d steps are passed, the slot at each is occupied; the last was slot i, of n
-pub record Walked (L : List ℕ) (hs : ℕ → ℕ) (n i d : ℕ) : Type 0 where
+-- d steps are passed, P holds of the slot at each; the last was slot i, of n
+pub record Walked (P : ℕ → Type 0) (L : List ℕ) (hs : ℕ → ℕ) (n i d : ℕ) : Type 0 where
   pub all : n ≡ length L
   pub last : 0 < d → i ≡ place hs n (d - 1)
-  pub passed : (e : ℕ) → e < d → slot L hs e ≡ 0 → ⊥
+  pub passed : (e : ℕ) → e < d → P (slot L hs e)
 
-module _ (L : List ℕ) (hs : ℕ → ℕ) where
-  pub walk_start : Walked L hs (length L) 0 0
-  walk_start = record { all = refl; last = λ l. absurd (omega arith); passed = below_none (λ (e : ℕ). slot L hs e ≡ 0 → ⊥) }
+module _ (P : ℕ → Type 0) (L : List ℕ) (hs : ℕ → ℕ) where
+  pub walk_start : Walked P L hs (length L) 0 0
+  walk_start = record { all = refl; last = λ l. absurd (omega arith); passed = below_none (λ (e : ℕ). P (slot L hs e)) }
 
-  module _ {n i d : ℕ} (p : Walked L hs n i d) (j x : ℕ) (e : j ≡ place hs n d) (f : x ≡ get_or L j 0) where
-    pub slot_here : slot L hs d ≡ x
-    slot_here = rw (f, e, p.all)
+  module _ {n i d : ℕ} (p : Walked P L hs n i d) (j : ℕ) (e : j ≡ place hs n d) where
+    slot_here : slot L hs d ≡ get_or L j 0
+    slot_here = rw (e, p.all)
 
-    pub walk_next : (x ≡ 0 → ⊥) → Walked L hs n j (d + 1)
-    walk_next o =
+    pub walk_next : d < 256 → P (get_or L j 0) → Walked P L hs n j (d + 1)
+    walk_next l x =
         let s : d + 1 - 1 ≡ d = omega arith in
         record {
           all = p.all;
           last = λ _. e ∙ ap (place hs n) (sym s);
-          passed = below_more (λ (e : ℕ). slot L hs e ≡ 0 → ⊥) d p.passed (λ z. o (sym slot_here ∙ z));
+          passed = below_more (λ (e : ℕ). P (slot L hs e)) d p.passed (subst P (sym slot_here) x);
         }
 
-    pub walk_empty : d < 256 → x ≡ 0 → FirstEmpty L hs j
-    walk_empty l z = record { step = d; on_path = l; place_is = e ∙ ap (λ (k : ℕ). place hs k d) p.all; is_empty = sym f ∙ z; passed = p.passed }
+-- ---- a path to the first empty slot
 
--- ---- a name is put into the first empty slot
+-- a part of the map is compared
+part_compared : (T : List ℕ) (terms : ℕ → ℕ → Bool) (first key row : ℕ) → whole_in (get_or T row 0) ≡ first → same_key T terms first key row ≡ terms key row
+unfolding same_key
+part_compared T terms first key row e = rw (eq-eqb (whole_in (get_or T row 0)) first e)
 
-module _ (L : List ℕ) (hs : ℕ → ℕ) (x : ℕ) (some : x ≡ 0 → ⊥) {i : ℕ} (f : FirstEmpty L hs i) (inside : i < length L) where
-  pub keeps_set : Keeps L (set L i x)
+module _ (m places lengths T : List ℕ) (first key : ℕ) (L : List ℕ) where
+  -- what is known of a slot that is passed: it is occupied, and the row in it, if it is a part of the map, means something else
+  abbrev pub Other : ℕ → Type 0
+  Other x = (x ≡ 0 → ⊥) × (whole_in (get_or T (x - 1) 0) ≡ first → same_terms_raw m places lengths T L key (x - 1) ≡ false)
+
+  module _ {n i d : ℕ} (p : Walked Other L (key_hashes m places lengths T first key) n i d) (j x : ℕ) (l : d < 256)
+      (e : j ≡ place (key_hashes m places lengths T first key) n d) (f : x ≡ get_or L j 0) where
+    pub free_found : x ≡ 0 → Absent m places lengths T first key L j
+    free_found z =
+        let hs : ℕ → ℕ = key_hashes m places lengths T first key in
+        record {
+          free = record { step = d; on_path = l; place_is = e ∙ ap (λ (k : ℕ). place hs k d) p.all; is_empty = sym f ∙ z; passed = λ e k. (p.passed e k).0 };
+          others = λ e k. (p.passed e k).1;
+        }
+
+    pub free_later : (s : Bool) → (x ≡ 0 → ⊥) → s ≡ same_key T (same_terms_raw m places lengths T L) first key (x - 1) → s ≡ false
+        → Walked Other L (key_hashes m places lengths T first key) n j (d + 1)
+    free_later s o g z =
+        walk_next Other L (key_hashes m places lengths T first key) p j e l
+        (subst Other f (o, λ w. sym (part_compared T (same_terms_raw m places lengths T L) first key (x - 1) w) ∙ sym g ∙ z))
+
+-- ---- insert
+
+abbrev pub Occupied : ℕ → Type 0
+Occupied x = x ≡ 0 → ⊥
+
+-- in the first empty slot
+module _ (L : List ℕ) (hs : ℕ → ℕ) (k : ℕ) {i : ℕ} (f : FirstEmpty L hs i) (inside : i < length L) where
+  pub keeps_set : Keeps L (set L i (k + 1))
   keeps_set =
-      record { as_many = length-set L i x; occupied = λ j e. get_or-set_other L i j x 0 (λ q. e (ap (λ (y : ℕ). get_or L y 0) q ∙ f.is_empty)) }
+      record { as_many = length-set L i (k + 1); occupied = λ j e. get_or-set_other L i j (k + 1) 0 (λ q. e (ap (λ (x : ℕ). get_or L x 0) q ∙ f.is_empty)) }
 
-  occupied_now : slot (set L i x) hs f.step ≡ x
-  occupied_now = same_slot keeps_set hs f.step ∙ ap (λ (y : ℕ). get_or (set L i x) y 0) (sym f.place_is) ∙ get_or-set_same L i x 0 inside
+  occupied_now : slot (set L i (k + 1)) hs f.step ≡ k + 1
+  occupied_now =
+      same_slot keeps_set hs f.step ∙ ap (λ (x : ℕ). get_or (set L i (k + 1)) x 0) (sym f.place_is) ∙ get_or-set_same L i (k + 1) 0 inside
 
   -- it is occupied now, so the next empty one comes later
-  later_empty : (e : ℕ) → slot (set L i x) hs e ≡ 0 → f.step < e
+  later_empty : (e : ℕ) → slot (set L i (k + 1)) hs e ≡ 0 → f.step < e
   later_empty e y =
       by_less f.step e (λ x. x)
-      (λ k. by_less e f.step (λ w. absurd (f.passed e w (slot_was_empty keeps_set hs e y)))
+      (λ x. by_less e f.step (λ w. absurd (f.passed e w (slot_was_empty keeps_set hs e y)))
       (λ w.
       let q : e ≡ f.step = omega arith in
-      absurd (some (sym occupied_now ∙ ap (slot (set L i x) hs) (sym q) ∙ y))))
+      let g : slot (set L i (k + 1)) hs e ≡ k + 1 = ap (slot (set L i (k + 1)) hs) q ∙ occupied_now in
+      absurd (omega arith)))
 
-  pub contains_set : Contains (set L i x) hs x
+  pub contains_set : Contains (set L i (k + 1)) hs k
   contains_set = record { stands = λ e b y. (f.step, later_empty e y, occupied_now) }
 
--- there is none
-pub set_past : (L : List ℕ) (i x : ℕ) → length L ≤ i → set L i x ≡ L
-set_past [] i x l = refl
-set_past (y ∷ L) zero x l = absurd (omega arith)
-set_past (y ∷ L) (suc i) x l = ap (λ (S : List ℕ). y ∷ S) (set_past L i x (omega arith))
+-- slots S that are still as they were, L
+module _ (L S : List ℕ) (hs : ℕ → ℕ) (k : ℕ) {n i d : ℕ} (e : S ≡ L) (p : Walked Occupied S hs n i d) where
+  pub insert_empty : (j : ℕ) → d < 256 → j ≡ place hs n d → j < n → get_or S j 0 ≡ 0 → Keeps L (set S j (k + 1)) × Contains (set S j (k + 1)) hs k
+  insert_empty j l g b z =
+      let f : FirstEmpty S hs j = record { step = d; on_path = l; place_is = g ∙ ap (λ (k : ℕ). place hs k d) p.all; is_empty = z; passed = p.passed } in
+      let inside : j < length S = omega (arith, p.all) in
+      (subst (λ (l : List ℕ). Keeps l (set S j (k + 1))) e (keeps_set S hs k f inside), contains_set S hs k f inside)
 
-pub contains_full : (L : List ℕ) (hs : ℕ → ℕ) (x : ℕ) → ((e : ℕ) → e < 256 → slot L hs e ≡ 0 → ⊥) → Contains L hs x
-contains_full L hs x f = record { stands = λ e b z. absurd (f e b z) }
+  -- no slot of the path is empty
+  pub insert_full : 256 ≤ d → Keeps L S × Contains S hs k
+  insert_full l =
+      (subst (λ (l : List ℕ). Keeps l S) e (keeps_refl S), record { stands = λ e b z. absurd (p.passed e (omega arith) z) })

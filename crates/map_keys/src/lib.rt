@@ -1,16 +1,15 @@
 // Terms compared by their rows, whatever their encoding, and the hash set of a map's keys.
-ghost use Rattle.std.specs.Prelude.{◌≡◌, true, ◌+◌, ◌*◌, ◌-◌, ◌/◌, ◌%◌, ◌≤◌, ◌<◌, length, set};
+ghost use Rattle.std.specs.Prelude.{◌≡◌, ◌+◌, ◌*◌, ◌-◌, ◌/◌, ◌%◌, ◌≤◌, ◌<◌, length};
 ghost use Rattle.term_rows.specs.Rows.{same_row};
-ghost use Rattle.term_hash.specs.Hash.{pass_hash};
 ghost use Rattle.map_keys.specs.Path.{next_place};
-ghost use Rattle.map_keys.specs.Compare.{same_rows, pair_among, pair_around, pairs_among, leads, at_key};
-ghost use Rattle.map_keys.specs.Found.{tag_of, or_equal};
+ghost use Rattle.map_keys.specs.Compare.{same_rows, pair_among, pair_around, pairs_among, leads, at_key, pair_marked, pairs_marked};
+ghost use Rattle.map_keys.specs.Found.{same_key};
 ghost use Rattle.map_keys.specs.Marks.{Reached, Marks, MarkOf};
-ghost use Rattle.map_keys.specs.KeySet.{key_seed, Seeded, maps_at, terms_at, hint_at, marked_at, all_marked_at, among_rows, WalkEnd, ContainsOrInsert};
+ghost use Rattle.map_keys.specs.KeySet.{Contains, Keeps, key_hashes, key_seed, Seeded, key_found, maps_at, terms_at, among_rows, Absent, ContainsOrInsert};
 
 use octets::wide16;
 use row::{parts_in, size_in, whole_in};
-use term_hash::{first_hash, next_seed, pass_hash, round_hash};
+use term_hash::{next_seed, round_hash};
 use term_rows::{pair_size, row_at, same_row, unordered_rows};
 
 // A key and its value.
@@ -34,31 +33,8 @@ const WINDOW: usize = 2;
 // The path of a key has so many steps, in rounds of WINDOW.
 const PATH: usize = 256;
 
-// A slot is empty, 0, or it names a key: by its row, which is below TAGGED, and above that a tag.
-const TAGGED: usize = 8192;
-
-const TAGS: u64 = 8;
-
-// The key at the row `key` of the map whose first key is at the row `first`, with its first hash; it is compared in at most `levels` levels of maps.
-#[derive(Drop)]
-struct Sought {
-    levels: usize,
-    first: usize,
-    key: usize,
-    hash: u64,
-}
-
-// Where the walk along a key's path ends.
-#[derive(Drop)]
-struct WalkEnd {
-    // the first empty slot of the path, the number of slots where there is none
-    free: usize,
-    // the row plus 1 of the first equal key that a slot before it names, 0 where there is none
-    equal: usize,
-}
-
 // Whether the n rows from a on mean the same as those from b on: row by row, but maps that have pairs as wholes.
-#[cycle(equal_row_found_key_many_among_pair_among_pair_around_pair_marked_pairs_among_pairs_marked_same_maps_same_rows_same_terms_walk)]
+#[cycle(found_key_many_among_pair_among_pair_around_pair_marked_pairs_among_pairs_marked_same_key_same_maps_same_rows_same_terms)]
 fn same_rows(
     msg: &[u8],
     places: &[u8],
@@ -94,7 +70,7 @@ fn same_rows(
 }
 
 // Whether the terms whose rows start at a and b mean the same, maps being at most `levels` deep in them.
-#[cycle(equal_row_found_key_many_among_pair_among_pair_around_pair_marked_pairs_among_pairs_marked_same_maps_same_rows_same_terms_walk)]
+#[cycle(found_key_many_among_pair_among_pair_around_pair_marked_pairs_among_pairs_marked_same_key_same_maps_same_rows_same_terms)]
 fn same_terms(
     msg: &[u8],
     places: &[u8],
@@ -121,7 +97,7 @@ fn same_terms(
 }
 
 // Whether the maps at a and b, of the same number of pairs, have the same pairs.
-#[cycle(equal_row_found_key_many_among_pair_among_pair_around_pair_marked_pairs_among_pairs_marked_same_maps_same_rows_same_terms_walk)]
+#[cycle(found_key_many_among_pair_among_pair_around_pair_marked_pairs_among_pairs_marked_same_key_same_maps_same_rows_same_terms)]
 fn same_maps(
     msg: &[u8],
     places: &[u8],
@@ -154,7 +130,7 @@ fn same_maps(
 }
 
 // Whether each of the n pairs from a on is one of the n from b on. A pair is looked for from the place on that it has itself, and then from b on.
-#[cycle(equal_row_found_key_many_among_pair_among_pair_around_pair_marked_pairs_among_pairs_marked_same_maps_same_rows_same_terms_walk)]
+#[cycle(found_key_many_among_pair_among_pair_around_pair_marked_pairs_among_pairs_marked_same_key_same_maps_same_rows_same_terms)]
 fn pairs_among(
     msg: &[u8],
     places: &[u8],
@@ -196,7 +172,7 @@ fn pairs_among(
 }
 
 // Whether the pair from k on is one of the n from `at` on, or of the m before those, which start at b.
-#[cycle(equal_row_found_key_many_among_pair_among_pair_around_pair_marked_pairs_among_pairs_marked_same_maps_same_rows_same_terms_walk)]
+#[cycle(found_key_many_among_pair_among_pair_around_pair_marked_pairs_among_pairs_marked_same_key_same_maps_same_rows_same_terms)]
 fn pair_around(
     msg: &[u8],
     places: &[u8],
@@ -220,7 +196,7 @@ fn pair_around(
 }
 
 // Whether of the n pairs from `at` on the first with the key at k has the value after that key.
-#[cycle(equal_row_found_key_many_among_pair_among_pair_around_pair_marked_pairs_among_pairs_marked_same_maps_same_rows_same_terms_walk)]
+#[cycle(found_key_many_among_pair_among_pair_around_pair_marked_pairs_among_pairs_marked_same_key_same_maps_same_rows_same_terms)]
 fn pair_among(
     msg: &[u8],
     places: &[u8],
@@ -332,101 +308,29 @@ fn at_key(table: &[u64], marks: &[u16], b: usize, end: usize, row: usize) -> boo
     leads_to(table, mark_before(marks, b, row), row)
 }
 
-// A tag of a key's first hash, for its name: never 0.
-fn tag_of(hash: u64) -> usize
-    ensures { (result ≡ tag_of hash) × (0 < result) × (result < 8) }
-{
-    let bits = (hash / TAGGED as u64 % TAGS) as usize;
-    if bits == 0 {
-        return 1;
-    }
-    bits
-}
-
-// Where `equal` is 0 and the name is that of a key of the map, with the tag of the key that is sought and equal to it: its row plus 1; else `equal`.
-#[cycle(equal_row_found_key_many_among_pair_among_pair_around_pair_marked_pairs_among_pairs_marked_same_maps_same_rows_same_terms_walk)]
-fn equal_row(
+// Whether the row is that of a key of the map whose first key is at the row `first`, and means the same as that at the row `key`.
+#[cycle(found_key_many_among_pair_among_pair_around_pair_marked_pairs_among_pairs_marked_same_key_same_maps_same_rows_same_terms)]
+fn same_key(
     msg: &[u8],
     places: &[u8],
     lengths: &[u16],
     table: &[u64],
     slots: &[u16],
-    sought: Sought,
-    name: usize,
-    equal: usize,
-) -> usize
-    requires { equal < 8193 }
-    ensures { (result ≡ or_equal table.now (terms_at msg.now places.now lengths.now table.now slots.now sought.levels) sought.first sought.key (tag_of sought.hash) name equal) × (result < 8193) }
+    levels: usize,
+    first: usize,
+    key: usize,
+    row: usize,
+) -> bool
+    ensures { result ≡ same_key table.now (terms_at msg.now places.now lengths.now table.now slots.now levels) first key row }
 {
-    if equal != 0 {
-        return equal;
+    if whole_in(row_at(table, row)) != first {
+        return false;
     }
-    if name / TAGGED != tag_of(sought.hash) {
-        return 0;
-    }
-    let row = name % TAGGED;
-    if whole_in(row_at(table, row)) != sought.first {
-        return 0;
-    }
-    if same_terms(
-        msg,
-        places,
-        lengths,
-        table,
-        slots,
-        sought.levels,
-        sought.key,
-        row,
-    ) {
-        return row + 1;
-    }
-    0
+    same_terms(msg, places, lengths, table, slots, levels, key, row)
 }
 
-// Walks the path of the key that is sought.
-#[cycle(equal_row_found_key_many_among_pair_among_pair_around_pair_marked_pairs_among_pairs_marked_same_maps_same_rows_same_terms_walk)]
-fn walk(
-    msg: &[u8],
-    places: &[u8],
-    lengths: &[u16],
-    table: &[u64],
-    slots: &[u16],
-    sought: Sought,
-) -> WalkEnd
-    requires { (0 < length slots.now) × (sought.key < 3458764513820540928) × (sought.hash ≡ pass_hash msg.now places.now lengths.now table.now sought.first sought.key 0) }
-    ensures { WalkEnd msg.now places.now lengths.now table.now slots.now sought.levels sought.first sought.key result.free result.equal }
-{
-    let n = slots.len();
-    let first = sought.first;
-    let key = sought.key;
-    let mut seed = sought.hash;
-    let mut equal = 0usize;
-    let mut i = 0usize;
-    let mut d = 0usize;
-    while d < PATH {
-        seed = path_seed(msg, places, lengths, table, first, key, d, seed);
-        i = path_slot(n, seed, d, i);
-        let name = wide16(slots[i]);
-        if name == 0 {
-            return walk_end(i, equal);
-        }
-        equal = equal_row(msg, places, lengths, table, slots, sought, name, equal);
-        d += 1;
-    }
-    walk_end(n, equal)
-}
-
-fn walk_end(free: usize, equal: usize) -> WalkEnd
-    ensures { (result.free ≡ free) × (result.equal ≡ equal) }
-{
-    WalkEnd {
-        free: free,
-        equal: equal,
-    }
-}
-
-// The row of a key equal to that at the row `key` as the slots name it, 0 where they name none: a hint, for nothing is known of the slots.
-#[cycle(equal_row_found_key_many_among_pair_among_pair_around_pair_marked_pairs_among_pairs_marked_same_maps_same_rows_same_terms_walk)]
+// The row of such a key as the slots name it, 0 where they name none: a hint, for nothing is known of the slots.
+#[cycle(found_key_many_among_pair_among_pair_around_pair_marked_pairs_among_pairs_marked_same_key_same_maps_same_rows_same_terms)]
 fn found_key(
     msg: &[u8],
     places: &[u8],
@@ -438,27 +342,33 @@ fn found_key(
     key: usize,
 ) -> usize
     requires { key < 3458764513820540928 }
-    ensures { (result ≡ hint_at msg.now places.now lengths.now table.now slots.now levels first key) × (result < 65536) }
+    ensures { (result ≡ key_found msg.now places.now lengths.now table.now slots.now (terms_at msg.now places.now lengths.now table.now slots.now levels) first key) × (result < 65536) }
 {
-    if slots.len() == 0 {
+    let n = slots.len();
+    if n == 0 {
         return 0;
     }
-    let hash = pass_hash(msg, places, lengths, table, 0, first, key);
-    let sought = Sought {
-        levels: levels,
-        first: first,
-        key: key,
-        hash: hash,
-    };
-    let end = walk(msg, places, lengths, table, slots, sought);
-    if end.equal == 0 {
-        return 0;
+    let mut seed = 0u64;
+    let mut i = 0usize;
+    let mut d = 0usize;
+    while d < PATH {
+        seed = path_seed(msg, places, lengths, table, first, key, d, seed);
+        i = path_slot(n, seed, d, i);
+        let named = wide16(slots[i]);
+        if named == 0 {
+            return 0;
+        }
+        let row = named - 1;
+        if same_key(msg, places, lengths, table, slots, levels, first, key, row) {
+            return row;
+        }
+        d += 1;
     }
-    end.equal - 1
+    0
 }
 
 // Whether the pair from k on is one of the n from b on, which end before the row `end`: where the hint is the row of a key of theirs, its value decides.
-#[cycle(equal_row_found_key_many_among_pair_among_pair_around_pair_marked_pairs_among_pairs_marked_same_maps_same_rows_same_terms_walk)]
+#[cycle(found_key_many_among_pair_among_pair_around_pair_marked_pairs_among_pairs_marked_same_key_same_maps_same_rows_same_terms)]
 fn pair_marked(
     msg: &[u8],
     places: &[u8],
@@ -473,7 +383,7 @@ fn pair_marked(
     end: usize,
 ) -> bool
     requires { (k < 3458764513820540928) × (b + 32768 * n < 4611686018427387904) × (0 < b) × Marks table.now b marks.now }
-    ensures { result ≡ marked_at msg.now places.now lengths.now table.now slots.now levels n k b end }
+    ensures { result ≡ pair_marked table.now (terms_at msg.now places.now lengths.now table.now slots.now levels) (key_found msg.now places.now lengths.now table.now slots.now (terms_at msg.now places.now lengths.now table.now slots.now levels)) n k b end }
 {
     let x = found_key(msg, places, lengths, table, slots, levels, b, k);
     if !at_key(table, marks, b, end, x) {
@@ -485,7 +395,7 @@ fn pair_marked(
 }
 
 // Whether each of the n pairs from a on is one of the n from b on, which end before the row `end` and of whose keys some are marked.
-#[cycle(equal_row_found_key_many_among_pair_among_pair_around_pair_marked_pairs_among_pairs_marked_same_maps_same_rows_same_terms_walk)]
+#[cycle(found_key_many_among_pair_among_pair_around_pair_marked_pairs_among_pairs_marked_same_key_same_maps_same_rows_same_terms)]
 fn pairs_marked(
     msg: &[u8],
     places: &[u8],
@@ -500,7 +410,7 @@ fn pairs_marked(
     end: usize,
 ) -> bool
     requires { (a + 32768 * n < 3458764513820540928) × (b + 32768 * n < 4611686018427387904) × (0 < b) × Marks table.now b marks.now }
-    ensures { result ≡ all_marked_at msg.now places.now lengths.now table.now slots.now levels n a b end }
+    ensures { result ≡ pairs_marked table.now (terms_at msg.now places.now lengths.now table.now slots.now levels) (key_found msg.now places.now lengths.now table.now slots.now (terms_at msg.now places.now lengths.now table.now slots.now levels)) n n a b end }
 {
     let mut i = 0usize;
     let mut x = a;
@@ -517,7 +427,7 @@ fn pairs_marked(
 }
 
 // The same, with marks of its own.
-#[cycle(equal_row_found_key_many_among_pair_among_pair_around_pair_marked_pairs_among_pairs_marked_same_maps_same_rows_same_terms_walk)]
+#[cycle(found_key_many_among_pair_among_pair_around_pair_marked_pairs_among_pairs_marked_same_key_same_maps_same_rows_same_terms)]
 fn many_among(
     msg: &[u8],
     places: &[u8],
@@ -531,7 +441,7 @@ fn many_among(
     end: usize,
 ) -> bool
     requires { (n < 4096) × (a + 32768 * n < 3458764513820540928) × (b + 32768 * n < 4611686018427387904) × (0 < b) }
-    ensures { result ≡ all_marked_at msg.now places.now lengths.now table.now slots.now levels n a b end }
+    ensures { result ≡ pairs_marked table.now (terms_at msg.now places.now lengths.now table.now slots.now levels) (key_found msg.now places.now lengths.now table.now slots.now (terms_at msg.now places.now lengths.now table.now slots.now levels)) n n a b end }
 {
     let mut marks = [0u16; MARKS];
     mark_keys(table, n, b, &mut marks);
@@ -619,24 +529,74 @@ fn path_slot(n: usize, seed: u64, d: usize, i: usize) -> usize
     next_slot(i, n)
 }
 
-// Puts a name into slot i; there is none where i is the number of slots.
-fn put(slots: &mut [u16], i: usize, name: usize)
-    requires { name < 65536 }
-    ensures { slots.new ≡ set slots.old i name }
+// The first empty slot of a key's path; the number of slots where there is none, or where a row before it means the same as the key.
+fn free_slot(
+    msg: &[u8],
+    places: &[u8],
+    lengths: &[u16],
+    table: &[u64],
+    slots: &[u16],
+    first: usize,
+    key: usize,
+) -> usize
+    requires { (0 < length slots.now) × (key < 65535) }
+    ensures { result < length slots.now → Absent msg.now places.now lengths.now table.now first key slots.now result }
 {
-    if i < slots.len() {
-        slots[i] = name as u16;
+    let n = slots.len();
+    let mut seed = 0u64;
+    let mut i = 0usize;
+    let mut d = 0usize;
+    while d < PATH {
+        seed = path_seed(msg, places, lengths, table, first, key, d, seed);
+        i = path_slot(n, seed, d, i);
+        let entry = wide16(slots[i]);
+        if entry == 0 {
+            return i;
+        }
+        if same_key(
+            msg,
+            places,
+            lengths,
+            table,
+            slots,
+            LEVELS,
+            first,
+            key,
+            entry - 1,
+        ) {
+            return n;
+        }
+        d += 1;
     }
+    n
 }
 
-// Whether a path rules out that the key is in the set of n slots.
-fn rules_out(end: WalkEnd, n: usize) -> bool
-    ensures { result ≡ true → (end.equal ≡ 0) × (end.free < n) }
+// Inserts the key's row in the first empty slot of its path, if there is one.
+fn insert(
+    msg: &[u8],
+    places: &[u8],
+    lengths: &[u16],
+    table: &[u64],
+    slots: &mut [u16],
+    first: usize,
+    key: usize,
+)
+    requires { (0 < length slots.old) × (key < 65535) }
+    ensures { Keeps slots.old slots.new × Contains slots.new (key_hashes msg.now places.now lengths.now table.now first key) key }
 {
-    if end.equal != 0 {
-        return false;
+    let n = slots.len();
+    let mut seed = 0u64;
+    let mut i = 0usize;
+    let mut d = 0usize;
+    while d < PATH {
+        seed = path_seed(msg, places, lengths, table, first, key, d, seed);
+        i = path_slot(n, seed, d, i);
+        if slots[i] == 0 {
+            slots[i] = (key + 1) as u16;
+            return;
+        }
+        d += 1;
     }
-    end.free < n
 }
 
 // Whether the key at the row `key` means the same as a key of the pairs from the row `first` on; if not, it is inserted. All earlier keys are compared only where its path does not rule it out.
@@ -649,32 +609,17 @@ pub fn contains_or_insert(
     first: usize,
     key: usize,
 ) -> bool
-    requires { (0 < length slots.old) × (key < 8192) }
+    requires { (0 < length slots.old) × (key < 65535) }
     ensures { ContainsOrInsert msg.now places.now lengths.now table.now first key slots.old result slots.new }
 {
-    let hash = first_hash(msg, places, lengths, table, first, key);
-    let n = slots.len();
-    let name = TAGGED * tag_of(hash) + key;
-    let i = path_slot(n, hash, 0, 0);
-    if slots[i] == 0 {
-        slots[i] = name as u16;
-        return false;
-    }
-    let sought = Sought {
-        levels: LEVELS,
-        first: first,
-        key: key,
-        hash: hash,
-    };
-    let end = walk(msg, places, lengths, table, slots, sought);
-    let free = end.free;
-    if rules_out(end, n) {
-        put(slots, free, name);
+    let i = free_slot(msg, places, lengths, table, slots, first, key);
+    if i < slots.len() {
+        slots[i] = (key + 1) as u16;
         return false;
     }
     if key_among(msg, places, lengths, table, slots, first, key) {
         return true;
     }
-    put(slots, free, name);
+    insert(msg, places, lengths, table, slots, first, key);
     false
 }

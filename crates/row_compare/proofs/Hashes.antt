@@ -14,9 +14,8 @@ use Rattle.term_spec.proofs.Tests.{never}
 use Rattle.octets.proofs.Parts.{length_part, part_add, part_cons}
 use Rattle.row_compare.specs.declared.Flat.{Flat}
 use Rattle.row_fields.specs.declared.Content.{Content}
-use Rattle.row_fields.specs.declared.Content.TheVariants.{Nothing, Whole, Text, Bytes}
-use Rattle.row_fields.specs.Meaning.{stretch, sign}
-use Rattle.row_compare.specs.Same.{same_list, same_part, same_stretch, same_spelling, same_text, same_last, same_bits, same_words, numbers_of, stretch_of, text_flat, flat_of, source, high, same_texts, same_atoms, same_stretches, same_contents}
+use Rattle.row_fields.specs.Meaning.{stretch}
+use Rattle.row_compare.specs.Same.{same_list, same_part, same_stretch, same_spelling, same_text, same_last, same_bits, same_words, flat_of, source, high, same_texts, same_atoms, same_stretches, same_contents}
 use Rattle.row_compare.specs.Hash.{mix, mix_all, as_utf8, hash_part, mix_ends, hash_ends, hashed, last_bits, hash_stretch, hash_flat, hash_contents}
 use Rattle.row_compare.proofs.Lists.{same_true, encode_low, encode_high}
 use Rattle.row_compare.proofs.Alike.{Numbers, flats_agree, self_agrees}
@@ -213,24 +212,22 @@ module _ (factor : ℕ) where
       unfolding hash_stretch
       stretch_bits x y six p q g = rw (ne_eqb code 7 seven, ne_eqb code 4 four, eq-eqb code 6 six, ← k, ← p, ← q) g
 
-    pub stretch_text : code ≡ 4 → r ≡ hash_part factor (source m places f.listed) f.start f.length f.latin1 h → r ≡ hash_stretch factor m places h code f
-    unfolding hash_stretch
-    stretch_text e p = rw e p
+    module _ (e : code ≡ 4) where
+      seven_not : code ≡ 7 → ⊥
+      seven_not z = omega arith
 
-  pub numbers_mixed : (h a b x r : ℕ) → x ≡ mix factor h a → r ≡ mix factor x b → r ≡ mix factor (mix factor h a) b
-  numbers_mixed h a b x r e f = f ∙ ap (λ (y : ℕ). mix factor y b) e
+      pub stretch_listed : f.listed ≡ true → r ≡ hash_part factor places f.start f.length f.latin1 h → r ≡ hash_stretch factor m places h code f
+      unfolding hash_stretch
+      stretch_listed k p = rw (ne_eqb code 7 seven_not, eq-eqb code 4 e, k) p
 
-  module _ (m places : List ℕ) (at n h : ℕ) (latin1 listed : Bool) (r : ℕ) where
-    pub text_listed : listed ≡ true → r ≡ hash_part factor places at n latin1 h → r ≡ hash_part factor (source m places listed) at n latin1 h
-    text_listed e p = rw e p
-
-    pub text_own : listed ≡ false → r ≡ hash_part factor m at n latin1 h → r ≡ hash_part factor (source m places listed) at n latin1 h
-    text_own e p = rw e p
+      pub stretch_own : f.listed ≡ false → r ≡ hash_part factor m f.start f.length f.latin1 h → r ≡ hash_stretch factor m places h code f
+      unfolding hash_stretch
+      stretch_own k p = rw (ne_eqb code 7 seven_not, eq-eqb code 4 e, k) p
 
   module _ (m places : List ℕ) (h : ℕ) (f : Flat) (r : ℕ) where
-    pub flat_mixed : (x : ℕ) → x ≡ mix factor (mix factor h f.first) f.second → r ≡ hash_stretch factor m places x f.code f → r ≡ hash_flat factor m places h f
+    pub flat_mixed : (x y : ℕ) → x ≡ mix factor h f.first → y ≡ mix factor x f.second → r ≡ hash_stretch factor m places y f.code f → r ≡ hash_flat factor m places h f
     unfolding hash_flat
-    flat_mixed x p e = e ∙ rw p
+    flat_mixed x y p q e = e ∙ rw (q, p)
 
     pub content_mixed : (c : Content) → f ≡ flat_of c → r ≡ hash_flat factor m places h f → r ≡ hash_contents factor m places h c
     unfolding hash_contents
@@ -335,25 +332,6 @@ module _ (factor : ℕ) where
         by_number code 9 Alike (words_alike m a.start a.length b.start b.length h) λ nine.
         λ _. rw (ne_eqb code 7 seven, ne_eqb code 4 four, ne_eqb code 6 six, ne_eqb code 2 two, ne_eqb code 5 five, ne_eqb code 9 nine)
         (none_hashed m a.start h ∙ sym (none_hashed m b.start h))
-
-  -- contents that are hashed as they are
-  module _ (m places : List ℕ) (h : ℕ) (c : Content) (r : ℕ) where
-    pub nothing_mixed : c ≡ Nothing → r ≡ mix factor (mix factor h 0) 0 → r ≡ hash_contents factor m places h c
-    unfolding hash_contents hash_flat flat_of numbers_of hash_stretch hashed
-    nothing_mixed e f = rw e (f ∙ sym (none_hashed m 0 (mix factor (mix factor h 0) 0)))
-
-    pub whole_mixed : (s : Bool) (n x : ℕ) → c ≡ Whole s n → x ≡ sign s → r ≡ mix factor (mix factor h n) x → r ≡ hash_contents factor m places h c
-    unfolding hash_contents hash_flat flat_of numbers_of hash_stretch hashed
-    whole_mixed s n x e g f = rw (e, ← g) (f ∙ sym (none_hashed m 0 (mix factor (mix factor h n) x)))
-
-    module _ (x : ℕ) (g : x ≡ mix factor (mix factor h 0) 0) where
-      pub bytes_mixed : (i n : ℕ) → c ≡ Bytes i n → r ≡ hash_ends factor m i n x → r ≡ hash_contents factor m places h c
-      unfolding hash_contents hash_flat flat_of stretch_of hash_stretch hashed
-      bytes_mixed i n e f = rw (e, ← g) f
-
-      pub text_mixed : (latin1 listed : Bool) (i n : ℕ) → c ≡ Text latin1 listed i n → r ≡ hash_part factor (source m places listed) i n latin1 x → r ≡ hash_contents factor m places h c
-      unfolding hash_contents hash_flat flat_of text_flat hash_stretch
-      text_mixed latin1 listed i n e f = rw (e, ← g) f
 
   -- contents that say the same have the same hash
   pub hash_alike : (m places : List ℕ) (h : ℕ) (a b : Content) → same_contents m places a b ≡ true → hash_contents factor m places h a ≡ hash_contents factor m places h b

@@ -5,13 +5,12 @@ ghost use Rattle.std.specs.Prelude.{◌≡◌, true, [], ◌∷◌, ◌+◌, ◌
 ghost use Rattle.term_spec.specs.Text.{encodes};
 ghost use Rattle.row_fields.specs.Meaning.{sign};
 ghost use Rattle.row_compare.specs.Same.{same_list, same_part, same_stretch, same_spelling, same_text, same_texts, same_last, same_bits, same_words, Spelling, numbers_of, stretch_of, text_flat, flat_of, same_numbers, same_atoms, same_stretches, same_flat, same_contents};
-ghost use Rattle.octets.specs.Parts.{source};
 ghost use Rattle.row_compare.specs.Hash.{mix, mix_all, as_utf8, hash_part, hash_ends, hashed, last_bits, hash_stretch, hash_flat, hash_contents};
 
 use row_fields::Content;
 
 // A content as its case's number and its fields, zero and false where it has none; a sign is a number.
-#[derive(Drop)]
+#[derive(Clone, Copy)]
 pub struct Flat {
     pub code: usize,
     pub latin1: bool,
@@ -471,26 +470,6 @@ fn last_bits(msg: &[u8], bits: usize, at: usize, n: usize) -> u64
     octets::high_bits(msg[at + (n - 1)], bits) as u64
 }
 
-// A hash after a text's characters.
-fn hash_text(
-    factor: u64,
-    msg: &[u8],
-    places: &[u8],
-    h: u64,
-    latin1: bool,
-    listed: bool,
-    start: usize,
-    length: usize,
-) -> u64
-    requires { (factor < 4294967296) × (h < 4294967296) }
-    ensures { (result ≡ hash_part factor (source msg.now places.now listed) start length latin1 h) × (result < 4294967296) }
-{
-    if listed {
-        return hash_part(factor, places, start, length, latin1, h);
-    }
-    hash_part(factor, msg, start, length, latin1, h)
-}
-
 // A hash after what a content says beside its first two numbers.
 fn hash_stretch(factor: u64, msg: &[u8], places: &[u8], h: u64, code: usize, f: Flat) -> u64
     requires { (factor < 4294967296) × (h < 4294967296) }
@@ -511,24 +490,17 @@ fn hash_stretch(factor: u64, msg: &[u8], places: &[u8], h: u64, code: usize, f: 
             last_bits(msg, f.first as usize, f.start, f.length),
         );
     }
-    hash_text(
-        factor, msg, places, h, f.latin1, f.listed, f.start, f.length,
-    )
-}
-
-// A hash after a content's first two numbers.
-fn hash_numbers(factor: u64, h: u64, first: u64, second: u64) -> u64
-    requires { (factor < 4294967296) × (h < 4294967296) }
-    ensures { (result ≡ mix factor (mix factor h first) second) × (result < 4294967296) }
-{
-    mix(factor, mix(factor, h, first), second)
+    if f.listed {
+        return hash_part(factor, places, f.start, f.length, f.latin1, h);
+    }
+    hash_part(factor, msg, f.start, f.length, f.latin1, h)
 }
 
 fn hash_flat(factor: u64, msg: &[u8], places: &[u8], h: u64, f: Flat) -> u64
     requires { (factor < 4294967296) × (h < 4294967296) }
     ensures { (result ≡ hash_flat factor msg.now places.now h f) × (result < 4294967296) }
 {
-    let sum = hash_numbers(factor, h, f.first, f.second);
+    let sum = mix(factor, mix(factor, h, f.first), f.second);
     hash_stretch(factor, msg, places, sum, f.code, f)
 }
 
@@ -538,32 +510,4 @@ pub fn hash_content(factor: u64, msg: &[u8], places: &[u8], h: u64, c: Content) 
     ensures { (result ≡ hash_contents factor msg.now places.now h c) × (result < 4294967296) }
 {
     hash_flat(factor, msg, places, h, flatten(c))
-}
-
-// The same: what most keys are made of is hashed without a Flat.
-pub fn hash_common(factor: u64, msg: &[u8], places: &[u8], h: u64, c: Content) -> u64
-    requires { (factor < 4294967296) × (h < 4294967296) }
-    ensures { (result ≡ hash_contents factor msg.now places.now h c) × (result < 4294967296) }
-{
-    match c {
-        Content::Nothing => hash_numbers(factor, h, 0, 0),
-        Content::Whole {
-            negative,
-            magnitude,
-        } => hash_numbers(factor, h, magnitude, sign_of(negative)),
-        Content::Bytes { start, length } => {
-            let sum = hash_numbers(factor, h, 0, 0);
-            hash_ends(factor, msg, start, length, sum)
-        }
-        Content::Text {
-            latin1,
-            listed,
-            start,
-            length,
-        } => {
-            let sum = hash_numbers(factor, h, 0, 0);
-            hash_text(factor, msg, places, sum, latin1, listed, start, length)
-        }
-        _ => hash_content(factor, msg, places, h, c),
-    }
 }

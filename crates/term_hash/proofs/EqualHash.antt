@@ -23,7 +23,7 @@ use Rattle.row_compare.specs.Hash.{mix}
 use Rattle.row_compare.proofs.Alike.{Agree}
 use Rattle.term_rows.specs.Rows.{unordered_rows}
 use Rattle.term_rows.proofs.Known.{agree_same, own, KnownTree, KnownRows, node_known, parts_known, first_known, others_known, tree_size, pair_sizes, meanings_count, same_labels, same_parts, same_counts, Sort, in_turn, in_no_order, sort_of}
-use Rattle.term_hash.specs.Hash.{hash_row, hash_rows, add_pairs, hash_pairs, factor_of, levels_of, rows_hash, hashed_rows, pass_hash, round_hash, term_hash}
+use Rattle.term_hash.specs.Hash.{hash_row, hash_rows, add_pairs, hash_pairs, factor_of, levels_of, hashed_rows, hash_term, pass_hash, round_hash, term_hash}
 use Rattle.term_hash.proofs.Steps.{stepped, seed_as}
 use Rattle.term_hash.proofs.Parts.{part, pairs_sum, pairs_added, Sum, none, alone, pair, sum_rearranged}
 
@@ -264,15 +264,6 @@ module _
       → hash h (get_or T a 0) ≡ hash h (get_or T' b 0)
   first_alike (node l ts) (node l' us) o o' a b p q e h = first_hash l l' ts us o o' a b p q e h
 
--- one row, in no level
-one_row : (hash : ℕ → ℕ → ℕ) (T : List ℕ) (h a : ℕ) → hash_rows hash T (hash_pairs hash T 0) h 1 0 a ≡ hash h (get_or T a 0)
-unfolding hash_rows hash_pairs
-one_row hash T h a = go (eqb (unordered_rows (get_or T a 0)) 0)
-  where
-    go : (t : Bool) → cond t (hash h (get_or T a 0)) (hash h (get_or T a 0)) ≡ hash h (get_or T a 0)
-    go true = refl
-    go false = refl
-
 -- ---- the hash of a term
 
 module _
@@ -283,9 +274,9 @@ module _
     (map_agrees : (r : Row) → Known r → Agree (eqb (kind_at r.label r.place) 9) (r.label ≡ map))
     (T T' : List ℕ) where
   -- terms that mean the same have the same hash, in each pass and so in each round
-  pub equal_pass : (t u : Located) (whole whole' : Option ℕ) (a b : ℕ) → KnownTree Known T whole a t → KnownTree Known T' whole' b u → meaning t ≡ meaning u → (first pass : ℕ)
+  equal_pass : (t u : Located) (whole whole' : Option ℕ) (a b : ℕ) → KnownTree Known T whole a t → KnownTree Known T' whole' b u → meaning t ≡ meaning u → (first pass : ℕ)
       → pass_hash m places lengths T first a pass ≡ pass_hash m places lengths T' first b pass
-  unfolding pass_hash hashed_rows levels_of
+  unfolding pass_hash hash_term hashed_rows
   equal_pass t u o o' a b p q e first pass =
       let s : size u ≡ size t = sym (size_meaning u) ∙ ap size (sym e) ∙ size_meaning t in
       rw (tree_size small t p, tree_size small u q, s) (go s (leb (size t) 2048))
@@ -294,17 +285,22 @@ module _
       f = factor_of pass
 
       h : ℕ
-      h = first % 4294967296
+      h = mix f 0 first
+
+      all : List ℕ → ℕ → ℕ → ℕ
+      all S n i = hash_rows (hash_row f m places lengths) S (hash_pairs (hash_row f m places lengths) S (levels_of pass)) h n 0 i
 
       one : hash_row f m places lengths h (get_or T a 0) ≡ hash_row f m places lengths h (get_or T' b 0)
       one = first_alike (hash_row f m places lengths) Known small (row_hash f) map_agrees T T' t u o o' a b p q e h
 
       go : size u ≡ size t → (c : Bool)
-          → mix f (rows_hash f m places lengths T (cond c (cond (ltb pass 2) 4 16384) 0) h (cond c (size t) 1) a) (cond c (size t) 1)
-          ≡ mix f (rows_hash f m places lengths T' (cond c (cond (ltb pass 2) 4 16384) 0) h (cond c (size t) 1) b) (cond c (size t) 1)
+          → mix f (cond (ltb (cond c (size t) 1) 2) (hash_row f m places lengths h (get_or T a 0)) (all T (cond c (size t) 1) a)) (cond c (size t) 1)
+          ≡ mix f (cond (ltb (cond c (size t) 1) 2) (hash_row f m places lengths h (get_or T' b 0)) (all T' (cond c (size t) 1) b)) (cond c (size t) 1)
       go s true =
-          ap (λ (x : ℕ). mix f x (size t)) (rw s at (rows_alike (hash_row f m places lengths) Known small (row_hash f) map_agrees T T' (cond (ltb pass 2) 4 16384) t u o o' a b p q e h))
-      go s false = ap (λ (x : ℕ). mix f x 1) (one_row (hash_row f m places lengths) T h a ∙ one ∙ sym (one_row (hash_row f m places lengths) T' h b))
+          let rest : all T (size t) a ≡ all T' (size t) b
+          = rw s at (rows_alike (hash_row f m places lengths) Known small (row_hash f) map_agrees T T' (levels_of pass) t u o o' a b p q e h) in
+          ap₂ (λ (x y : ℕ). mix f (cond (ltb (size t) 2) x y) (size t)) one rest
+      go s false = ap (λ (x : ℕ). mix f x 1) one
 
   pub equal_hash : (t u : Located) (whole whole' : Option ℕ) (a b : ℕ) → KnownTree Known T whole a t → KnownTree Known T' whole' b u → meaning t ≡ meaning u → (round first : ℕ)
       → term_hash m places lengths T round first a ≡ term_hash m places lengths T' round first b

@@ -15,7 +15,7 @@ use Rattle.row_fields.specs.Found.{content_of}
 use Rattle.row_fields.specs.Meaning.{term_kind}
 use Rattle.row_compare.specs.Hash.{mix, hash_contents}
 use Rattle.term_rows.specs.Rows.{unordered_rows, pair_size}
-use Rattle.term_hash.specs.Hash.{kind_mixed, hash_row, added, hash_rows, add_pairs, hash_pairs, rows_hash, factor_of, levels_of, hashed_rows, pass_hash, Adds, second_pass, third_pass, fourth_pass, no_pass, seed_of, round_hash}
+use Rattle.term_hash.specs.Hash.{hash_row, added, hash_rows, add_pairs, hash_pairs, factor_of, levels_of, hashed_rows, hash_term, pass_hash, Adds, first_pass, second_pass, third_pass, fourth_pass, no_pass, seed_of, round_hash}
 
 -- ---- numbers that stay small
 
@@ -40,15 +40,10 @@ later_factor i e = rw (ne_eqb i 0 e)
 
 -- ---- a row
 
-module _ (factor h w : ℕ) where
-  pub kind_hashed : (k p t r : ℕ) → p ≡ parts_in w → k ≡ kind_in w → t ≡ term_kind k → r ≡ mix factor h (16 * p + t) → r ≡ kind_mixed factor h w
-  unfolding kind_mixed
-  kind_hashed k p t r a b d e = e ∙ rw (d, b, a)
-
-  pub row_mixed : (m places lengths : List ℕ) (k o s r : ℕ) (c : Content) → k ≡ kind_in w → o ≡ offset_in w → c ≡ content_of m places lengths k o → s ≡ kind_mixed factor h w
-      → r ≡ hash_contents factor m places s c → r ≡ hash_row factor m places lengths h w
-  unfolding hash_row
-  row_mixed m places lengths k o s r c a b d e f = f ∙ rw (e, d, b, a)
+pub row_mixed : (factor : ℕ) (m places lengths : List ℕ) (h w r k p t o s : ℕ) (c : Content) → k ≡ kind_in w → p ≡ parts_in w → t ≡ term_kind k → s ≡ mix factor h (16 * p + t)
+    → o ≡ offset_in w → c ≡ content_of m places lengths k o → r ≡ hash_contents factor m places s c → r ≡ hash_row factor m places lengths h w
+unfolding hash_row
+row_mixed factor m places lengths h w r k p t o s c a b d e f g i = i ∙ rw (g, e, d, f, b, a)
 
 -- ---- rows one by one
 
@@ -127,18 +122,14 @@ module _ (hash : ℕ → ℕ → ℕ) (T : List ℕ) (d h n at : ℕ) where
 
 -- ---- a term
 
-module _ (pass n : ℕ) where
-  pub early_levels : n ≤ 2048 → pass < 2 → 4 ≡ levels_of pass n
+module _ (pass : ℕ) where
+  pub early_levels : pass < 2 → 4 ≡ levels_of pass
   unfolding levels_of
-  early_levels few l = rw (le-leb n 2048 few, lt-ltb pass 2 l)
+  early_levels l = rw (lt-ltb pass 2 l)
 
-  pub late_levels : n ≤ 2048 → 2 ≤ pass → 16384 ≡ levels_of pass n
+  pub late_levels : 2 ≤ pass → 16384 ≡ levels_of pass
   unfolding levels_of
-  late_levels few l = rw (le-leb n 2048 few, le-ltb pass 2 l)
-
-  pub no_levels : 2048 < n → 0 ≡ levels_of pass n
-  unfolding levels_of
-  no_levels many = rw (lt-leb n 2048 many)
+  late_levels l = rw (le-ltb pass 2 l)
 
 pub all_rows : (n : ℕ) → n ≤ 2048 → n ≡ hashed_rows n
 unfolding hashed_rows
@@ -148,15 +139,15 @@ pub first_row : (n : ℕ) → 2048 < n → 1 ≡ hashed_rows n
 unfolding hashed_rows
 first_row n l = rw (lt-leb n 2048 l)
 
-module _ (m places lengths T : List ℕ) (pass first row f w z n : ℕ) (a : f ≡ factor_of pass) (c : w ≡ get_or T row 0) (d : z ≡ size_in w) (e : n ≡ hashed_rows z) where
-  pub term_hashed : (v x r : ℕ) → v ≡ levels_of pass z → x ≡ rows_hash f m places lengths T v (first % 4294967296) n row → r ≡ mix f x n → r ≡ pass_hash m places lengths T first row pass
-  unfolding pass_hash
-  term_hashed v x r i g h = rw (← a, ← c, ← d, ← e, ← i, ← g, ← h)
+module _ (m places lengths T : List ℕ) (pass first row f s w z n : ℕ) (a : f ≡ factor_of pass) (b : s ≡ mix f 0 first) (c : w ≡ get_or T row 0) (d : z ≡ size_in w) (e : n ≡ hashed_rows z) where
+  pub term_one : n < 2 → (x r : ℕ) → x ≡ hash_row f m places lengths s w → r ≡ mix f x n → r ≡ pass_hash m places lengths T first row pass
+  unfolding pass_hash hash_term
+  term_one l x r g h = rw (← a, ← c, ← d, ← e, lt-ltb n 2 l, ← b, ← g, ← h)
 
--- a row that is not that of a map has no pairs
-pub no_map : (k w : ℕ) → k ≡ kind_in w → (k ≡ 9 → ⊥) → 0 ≡ unordered_rows w
-unfolding unordered_rows
-no_map k w e f = rw (← e, ne_eqb k 9 f)
+  pub term_all : 2 ≤ n → (v x r : ℕ) → v ≡ levels_of pass → x ≡ hash_rows (hash_row f m places lengths) T (hash_pairs (hash_row f m places lengths) T v) s n 0 row → r ≡ mix f x n
+      → r ≡ pass_hash m places lengths T first row pass
+  unfolding pass_hash hash_term
+  term_all l v x r i g h = rw (← a, ← c, ← d, ← e, le-ltb n 2 l, ← b, ← i, ← g, ← h)
 
 -- ---- the rounds of a term
 
@@ -169,60 +160,61 @@ mix_below f h x = go (eqb (f % 2) 1)
     go false = mod-lt _ (omega arith)
 
 pub hash_below : (m places lengths T : List ℕ) (first row pass : ℕ) → pass_hash m places lengths T first row pass < 4294967296
-unfolding pass_hash
+unfolding pass_hash hash_term
 hash_below m places lengths T first row pass = mix_below _ _ _
 
 module _ (hs : ℕ → ℕ) where
   -- a round that starts anew
   pub seed_new : {pass : ℕ} (round h : ℕ) → Adds round pass → (pass ≡ 4 → ⊥) → pass % 2 ≡ 0 → h ≡ hs pass → h ≡ seed_of hs round
   unfolding seed_of
+  seed_new round h (first_pass a) some even e = rw a e
   seed_new round h (second_pass a) some even e = absurd (omega arith)
   seed_new round h (third_pass a) some even e = rw a e
   seed_new round h (fourth_pass a) some even e = absurd (omega arith)
-  seed_new round h (no_pass a b c) some even e = absurd (some refl)
+  seed_new round h (no_pass a b c d) some even e = absurd (some refl)
 
   -- over the seed of the round before
-  module _ (seed round : ℕ) (last : seed ≡ seed_of hs (round - 1)) where
+  module _ (seed round : ℕ) (last : 0 < round → seed ≡ seed_of hs (round - 1)) where
     before : (i : ℕ) → round ≡ suc i → seed ≡ seed_of hs i
-    before i e = let f : round - 1 ≡ i = omega arith in rw f at last
+    before i e = let f : round - 1 ≡ i = omega arith in rw f at (last (omega arith))
 
     -- a round that adds to it
     pub seed_added : {pass : ℕ} → Adds round pass → (pass ≡ 4 → ⊥) → (pass % 2 ≡ 0 → ⊥) → seed ≡ hs (pass - 1)
     unfolding seed_of
-    seed_added (second_pass a) some odd = before 1 a
+    seed_added (first_pass a) some odd = absurd (odd refl)
+    seed_added (second_pass a) some odd = before 0 a
     seed_added (third_pass a) some odd = absurd (odd refl)
     seed_added (fourth_pass a) some odd = before 4 a
-    seed_added (no_pass a b c) some odd = absurd (some refl)
+    seed_added (no_pass a b c d) some odd = absurd (some refl)
 
     pub seed_more : {pass : ℕ} (h : ℕ) → Adds round pass → (pass ≡ 4 → ⊥) → (pass % 2 ≡ 0 → ⊥) → h ≡ hs pass → seed * 4294967296 + h ≡ seed_of hs round
     unfolding seed_of
-    seed_more h (second_pass a) some odd e = rw (a, e, before 1 a)
+    seed_more h (first_pass a) some odd e = absurd (odd refl)
+    seed_more h (second_pass a) some odd e = rw (a, e, before 0 a)
     seed_more h (third_pass a) some odd e = absurd (odd refl)
     seed_more h (fourth_pass a) some odd e = rw (a, e, before 4 a)
-    seed_more h (no_pass a b c) some odd e = absurd (some refl)
+    seed_more h (no_pass a b c d) some odd e = absurd (some refl)
 
     -- and one that adds nothing
     pub seed_same : {pass : ℕ} → Adds round pass → pass ≡ 4 → seed ≡ seed_of hs round
     unfolding seed_of
+    seed_same (first_pass a) e = absurd (omega arith)
     seed_same (second_pass a) e = absurd (omega arith)
     seed_same (third_pass a) e = absurd (omega arith)
     seed_same (fourth_pass a) e = absurd (omega arith)
-    seed_same (no_pass a b c) e = last ∙ by_less round 2 first (λ k. by_less round 4 (early k) late)
+    seed_same (no_pass a b c d) e = last (omega arith) ∙ by_less round 4 early late
       where
-        first : round < 2 → seed_of hs (round - 1) ≡ seed_of hs round
-        first l = rw (lt-ltb (round - 1) 4 (omega arith), lt-ltb round 4 (omega arith), lt-ltb (round - 1) 2 (omega arith), lt-ltb round 2 l)
-
-        early : 2 ≤ round → round < 4 → seed_of hs (round - 1) ≡ seed_of hs round
-        early k l = rw (lt-ltb (round - 1) 4 (omega arith), lt-ltb round 4 l, le-ltb (round - 1) 2 (omega arith), le-ltb round 2 k)
+        early : round < 4 → seed_of hs (round - 1) ≡ seed_of hs round
+        early l = rw (lt-ltb (round - 1) 4 (omega arith), lt-ltb round 4 l, ne_eqb (round - 1) 0 (λ z. omega arith), ne_eqb round 0 a)
 
         late : 4 ≤ round → seed_of hs (round - 1) ≡ seed_of hs round
-        late l = rw (le-ltb (round - 1) 4 (omega arith), le-ltb round 4 l, ne_eqb (round - 1) 4 (λ z. omega arith), ne_eqb round 4 b)
+        late l = rw (le-ltb (round - 1) 4 (omega arith), le-ltb round 4 l, ne_eqb (round - 1) 4 (λ z. omega arith), ne_eqb round 4 c)
 
   pub seed_as : {gs : ℕ → ℕ} → ((pass : ℕ) → hs pass ≡ gs pass) → (round : ℕ) → seed_of hs round ≡ seed_of gs round
   unfolding seed_of
   seed_as f round = rw (f 0, f 1, f 2, f 3)
 
-pub seed_small : (m places lengths T : List ℕ) (first row seed round pass : ℕ) → seed ≡ seed_of (pass_hash m places lengths T first row) (round - 1)
+pub seed_small : (m places lengths T : List ℕ) (first row seed round pass : ℕ) → (0 < round → seed ≡ seed_of (pass_hash m places lengths T first row) (round - 1))
     → Adds round pass → (pass ≡ 4 → ⊥) → (pass % 2 ≡ 0 → ⊥) → seed < 4294967296
 seed_small m places lengths T first row seed round pass last adds some odd =
     omega (arith, seed_added (pass_hash m places lengths T first row) seed round last adds some odd, hash_below m places lengths T first row (pass - 1))

@@ -7,13 +7,10 @@ use Rattle.row_fields.specs.Meaning.{term_kind}
 use Rattle.row_compare.specs.Hash.{mix, hash_contents}
 use Rattle.term_rows.specs.Rows.{unordered_rows, pair_size}
 
--- a row's kind and its number of parts
-unfoldable pub kind_mixed : ℕ → ℕ → ℕ → ℕ
-kind_mixed factor h w = mix factor h (16 * parts_in w + term_kind (kind_in w))
-
--- what a row says: those, and its own fields
+-- what a row says: its kind, its number of parts and its own fields
 unfoldable pub hash_row : ℕ → List ℕ → List ℕ → List ℕ → ℕ → ℕ → ℕ
-hash_row factor m places lengths h w = hash_contents factor m places (kind_mixed factor h w) (content_of m places lengths (kind_in w) (offset_in w))
+hash_row factor m places lengths h w =
+    hash_contents factor m places (mix factor h (16 * parts_in w + term_kind (kind_in w))) (content_of m places lengths (kind_in w) (offset_in w))
 
 -- a hash to which that of a pair is added: what is added is no multiple, so that other pairs seldom give the same sum
 unfoldable pub added : ℕ → ℕ → ℕ
@@ -40,40 +37,43 @@ module _ (hash : ℕ → ℕ → ℕ) (T : List ℕ) where
   hash_pairs zero h n at = h
   hash_pairs (suc d) h n at = add_pairs T (λ k a. hash_rows hash T (hash_pairs d) 0 k 0 a) h n at
 
--- n rows from a row on, with this factor and in so many levels
-abbrev pub rows_hash : ℕ → List ℕ → List ℕ → List ℕ → List ℕ → ℕ → ℕ → ℕ → ℕ → ℕ
-rows_hash factor m places lengths T levels h n row = hash_rows (hash_row factor m places lengths) T (hash_pairs (hash_row factor m places lengths) T levels) h n 0 row
-
 -- a factor for each pass over a term, and for each round: the first is odd, the others are even
 unfoldable pub factor_of : ℕ → ℕ
 factor_of i = cond (eqb i 0) 2554875531 ((3266489908 + i * 2135587862) % 4294967296)
+
+-- in the first two passes maps count down to four levels, then to all
+unfoldable pub levels_of : ℕ → ℕ
+levels_of pass = cond (ltb pass 2) 4 16384
 
 -- of a term of more than 2048 rows only the first counts
 unfoldable pub hashed_rows : ℕ → ℕ
 hashed_rows n = cond (leb n 2048) n 1
 
--- and no map in it; in the first two passes maps count down to four levels, then to all
-unfoldable pub levels_of : ℕ → ℕ → ℕ
-levels_of pass n = cond (leb n 2048) (cond (ltb pass 2) 4 16384) 0
+-- over the row of the map's first key, with this factor and in so many levels, n of the rows of the term at a row
+unfoldable pub hash_term : List ℕ → List ℕ → List ℕ → List ℕ → ℕ → ℕ → ℕ → ℕ → ℕ → ℕ
+hash_term m places lengths T factor levels first n row =
+    mix factor
+    (cond (ltb n 2) (hash_row factor m places lengths (mix factor 0 first) (get_or T row 0))
+    (hash_rows (hash_row factor m places lengths) T (hash_pairs (hash_row factor m places lengths) T levels) (mix factor 0 first) n 0 row))
+    n
 
--- the hash that a pass gives the term at a row, as a key of the map whose first key is at the row `first`: it starts from that row
+-- the hash that a pass gives the term at a row, as a key of the map whose first key is at the row `first`
 unfoldable pub pass_hash : List ℕ → List ℕ → List ℕ → List ℕ → ℕ → ℕ → ℕ → ℕ
-pass_hash m places lengths T first row pass =
-    let n : ℕ = size_in (get_or T row 0) in
-    mix (factor_of pass) (rows_hash (factor_of pass) m places lengths T (levels_of pass n) (first % 4294967296) (hashed_rows n) row) (hashed_rows n)
+pass_hash m places lengths T first row pass = hash_term m places lengths T (factor_of pass) (levels_of pass) first (hashed_rows (size_in (get_or T row 0))) row
 
 -- the pass whose hash a round adds to what the round before went by; 4 where it adds none
 pub data Adds (round : ℕ) : ℕ → Type 0 where
-  second_pass : round ≡ 2 → Adds round 1
+  first_pass : round ≡ 0 → Adds round 0
+  second_pass : round ≡ 1 → Adds round 1
   third_pass : round ≡ 4 → Adds round 2
   fourth_pass : round ≡ 5 → Adds round 3
-  no_pass : (round ≡ 2 → ⊥) → (round ≡ 4 → ⊥) → (round ≡ 5 → ⊥) → Adds round 4
+  no_pass : (round ≡ 0 → ⊥) → (round ≡ 1 → ⊥) → (round ≡ 4 → ⊥) → (round ≡ 5 → ⊥) → Adds round 4
 
--- what a round goes by, over the hashes of all passes: the first, from round 2 on the first two, from round 4 on the third, then the last two
+-- what a round goes by, over the hashes of all passes: the first, then the first two, from round 4 on the third, then the last two
 unfoldable pub seed_of : (ℕ → ℕ) → ℕ → ℕ
 seed_of hs round =
     cond (ltb round 4)
-    (cond (ltb round 2) (hs 0) (hs 0 * 4294967296 + hs 1))
+    (cond (eqb round 0) (hs 0) (hs 0 * 4294967296 + hs 1))
     (cond (eqb round 4) (hs 2) (hs 2 * 4294967296 + hs 3))
 
 -- the hash of a round by its seed; the half that is taken parts keys that differ in their last byte alone

@@ -1,12 +1,11 @@
 // Hashes of terms by their rows, over what the terms mean and not over how they are encoded: the order of a map's pairs does not count.
-ghost use Rattle.std.specs.Prelude.{◌≡◌, ℕ, ◌+◌, ◌*◌, ◌-◌, ◌<◌};
-ghost use Rattle.term_hash.specs.Hash.{kind_mixed, hash_row, added, rows_hash, hash_pairs, factor_of, levels_of, hashed_rows, pass_hash, Adds, seed_of, round_hash};
+ghost use Rattle.std.specs.Prelude.{◌≡◌, ◌+◌, ◌*◌, ◌-◌, ◌<◌};
+ghost use Rattle.term_hash.specs.Hash.{hash_row, added, hash_rows, hash_pairs, factor_of, levels_of, hashed_rows, pass_hash, Adds, seed_of, round_hash};
 
 use row::{kind_in, offset_in, parts_in, size_in};
-use row_compare::{hash_common, hash_content, mix};
+use row_compare::{hash_content, mix};
 use row_fields::content_at;
 use term_rows::{pair_size, row_at, term_kind, unordered_rows};
-use term_spec::kinds;
 
 // A key and its value.
 const PAIR_PARTS: usize = 2;
@@ -16,9 +15,7 @@ const EARLY_PASSES: usize = 2;
 
 const EARLY_LEVELS: usize = 4;
 
-// Rounds before MORE_ROUND go by the first pass, those before LATE_ROUND by it and a second one, the others by two more.
-const MORE_ROUND: usize = 2;
-
+// Rounds before it go by the early passes, the others by two more.
 const LATE_ROUND: usize = 4;
 
 const NO_PASS: usize = 4;
@@ -41,21 +38,15 @@ const FACTOR: u64 = 3266489908;
 
 const FACTOR_STEP: u64 = 2135587862;
 
-// A hash after a row's kind and its number of parts.
-fn mix_kind(factor: u64, h: u64, w: u64) -> u64
-    requires { (factor < 4294967296) × (h < 4294967296) }
-    ensures { (result ≡ kind_mixed factor h w) × (result < 4294967296) }
-{
-    mix(factor, h, (16 * parts_in(w) + term_kind(kind_in(w))) as u64)
-}
-
 // A hash after what a row says of its term.
 fn hash_row(factor: u64, msg: &[u8], places: &[u8], lengths: &[u16], h: u64, w: u64) -> u64
     requires { (factor < 4294967296) × (h < 4294967296) }
     ensures { (result ≡ hash_row factor msg.now places.now lengths.now h w) × (result < 4294967296) }
 {
-    let own = content_at(msg, places, lengths, kind_in(w), offset_in(w));
-    hash_content(factor, msg, places, mix_kind(factor, h, w), own)
+    let kind = kind_in(w);
+    let sum = mix(factor, h, (16 * parts_in(w) + term_kind(kind)) as u64);
+    let own = content_at(msg, places, lengths, kind, offset_in(w));
+    hash_content(factor, msg, places, sum, own)
 }
 
 // A hash to which x is added, in any order.
@@ -80,7 +71,7 @@ fn hash_rows(
     row: usize,
 ) -> u64
     requires { (factor < 4294967296) × (h < 4294967296) × (n < 32768) × (row + 268435456 * levels + 268435456 < 4611686018427387904) }
-    ensures { (result ≡ rows_hash factor msg.now places.now lengths.now table.now levels h n row) × (result < 4294967296) }
+    ensures { (result ≡ hash_rows (hash_row factor msg.now places.now lengths.now) table.now (hash_pairs (hash_row factor msg.now places.now lengths.now) table.now levels) h n 0 row) × (result < 4294967296) }
 {
     let mut sum = h;
     let mut i = 0usize;
@@ -152,13 +143,10 @@ fn factor_of(i: usize) -> u64
     (FACTOR + i as u64 * FACTOR_STEP) % HASH_SIZE
 }
 
-// How many levels of maps count in a pass over a term of n rows.
-fn levels_of(pass: usize, n: usize) -> usize
-    ensures { (result ≡ levels_of pass n) × (result < 16385) }
+// How many levels of maps count in a pass.
+fn levels_of(pass: usize) -> usize
+    ensures { (result ≡ levels_of pass) × (result < 16385) }
 {
-    if MOST_ROWS < n {
-        return 0;
-    }
     if pass < EARLY_PASSES {
         return EARLY_LEVELS;
     }
@@ -176,7 +164,7 @@ fn hashed_rows(n: usize) -> usize
 }
 
 // The hash that a pass gives the term at a row, as a key of the map whose first key is at the row `first`.
-pub fn pass_hash(
+fn pass_hash(
     msg: &[u8],
     places: &[u8],
     lengths: &[u16],
@@ -189,74 +177,26 @@ pub fn pass_hash(
     ensures { (result ≡ pass_hash msg.now places.now lengths.now table.now first row pass) × (result < 4294967296) }
 {
     let factor = factor_of(pass);
-    let start = first as u64 % HASH_SIZE;
-    let size = size_in(row_at(table, row));
-    let n = hashed_rows(size);
-    let levels = levels_of(pass, size);
-    let sum = hash_rows(factor, msg, places, lengths, table, levels, start, n, row);
-    mix(factor, sum, n as u64)
-}
-
-// A hash of the first pass after the n rows from a row on; HASH_SIZE where one of them is that of a map.
-fn mapless_rows(
-    msg: &[u8],
-    places: &[u8],
-    lengths: &[u16],
-    table: &[u64],
-    h: u64,
-    n: usize,
-    row: usize,
-) -> u64
-    requires { (h < 4294967296) × (n < 32768) × (row < 3458764513820540928) }
-    ensures { result < 4294967296 → (levels : ℕ) → result ≡ rows_hash 2554875531 msg.now places.now lengths.now table.now levels h n row }
-{
-    let mut sum = h;
-    let mut i = 0usize;
-    while i < n {
-        let w = row_at(table, row + i);
-        let kind = kind_in(w);
-        if kind == kinds::MAP {
-            return HASH_SIZE;
-        }
-        let own = content_at(msg, places, lengths, kind, offset_in(w));
-        sum = hash_common(
-            FIRST_FACTOR,
-            msg,
-            places,
-            mix_kind(FIRST_FACTOR, sum, w),
-            own,
-        );
-        i += 1;
+    let start = mix(factor, 0, first as u64);
+    let w = row_at(table, row);
+    let n = hashed_rows(size_in(w));
+    if n < 2 {
+        let one = hash_row(factor, msg, places, lengths, start, w);
+        return mix(factor, one, n as u64);
     }
-    sum
-}
-
-// The hash that the first pass gives: the same, and quick where the term has no maps.
-pub fn first_hash(
-    msg: &[u8],
-    places: &[u8],
-    lengths: &[u16],
-    table: &[u64],
-    first: usize,
-    row: usize,
-) -> u64
-    requires { row < 3458764513820540928 }
-    ensures { (result ≡ pass_hash msg.now places.now lengths.now table.now first row 0) × (result < 4294967296) }
-{
-    let start = first as u64 % HASH_SIZE;
-    let n = hashed_rows(size_in(row_at(table, row)));
-    let sum = mapless_rows(msg, places, lengths, table, start, n, row);
-    if sum < HASH_SIZE {
-        return mix(FIRST_FACTOR, sum, n as u64);
-    }
-    pass_hash(msg, places, lengths, table, 0, first, row)
+    let levels = levels_of(pass);
+    let all = hash_rows(factor, msg, places, lengths, table, levels, start, n, row);
+    mix(factor, all, n as u64)
 }
 
 // The pass whose hash a round adds, NO_PASS where it adds none.
 fn pass_of(round: usize) -> usize
     ensures { Adds round result × (result < 5) }
 {
-    if round == MORE_ROUND {
+    if round == 0 {
+        return 0;
+    }
+    if round == 1 {
         return 1;
     }
     if round == LATE_ROUND {
@@ -268,7 +208,7 @@ fn pass_of(round: usize) -> usize
     NO_PASS
 }
 
-// What a round goes by, of the term at a row as a key of the map whose first key is at the row `first`; `seed` is what the round before went by, the first pass's hash before round 0.
+// What a round goes by, of the term at a row as a key of the map whose first key is at the row `first`; `seed` is what the round before went by.
 pub fn next_seed(
     msg: &[u8],
     places: &[u8],
@@ -279,7 +219,7 @@ pub fn next_seed(
     round: usize,
     seed: u64,
 ) -> u64
-    requires { (row < 3458764513820540928) × (seed ≡ seed_of (pass_hash msg.now places.now lengths.now table.now first row) (round - 1)) }
+    requires { (row < 3458764513820540928) × (0 < round → seed ≡ seed_of (pass_hash msg.now places.now lengths.now table.now first row) (round - 1)) }
     ensures { result ≡ seed_of (pass_hash msg.now places.now lengths.now table.now first row) round }
 {
     let pass = pass_of(round);
