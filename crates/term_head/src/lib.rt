@@ -1,4 +1,6 @@
 // A term's tag and its fields: one small function for each layout, and the one that picks among them.
+#![tactic(auto)]
+
 ghost use Rattle.std.specs.Prelude.{◌≡◌, true, ◌&&◌, ◌||◌, [], ◌∷◌, ℕ, ◌+◌, ◌*◌, ◌≤◌, ◌<◌, eqb, ltb, ℤ, length, take, drop};
 ghost use Rattle.term_spec.specs.Numbers.{big_endian};
 ghost use Rattle.term_spec.specs.Text.{coding_of};

@@ -1,6 +1,5 @@
 -- `below` meets its contract. The loop's invariant: the bytes so far give a number below the limit.
 use Rattle.term_spec.specs.Numbers.{big_endian}
-use Prim.Native.Nat.{◌-◌}
 use mathlib.Core.Path.{refl}
 use Rattle.term_head.proofs.LaterFields.{below_not, below_more, below_all}
 use native.Mathlib.Omega.{arith}

@@ -1,5 +1,4 @@
 -- `skip_empty` meets its contract. The loop's invariant: every 108 of length 0 so far is passed.
-use Prim.Native.Nat.{◌-◌}
 use Rattle.term_head.proofs.Openings.{passed_none, passed_more, empty_inside}
 use native.Mathlib.Omega.{arith}
 use mathlib.Core.Path.{sym, ◌∙◌}
