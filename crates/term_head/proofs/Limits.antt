@@ -4,7 +4,7 @@ use mathlib.Core.Bool.{true, false, ◌&&◌}
 use Prim.Native.Nat.{ℕ, ◌^◌}
 use lib.Dec.{eqb}
 use Rattle.term_spec.specs.Connection.{v4_nc}
-use Rattle.term_spec.specs.Head.{Limits, limits}
+use Rattle.term_spec.specs.Head.{limits}
 
 module _ (flags w : ℕ) where
   pub newer : (v4_nc flags && eqb w 4) ≡ true → limits flags w ≡ record { id = 2 ^ 32; serial = 2 ^ 32; word_count = 5 }

@@ -11,7 +11,6 @@ use Rattle.term_spec.specs.Head as head_spec
 use Rattle.term_spec.specs.Reading.{empty_108, opening}
 use Rattle.term_spec.specs.Rows.{kind_of}
 use Rattle.term_spec.proofs.Holds.{Holds, bind, weaken, done_holds, refused_holds, skip}
-use Rattle.term_head.specs.declared.Later.{Later}
 use Rattle.term_head.specs.declared.Head.TheVariants.{Refused}
 use Rattle.term_head.specs.declared.Opening.{Opening}
 use Rattle.term_head.specs.Code.{kind_later, head_at, opening_of}

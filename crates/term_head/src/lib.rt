@@ -1,4 +1,6 @@
 // A term's tag and its fields: one small function for each layout, and the one that picks among them.
+#![tactic(auto)]
+
 ghost use Rattle.std.specs.Prelude.{◌≡◌, true, ◌&&◌, ◌||◌, [], ◌∷◌, ℕ, ◌+◌, ◌*◌, ◌≤◌, ◌<◌, eqb, ltb, ℤ, length, take, drop};
 ghost use Rattle.term_spec.specs.Numbers.{big_endian};
 ghost use Rattle.term_spec.specs.Text.{coding_of};
@@ -59,7 +61,7 @@ pub const WORD_ELEMENTS: usize = 15;
 pub const WORD_PAIRS: usize = 0;
 
 // Which terms may stand at a place.
-#[derive(Drop)]
+#[derive(Clone, Copy)]
 pub enum Wanted {
     Any,
     Atom,

@@ -1,0 +1,10 @@
+-- `integer` meets its contract. The number is there, or it ends.
+use Rattle.term_head.proofs.Leaves.{integer_short, integer_there}
+use native.Mathlib.Omega.{arith}
+use Rattle.term_head.proofs.integer.Goals as goal
+
+pub returns-then-msg-at : goal.returns-then-msg-at
+returns-then-msg-at c = λ value rows. integer_short _ _ _ _ _ (omega arith) c.if-msg-at.true
+
+pub returns : goal.returns
+returns c = λ value rows. integer_there _ _ _ _ _ (omega arith) c.if-msg-at.false

@@ -1,0 +1,17 @@
+-- `old_reference_fields` meets its contract.
+use mathlib.Core.Path.{sym, ◌∙◌}
+use Rattle.term_head.proofs.LaterFields.{old_short, old_words, old_creation, old_there}
+use native.Mathlib.Omega.{arith}
+use Rattle.term_head.proofs.old_reference_fields.Goals as goal
+
+pub returns-then-msg-at-lt5 : goal.returns-then-msg-at-lt5
+returns-then-msg-at-lt5 c = λ flags rows. old_short _ _ _ _ _ (omega arith) c.if-msg-at-lt5.true
+
+pub returns-then-not-words_fit : goal.returns-then-not-words_fit
+returns-then-not-words_fit c = λ flags rows. old_words _ _ _ _ _ (omega arith) c.if-msg-at-lt5.false (sym c.words_fit.ensures ∙ c.if-not-words_fit.true)
+
+pub returns-then-not-creation_fits : goal.returns-then-not-creation_fits
+returns-then-not-creation_fits c = λ flags rows. old_creation _ _ _ _ _ (omega arith) c.if-msg-at-lt5.false (sym c.creation_fits.ensures ∙ c.if-not-creation_fits.true)
+
+pub returns : goal.returns
+returns c = λ flags rows. old_there _ _ _ _ _ (omega arith) c.if-msg-at-lt5.false (sym c.words_fit.ensures ∙ c.if-not-words_fit.false) (sym c.creation_fits.ensures ∙ c.if-not-creation_fits.false)
