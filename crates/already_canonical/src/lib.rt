@@ -1,4 +1,6 @@
 // Bytes of the message that are a term's own in canonical form already.
+#![tactic(auto)]
+
 ghost use Rattle.std.specs.Prelude.{◌≡◌, List, ℕ, ◌+◌, ◌*◌, ◌≤◌, ◌<◌};
 ghost use Rattle.term_spec.specs.Rows.{kind_in, offset_in, parts_in};
 ghost use Rattle.row_fields.specs.Found.{value, atom_end};

@@ -1,4 +1,6 @@
 // What an accepted header leaves: the atom list of its references' texts, and the cache with its new entries.
+#![tactic(auto)]
+
 ghost use Rattle.std.specs.Prelude.{◌≡◌, ◌*◌, ◌<◌, length, replicate};
 ghost use Rattle.packet_spec.specs.Memory.{cache_of, CacheSized};
 ghost use Rattle.term_spec.specs.Text.{coding_of};

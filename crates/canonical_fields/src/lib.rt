@@ -1,4 +1,6 @@
 // A term's own fields in canonical form, by its content: layouts of the bytes before its parts, and of those after them.
+#![tactic(auto)]
+
 ghost use Rattle.std.specs.Prelude.{◌≡◌, List, [], ℕ, ◌*◌, ◌-◌, ◌≤◌, ◌<◌, length, pos, negsuc};
 ghost use Rattle.term_spec.specs.Numbers.{digits, little_endian, with_sign};
 ghost use Rattle.term_spec.specs.Text.{encodes};

@@ -1,4 +1,6 @@
 // The integer 0 to 255 that a term is: a character of a string.
+#![tactic(auto)]
+
 ghost use Rattle.std.specs.Prelude.{◌≡◌, true, false, List, ℕ, ◌≤◌, ◌<◌, length, get_or};
 ghost use Rattle.term_spec.specs.Numbers.{with_sign};
 ghost use Rattle.term_spec.specs.Term.{integer};

@@ -1,4 +1,6 @@
 // A term's own bytes, before and after its parts, measured and written: copied where they stand in canonical form, else by their layouts.
+#![tactic(auto)]
+
 ghost use Rattle.std.specs.Prelude.{◌≡◌, false, ◌++◌, ◌+◌, ◌≤◌, ◌<◌, length};
 ghost use Rattle.term_spec.specs.Term.{list};
 ghost use Rattle.layout.specs.Layout.{Put};

@@ -2,7 +2,7 @@
 -- About the code alone, proved against the definitions of packet_spec: nothing here has to be believed.
 use Rattle.std.specs.Prelude.{◌≡◌, List, ℕ, ◌+◌, ◌≤◌, length, drop}
 use Rattle.term_spec.specs.Text.{Coding}
-use Rattle.term_spec.specs.Answer.{Answer, good, refused, Position, at_offset, Reading, ◌>>=◌, ◌>>◌, done, here}
+use Rattle.term_spec.specs.Answer.{Answer, good, refused, Position, at_offset, Reading, ◌>>=◌, done, here}
 use Rattle.term_spec.specs.AtomList.{AtomList}
 use Rattle.term_spec.specs.Message.{result_of}
 use Rattle.packet_spec.specs.declared.Pending.{Pending}

@@ -1,4 +1,6 @@
 // Packets with a header: a plain packet, and the first fragment of a sequence.
+#![tactic(auto)]
+
 ghost use Rattle.std.specs.Prelude.{◌≤◌, ◌<◌, ◌≡◌, length};
 ghost use Rattle.term_spec.specs.AtomList.{lent_list};
 ghost use Rattle.term_spec.specs.Text.{coding_of};

@@ -1,4 +1,6 @@
 // Layouts of terms' own fields: numbers in their widths and a body, measured and written.
+#![tactic(auto)]
+
 ghost use Rattle.std.specs.Prelude.{◌≡◌, ◌+◌, ◌≤◌, length};
 ghost use Rattle.term_spec.specs.Numbers.{in_bytes, digits};
 ghost use Rattle.term_spec.specs.Text.{encodes};
@@ -7,7 +9,7 @@ ghost use Rattle.octets.specs.Parts.{stretch};
 ghost use Rattle.layout.specs.Layout.{body_bytes, layout_bytes, Inside, BodyInside, LayoutInside, Put, laid_of};
 
 // What follows the numbers: nothing, bytes as they stand, Latin-1 characters in UTF-8, the digits of a number, or bytes of whose last one some bits count.
-#[derive(Drop)]
+#[derive(Clone, Copy)]
 pub enum Body {
     Empty,
     Part {
@@ -31,14 +33,14 @@ pub enum Body {
 }
 
 // A number in so many bytes, big-endian; none in 0 bytes.
-#[derive(Drop)]
+#[derive(Clone, Copy)]
 pub struct Number {
     pub width: usize,
     pub value: u64,
 }
 
 // Three numbers, then a body.
-#[derive(Drop)]
+#[derive(Clone, Copy)]
 pub struct Layout {
     pub first: Number,
     pub second: Number,

@@ -1,4 +1,6 @@
 // Whether memory lent to the packet calls is of its stated size.
+#![tactic(auto)]
+
 ghost use Rattle.std.specs.Prelude.{◌≡◌};
 ghost use Rattle.packet_spec.specs.Memory.{cache_of, cache_of_size};
 ghost use Rattle.lent_memory.specs.Code.{MemoryFits};

@@ -94,6 +94,7 @@ module _ (flags : ℕ) (list : AtomList) (m : List ℕ) (lent : Lent list m) (ca
   unfolding ContainsFrom
   contains_from zero row ts r e v g = tt
   contains_from (suc n) row empty no_key e v g = λ l. absurd (omega arith)
+  contains_from (suc n) row (k ▹ empty) r e v g = elim r [ ]
   contains_from {L} (suc n) row (k ▹ x ▹ ts) (a_key o r) e v g =
       let rest : RowsInTable m cap (given_of flags list) S whole (row + (size k + (size x + 0))) ts = held_right m cap (given_of flags list) (k ▹ x ▹ empty) ts g in
       let past : row + (size k + (size x + 0)) ≡ row + size k + size x = omega arith in

@@ -34,7 +34,7 @@ const WINDOW: usize = 2;
 const PATH: usize = 256;
 
 // Whether the n rows from a on mean the same as those from b on: row by row, but maps that have pairs as wholes.
-#[cycle(found_key_many_among_pair_among_pair_around_pair_marked_pairs_among_pairs_marked_same_key_same_maps_same_rows_same_terms)]
+#[cycle(compare)]
 fn same_rows(
     msg: &[u8],
     places: &[u8],
@@ -70,7 +70,7 @@ fn same_rows(
 }
 
 // Whether the terms whose rows start at a and b mean the same, maps being at most `levels` deep in them.
-#[cycle(found_key_many_among_pair_among_pair_around_pair_marked_pairs_among_pairs_marked_same_key_same_maps_same_rows_same_terms)]
+#[cycle(compare)]
 fn same_terms(
     msg: &[u8],
     places: &[u8],
@@ -97,7 +97,7 @@ fn same_terms(
 }
 
 // Whether the maps at a and b, of the same number of pairs, have the same pairs.
-#[cycle(found_key_many_among_pair_among_pair_around_pair_marked_pairs_among_pairs_marked_same_key_same_maps_same_rows_same_terms)]
+#[cycle(compare)]
 fn same_maps(
     msg: &[u8],
     places: &[u8],
@@ -130,7 +130,7 @@ fn same_maps(
 }
 
 // Whether each of the n pairs from a on is one of the n from b on. A pair is looked for from the place on that it has itself, and then from b on.
-#[cycle(found_key_many_among_pair_among_pair_around_pair_marked_pairs_among_pairs_marked_same_key_same_maps_same_rows_same_terms)]
+#[cycle(compare)]
 fn pairs_among(
     msg: &[u8],
     places: &[u8],
@@ -172,7 +172,7 @@ fn pairs_among(
 }
 
 // Whether the pair from k on is one of the n from `at` on, or of the m before those, which start at b.
-#[cycle(found_key_many_among_pair_among_pair_around_pair_marked_pairs_among_pairs_marked_same_key_same_maps_same_rows_same_terms)]
+#[cycle(compare)]
 fn pair_around(
     msg: &[u8],
     places: &[u8],
@@ -196,7 +196,7 @@ fn pair_around(
 }
 
 // Whether of the n pairs from `at` on the first with the key at k has the value after that key.
-#[cycle(found_key_many_among_pair_among_pair_around_pair_marked_pairs_among_pairs_marked_same_key_same_maps_same_rows_same_terms)]
+#[cycle(compare)]
 fn pair_among(
     msg: &[u8],
     places: &[u8],
@@ -309,7 +309,7 @@ fn at_key(table: &[u64], marks: &[u16], b: usize, end: usize, row: usize) -> boo
 }
 
 // Whether the row is that of a key of the map whose first key is at the row `first`, and means the same as that at the row `key`.
-#[cycle(found_key_many_among_pair_among_pair_around_pair_marked_pairs_among_pairs_marked_same_key_same_maps_same_rows_same_terms)]
+#[cycle(compare)]
 fn same_key(
     msg: &[u8],
     places: &[u8],
@@ -330,7 +330,7 @@ fn same_key(
 }
 
 // The row of such a key as the slots name it, 0 where they name none: a hint, for nothing is known of the slots.
-#[cycle(found_key_many_among_pair_among_pair_around_pair_marked_pairs_among_pairs_marked_same_key_same_maps_same_rows_same_terms)]
+#[cycle(compare)]
 fn found_key(
     msg: &[u8],
     places: &[u8],
@@ -368,7 +368,7 @@ fn found_key(
 }
 
 // Whether the pair from k on is one of the n from b on, which end before the row `end`: where the hint is the row of a key of theirs, its value decides.
-#[cycle(found_key_many_among_pair_among_pair_around_pair_marked_pairs_among_pairs_marked_same_key_same_maps_same_rows_same_terms)]
+#[cycle(compare)]
 fn pair_marked(
     msg: &[u8],
     places: &[u8],
@@ -395,7 +395,7 @@ fn pair_marked(
 }
 
 // Whether each of the n pairs from a on is one of the n from b on, which end before the row `end` and of whose keys some are marked.
-#[cycle(found_key_many_among_pair_among_pair_around_pair_marked_pairs_among_pairs_marked_same_key_same_maps_same_rows_same_terms)]
+#[cycle(compare)]
 fn pairs_marked(
     msg: &[u8],
     places: &[u8],
@@ -427,7 +427,7 @@ fn pairs_marked(
 }
 
 // The same, with marks of its own.
-#[cycle(found_key_many_among_pair_among_pair_around_pair_marked_pairs_among_pairs_marked_same_key_same_maps_same_rows_same_terms)]
+#[cycle(compare)]
 fn many_among(
     msg: &[u8],
     places: &[u8],

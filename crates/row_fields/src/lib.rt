@@ -6,7 +6,7 @@ ghost use Rattle.row_fields.specs.Found.{Width, stripped, byte_found, signed_who
 use term_spec::{kinds, sizes, tags};
 
 // A term's own fields.
-#[derive(Drop)]
+#[derive(Clone, Copy)]
 pub enum Content {
     // no fields: a tuple, a list, an improper list, a map, an export; or no such fields there
     Nothing,

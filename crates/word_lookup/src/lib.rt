@@ -1,4 +1,6 @@
 // The word of a reference: its text, by its message's own atom list.
+#![tactic(auto)]
+
 ghost use Rattle.std.specs.Prelude.{◌≡◌};
 ghost use Rattle.term_spec.specs.AtomList.{lent_list};
 ghost use Rattle.packet_spec.specs.Promises.{LocateWordCall, WordCall};
