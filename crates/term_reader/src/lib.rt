@@ -46,7 +46,7 @@ pub fn at_most(n: usize, most: usize) -> usize
 }
 
 // A term. `whole` is the row of its whole plus 1, or 0; `left` the levels that are left for it.
-#[cycle(read_body_read_common_read_entry_read_inner_read_last_read_list_read_more_read_pairs_read_parts_read_quick_read_run_read_tail_read_term_read_wanted)]
+#[cycle(read)]
 fn read_term(
     msg: &[u8],
     context: usize,
@@ -82,7 +82,7 @@ fn read_term(
 }
 
 // A common term, whose head is in `word`. Its own row is stored after its parts.
-#[cycle(read_body_read_common_read_entry_read_inner_read_last_read_list_read_more_read_pairs_read_parts_read_quick_read_run_read_tail_read_term_read_wanted)]
+#[cycle(read)]
 fn read_quick(
     msg: &[u8],
     context: usize,
@@ -138,7 +138,7 @@ fn read_quick(
 }
 
 // The parts of a common term, whose head is in `word`, from `row` on; their whole is the row before.
-#[cycle(read_body_read_common_read_entry_read_inner_read_last_read_list_read_more_read_pairs_read_parts_read_quick_read_run_read_tail_read_term_read_wanted)]
+#[cycle(read)]
 fn read_common(
     msg: &[u8],
     context: usize,
@@ -200,7 +200,7 @@ fn read_common(
 }
 
 // The term at `place`, whose tag and fields are read. Its own row is stored after its parts.
-#[cycle(read_body_read_common_read_entry_read_inner_read_last_read_list_read_more_read_pairs_read_parts_read_quick_read_run_read_tail_read_term_read_wanted)]
+#[cycle(read)]
 fn read_body(
     msg: &[u8],
     context: usize,
@@ -256,7 +256,7 @@ fn read_body(
 }
 
 // The parts of the term at `place`, from `row` on; their whole is the row before.
-#[cycle(read_body_read_common_read_entry_read_inner_read_last_read_list_read_more_read_pairs_read_parts_read_quick_read_run_read_tail_read_term_read_wanted)]
+#[cycle(read)]
 fn read_inner(
     msg: &[u8],
     context: usize,
@@ -302,7 +302,7 @@ fn read_inner(
 }
 
 // The wanted parts, then `count` parts of any kind, then the later fields.
-#[cycle(read_body_read_common_read_entry_read_inner_read_last_read_list_read_more_read_pairs_read_parts_read_quick_read_run_read_tail_read_term_read_wanted)]
+#[cycle(read)]
 fn read_parts(
     msg: &[u8],
     context: usize,
@@ -358,7 +358,7 @@ fn read_parts(
 }
 
 // Terms as in a run, where there are any: most terms that go this way have none, and an empty run is no call.
-#[cycle(read_body_read_common_read_entry_read_inner_read_last_read_list_read_more_read_pairs_read_parts_read_quick_read_run_read_tail_read_term_read_wanted)]
+#[cycle(read)]
 fn read_more(
     msg: &[u8],
     context: usize,
@@ -389,7 +389,7 @@ fn read_more(
 }
 
 // `wanted` parts, each an atom; of three the last is an arity. One alone is a node: most are read here, without a call for a run.
-#[cycle(read_body_read_common_read_entry_read_inner_read_last_read_list_read_more_read_pairs_read_parts_read_quick_read_run_read_tail_read_term_read_wanted)]
+#[cycle(read)]
 fn read_wanted(
     msg: &[u8],
     context: usize,
@@ -467,7 +467,7 @@ fn is_leaf(word: usize, deep: usize, row: usize, context: usize) -> bool
 }
 
 // `count` terms in turn.
-#[cycle(read_body_read_common_read_entry_read_inner_read_last_read_list_read_more_read_pairs_read_parts_read_quick_read_run_read_tail_read_term_read_wanted)]
+#[cycle(read)]
 pub fn read_run(
     msg: &[u8],
     context: usize,
@@ -572,7 +572,7 @@ fn read_characters(
 }
 
 // The elements of a 108, and what its tail joins on.
-#[cycle(read_body_read_common_read_entry_read_inner_read_last_read_list_read_more_read_pairs_read_parts_read_quick_read_run_read_tail_read_term_read_wanted)]
+#[cycle(read)]
 fn read_list(
     msg: &[u8],
     context: usize,
@@ -611,7 +611,7 @@ fn read_list(
 }
 
 // What follows the elements of a 108, `before` of which are read: tails that are 108s are joined on, up to one that is not.
-#[cycle(read_body_read_common_read_entry_read_inner_read_last_read_list_read_more_read_pairs_read_parts_read_quick_read_run_read_tail_read_term_read_wanted)]
+#[cycle(read)]
 fn read_tail(
     msg: &[u8],
     context: usize,
@@ -673,7 +673,7 @@ fn read_tail(
 }
 
 // The tail of a list that is joined no further: the empty list or a 107 ends a proper list.
-#[cycle(read_body_read_common_read_entry_read_inner_read_last_read_list_read_more_read_pairs_read_parts_read_quick_read_run_read_tail_read_term_read_wanted)]
+#[cycle(read)]
 fn read_last(
     msg: &[u8],
     context: usize,
@@ -714,7 +714,7 @@ fn read_last(
 }
 
 // A key or a value of a map: the commonest ones, without parts, are read right here.
-#[cycle(read_body_read_common_read_entry_read_inner_read_last_read_list_read_more_read_pairs_read_parts_read_quick_read_run_read_tail_read_term_read_wanted)]
+#[cycle(read)]
 fn read_entry(
     msg: &[u8],
     context: usize,
@@ -756,7 +756,7 @@ fn read_entry(
 }
 
 // `count` keys, each with its value after it. A key is judged before its value is read.
-#[cycle(read_body_read_common_read_entry_read_inner_read_last_read_list_read_more_read_pairs_read_parts_read_quick_read_run_read_tail_read_term_read_wanted)]
+#[cycle(read)]
 fn read_pairs(
     msg: &[u8],
     context: usize,
