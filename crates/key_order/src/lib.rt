@@ -1,4 +1,6 @@
 // The order in which the pairs of maps are written: slots, one for each row, filled so that the keys' canonical forms rise in byte order.
+#![tactic(auto)]
+
 ghost use Rattle.std.specs.Prelude.{◌≡◌, List, ◌∷◌, ℕ, ◌-◌, ◌≤◌, ◌<◌, length, get_or};
 ghost use Rattle.std.proofs.lemmas.List.Edits.{sets};
 ghost use Rattle.octets.specs.Parts.{stretch};

@@ -1,4 +1,6 @@
 // The state that a link keeps between packets: dropping its pending sequence, and a reset of all of it.
+#![tactic(auto)]
+
 ghost use Rattle.std.specs.Prelude.{◌≡◌};
 ghost use Rattle.packet_spec.specs.Memory.{cache_of};
 ghost use Rattle.packet_spec.specs.Promises.{DropCall, ResetCall};

@@ -1,4 +1,6 @@
 // Taking a packet.
+#![tactic(auto)]
+
 ghost use Rattle.term_spec.specs.AtomList.{lent_list};
 ghost use Rattle.packet_spec.specs.Memory.{cache_of, memory_of};
 ghost use Rattle.packet_spec.specs.Promises.{PacketCall};

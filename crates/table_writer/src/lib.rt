@@ -1,4 +1,6 @@
 // The terms whose rows fill a table, written as canonical standalone terms one after the other.
+#![tactic(auto)]
+
 ghost use Rattle.std.specs.Prelude.{length};
 ghost use Rattle.term_spec.specs.Canonical.{canonical_standalone, standalones};
 ghost use Rattle.term_writer.specs.Code.{TermPut, TermFits, RunPut, RunFits};

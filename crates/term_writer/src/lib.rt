@@ -1,4 +1,6 @@
 // One term in canonical form, and terms one after the other: measured and written from the rows that reading made of them, with the order of maps' pairs in slots.
+#![tactic(auto)]
+
 ghost use Rattle.std.specs.Prelude.{◌≡◌, true, false, ◌+◌, ◌≤◌, ◌<◌, length, get_or};
 ghost use Rattle.term_spec.specs.Canonical.{canonical};
 ghost use Rattle.term_writer.specs.PairOrder.{HasOrder};

@@ -1,0 +1,60 @@
+-- `sort_keys` meets its contract. The keys passed are in order; the measure is the number of keys left.
+use native.Mathlib.Omega.{arith}
+use Rattle.term_spec.proofs.Tests.{never}
+use Rattle.key_order.proofs.Walk.{key_step, value_few}
+use Rattle.key_order.proofs.Sorted.{sorting_start, sorting_pair, keys_fit, sorting_next, sorting_end}
+use Rattle.key_order.proofs.sort_keys.Goals as goal
+
+pub loop-i-init : goal.loop-i-init
+loop-i-init c = sorting_start _ _ _ _ _ _ _ _ _
+
+pub find_place-at-requires : goal.find_place-at-requires
+find_place-at-requires c = rw c.loop-i.invariant.out_long (keys_fit c.loop-i.invariant c.loop-i-test.true c.requires.1 c.requires.0)
+
+pub put_at-requires : goal.put_at-requires
+put_at-requires c = let b = (sorting_pair c.loop-i.invariant c.loop-i-test.true c.requires.0).few in (c.find_place-at.ensures.inside, omega (arith, c.loop-i.invariant.run_long), omega arith)
+
+pub offset_bounds-table-key : goal.offset_bounds-table-key
+offset_bounds-table-key c = let b = (sorting_pair c.loop-i.invariant c.loop-i-test.true c.requires.0).few in omega arith
+
+pub bounds-table-key : goal.bounds-table-key
+bounds-table-key c = (sorting_pair c.loop-i.invariant c.loop-i-test.true c.requires.0).key_below
+
+pub overflow_add-value : goal.overflow_add-value
+overflow_add-value c = let b = key_step (sorting_pair c.loop-i.invariant c.loop-i-test.true c.requires.0) _ c.size_in.ensures.0 in omega arith
+
+pub offset_bounds-table-value : goal.offset_bounds-table-value
+offset_bounds-table-value c = let b = key_step (sorting_pair c.loop-i.invariant c.loop-i-test.true c.requires.0) _ c.size_in.ensures.0 in omega arith
+
+pub bounds-table-value : goal.bounds-table-value
+bounds-table-value c = (key_step (sorting_pair c.loop-i.invariant c.loop-i-test.true c.requires.0) _ c.size_in.ensures.0).0
+
+pub overflow_add-key : goal.overflow_add-key
+overflow_add-key c = let b = value_few (sorting_pair c.loop-i.invariant c.loop-i-test.true c.requires.0) _ _ c.size_in.ensures.0 c.size_in-in-loop-i.ensures.0 in omega arith
+
+pub overflow_add-i : goal.overflow_add-i
+overflow_add-i c = omega arith
+
+pub overflow_add-at : goal.overflow_add-at
+overflow_add-at c = omega (arith, c.find_place-at.ensures.inside)
+
+pub loop-i-smaller-then-at-i : goal.loop-i-smaller-then-at-i
+loop-i-smaller-then-at-i c = omega arith
+
+pub loop-i-preserved-then-at-i : goal.loop-i-preserved-then-at-i
+loop-i-preserved-then-at-i c = sorting_next c.loop-i.invariant c.loop-i-test.true c.requires.1 c.find_place-at.ensures c.put_at.ensures (λ e. never e) c.find_place-at.auto.out c.size_in.ensures.0 c.size_in-in-loop-i.ensures.0
+
+pub loop-i-smaller : goal.loop-i-smaller
+loop-i-smaller c = omega arith
+
+pub loop-i-preserved : goal.loop-i-preserved
+loop-i-preserved c = sorting_next c.loop-i.invariant c.loop-i-test.true c.requires.1 c.find_place-at.ensures c.put_at.ensures (λ e. (e, omega arith)) c.find_place-at.auto.out c.size_in.ensures.0 c.size_in-in-loop-i.ensures.0
+
+pub shape_of-run : goal.shape_of-run
+shape_of-run c = c.loop-i.invariant.run_long
+
+pub shape_of-out : goal.shape_of-out
+shape_of-out c = c.loop-i.invariant.out_long
+
+pub returns : goal.returns
+returns c = sorting_end c.loop-i.invariant c.loop-i-test.false

@@ -1,0 +1,20 @@
+use Rattle.term_writer.proofs.Terms.{LengthLeft}
+use Rattle.term_writer.specs.InTable.{RunInTable}
+use Rattle.term_spec.specs.Message.{Terms}
+use Rattle.term_spec.specs.Tree.{count}
+use lib.ListN.{length}
+use mathlib.Core.Path.{◌≡◌}
+use Prim.Native.Nat.{◌+◌, ◌*◌, ◌-◌, ◌≤◌}
+use Rattle.term_writer.proofs.+length_run_length_term.Given as goal
+
+abbrev pub decreases-length_run : goal.decreases-length_run
+decreases-length_run l = 2 * (length l.table.now - l.row) + 1
+
+abbrev pub decreases-length_term : goal.decreases-length_term
+decreases-length_term l = 2 * (length l.table.now - l.row)
+
+abbrev pub invariant-length_run-loop-left : goal.invariant-length_run-loop-left
+invariant-length_run-loop-left l = (l.row ≤ l.next) × ((ts : Terms) → RunInTable l.msg l.places l.lengths l.table l.row ts → count ts ≡ l.n → LengthLeft l.msg l.places l.lengths l.table ts l.next l.left l.sum)
+
+abbrev pub decreases-length_run-loop-left : goal.decreases-length_run-loop-left
+decreases-length_run-loop-left l = l.left

@@ -1,0 +1,13 @@
+use Rattle.term_writer.proofs.Strings.{SmallLeft}
+use Rattle.term_writer.specs.InTable.{RunInTable}
+use Rattle.term_spec.specs.Message.{Terms}
+use Rattle.term_spec.specs.Tree.{count}
+use Prim.Native.Nat.{◌-◌, ◌≤◌}
+use mathlib.Core.Path.{◌≡◌}
+use Rattle.term_writer.proofs.all_small.Given as goal
+
+abbrev pub invariant-loop-i : goal.invariant-loop-i
+invariant-loop-i l = (l.i ≤ l.n) × ((ts : Terms) → RunInTable l.msg l.places l.lengths l.table l.row ts → count ts ≡ l.n → SmallLeft l.msg l.places l.lengths l.table l.row l.n ts l.i)
+
+abbrev pub decreases-loop-i : goal.decreases-loop-i
+decreases-loop-i l = l.n - l.i
