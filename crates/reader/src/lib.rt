@@ -1,4 +1,6 @@
 // Reading messages into a table of rows: a standalone term, or the terms of a payload.
+#![tactic(auto)]
+
 ghost use Rattle.std.specs.Prelude.{◌≡◌, ℕ, ◌<◌, length};
 ghost use Rattle.term_spec.specs.AtomList.{lent_list};
 ghost use Rattle.term_spec.specs.Message.{standalone, payload};

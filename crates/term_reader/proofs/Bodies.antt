@@ -1,6 +1,6 @@
 -- A term after its head: one law for each way through `read_term`, `read_body`, `read_inner` and `read_parts`.
 use mathlib.Core.Path.{◌≡◌, sym, ap, ap₂, ◌∙◌}
-use mathlib.Core.Bool.{Bool, true, false, not}
+use mathlib.Core.Bool.{Bool, true, false}
 use mathlib.Core.List.{List, []}
 use mathlib.Core.Option.{some}
 use Prim.Native.Nat.{ℕ, suc, ◌+◌, ◌-◌, ◌≤◌, ◌<◌}
@@ -18,7 +18,6 @@ use Rattle.term_spec.specs.AtomList.{AtomList}
 use Rattle.term_spec.specs.Reading.{tag_at, each, run, entries, string, list_tail, one_term, opening, row, contents, body, term}
 use Rattle.term_spec.specs.Message.{Terms}
 use Rattle.term_spec.specs.Rows.{tree_rows, rows, kind_of, kind_at, offset_of, whole_code, pack, SmallFields, word, row_words}
-use Rattle.term_spec.proofs.Tests.{refuted, confirmed}
 use Rattle.term_spec.proofs.Rows.{count_le_sizes}
 use Rattle.term_spec.proofs.Words.{Between, kind_of_range}
 use Rattle.octets.proofs.Stores.{set_before}
@@ -54,11 +53,11 @@ module _ (given : Given) (cap left : ℕ) (w : Wanted) (m : List ℕ) (at row wh
 
 -- what the test for a row says
 module _ {there : Bool} {row cap : ℕ} (e : there ≡ ltb row cap) where
-  pub no_row : not there ≡ true → cap ≤ row
-  no_row f = ltb-false row cap (refuted e f)
+  pub no_row : there ≡ false → cap ≤ row
+  no_row f = ltb-false row cap (sym e ∙ f)
 
-  pub some_row : not there ≡ false → row < cap
-  some_row f = ltb-true row cap (confirmed e f)
+  pub some_row : there ≡ true → row < cap
+  some_row f = ltb-true row cap (sym e ∙ f)
 
 -- a term is made of its parts and its label
 whole_inner : (given : Given) (cap d p : ℕ) (h : Head) (s : Position)

@@ -4,7 +4,7 @@ use mathlib.Core.List.{List, []}
 use Prim.Native.Nat.{ℕ, ◌+◌, ◌-◌, ◌/◌, ◌%◌, ◌≤◌, ◌<◌}
 use native.Mathlib.Omega.{arith}
 use lib.ListN.{length, set, replicate}
-use Rattle.term_spec.specs.Tree.{count, EachNode}
+use Rattle.term_spec.specs.Tree.{EachNode}
 use Rattle.term_spec.specs.Term.{Label}
 use Rattle.term_spec.specs.Answer.{at_offset}
 use Rattle.term_spec.specs.Head.{Given, Wanted, any, Head, parts, elements, pairs, known, later, term_head}

@@ -1,4 +1,6 @@
 // Reading terms into a table of rows: a term's parts are read by the same rules as the whole.
+#![tactic(auto)]
+
 ghost use Rattle.std.specs.Prelude.{◌≡◌, true, ◌+◌, ◌/◌, ◌%◌, ◌≤◌, ◌<◌, min, length, replicate};
 ghost use Rattle.std.proofs.lemmas.List.Edits.{sets};
 ghost use Rattle.term_spec.specs.Head.{any, characters, elements, pairs};
