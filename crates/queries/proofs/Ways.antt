@@ -1,15 +1,13 @@
 -- One law for each way through the functions.
 use mathlib.Core.Path.{◌≡◌, refl, ap}
 use mathlib.Core.Bool.{Bool, true, false}
-use mathlib.Core.List.{List, [], ◌∷◌}
+use mathlib.Core.List.{List, []}
 use Prim.Native.Nat.{ℕ, suc, ◌+◌, ◌-◌, ◌%◌, ◌<◌, ◌≤◌}
 use native.Mathlib.Omega.{arith}
 use lib.Dec.{eqb}
 use lib.IntN.{ℤ, pos, negsuc}
 use lib.Ieee.{binary64, of_bits}
 use lib.ListN.{length, get_or, take, drop}
-use denote.Enum.Declared.{tag_of}
-use types.Run.{OneOf, miss}
 use borrow.Author.Tests.{lt-ltb, le-ltb, le-leb, lt-leb, eq-eqb, ne_eqb}
 use Rattle.term_spec.specs.Rows.{kind_in, offset_in}
 use Rattle.term_spec.specs.Answers.{number_case}
@@ -18,7 +16,6 @@ use Rattle.term_spec.specs.declared.ReadAnswer.{ReadAnswer}
 use Rattle.term_spec.specs.declared.ReadAnswer.TheVariants as reads
 use Rattle.term_spec.specs.declared.NumberAnswer.{NumberAnswer}
 use Rattle.term_spec.specs.declared.NumberAnswer.TheVariants as numbers
-use Rattle.row_fields.specs.contracts.Content.{the_type}
 use Rattle.row_fields.specs.declared.Content.{Content}
 use Rattle.row_fields.specs.declared.Content.TheVariants.{Nothing, Whole, Big, Float, Text, Bytes, Bits, Pid, Port, Reference}
 use Rattle.row_fields.specs.Found.{content_of}
@@ -59,18 +56,18 @@ unfolding float_number number_case
 float_other bits h = rw (le-ltb (bits % 9223372036854775808) 9218868437227405312 h)
 
 -- neither an integer of at most 8 digits nor a float
-pub no_number : (c : Content) → OneOf (0 ∷ 2 ∷ 4 ∷ 5 ∷ 6 ∷ 7 ∷ 8 ∷ 9 ∷ []) (tag_of the_type c) → numbers.Neither ≡ number_case (content_number c)
+pub no_number : (c : Content) → ((negative : Bool) (n : ℕ) → c ≡ Whole negative n → ⊥) → ((bits : ℕ) → c ≡ Float bits → ⊥) → numbers.Neither ≡ number_case (content_number c)
 unfolding content_number number_case
-no_number Nothing h = refl
-no_number (Whole negative n) h = absurd (miss (0 ∷ 2 ∷ 4 ∷ 5 ∷ 6 ∷ 7 ∷ 8 ∷ 9 ∷ []) 1 tt h)
-no_number (Big negative start n) h = refl
-no_number (Float bits) h = absurd (miss (0 ∷ 2 ∷ 4 ∷ 5 ∷ 6 ∷ 7 ∷ 8 ∷ 9 ∷ []) 3 tt h)
-no_number (Text latin1 listed start n) h = refl
-no_number (Bytes start n) h = refl
-no_number (Bits bits start n) h = refl
-no_number (Pid id serial creation) h = refl
-no_number (Port id creation) h = refl
-no_number (Reference creation start n) h = refl
+no_number Nothing w f = refl
+no_number (Whole negative n) w f = absurd (w negative n refl)
+no_number (Big negative start n) w f = refl
+no_number (Float bits) w f = absurd (f bits refl)
+no_number (Text latin1 listed start n) w f = refl
+no_number (Bytes start n) w f = refl
+no_number (Bits bits start n) w f = refl
+no_number (Pid id serial creation) w f = refl
+no_number (Port id creation) w f = refl
+no_number (Reference creation start n) w f = refl
 
 module _ (m places lengths T : List ℕ) (read : ReadAnswer) (row : ℕ) where
   abbrev pub NumberIs : NumberAnswer → Type 0
@@ -130,13 +127,13 @@ module _ (at : ℕ) where
     unfolding text_said
     said_message e = rw e
 
-  pub no_text : (c : Content) → OneOf (0 ∷ 1 ∷ 2 ∷ 3 ∷ 5 ∷ 6 ∷ 7 ∷ 8 ∷ 9 ∷ []) (tag_of the_type c) → texts.Refused (record { number = 4; place = at }) ≡ text_said at c
+  pub no_text : (c : Content) → ((latin1 listed : Bool) (start n : ℕ) → c ≡ Text latin1 listed start n → ⊥) → texts.Refused (record { number = 4; place = at }) ≡ text_said at c
   unfolding text_said
   no_text Nothing h = refl
   no_text (Whole negative n) h = refl
   no_text (Big negative start n) h = refl
   no_text (Float bits) h = refl
-  no_text (Text latin1 listed start n) h = absurd (miss (0 ∷ 1 ∷ 2 ∷ 3 ∷ 5 ∷ 6 ∷ 7 ∷ 8 ∷ 9 ∷ []) 4 tt h)
+  no_text (Text latin1 listed start n) h = absurd (h latin1 listed start n refl)
   no_text (Bytes start n) h = refl
   no_text (Bits bits start n) h = refl
   no_text (Pid id serial creation) h = refl

@@ -1,4 +1,6 @@
 // Two questions on a message: a row's number, and an atom's text with its mark.
+#![tactic(auto)]
+
 ghost use Rattle.std.specs.Prelude.{◌≡◌, ◌≤◌, ◌<◌, pos, negsuc, length};
 ghost use Rattle.term_spec.specs.Answers.{number_case};
 ghost use Rattle.term_spec.specs.Message.{standalone, payload};
