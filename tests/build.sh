@@ -9,11 +9,13 @@ command -v rustc >/dev/null || PATH=$PATH:${HOME:-}/.cargo/bin
 # The archive, proved first.
 build_archive() {
     rm -f "$archive"
-    rt staticlib c_api >"$out/staticlib.log" 2>&1 || { tail -20 "$out/staticlib.log"; return 1; }
+    mkdir -p "$(dirname "$archive")"
+    (cd crates/c_api && rt lib) >"$out/staticlib.log" 2>&1 || { tail -20 "$out/staticlib.log"; return 1; }
+    cp crates/c_api/out/libc_api.a "$archive"
 }
 # The archive, where there is none that is newer than all it is made of: the crates, their folders (of a file taken away) and their list.
 need_archive() {
-    if [ ! -e "$archive" ] || [ -n "$(find crates crates.txt -newer "$archive" -print -quit)" ]; then build_archive; fi
+    if [ ! -e "$archive" ] || [ -n "$(find crates crates.txt -name out -prune -o -newer "$archive" -print -quit)" ]; then build_archive; fi
 }
 # A C program over the archive: source, program, more libraries.
 c() { gcc -O2 -Wall -Wextra -I include "$1" "$archive" -o "$2" "${@:3}"; }

@@ -1,4 +1,6 @@
 // The connection record: the flags that the nodes agreed on in the handshake. All calls but the reset take it.
+#![tactic(auto)]
+
 ghost use Rattle.std.specs.Prelude.{◌≡◌};
 ghost use Rattle.term_spec.specs.Text.{coding_of};
 ghost use Rattle.term_spec.specs.Connection.{coding_agreed, flags_known};

@@ -1,4 +1,6 @@
 // Fragments: what one answers and leaves in the record, and a later fragment of the pending sequence.
+#![tactic(auto)]
+
 ghost use Rattle.std.specs.Prelude.{◌≡◌, ◌≤◌, ◌<◌, length};
 ghost use Rattle.fragments.specs.Code.{after_fragment, refusal, TakesContinuation};
 

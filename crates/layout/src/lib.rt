@@ -33,14 +33,14 @@ pub enum Body {
 }
 
 // A number in so many bytes, big-endian; none in 0 bytes.
-#[derive(Clone, Copy)]
+#[derive(Drop)]
 pub struct Number {
     pub width: usize,
     pub value: u64,
 }
 
 // Three numbers, then a body.
-#[derive(Clone, Copy)]
+#[derive(Drop)]
 pub struct Layout {
     pub first: Number,
     pub second: Number,

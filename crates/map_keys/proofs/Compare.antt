@@ -17,7 +17,7 @@ use Rattle.term_spec.specs.Equal.{same, among}
 use Rattle.term_spec.specs.Valid.{Fits, Valid, Valids}
 use Rattle.term_spec.specs.Reading.{Offset, Located, as_read, meaning}
 use Rattle.term_spec.specs.Message.{Terms, all_as_read, meanings}
-use Rattle.term_spec.specs.Rows.{Row, rows, word, kind_at, size_in}
+use Rattle.term_spec.specs.Rows.{Row, word, kind_at, size_in}
 use Rattle.term_spec.proofs.Pairs.{rearranged_sizes, order_rearranges}
 use Rattle.term_spec.proofs.RoundTrip.{even}
 use Rattle.term_spec.proofs.Arranged.{same_true, same_equal}

@@ -1,4 +1,6 @@
 // Terms compared by their rows, whatever their encoding, and the hash set of a map's keys.
+#![tactic(auto)]
+
 ghost use Rattle.std.specs.Prelude.{◌≡◌, ◌+◌, ◌*◌, ◌-◌, ◌/◌, ◌%◌, ◌≤◌, ◌<◌, length};
 ghost use Rattle.term_rows.specs.Rows.{same_row};
 ghost use Rattle.map_keys.specs.Path.{next_place};

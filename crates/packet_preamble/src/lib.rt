@@ -1,4 +1,6 @@
 // What stands before the header of a packet: 131, the tag, and the two ids of a fragment.
+#![tactic(auto)]
+
 ghost use Rattle.std.specs.Prelude.{◌≤◌, length};
 ghost use Rattle.packet_preamble.specs.Code.{IdsAre, PreambleIs};
 

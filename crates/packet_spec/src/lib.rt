@@ -1,5 +1,7 @@
 // What packets hand over: the pending record, places and indices, and the answers of the calls. Packets themselves are defined in specs/;
 // specs/Answers.antt gives each case here from document 01's answer.
+#![tactic(auto)]
+
 pub mod sizes;
 pub mod tags;
 

@@ -1,4 +1,6 @@
 // A row of the table as a word of 64 bits (docs/ROWS.md).
+#![tactic(auto)]
+
 ghost use Rattle.std.specs.Prelude.{◌≡◌, ◌<◌};
 ghost use Rattle.term_spec.specs.Rows.{SmallFields, pack, kind_in, offset_in, whole_in, parts_in, size_in};
 

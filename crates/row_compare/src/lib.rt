@@ -1,4 +1,6 @@
 // Two terms' own fields compared, and hashed, over what they say and not over how they are encoded.
+#![tactic(auto)]
+
 mod codes;
 
 ghost use Rattle.std.specs.Prelude.{◌≡◌, true, [], ◌∷◌, ◌+◌, ◌≤◌, ◌<◌, leb, length, take, drop};

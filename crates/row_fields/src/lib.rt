@@ -1,4 +1,6 @@
 // The own fields of a row's term, found again in the message and the atom list. The message was read before: only bounds are tested.
+#![tactic(auto)]
+
 ghost use Rattle.std.specs.Prelude.{◌≡◌, ◌+◌, ◌-◌, ◌≤◌, ◌<◌, length, get_or, take, drop};
 ghost use Rattle.term_spec.specs.Numbers.{little_endian};
 ghost use Rattle.row_fields.specs.Found.{Width, stripped, byte_found, signed_whole, signed_found, integer_of, stripped_found, big_found, integer_found, float_found, text_width, text_found, place_found, listed_found, atom_found, text_end, atom_end, bytes_found, bits_of, bits_found, binary_found, pid_found, port_found, words_found, word_found, counted_found, pids_found, ports_found, references_found, content_of};

@@ -1,4 +1,6 @@
 // Hashes of terms by their rows, over what the terms mean and not over how they are encoded: the order of a map's pairs does not count.
+#![tactic(auto)]
+
 ghost use Rattle.std.specs.Prelude.{◌≡◌, ◌+◌, ◌*◌, ◌-◌, ◌<◌};
 ghost use Rattle.term_hash.specs.Hash.{hash_row, added, hash_rows, hash_pairs, factor_of, levels_of, hashed_rows, pass_hash, Adds, seed_of, round_hash};
 

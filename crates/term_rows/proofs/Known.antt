@@ -15,7 +15,7 @@ use Rattle.term_spec.specs.Meaning.{pair_before}
 use Rattle.term_spec.specs.Valid.{Valids}
 use Rattle.term_spec.specs.Reading.{Offset, Located, meaning}
 use Rattle.term_spec.specs.Message.{Terms, all_as_read, meanings}
-use Rattle.term_spec.specs.Rows.{Row, tree_rows, rows, word, kind_at, kind_in, parts_in, size_in, TreeHere, RowsHere}
+use Rattle.term_spec.specs.Rows.{Row, tree_rows, rows, kind_at, kind_in, parts_in, size_in, TreeHere, RowsHere}
 use Rattle.term_spec.proofs.Pairs.{Kind, a_map, no_map, kind, rearranged_count, order_rearranges, count_arranged}
 use Rattle.term_spec.proofs.Rows.{count_relabels, rows_join}
 use Rattle.term_spec.proofs.Words.{EachRow, SmallRow, WordOf, node_packed, node_below, parts_here, left_here, right_here, first_here, others_here, row_of}

@@ -1,4 +1,6 @@
 // The rows of terms in a table: stepped over, and what two of them say compared.
+#![tactic(auto)]
+
 ghost use Rattle.std.specs.Prelude.{◌≡◌, false, ◌+◌, ◌*◌, ◌-◌, ◌<◌, get_or};
 ghost use Rattle.row_fields.specs.Meaning.{term_kind};
 ghost use Rattle.term_rows.specs.Rows.{same_fields, same_row, unordered_rows, pair_size};

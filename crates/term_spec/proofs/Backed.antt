@@ -15,7 +15,7 @@ use Rattle.term_spec.specs.Tree.{Forest, node, empty, ◌▹◌, ◌▹▹◌}
 use Rattle.term_spec.specs.Term.{Label, Term, integer, atom, list, improper_list, map}
 use Rattle.term_spec.specs.Equal.{among}
 use Rattle.term_spec.specs.Answer.{Answer, good, refused, Position, Reading, after, done, rule, byte, first_of, bytes, number}
-use Rattle.term_spec.specs.Head.{Given, limits, Wanted, any, tagged, an_atom, one_of, leaf, Form, atom_ext, atom_cache_ref, form, form_in, forms, form_or, fields, Head, parts, characters, elements, pairs, later, term_head, text_or}
+use Rattle.term_spec.specs.Head.{Given, Wanted, any, tagged, an_atom, one_of, leaf, Form, atom_ext, atom_cache_ref, form, form_in, forms, form_or, fields, Head, parts, characters, elements, pairs, later, term_head, text_or}
 use Rattle.term_spec.specs.Text.{Coding, latin_1, utf_8, check}
 use Rattle.term_spec.specs.Reading.{Offset, tag_at, character_at, Located, meaning, empty_108, opening, one_term, row, body, contents, term, each, run, entries, string, list_tail}
 use Rattle.term_spec.proofs.Holds.{Holds, both, next, done_holds, refused_holds, rule_holds, weaken, skip, characters_hold}

@@ -1,4 +1,5 @@
 // The answers of the calls. The format itself is defined in specs/; specs/Answers.antt gives each case here from document 01's answer.
+#![tactic(auto)]
 
 pub mod kinds;
 pub mod refusals;

@@ -1,4 +1,6 @@
 // Texts: whether bytes are a text in UTF-8 or Latin-1, and Latin-1 as UTF-8.
+#![tactic(auto)]
+
 ghost use Rattle.std.specs.Prelude.{◌≡◌, true, false, List, [], ◌∷◌, ◌+◌, ◌*◌, ◌≤◌, ◌<◌, length, take, drop};
 ghost use Rattle.std.proofs.lemmas.List.Edits.{sets};
 ghost use Rattle.term_spec.specs.Text.{holds, lines, first, utf_8, latin_1, coding_of, check, encode, encodes};

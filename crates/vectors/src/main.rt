@@ -7,8 +7,10 @@ mod write;
 
 ghost use Rattle.io.specs.Counts.{IsPrefixLen};
 
-use libc::STDOUT_FILENO;
 use vector_lines::Verb;
+
+// Standard output's number.
+const STDOUT: i32 = 1;
 
 fn put_line<'a>(
     dst: &mut [u8],
@@ -44,7 +46,7 @@ fn run(verb: Verb, case: &[u8]) {
         &places[..p],
         &lengths[..l],
     );
-    io::write_all(STDOUT_FILENO, &out[..n]);
+    io::write_all(STDOUT, &out[..n]);
 }
 
 fn run_line(line: &[u8]) {

@@ -12,7 +12,7 @@ pub find_place-at-requires : goal.find_place-at-requires
 find_place-at-requires c = rw c.loop-i.invariant.out_long (keys_fit c.loop-i.invariant c.loop-i-test.true c.requires.1 c.requires.0)
 
 pub put_at-requires : goal.put_at-requires
-put_at-requires c = let b = (sorting_pair c.loop-i.invariant c.loop-i-test.true c.requires.0).few in (c.find_place-at.ensures.inside, omega (arith, c.loop-i.invariant.run_long), omega arith)
+put_at-requires c = let b = (sorting_pair c.loop-i.invariant c.loop-i-test.true c.requires.0).few in (omega (arith, c.find_place-at.ensures.inside), omega (arith, c.loop-i.invariant.run_long), omega arith)
 
 pub offset_bounds-table-key : goal.offset_bounds-table-key
 offset_bounds-table-key c = let b = (sorting_pair c.loop-i.invariant c.loop-i-test.true c.requires.0).few in omega arith

@@ -2,14 +2,9 @@
 use Rattle.map_keys.proofs.Marks.{no_marks}
 use Rattle.map_keys.proofs.Found.{other_map, key_compared, no_slots, found_start, found_empty, found_here, found_later, found_none, same_there}
 use Rattle.map_keys.proofs.Steps.{around_first, rows_start, rows_differ, rows_next, maps_differ, maps_next, rows_ended, past_first, past_second, sizes_differ, sizes_same, no_level, maps_sizes, maps_few, maps_many, pairs_start, pairs_differ, pairs_next, pairs_ended, around_second, pair_start, pair_here, pair_next, pair_none, no_key_there, key_there, marked_start, marked_differ, marked_next, marked_ended}
-use Rattle.term_rows.specs.Rows.{same_row}
-use Rattle.map_keys.specs.Compare.{same_rows, pair_among, pairs_among, pairs_marked}
 use Rattle.map_keys.proofs.Slots.{slot_inside, place_at, no_seed, next_seeded}
 use native.Mathlib.Omega.{arith}
-use Prim.Native.Nat.{◌-◌}
 use Rattle.map_keys.proofs.+compare.Goals as goal
-
-
 
 pub found_key-returns-then-n-eq0 : goal.found_key-returns-then-n-eq0
 found_key-returns-then-n-eq0 t c = (no_slots _ _ _ _ _ _ _ _ c.if-n-eq0.true, omega arith)

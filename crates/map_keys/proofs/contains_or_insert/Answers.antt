@@ -13,7 +13,7 @@ returns-then-key_among c = record { keys_kept = keeps_refl _; judged = λ _. sym
 
 pub returns : goal.returns
 returns c = record {
-      keys_kept = c.insert.ensures.0;
-      judged = λ _. sym c.if-key_among.false ∙ c.key_among.ensures;
-      inserted = λ _. c.insert.ensures.1;
-    }
+  keys_kept = c.insert.ensures.0;
+  judged = λ _. sym c.if-key_among.false ∙ c.key_among.ensures;
+  inserted = λ _. c.insert.ensures.1;
+}

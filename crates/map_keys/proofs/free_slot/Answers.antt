@@ -1,5 +1,4 @@
 -- `free_slot` meets its contract. The slots passed are occupied, none by an equal key of the map; the measure is the number of steps left.
-use Prim.Native.Nat.{◌-◌}
 use native.Mathlib.Omega.{arith}
 use Rattle.map_keys.proofs.Slots.{slot_inside, place_at, no_seed, next_seeded, walk_start, free_found, free_later}
 use Rattle.map_keys.proofs.free_slot.Goals as goal

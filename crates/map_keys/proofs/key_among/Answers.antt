@@ -1,5 +1,4 @@
 -- `key_among` meets its contract. From the row reached the walk finds what it finds from the first; the measure is the rows below the key.
-use Prim.Native.Nat.{◌-◌}
 use native.Mathlib.Omega.{arith}
 use Rattle.map_keys.proofs.Steps.{no_such_row, among_start, among_found, among_stuck, among_later, among_none}
 use Rattle.map_keys.proofs.key_among.Goals as goal

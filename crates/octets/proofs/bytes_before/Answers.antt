@@ -1,5 +1,4 @@
 -- `bytes_before` meets its contract. The bytes passed are equal; the measure is what is left of the first.
-use Prim.Native.Nat.{◌-◌}
 use native.Mathlib.Omega.{arith}
 use Rattle.octets.proofs.ByteOrder.{decided_start, first_ends, second_ends, byte_less, byte_greater, byte_same}
 use Rattle.octets.proofs.bytes_before.Goals as goal

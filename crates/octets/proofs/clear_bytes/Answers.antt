@@ -1,5 +1,4 @@
 -- `clear_bytes` meets its contract. The loop has cleared the bytes from `from` up to i.
-use Prim.Native.Nat.{◌-◌}
 use native.Mathlib.Omega.{arith}
 use Rattle.octets.proofs.Cleared.{cleared_none, cleared_more, cleared_end}
 use Rattle.octets.proofs.clear_bytes.Goals as goal

@@ -1,5 +1,4 @@
 -- `clear_words` meets its contract. The loop has cleared the words from `from` up to w.
-use Prim.Native.Nat.{◌-◌}
 use native.Mathlib.Omega.{arith}
 use Rattle.octets.proofs.Cleared.{cleared_none, cleared_more, cleared_end}
 use Rattle.octets.proofs.clear_words.Goals as goal

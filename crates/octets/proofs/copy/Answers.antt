@@ -1,7 +1,7 @@
 -- `copy` meets its contract. The loop has stored the first i bytes of the part.
 use mathlib.Core.Path.{◌≡◌, refl, ap, ◌∙◌}
 use mathlib.Core.List.{List}
-use Prim.Native.Nat.{ℕ, ◌+◌, ◌-◌}
+use Prim.Native.Nat.{ℕ, ◌+◌}
 use native.Mathlib.Omega.{arith}
 use lib.ListN.{get_or, set, take, drop, length-set}
 use lib.Seq.{sets}

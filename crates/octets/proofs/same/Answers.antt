@@ -1,6 +1,6 @@
 -- `same` meets its contract. The bytes passed are equal, index by index.
 use mathlib.Core.Path.{◌≡◌}
-use Prim.Native.Nat.{ℕ, ◌-◌}
+use Prim.Native.Nat.{ℕ}
 use native.Mathlib.Omega.{arith}
 use borrow.Author.Count.{below_more}
 use Rattle.octets.proofs.Parts.{parts_same, parts_differ}

@@ -1,5 +1,4 @@
 -- `mix_bytes` meets its contract. The bytes that are left give what all of them give; the measure is their number.
-use Prim.Native.Nat.{◌-◌}
 use native.Mathlib.Omega.{arith}
 use Rattle.row_compare.proofs.Hashes.{bytes_start, bytes_next, bytes_end}
 use Rattle.row_compare.proofs.mix_bytes.Goals as goal

@@ -1,6 +1,5 @@
 -- `spelt` meets its contract.
 use mathlib.Core.Path.{sym, ◌∙◌}
-use Prim.Native.Nat.{◌-◌}
 use native.Mathlib.Omega.{arith}
 use Rattle.row_compare.proofs.Lists.{walk_start, walk_differs, walk_more, walk_inside, walk_end}
 use Rattle.row_compare.proofs.spelt.Goals as goal

@@ -7,7 +7,7 @@ pub overflow_add-length : goal.overflow_add-length
 overflow_add-length c = let b = rows_room _ _ _ c.length_run.ensures c.requires.0 in omega arith
 
 pub returns-then-out-length : goal.returns-then-out-length
-returns-then-out-length c = rows_short c.length_run.ensures c.if-out-length.true
+returns-then-out-length c = rows_short c.length_run.ensures (omega arith)
 
 pub put_ordered-requires : goal.put_ordered-requires
 put_ordered-requires c = let a = c.requires in (rows_fit _ c.length_run.ensures c.if-out-length.false a.0, a.1)

@@ -1,5 +1,4 @@
 -- `ascii_start` meets its contract. The loop's invariant: so many ASCII characters stand at the start, and may.
-use Prim.Native.Nat.{◌-◌}
 use native.Mathlib.Omega.{arith}
 use Rattle.text.proofs.Ascii.{ascii_none, ascii_more}
 use Rattle.text.proofs.ascii_start.Goals as goal

@@ -1,5 +1,4 @@
 -- `utf8_fault` meets its contract. The loop's invariant: as many characters as counted stand before the offset.
-use Prim.Native.Nat.{◌-◌}
 use native.Mathlib.Omega.{arith}
 use Rattle.text.specs.Characters.{CharacterAt}
 use Rattle.text.specs.declared.Character.TheVariants.{Ends}

@@ -1,6 +1,6 @@
 -- `utf8_length` meets its contract. The loop has counted the bytes of the first i characters.
 use mathlib.Core.Path.{◌≡◌, ◌∙◌, ap}
-use Prim.Native.Nat.{ℕ, ◌-◌}
+use Prim.Native.Nat.{ℕ}
 use native.Mathlib.Omega.{arith}
 use lib.ListN.{length, take, drop}
 use Rattle.term_spec.specs.Text.{encodes}

@@ -1,0 +1,10 @@
+-- `decode_hex` meets its contract. What is put stays inside dst.
+use native.Mathlib.Omega.{arith}
+use Rattle.io.proofs.Counting.{prefix_len_of_le}
+use Rattle.vector_lines.proofs.decode_hex.Goals as goal
+
+pub returns-then-dst-at : goal.returns-then-dst-at
+returns-then-dst-at c = prefix_len_of_le _ _ (omega arith)
+
+pub returns : goal.returns
+returns c = prefix_len_of_le _ _ (omega arith)

@@ -1,0 +1,10 @@
+-- `lengths_lent` meets its contract. The answer is no more than there is.
+use native.Mathlib.Omega.{arith}
+use Rattle.io.proofs.Counting.{prefix_len_of_le}
+use Rattle.vector_lines.proofs.lengths_lent.Goals as goal
+
+pub returns-then-lengths-n : goal.returns-then-lengths-n
+returns-then-lengths-n c = prefix_len_of_le _ _ (omega arith)
+
+pub returns : goal.returns
+returns c = prefix_len_of_le _ _ (omega arith)

@@ -1,0 +1,16 @@
+-- `put_name` meets its contract. What is put stays inside dst.
+use native.Mathlib.Omega.{arith}
+use Rattle.io.proofs.Counting.{prefix_len_of_le}
+use Rattle.vector_lines.proofs.put_name.Goals as goal
+
+pub returns-then-dst-at : goal.returns-then-dst-at
+returns-then-dst-at c = prefix_len_of_le _ _ (omega arith)
+
+pub returns-then-names-i : goal.returns-then-names-i
+returns-then-names-i c = prefix_len_of_le _ _ (omega arith)
+
+pub returns-then-names-i-eq32 : goal.returns-then-names-i-eq32
+returns-then-names-i-eq32 c = prefix_len_of_le _ _ (omega arith)
+
+pub returns : goal.returns
+returns c = prefix_len_of_le _ _ (omega arith)
