@@ -1,4 +1,5 @@
 -- `by_tag` meets its contract. At each tag of the table, its layout.
+use borrow.Author.Rules.{rules}
 use Rattle.term_head.specs.Code.{fields_of}
 use Rattle.term_spec.specs.Head.{forms, form_in, fields, atom_cache_ref, atom_ext, big_ext, binary_ext, bit_binary_ext, export_ext, integer_ext, list_ext, map_ext, new_float_ext, new_reference_ext, nil_ext, pid_ext, port_ext, reference_ext, small_integer_ext, string_ext, tuple_ext}
 use Rattle.term_spec.specs.AtomList.{given_of}
@@ -120,4 +121,4 @@ returns-in-113 c = λ rows. c.no_fields-in-113.ensures ∙ export_head _ _ _ _ �
 
 pub returns-in_default : goal.returns-in_default
 unfolding forms Past
-returns-in_default c = λ rows. no_tag _ _ _ _ _ c.in_default.in_default-own.rest
+returns-in_default c = λ rows. no_tag _ _ _ _ c.args.tag (search rules)

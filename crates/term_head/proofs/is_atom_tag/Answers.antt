@@ -1,4 +1,5 @@
 -- `is_atom_tag` meets its contract.
+use native.Mathlib.Omega.{arith}
 use mathlib.Core.Path.{refl}
 use Rattle.term_head.proofs.Tags.{atom_tag, no_atom_tag}
 use Rattle.term_head.proofs.is_atom_tag.Goals as goal
@@ -19,4 +20,4 @@ pub returns-in-119 : goal.returns-in-119
 returns-in-119 c = atom_tag _ 119 c.in-119.is refl
 
 pub returns-in_default : goal.returns-in_default
-returns-in_default c = no_atom_tag _ c.in_default.in_default-own.rest.0.0.0.0.1 c.in_default.in_default-own.rest.0.0.0.1 c.in_default.in_default-own.rest.0.0.1 c.in_default.in_default-own.rest.0.1 c.in_default.in_default-own.rest.1
+returns-in_default c = no_atom_tag c.args.tag (λ e. omega arith) (λ e. omega arith) (λ e. omega arith) (λ e. omega arith) (λ e. omega arith)
