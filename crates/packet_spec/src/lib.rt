@@ -17,7 +17,7 @@ pub struct Place(pub usize);
 
 // The pending record: the sequence's id, the id due (0: none pending), the bytes gathered.
 #[repr(C)]
-#[derive(Drop)]
+#[derive(Clone, Copy)]
 pub struct Pending {
     pub sequence: u64,
     pub due: u64,

@@ -30,7 +30,6 @@ use denote.Signature.{plain}
 use denote.Steps.{only, opens, closes, owned, peeks, heard, nothing}
 use denote.Struct.Steps.{spelt}
 use denote.Struct.Laws as LL
-use denote.Triple.Statement.{Contract, Triple}
 use denote.Triple.Call.{calls_at}
 use denote.Triple.Entry.{on_entry}
 use denote.Triple.Spec.{Meets, triple_of}
@@ -55,8 +54,8 @@ use Rattle.c_api.proofs.drop_by_value.Symbol.{name as #c-api·drop-by-value}
 use Rattle.c_api.proofs.drop_by_value.Met as g_thm
 use Rattle.c_api.specs.contracts.ik_drop.Key.{name as #c-api·ik-drop}
 use Rattle.c_api.specs.contracts.ik_drop as f
-use Rattle.c_api.proofs.ik_drop.Statement as stated
 use Rattle.c_api.proofs.ik_drop.Code as code
+use Rattle.c_api.proofs.ik_drop.Goals as goal
 
 abbrev Arg : Type 0
 Arg = ℕ × (MutBor Pending × Unit {0})
@@ -151,8 +150,7 @@ module _ {M : Type 1} {𝓤 : Ura M} (𝓛 : Logic 𝓤) (at_mem : Memory → SP
   goes : AllGo 𝓛 1 (f.signature).params (f.ended).kept stayed
   goes = (goes_given 𝓛 1 (plain (λ _. u8)) yes, (Goes-ref 𝓛 1 0 tt (plain (λ _. T.the_row)), tt))
 
-meets : {M : Type 1} {𝓤 : Ura M} (𝓛 : Logic 𝓤) → (at_mem : Memory → SProp 𝓤) (run : Routine → Fun 𝓤) (𝓣 : Tables 𝓤 𝓛.H) → Triple 𝓤 (𝓣.C #c-api·drop-by-value) (Core 𝓛 at_mem run)
-    → Meets 𝓛 f.signature (WpFn 𝓤 𝓛.H 𝓣.C 𝓣.Λ code.function) (f.spec 𝓛 at_mem run)
+meets : {M : Type 1} {𝓤 : Ura M} (𝓛 : Logic 𝓤) → (at_mem : Memory → SProp 𝓤) (run : Routine → Fun 𝓤) (𝓣 : Tables 𝓤 𝓛.H) → Triple 𝓤 (𝓣.C #c-api·drop-by-value) (Core 𝓛 at_mem run) → Meets 𝓛 f.signature (WpFn 𝓤 𝓛.H 𝓣.C 𝓣.Λ code.function) (f.spec 𝓛 at_mem run)
 meets {𝓤 = 𝓤} 𝓛 at_mem run 𝓣 known = walk_Meets 𝓛 f.ended stayed (goes 𝓛 at_mem run) (f.clauses 𝓛 at_mem run) (WpFn 𝓤 𝓛.H 𝓣.C 𝓣.Λ code.function) (WpFn-mono 𝓤 𝓛.H 𝓛.laws 𝓣 code.function)
     (walks 𝓛 at_mem run 𝓣.C 𝓣.Λ (fm_of 𝓤 𝓛.H 𝓛.laws 𝓣) known)
 
