@@ -5,6 +5,7 @@ use Rattle.term_spec.specs.Numbers.{in_bytes}
 use Rattle.term_spec.specs.Term.{Label}
 use Rattle.canonical_fields.proofs.Leads.{says, only_tagged, bare_is, bare_export}
 use mathlib.Core.Path.{refl, ap}
+use native.Mathlib.Omega.{arith}
 use Rattle.canonical_fields.proofs.bare_lead.Goals as goal
 
 pub overflow_sub-n : goal.overflow_sub-n
@@ -32,4 +33,4 @@ returns-in-9 c = let args = c.args in
 
 pub returns-in_default : goal.returns-in_default
 unfolding before in_bytes
-returns-in_default c = λ m places. says (ap (λ (l : Label). before l c.args.n) (bare_export _ c.in_default.in_default-own.rest.0.0.0.1 c.in_default.in_default-own.rest.0.0.1 c.in_default.in_default-own.rest.0.1 c.in_default.in_default-own.rest.1)) (only_tagged _ _ _ c.tagged-in_default.ensures refl m places)
+returns-in_default c = λ m places. says (ap (λ (l : Label). before l c.args.n) (bare_export _ (λ e. omega arith) (λ e. omega arith) (λ e. omega arith) (λ e. omega arith))) (only_tagged _ _ _ c.tagged-in_default.ensures refl m places)
