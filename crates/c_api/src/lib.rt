@@ -1,4 +1,6 @@
 // The calls for C: thin functions on numbers and slices, replies as structs by value. No rule of the format stands here.
+#![tactic(auto)]
+
 ghost use Rattle.std.specs.Prelude.{◌≡◌};
 ghost use Rattle.term_spec.specs.Answers.{number_answer, mark_answer};
 ghost use Rattle.term_spec.specs.AtomList.{lent_list};

@@ -1,5 +1,4 @@
 -- The answers of the packet calls and of the word call for C, as numbers: the refusal's number (0: accepted) and place, then the call's own; what is not answered is 0.
-use Rattle.std.specs.Prelude.{Bool, not, ℕ, eqb}
 use Rattle.packet_spec.specs.declared.PacketAnswer.{PacketAnswer}
 use Rattle.packet_spec.specs.declared.PacketAnswer.TheVariants as packets
 use Rattle.packet_spec.specs.declared.StateAnswer.{StateAnswer}

@@ -1,4 +1,6 @@
 // The replies of the calls for C: the structs that they answer by value, and each answer as such a struct.
+#![tactic(auto)]
+
 pub mod marks;
 pub mod numbers;
 pub mod packet_kinds;

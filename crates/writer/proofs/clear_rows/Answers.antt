@@ -1,5 +1,4 @@
 -- `clear_rows` meets its contract. The loop has cleared the words up to i.
-use Prim.Native.Nat.{◌-◌}
 use native.Mathlib.Omega.{arith}
 use Rattle.octets.proofs.Cleared.{cleared_none, cleared_more}
 use Rattle.writer.proofs.Scratch.{all_zero}
