@@ -1,6 +1,5 @@
 -- `put_hex` meets its contract. The first i bytes are stored.
 use mathlib.Core.Path.{refl}
-use Prim.Native.Nat.{◌-◌}
 use native.Mathlib.Omega.{arith}
 use lib.ListN.{length-set}
 use Rattle.bench_line.proofs.Laws.{hex_none, hex_put, hex_all}

@@ -1,5 +1,5 @@
 -- `put_answers` meets its contract. What is put stays inside dst.
-use Rattle.std.proofs.Common.{◌-◌, arith}
+use Rattle.std.proofs.Common.{arith}
 use Rattle.io.proofs.Counting.{prefix_len_of_le}
 use Rattle.vectors.proofs.ask.put_answers.Goals as goal
 
