@@ -1,4 +1,6 @@
 // Answers each case of standard input (crate vector_lines) by a line: `read`, `write`, `ask` and `word` as the module of each says, `unknown` for another verb.
+#![tactic(auto)]
+
 mod ask;
 mod parts;
 mod read;
