@@ -18,7 +18,7 @@ use Rattle.packet_spec.specs.Calls.{zeros_to, enter}
 use Rattle.packet_spec.proofs.Stores.{length_zeros_to}
 use Rattle.dist_header.specs.Code.{TextFits, PutsText, Spells}
 use Rattle.octets.proofs.Parts.{length_part}
-use Rattle.dist_header.proofs.Texts.{get_d_any}
+use Rattle.dist_header.proofs.Texts.{get_or_any}
 use Rattle.dist_header.proofs.Good.{GoodNew, GoodCached, good_new, good_cached}
 use Rattle.dist_header.specs.declared.Spelled.TheVariants as spelled
 use Rattle.cache_entries.specs.declared.ListedText.{ListedText}
@@ -99,7 +99,7 @@ pub held_bytes : (places lengths : List ℕ) (p n : ℕ) (bs : List ℕ) → p <
     → held (cache_of places lengths) p ≡ text bs → (bs ≡ take n (drop (32 * p) places)) × (n ≤ 32) × (length bs ≡ n)
 unfolding held
 held_bytes places lengths p n bs h is there e =
-    let f : held_as n (take 32 (drop (32 * p) places)) ≡ text bs = ap (λ (k : ℕ). held_as k (take 32 (drop (32 * p) places))) (is ∙ get_d_any lengths p 0 65535 h) ∙ e in
+    let f : held_as n (take 32 (drop (32 * p) places)) ≡ text bs = ap (λ (k : ℕ). held_as k (take 32 (drop (32 * p) places))) (is ∙ get_or_any lengths p 0 65535 h) ∙ e in
     let k : (bs ≡ take n (take 32 (drop (32 * p) places))) × (n ≤ 32) = as_text n (take 32 (drop (32 * p) places)) bs f in
     let b : bs ≡ take n (drop (32 * p) places) = k.0 ∙ take-take n 32 (drop (32 * p) places) k.1 in
     (b, k.1, ap length b ∙ length_part places (32 * p) n (omega (arith, k.1)))

@@ -50,15 +50,15 @@ module _ (utf8 : Bool) (s : List ℕ) (from size : ℕ) where
 
 -- ---- what a place of the cache holds
 
-pub get_d_any : (l : List ℕ) (i a b : ℕ) → i < length l → get_or l i a ≡ get_or l i b
-get_d_any [] i a b h = absurd (omega arith)
-get_d_any (x ∷ l) zero a b h = refl
-get_d_any (x ∷ l) (suc i) a b h = get_d_any l i a b (omega arith)
+pub get_or_any : (l : List ℕ) (i a b : ℕ) → i < length l → get_or l i a ≡ get_or l i b
+get_or_any [] i a b h = absurd (omega arith)
+get_or_any (x ∷ l) zero a b h = refl
+get_or_any (x ∷ l) (suc i) a b h = get_or_any l i a b (omega arith)
 
 module _ (places lengths : List ℕ) (p n : ℕ) (h : p < length lengths) (is : n ≡ get_or lengths p 0) where
   held_is : held (cache_of places lengths) p ≡ held_as n (take 32 (drop (32 * p) places))
   unfolding held
-  held_is = ap (λ (k : ℕ). held_as k (take 32 (drop (32 * p) places))) (get_d_any lengths p 65535 0 h ∙ sym is)
+  held_is = ap (λ (k : ℕ). held_as k (take 32 (drop (32 * p) places))) (get_or_any lengths p 65535 0 h ∙ sym is)
 
   pub held_nothing : n ≡ 65535 → texts.Empty ≡ held_case (held (cache_of places lengths) p)
   unfolding held_as held_case

@@ -60,7 +60,7 @@ fn add(h: u64, x: u64) -> u64
 }
 
 // A hash after the n rows from a row on: one after the other, but the pairs of a map in any order.
-#[cycle(hash_pairs_hash_rows)]
+#[cycle(hash)]
 fn hash_rows(
     factor: u64,
     msg: &[u8],
@@ -103,7 +103,7 @@ fn hash_rows(
 }
 
 // A hash to which those of the n pairs from a row on are added, maps being at most `levels` deep.
-#[cycle(hash_pairs_hash_rows)]
+#[cycle(hash)]
 fn hash_pairs(
     factor: u64,
     msg: &[u8],

@@ -20,19 +20,19 @@ use Rattle.term_reader.specs.declared.Parts.{Parts}
 use Rattle.term_reader.specs.declared.Parts.TheVariants as parts_of
 use Rattle.term_reader.specs.Code.{whole_of, RowsStored, Done, RunDone, PartsDone}
 
-module _ {X : Type 0} (type_size : X → ℕ) (as_rows : X → List ℕ) (From : X → Type 0) (m : List ℕ) (cap row : ℕ) (T : List ℕ) where
+module _ {X : Type 0} (size_of : X → ℕ) (as_rows : X → List ℕ) (From : X → Type 0) (m : List ℕ) (cap row : ℕ) (T : List ℕ) where
   -- x is found, and its rows are stored; reading goes on at `next`, with the row `end`
   pub record Found (o : Answer (X × Position)) (next end : ℕ) (T' : List ℕ) : Type 0 where
     pub x : X
     pub is : o ≡ good (x, at_offset m next end)
     pub table_is : T' ≡ sets T row (as_rows x)
     pub near : next ≤ length m
-    pub rows_are : end ≡ row + type_size x
+    pub rows_are : end ≡ row + size_of x
     pub room : end ≤ cap
     pub from : From x
 
-  found_at : (y : X × Position) (T' : List ℕ) (next end : ℕ) → next ≡ y.1.at → end ≡ row + type_size y.0
-      → RowsStored type_size as_rows From m cap row T y.0 y.1 T' → Found (good y) next end T'
+  found_at : (y : X × Position) (T' : List ℕ) (next end : ℕ) → next ≡ y.1.at → end ≡ row + size_of y.0
+      → RowsStored size_of as_rows From m cap row T y.0 y.1 T' → Found (good y) next end T'
   found_at y T' next end a b d =
       record {
         x = y.0;
@@ -45,20 +45,20 @@ module _ {X : Type 0} (type_size : X → ℕ) (as_rows : X → List ℕ) (From :
       }
 
   abbrev pub StepDone : Answer (X × Position) → Step → List ℕ → Type 0
-  StepDone = Done (λ x next end. step.Got next end) step.Refused type_size as_rows From m cap row T
+  StepDone = Done (λ x next end. step.Got next end) step.Refused size_of as_rows From m cap row T
 
   pub step_found : (o : Answer (X × Position)) (r : Step) (T' : List ℕ) (next end : ℕ) → r ≡ step.Got next end → StepDone o r T' → Found o next end T'
   unfolding Done
   step_found (refused n p) r T' next end e d = let z : ◌≡◌ {A = ℕ} 0 1 = cc in absurd (omega arith)
   step_found (good y) r T' next end e d =
-      let f : r ≡ step.Got y.1.at (row + type_size y.0) = d.0 in
+      let f : r ≡ step.Got y.1.at (row + size_of y.0) = d.0 in
       found_at y T' next end (cc) (cc) d.1
 
   pub step_refused : (o : Answer (X × Position)) (r : Step) (T' : List ℕ) (n p : ℕ) → r ≡ step.Refused n p → StepDone o r T' → o ≡ refused n p
   unfolding Done
   step_refused (refused k q) r T' n p e d = cc
   step_refused (good y) r T' n p e d =
-      let f : r ≡ step.Got y.1.at (row + type_size y.0) = d.0 in
+      let f : r ≡ step.Got y.1.at (row + size_of y.0) = d.0 in
       let z : ◌≡◌ {A = ℕ} 0 1 = cc in absurd (omega arith)
 
 -- the same for the parts of a term

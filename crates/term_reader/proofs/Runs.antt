@@ -20,12 +20,12 @@ use Rattle.term_reader.specs.Code.{whole_of, asked, Room, Done, TermDone, RunDon
 use Rattle.term_reader.proofs.Found.{Found, StepDone, step_found, step_refused, also, join}
 
 -- the room that is left after what was found
-pub room_after : {X : Type 0} (type_size : X → ℕ) (as_rows : X → List ℕ) (From : X → Type 0) (m : List ℕ) (list : AtomList) (T T' : List ℕ) (cap at row whole next end : ℕ)
-    (o : Answer (X × Position)) (r : Step) → Room m list T cap at row whole → StepDone type_size as_rows From m cap row T o r T' → r ≡ Got next end → length T' ≡ length T
+pub room_after : {X : Type 0} (size_of : X → ℕ) (as_rows : X → List ℕ) (From : X → Type 0) (m : List ℕ) (list : AtomList) (T T' : List ℕ) (cap at row whole next end : ℕ)
+    (o : Answer (X × Position)) (r : Step) → Room m list T cap at row whole → StepDone size_of as_rows From m cap row T o r T' → r ≡ Got next end → length T' ≡ length T
     → Room m list T' cap next end whole
-room_after type_size as_rows From m list T T' cap at row whole next end o r room d e same =
-    let f : Found type_size as_rows From m cap row T o next end T' = step_found type_size as_rows From m cap row T o r T' next end e d in
-    let g : end ≡ row + type_size f.x = f.rows_are in
+room_after size_of as_rows From m list T T' cap at row whole next end o r room d e same =
+    let f : Found size_of as_rows From m cap row T o next end T' = step_found size_of as_rows From m cap row T o r T' next end e d in
+    let g : end ≡ row + size_of f.x = f.rows_are in
     record {
       sized = room.sized;
       short = room.short;

@@ -90,17 +90,17 @@ module _ (given : Given) (cap deep : ℕ) where
     done (ts, map)
 
 -- What a reader leaves: T' is T with the words of what was read stored from `row` on, and reading goes on at an offset of m
-module _ {X : Type 0} (type_size : X → ℕ) (as_rows : X → List ℕ) (From : X → Type 0) (m : List ℕ) (cap row : ℕ) (T : List ℕ) where
+module _ {X : Type 0} (size_of : X → ℕ) (as_rows : X → List ℕ) (From : X → Type 0) (m : List ℕ) (cap row : ℕ) (T : List ℕ) where
   pub record RowsStored (x : X) (s : Position) (T' : List ℕ) : Type 0 where
     pub table_is : T' ≡ sets T row (as_rows x)
-    pub stands : s ≡ at_offset m s.at (row + type_size x)
+    pub stands : s ≡ at_offset m s.at (row + size_of x)
     pub near : s.at ≤ length m
-    pub room : row + type_size x ≤ cap
+    pub room : row + size_of x ≤ cap
     pub from : From x
 
-module _ {X S : Type 0} (got : X → ℕ → ℕ → S) (no : ℕ → ℕ → S) (type_size : X → ℕ) (as_rows : X → List ℕ) (From : X → Type 0) where
+module _ {X S : Type 0} (got : X → ℕ → ℕ → S) (no : ℕ → ℕ → S) (size_of : X → ℕ) (as_rows : X → List ℕ) (From : X → Type 0) where
   unfoldable pub Done : List ℕ → ℕ → ℕ → List ℕ → Answer (X × Position) → S → List ℕ → Type 0
-  Done m cap row T (good x) r T' = (r ≡ got x.0 x.1.at (row + type_size x.0)) × RowsStored type_size as_rows From m cap row T x.0 x.1 T'
+  Done m cap row T (good x) r T' = (r ≡ got x.0 x.1.at (row + size_of x.0)) × RowsStored size_of as_rows From m cap row T x.0 x.1 T'
   Done m cap row T (refused n p) r T' = r ≡ no n p
 
 -- one term

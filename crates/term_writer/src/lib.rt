@@ -121,7 +121,7 @@ fn put_string(
 }
 
 // How many bytes the canonical form of the term at `row` has.
-#[cycle(length_run_length_term)]
+#[cycle(length)]
 fn length_term(msg: &[u8], places: &[u8], lengths: &[u16], table: &[u64], row: usize) -> usize
     requires { SomeTerm msg.now places.now lengths.now table.now row }
     ensures { TermLength msg.now places.now lengths.now table.now row result }
@@ -140,7 +140,7 @@ fn length_term(msg: &[u8], places: &[u8], lengths: &[u16], table: &[u64], row: u
 }
 
 // How many bytes those of the n terms whose rows begin at `row` have.
-#[cycle(length_run_length_term)]
+#[cycle(length)]
 pub fn length_run(
     msg: &[u8],
     places: &[u8],
@@ -164,7 +164,7 @@ pub fn length_run(
 }
 
 // Writes the canonical form of the term at `row` from `at` on; the offset past it.
-#[cycle(write_pairs_write_parts_write_run_write_term)]
+#[cycle(write)]
 pub fn write_term(
     msg: &[u8],
     places: &[u8],
@@ -192,7 +192,7 @@ pub fn write_term(
 }
 
 // Writes the parts of the term at `row`, which is not written as a string; the offset past them.
-#[cycle(write_pairs_write_parts_write_run_write_term)]
+#[cycle(write)]
 fn write_parts(
     msg: &[u8],
     places: &[u8],
@@ -227,7 +227,7 @@ fn write_parts(
 }
 
 // Writes those of the n terms whose rows begin at `row`, one after the other; the offset past them.
-#[cycle(write_pairs_write_parts_write_run_write_term)]
+#[cycle(write)]
 fn write_run(
     msg: &[u8],
     places: &[u8],
@@ -254,7 +254,7 @@ fn write_run(
 }
 
 // Writes the n pairs of a map, the first one's key at `row`, in the order that their slots give; the offset past them.
-#[cycle(write_pairs_write_parts_write_run_write_term)]
+#[cycle(write)]
 fn write_pairs(
     msg: &[u8],
     places: &[u8],

@@ -3,7 +3,7 @@ use Rattle.term_writer.proofs.Terms.{length_start, length_step, length_end, leng
 use Rattle.term_writer.proofs.Strings.{run_below, term_below, term_sound, parts_run}
 use native.Mathlib.Omega.{arith}
 use mathlib.Core.Path.{refl, sym, ◌∙◌}
-use Rattle.term_writer.proofs.+length_run_length_term.Goals as goal
+use Rattle.term_writer.proofs.+length.Goals as goal
 
 pub length_run-loop-left-init : goal.length_run-loop-left-init
 length_run-loop-left-init t c = (omega arith, λ ts h e. length_start _ _ ts h e)

@@ -8,7 +8,7 @@ use Rattle.term_spec.specs.Tree.{count}
 use lib.ListN.{length}
 use mathlib.Core.Path.{◌≡◌}
 use Prim.Native.Nat.{◌+◌, ◌*◌, ◌-◌, ◌≤◌}
-use Rattle.term_writer.proofs.+write_pairs_write_parts_write_run_write_term.Given as goal
+use Rattle.term_writer.proofs.+write.Given as goal
 
 abbrev pub decreases-write_pairs : goal.decreases-write_pairs
 decreases-write_pairs l = 4 * (length l.table.now - l.row) + 3

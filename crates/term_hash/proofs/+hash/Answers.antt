@@ -1,7 +1,7 @@
 -- The functions that hash rows and pairs call each other and meet their contracts: each level counts 2, and `hash_rows`, which calls `hash_pairs` at its own level, one more.
 use Rattle.term_hash.proofs.Steps.{rows_start, rows_next, map_next, rows_ended, no_level, pairs_start, pairs_next, pairs_ended}
 use native.Mathlib.Omega.{arith}
-use Rattle.term_hash.proofs.+hash_pairs_hash_rows.Goals as goal
+use Rattle.term_hash.proofs.+hash.Goals as goal
 
 pub hash_pairs-returns-then-levels-eq0 : goal.hash_pairs-returns-then-levels-eq0
 hash_pairs-returns-then-levels-eq0 t c = (no_level _ _ _ _ _ _ c.if-levels-eq0.true, c.requires.1)

@@ -5,7 +5,7 @@ use Rattle.term_spec.specs.Tree.{count}
 use lib.ListN.{length}
 use mathlib.Core.Path.{◌≡◌}
 use Prim.Native.Nat.{◌+◌, ◌*◌, ◌-◌, ◌≤◌}
-use Rattle.term_writer.proofs.+length_run_length_term.Given as goal
+use Rattle.term_writer.proofs.+length.Given as goal
 
 abbrev pub decreases-length_run : goal.decreases-length_run
 decreases-length_run l = 2 * (length l.table.now - l.row) + 1

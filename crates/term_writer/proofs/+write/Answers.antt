@@ -8,8 +8,8 @@ use Rattle.term_spec.specs.Canonical.{canonical}
 use native.Mathlib.Omega.{arith}
 use mathlib.Core.Logic.{inl, inr}
 use mathlib.Core.Path.{refl, sym, ◌∙◌}
-use Rattle.term_writer.proofs.+write_pairs_write_parts_write_run_write_term.Goals as goal
-use Rattle.term_writer.proofs.+write_pairs_write_parts_write_run_write_term.Goals.{write_parts-then-has_order+else-slot_at-ne0, write_parts-else-has_order}
+use Rattle.term_writer.proofs.+write.Goals as goal
+use Rattle.term_writer.proofs.+write.Goals.{write_parts-then-has_order+else-slot_at-ne0, write_parts-else-has_order}
 
 pub write_pairs-loop-left-init : goal.write_pairs-loop-left-init
 write_pairs-loop-left-init t c = (refl, λ ts h o p e. pairs_start _ _ _ _ _ ts h p e c.requires.fit_slots)

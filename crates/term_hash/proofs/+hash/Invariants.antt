@@ -1,7 +1,7 @@
 use Rattle.term_hash.specs.Hash.{hash_row, hash_rows, add_pairs, hash_pairs}
 use mathlib.Core.Path.{◌≡◌}
 use Prim.Native.Nat.{◌+◌, ◌*◌, ◌-◌, ◌<◌}
-use Rattle.term_hash.proofs.+hash_pairs_hash_rows.Given as goal
+use Rattle.term_hash.proofs.+hash.Given as goal
 
 abbrev pub decreases-hash_pairs : goal.decreases-hash_pairs
 decreases-hash_pairs l = l.levels * 2 + 0
