@@ -1,6 +1,6 @@
+// Reads one standalone term from standard input and prints the bench's line of it. A longer input than 65,536 bytes is never cut to that.
 #![tactic(auto)]
 
-// Reads one standalone term from standard input and prints the bench's line of it. A longer input than 65,536 bytes is never cut to that.
 // Standard output's number.
 const STDOUT: i32 = 1;
 

@@ -1,5 +1,5 @@
 -- The promises of the calls for C, as relations: what holds after any call, with any arguments a, reply r and lent memory s after it.
--- Those that read and write give a Read-call or a Write-call, as demand 3 (crate writer, proofs/Demand) has them, with an answer that is the reply in numbers;
+-- Those that read and write give a ReadCall or a WriteCall, as demand 3 (crate writer, proofs/Demand) has them, with an answer that is the reply in numbers;
 -- those on packets a call of a run, as demand 2 (crate packet_spec, proofs/Demand) has it; the word call the reference's text, as a message's own words
 -- (crate packet_spec, proofs/OwnWords) have it.
 use mathlib.Core.Path.{◌≡◌, refl, sym, ◌∙◌, ap, subst}

@@ -66,7 +66,7 @@ module _ (m places lengths : List ℕ) where
         → same_terms_raw T L key (slot L (key_hashes T first key) e - 1) ≡ false
 
   module _ (T : List ℕ) (first key : ℕ) (L : List ℕ) where
-    -- the keys at which among-steps looks, in n steps from the row `at` on, are parts of the map, and the set contains those that are equal to that at the row `key`, by its hashes
+    -- the keys at which among_steps looks, in n steps from the row `at` on, are parts of the map, and the set contains those that are equal to that at the row `key`, by its hashes
     unfoldable pub ContainsFrom : ℕ → ℕ → Type 0
     ContainsFrom zero at = Unit {0}
     ContainsFrom (suc n) at =

@@ -48,15 +48,15 @@ module _ (flags : ℕ) (m : Memory) (s : List ℕ) where
     unfolding judged
     unknown_done known failed = refused_done 14 (rw (judged, confirmed told met, refuted known failed))
 
-    module _ {k : Bool} (known : k ≡ flags_known flags) (all_Known : not k ≡ false) where
+    module _ {k : Bool} (known : k ≡ flags_known flags) (all_known : not k ≡ false) where
       pub false_done : 65536 < m.pending.gathered → PacketCall flags s m (record { answer = packets.Refused (record { number = 14; place = 0 }); pending = m.pending }) m
       unfolding judged packet record_true
-      false_done e = refused_done 14 (rw (judged, confirmed told met, confirmed known all_Known, lt-leb m.pending.gathered 65536 e))
+      false_done e = refused_done 14 (rw (judged, confirmed told met, confirmed known all_known, lt-leb m.pending.gathered 65536 e))
 
       module _ (true_record : m.pending.gathered ≤ 65536) where
         preamble_read : (o : Answer (Kind × Position)) → preamble (at_offset s 0 0) ≡ o → judged flags m s ≡ result_of (after o (λ k. rest (coding_agreed flags) (held m.cache) m.pending k))
         unfolding judged packet record_true
-        preamble_read o e = rw (judged, confirmed told met, confirmed known all_Known, le-leb m.pending.gathered 65536 true_record) (ap (λ (x : Answer (Kind × Position)). result_of (after x (λ k. rest (coding_agreed flags) (held m.cache) m.pending k))) e)
+        preamble_read o e = rw (judged, confirmed told met, confirmed known all_known, le-leb m.pending.gathered 65536 true_record) (ap (λ (x : Answer (Kind × Position)). result_of (after x (λ k. rest (coding_agreed flags) (held m.cache) m.pending k))) e)
 
         pub preamble_done : (k : ℕ) → PreambleIs s (preambles.Refused k) → PacketCall flags s m (record { answer = packets.Refused (record { number = k; place = 0 }); pending = m.pending }) m
         unfolding PreambleIs

@@ -85,7 +85,7 @@ pub record AtomRefused (given : Given) (s : Position) (q : ℕ) : Type 0 where
 
 module _ (cap : ℕ) (I : Position → Type 0) (F : ℕ → Type 0)
     (on_byte : (s : Position) (b : ℕ) (bs : List ℕ) → s.left ≡ b ∷ bs → I s → I (record { at = s.at + 1; left = bs; rows_taken = s.rows_taken }))
-    (on_Row : (s : Position) → s.rows_taken < cap → I s → I (record { at = s.at; left = s.left; rows_taken = s.rows_taken + 1 })) where
+    (on_row : (s : Position) → s.rows_taken < cap → I s → I (record { at = s.at; left = s.left; rows_taken = s.rows_taken + 1 })) where
   abbrev Kept : {A : Type 0} → Answer (A × Position) → Type 0
   Kept {A} o = Keeps {A = A} (λ _ t. I t) F o
 
@@ -219,7 +219,7 @@ module _ (cap : ℕ) (I : Position → Type 0) (F : ℕ → Type 0)
       where
         go : (z : Bool) → ltb s.rows_taken cap ≡ z
             → Kept {A = Unit} (elim z as (λ _. Answer (Unit × Position)) [ true ↦ good (tt, record { at = s.at; left = s.left; rows_taken = s.rows_taken + 1 }) | false ↦ refused 9 p ])
-        go true e = end tt _ (on_Row s (ltb-true s.rows_taken cap e) i)
+        go true e = end tt _ (on_row s (ltb-true s.rows_taken cap e) i)
         go false e = no 9 p refl
 
     string_kept : (d p off : ℕ) (cs : List ℕ) (s : Position) → I s → Kept (string given cap d p off cs s)

@@ -196,7 +196,7 @@ module _ (flags wider : ℕ) (more : (w : ℕ) → Within (limits flags w) (limi
       go u t [] = same
       go u t (b ∷ bs) = step (term_stays t) λ v t. same
 
-module _ (flags wider : ℕ) (all_Known : flags_known wider ≡ true) (more : v4_nc flags ≡ true → v4_nc wider ≡ true) (framing : Framing) (list : AtomList) (lent : ℕ) (message : List ℕ) where
+module _ (flags wider : ℕ) (all_known : flags_known wider ≡ true) (more : v4_nc flags ≡ true → v4_nc wider ≡ true) (framing : Framing) (list : AtomList) (lent : ℕ) (message : List ℕ) where
   read_stays : (ts : Terms) → read flags framing list lent message ≡ good ts → read wider framing list lent message ≡ good ts
   unfolding read given_of
   read_stays ts e =
@@ -205,7 +205,7 @@ module _ (flags wider : ℕ) (all_Known : flags_known wider ≡ true) (more : v4
       let b = passed (leb (length message) 65536) 12 _ ts k.1 in
       let g = found_good _ ts b.1 in
       let h = (framed_stays flags wider (limits_wider flags wider more) list.n (place_text list) (capacity_of lent) framing (spot 0 message 0)).stays ts g.0 g.1 in
-      rw a.0 (rw all_Known (rw b.0 (rw h refl)))
+      rw a.0 (rw all_known (rw b.0 (rw h refl)))
 
   -- what is accepted is the same
   agreed : (ts : Terms) → read flags framing list lent message ≡ good ts → read wider framing list lent message ≡ read flags framing list lent message
