@@ -1,4 +1,5 @@
 -- Where reading refuses with 5, its place is the bad byte of an atom's text: by the walk, to which only the text of an atom is new.
+use Rattle.std.specs.Prelude.{Err}
 use mathlib.Core.Path.{◌≡◌, refl, sym, ◌∙◌, ap}
 use mathlib.Core.Bool.{Bool, true, false}
 use mathlib.Core.List.{List}
@@ -20,8 +21,6 @@ use Rattle.term_spec.specs.Writing.{Written, written, write}
 use Rattle.term_spec.specs.Answers.{read_answer, write_answer}
 use Rattle.term_spec.specs.BadTexts.{BadText, BadTexts}
 use Rattle.term_spec.specs.declared.Refusal.{Refusal}
-use Rattle.term_spec.specs.declared.ReadAnswer.TheVariants as reads
-use Rattle.term_spec.specs.declared.WriteAnswer.TheVariants as writes
 use Rattle.term_spec.proofs.Tests.{by_less}
 use Rattle.term_spec.proofs.Steps.{spot}
 use Rattle.term_spec.proofs.BadByte.{bad_bytes}
@@ -106,23 +105,23 @@ module _ (flags : ℕ) (framing : Framing) (atoms : AtomList) (lent : ℕ) (mess
       refused_bad message (given_of flags atoms) (capacity_of lent) framing p
       (found_refused _ 5 p (past_check (leb (length message) 65536) 12 p _ refl (past_check (flags_known flags) 14 p _ refl (past_check (of_size atoms) 13 p _ refl e))))
 
-  read_bad : read_answer (read flags framing atoms lent message) ≡ reads.Refused (record { number = 5; place = p }) → BadText message p
+  read_bad : read_answer (read flags framing atoms lent message) ≡ Err (record { number = 5; place = p }) → BadText message p
   unfolding read_answer
   read_bad e = rules_bad (go (read flags framing atoms lent message) e)
     where
-      go : (o : Answer Terms) → read_answer o ≡ reads.Refused (record { number = 5; place = p }) → o ≡ refused 5 p
+      go : (o : Answer Terms) → read_answer o ≡ Err (record { number = 5; place = p }) → o ≡ refused 5 p
       go (good ts) e = let no_way : ◌≡◌ {A = ℕ} 0 1 = cc in absurd (omega arith)
       go (refused n q) e = as_told n q 5 p cc
 
-  write_bad : (room : ℕ) → write_answer (write flags framing atoms lent room message) ≡ writes.Refused (record { number = 5; place = p }) → BadText message p
+  write_bad : (room : ℕ) → write_answer (write flags framing atoms lent room message) ≡ Err (record { number = 5; place = p }) → BadText message p
   unfolding write_answer write written
   write_bad room e = rules_bad (go (read flags framing atoms lent message) e)
     where
-      tested : (fits : Bool) (w : Written) → ¬ (write_answer (elim fits [ true ↦ good w | false ↦ refused 11 0 ]) ≡ writes.Refused (record { number = 5; place = p }))
+      tested : (fits : Bool) (w : Written) → ¬ (write_answer (elim fits [ true ↦ good w | false ↦ refused 11 0 ]) ≡ Err (record { number = 5; place = p }))
       tested true w e = let no_way : ◌≡◌ {A = ℕ} 0 1 = cc in omega arith
       tested false w e = let is : ◌≡◌ {A = Answer Written} (refused 11 0) (refused 5 p) = as_told 11 0 5 p cc in let no_way : ◌≡◌ {A = ℕ} 0 1 = cc in omega arith
 
-      go : (o : Answer Terms) → write_answer (written room o) ≡ writes.Refused (record { number = 5; place = p }) → o ≡ refused 5 p
+      go : (o : Answer Terms) → write_answer (written room o) ≡ Err (record { number = 5; place = p }) → o ≡ refused 5 p
       go (good ts) e = absurd (tested (leb (length (standalones (meanings ts))) room) _ e)
       go (refused n q) e = as_told n q 5 p cc
 

@@ -1,5 +1,6 @@
 -- Demand 3 over the promises of the calls that read and write, as one statement: `demand_3`, at the end. Before it what that rests on: the canonical
 -- standalone term of a tree within the limits is read back, and an accepted message is written in canonical form.
+use Rattle.std.specs.Prelude.{Ok}
 use mathlib.Core.Path.{◌≡◌, refl, sym, ◌∙◌, ap, subst}
 use mathlib.Core.Logic.{◌↔◌, inl, inr}
 use mathlib.Core.Bool.{true}
@@ -22,11 +23,8 @@ use Rattle.term_spec.specs.Canonical.{bytes_of, key_before, canonical, canonical
 use Rattle.term_spec.specs.Writing.{Written, written, write, output_after, scratch_after}
 use Rattle.term_spec.specs.Demands.{IsOneOf, AcceptedTerm, OwnOutput, WrittenOut, RefusedOut, Means, OutputOf, Demand3}
 use Rattle.term_spec.specs.Rows.{table_after}
-use Rattle.term_spec.specs.Answers.{read_answer, write_answer}
+use Rattle.term_spec.specs.Answers.{ReadAnswer, WriteAnswer, read_answer, write_answer}
 use Rattle.term_spec.specs.Promises.{ReadCall, WriteCall}
-use Rattle.term_spec.specs.declared.ReadAnswer.{ReadAnswer}
-use Rattle.term_spec.specs.declared.ReadAnswer.TheVariants as reads
-use Rattle.term_spec.specs.declared.WriteAnswer.{WriteAnswer}
 use Rattle.term_spec.proofs.Steps.{spot}
 use Rattle.term_spec.proofs.Parts.{Reads}
 use Rattle.term_spec.proofs.RoundTrip.{read_tree}
@@ -161,7 +159,7 @@ means_by flags t list table answer left tree e m w =
     record {
       tree = tree;
       meaning_is = m;
-      answer_is = w.read_answered ∙ ap read_answer e ∙ ap (λ (n : ℕ). reads.Terms 1 n) k;
+      answer_is = w.read_answered ∙ ap read_answer e ∙ ap (λ (n : ℕ). Ok (record { terms = 1; rows = n })) k;
       rows_are = w.table_left ∙ ap (table_after (length table)) e;
     }
 

@@ -1,5 +1,6 @@
 -- No list in an accepted term has more than 8,191 elements: it has a row of its own and one or more for each element, and rows are at most 8,192.
-use mathlib.Core.Path.{◌≡◌, refl, sym, ◌∙◌, subst}
+use Rattle.std.specs.Prelude.{Ok, Err}
+use mathlib.Core.Path.{◌≡◌, refl, sym, ◌∙◌, ap, subst}
 use mathlib.Core.Logic.{inl, inr}
 use mathlib.Core.Bool.{Bool, true, false}
 use mathlib.Core.List.{List}
@@ -14,13 +15,20 @@ use Rattle.term_spec.specs.AtomList.{AtomList}
 use Rattle.term_spec.specs.Message.{Framing, Terms, meanings, read}
 use Rattle.term_spec.specs.Canonical.{standalones}
 use Rattle.term_spec.specs.Writing.{Written, written, write}
-use Rattle.term_spec.specs.Answers.{read_answer, write_answer}
+use Rattle.term_spec.specs.Answers.{ReadAnswer, WriteAnswer, read_answer, write_answer}
 use Rattle.term_spec.specs.Demands.{IsOneOf}
 use Rattle.term_spec.specs.Lists.{ShortList, ShortLists, NoLongList}
-use Rattle.term_spec.specs.declared.ReadAnswer.TheVariants as reads
-use Rattle.term_spec.specs.declared.WriteAnswer.TheVariants as writes
 use Rattle.term_spec.proofs.Rows.{fewer_parts_each, each_nodes_map, sizes_meanings}
 use Rattle.term_spec.proofs.Capacity.{rows_lent}
+
+-- the number of terms that an answer says
+count_read : ReadAnswer → ℕ
+count_read (Ok x) = x.terms
+count_read (Err x) = 0
+
+count_written : WriteAnswer → ℕ
+count_written (Ok x) = x.terms
+count_written (Err x) = 0
 
 from_count : (l : Label) (ts : Forest Label) → count ts < 8192 → ShortList l ts
 from_count l ts h is_list = omega arith
@@ -34,27 +42,27 @@ module _ (flags : ℕ) (framing : Framing) (atoms : AtomList) (lent : ℕ) (mess
   found_short : (ts : Terms) (terms : ℕ) → read flags framing atoms lent message ≡ good ts → count ts ≡ terms → ShortLists flags framing atoms lent message terms
   found_short ts terms e many = record { found = ts; accepted = e; terms_are = many; no_longer = allowed_short ts e }
 
-  read_short : (terms rows : ℕ) → read_answer (read flags framing atoms lent message) ≡ reads.Terms terms rows → ShortLists flags framing atoms lent message terms
-  unfolding read_answer
+  read_short : (terms rows : ℕ) → read_answer (read flags framing atoms lent message) ≡ Ok (record { terms = terms; rows = rows }) → ShortLists flags framing atoms lent message terms
+  unfolding read_answer count_read
   read_short terms rows e = go (read flags framing atoms lent message) refl e
     where
-      go : (o : Answer Terms) → read flags framing atoms lent message ≡ o → read_answer o ≡ reads.Terms terms rows → ShortLists flags framing atoms lent message terms
-      go (good ts) f e = found_short ts terms f cc
+      go : (o : Answer Terms) → read flags framing atoms lent message ≡ o → read_answer o ≡ Ok (record { terms = terms; rows = rows }) → ShortLists flags framing atoms lent message terms
+      go (good ts) f e = found_short ts terms f (ap count_read e)
       go (refused n p) f e = let no_way : ◌≡◌ {A = ℕ} 0 1 = cc in absurd (omega arith)
 
-  write_short : (room terms bytes : ℕ) → write_answer (write flags framing atoms lent room message) ≡ writes.Written terms bytes
+  write_short : (room terms bytes : ℕ) → write_answer (write flags framing atoms lent room message) ≡ Ok (record { terms = terms; length = bytes })
       → ShortLists flags framing atoms lent message terms
-  unfolding write_answer write written
+  unfolding write_answer write written count_written
   write_short room terms bytes e = go (read flags framing atoms lent message) refl e
     where
       answered : Terms → Bool → Answer Written
       answered ts fits = elim fits [ true ↦ good (record { terms = count ts; bytes = standalones (meanings ts) }) | false ↦ refused 11 0 ]
 
-      fitting : (ts : Terms) (fits : Bool) → write_answer (answered ts fits) ≡ writes.Written terms bytes → count ts ≡ terms
-      fitting ts true e = cc
+      fitting : (ts : Terms) (fits : Bool) → write_answer (answered ts fits) ≡ Ok (record { terms = terms; length = bytes }) → count ts ≡ terms
+      fitting ts true e = ap count_written e
       fitting ts false e = let no_way : ◌≡◌ {A = ℕ} 0 1 = cc in absurd (omega arith)
 
-      go : (o : Answer Terms) → read flags framing atoms lent message ≡ o → write_answer (written room o) ≡ writes.Written terms bytes
+      go : (o : Answer Terms) → read flags framing atoms lent message ≡ o → write_answer (written room o) ≡ Ok (record { terms = terms; length = bytes })
           → ShortLists flags framing atoms lent message terms
       go (good ts) f e = found_short ts terms f (fitting ts (leb (length (standalones (meanings ts))) room) e)
       go (refused n p) f e = let no_way : ◌≡◌ {A = ℕ} 0 1 = cc in absurd (omega arith)

@@ -1,5 +1,5 @@
 -- Where reading refuses with 5, its place is the bad byte of an atom's text that stands in the message: `BadTexts`, at the end.
-use Rattle.std.specs.Prelude.{◌≡◌, List, ℕ, ◌+◌, ◌≤◌, length, get_or, take, drop}
+use Rattle.std.specs.Prelude.{◌≡◌, List, ℕ, ◌+◌, ◌≤◌, length, get_or, take, drop, Err}
 use Rattle.std.proofs.Math.Option.{some}
 use Rattle.term_spec.specs.Numbers.{big_endian}
 use Rattle.term_spec.specs.Text.{Coding}
@@ -9,10 +9,7 @@ use Rattle.term_spec.specs.Head.{atom_ext, forms, form_in}
 use Rattle.term_spec.specs.AtomList.{AtomList}
 use Rattle.term_spec.specs.Message.{Framing, read}
 use Rattle.term_spec.specs.Promises.{ReadCall, WriteCall}
-use Rattle.term_spec.specs.declared.ReadAnswer.{ReadAnswer}
-use Rattle.term_spec.specs.declared.ReadAnswer.TheVariants as reads
-use Rattle.term_spec.specs.declared.WriteAnswer.{WriteAnswer}
-use Rattle.term_spec.specs.declared.WriteAnswer.TheVariants as writes
+use Rattle.term_spec.specs.Answers.{ReadAnswer, WriteAnswer}
 
 -- An atom's text of so many bytes stands in the message from `first` on: before it its length, and before that the tag of an atom in this coding
 pub record TextThere (message : List ℕ) (coding : Coding) (first size : ℕ) : Type 0 where
@@ -41,8 +38,8 @@ pub record BadTexts : Type 0 where
   -- of all that a call that reads refuses with 5
   pub by_reading : (flags : ℕ) (framing : Framing) (atoms : AtomList) (message table : List ℕ) (answer : ReadAnswer) (left : List ℕ)
       → ReadCall flags framing atoms message table answer left
-      → (p : ℕ) → answer ≡ reads.Refused (record { number = 5; place = p }) → BadText message p
+      → (p : ℕ) → answer ≡ Err (record { number = 5; place = p }) → BadText message p
   -- of all that a call that writes refuses with 5
   pub by_writing : (flags : ℕ) (framing : Framing) (atoms : AtomList) (message scratch output : List ℕ) (answer : WriteAnswer) (scratch_is output_is : List ℕ)
       → WriteCall flags framing atoms message scratch output answer scratch_is output_is
-      → (p : ℕ) → answer ≡ writes.Refused (record { number = 5; place = p }) → BadText message p
+      → (p : ℕ) → answer ≡ Err (record { number = 5; place = p }) → BadText message p

@@ -6,7 +6,7 @@ use Rattle.term_spec.specs.Message.{standalone}
 use Rattle.term_spec.specs.Writing.{write}
 use Rattle.term_spec.specs.Promises.{WriteCall}
 use Rattle.term_spec.specs.Demands.{WrittenOut, RefusedOut}
-use Rattle.term_spec.specs.declared.WriteAnswer.{WriteAnswer}
+use Rattle.term_spec.specs.Answers.{WriteAnswer}
 
 -- n tuples of one element around what follows
 unfoldable pub nested : ℕ → List ℕ → List ℕ

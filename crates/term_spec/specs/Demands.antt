@@ -1,5 +1,5 @@
 -- Demand 3: accepted terms, their outputs, and what is promised of them: `Demand3`, at the end.
-use Rattle.std.specs.Prelude.{◌≡◌, ◌↔◌, ◌⊎◌, true, List, ◌++◌, ℕ, ◌≤◌, length, drop, replicate}
+use Rattle.std.specs.Prelude.{◌≡◌, ◌↔◌, ◌⊎◌, true, List, ◌++◌, ℕ, ◌≤◌, length, drop, replicate, Ok, Err}
 use Rattle.term_spec.specs.Tree.{Forest, empty, ◌▹◌, ◌▹▹◌, count, size, sizes}
 use Rattle.term_spec.specs.Term.{Label, Term}
 use Rattle.term_spec.specs.Answer.{good}
@@ -10,10 +10,7 @@ use Rattle.term_spec.specs.Numbers.{Under}
 use Rattle.term_spec.specs.Rows.{table_after}
 use Rattle.term_spec.specs.Canonical.{canonical_standalone, standalones}
 use Rattle.term_spec.specs.Promises.{ReadCall, WriteCall}
-use Rattle.term_spec.specs.declared.ReadAnswer.{ReadAnswer}
-use Rattle.term_spec.specs.declared.ReadAnswer.TheVariants as reads
-use Rattle.term_spec.specs.declared.WriteAnswer.{WriteAnswer}
-use Rattle.term_spec.specs.declared.WriteAnswer.TheVariants as writes
+use Rattle.term_spec.specs.Answers.{ReadAnswer, WriteAnswer}
 
 -- a term is one of these
 abbrev pub IsOneOf : Term → Forest Label → Type 0
@@ -39,13 +36,13 @@ pub record OwnOutput (t : Term) (ts : Forest Label) : Type 0 where
 
 -- What a call that writes leaves: so many terms, these bytes at the front of the output, the others as they were, the scratch table all zero
 pub record WrittenOut (terms : ℕ) (bs scratch output : List ℕ) (answer : WriteAnswer) (scratch_is output_is : List ℕ) : Type 0 where
-  pub answer_is : answer ≡ writes.Written terms (length bs)
+  pub answer_is : answer ≡ Ok (record { terms = terms; length = length bs })
   pub output_holds : output_is ≡ bs ++ drop (length bs) output
   pub scratch_zero : scratch_is ≡ replicate (length scratch) 0
 
 -- What a call that writes leaves where it refuses: the refusal's number and place, the output as it was, the scratch table all zero
 pub record RefusedOut (number place : ℕ) (scratch output : List ℕ) (answer : WriteAnswer) (scratch_is output_is : List ℕ) : Type 0 where
-  pub answer_is : answer ≡ writes.Refused (record { number = number; place = place })
+  pub answer_is : answer ≡ Err (record { number = number; place = place })
   pub output_stays : output_is ≡ output
   pub scratch_zero : scratch_is ≡ replicate (length scratch) 0
 
@@ -53,7 +50,7 @@ pub record RefusedOut (number place : ℕ) (scratch output : List ℕ) (answer :
 pub record Means (t : Term) (table : List ℕ) (answer : ReadAnswer) (left : List ℕ) : Type 0 where
   pub tree : Located
   pub meaning_is : meaning tree ≡ t
-  pub answer_is : answer ≡ reads.Terms 1 (size t)
+  pub answer_is : answer ≡ Ok (record { terms = 1; rows = size t })
   pub rows_are : left ≡ table_after (length table) (good (tree ▹ empty))
 
 -- The output of an accepted term, over the promises of the calls, with room and scratch rows enough where they are lent

@@ -1,5 +1,5 @@
 -- How long the lists of accepted terms are, at most: `NoLongList`, at the end. The canonical form has rules for such lists alone.
-use Rattle.std.specs.Prelude.{◌≡◌, ◌⊎◌, List, ℕ, ◌≤◌, length}
+use Rattle.std.specs.Prelude.{◌≡◌, ◌⊎◌, List, ℕ, ◌≤◌, length, Ok}
 use Rattle.term_spec.specs.Tree.{Forest, count, EachNode, EachNodes}
 use Rattle.term_spec.specs.Term.{Label, Term, list, improper_list}
 use Rattle.term_spec.specs.Answer.{good}
@@ -7,10 +7,7 @@ use Rattle.term_spec.specs.AtomList.{AtomList}
 use Rattle.term_spec.specs.Message.{Framing, Terms, meanings, read}
 use Rattle.term_spec.specs.Promises.{ReadCall, WriteCall}
 use Rattle.term_spec.specs.Demands.{AcceptedTerm}
-use Rattle.term_spec.specs.declared.ReadAnswer.{ReadAnswer}
-use Rattle.term_spec.specs.declared.ReadAnswer.TheVariants as reads
-use Rattle.term_spec.specs.declared.WriteAnswer.{WriteAnswer}
-use Rattle.term_spec.specs.declared.WriteAnswer.TheVariants as writes
+use Rattle.term_spec.specs.Answers.{ReadAnswer, WriteAnswer}
 
 -- a list, proper or improper, has at most 8,191 elements; the tail of an improper one is counted with them
 abbrev pub ShortList : Label → Forest Label → Type 0
@@ -32,10 +29,10 @@ pub record NoLongList : Type 0 where
   -- of all that a call that reads accepts
   pub by_reading : (flags : ℕ) (framing : Framing) (atoms : AtomList) (message table : List ℕ) (answer : ReadAnswer) (left : List ℕ)
       → ReadCall flags framing atoms message table answer left
-      → (terms rows : ℕ) → answer ≡ reads.Terms terms rows → ShortLists flags framing atoms (length table) message terms
+      → (terms rows : ℕ) → answer ≡ Ok (record { terms = terms; rows = rows }) → ShortLists flags framing atoms (length table) message terms
   -- of all that a call that writes writes
   pub by_writing : (flags : ℕ) (framing : Framing) (atoms : AtomList) (message scratch output : List ℕ) (answer : WriteAnswer) (scratch_is output_is : List ℕ)
       → WriteCall flags framing atoms message scratch output answer scratch_is output_is
-      → (terms bytes : ℕ) → answer ≡ writes.Written terms bytes → ShortLists flags framing atoms (length scratch) message terms
+      → (terms bytes : ℕ) → answer ≡ Ok (record { terms = terms; length = bytes }) → ShortLists flags framing atoms (length scratch) message terms
   -- of each accepted term of demand 3
   pub of_demand_3 : (flags : ℕ) (t : Term) → AcceptedTerm flags t → EachNode ShortList t

@@ -4,9 +4,7 @@ use Rattle.term_spec.specs.AtomList.{AtomList}
 use Rattle.term_spec.specs.Message.{Framing, read}
 use Rattle.term_spec.specs.Rows.{table_after}
 use Rattle.term_spec.specs.Writing.{write, output_after, scratch_after}
-use Rattle.term_spec.specs.Answers.{read_answer, write_answer}
-use Rattle.term_spec.specs.declared.ReadAnswer.{ReadAnswer}
-use Rattle.term_spec.specs.declared.WriteAnswer.{WriteAnswer}
+use Rattle.term_spec.specs.Answers.{ReadAnswer, WriteAnswer, read_answer, write_answer}
 
 -- Reading: the connection's flags, the message, the atom list and the lent table; the answer, and the table after it
 pub record ReadCall (flags : ℕ) (framing : Framing) (list : AtomList) (message table : List ℕ) (answer : ReadAnswer) (table' : List ℕ) : Type 0 where

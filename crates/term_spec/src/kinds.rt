@@ -1,4 +1,4 @@
-// The kinds of a row (docs/ROWS.md).
+// The kinds of a row (docs/ROWS.md): numbers and no enum, since C reads them in the row's word.
 
 pub const INTEGER: usize = 1;
 

@@ -1,4 +1,4 @@
-// The refusal numbers of document 01.
+// The refusal numbers: numbers and no enum, as the definitions have them and C is answered them.
 
 // Empty, or first byte not 131.
 pub const NO_VERSION: u8 = 1;
