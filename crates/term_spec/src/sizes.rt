@@ -6,6 +6,8 @@ pub const MESSAGE_MOST: usize = 65536;
 pub const ROWS_MOST: usize = 8192;
 
 pub const DEPTH_MOST: usize = 64;
+// The parts of a pair of a map: a key and its value.
+pub const PAIR_PARTS: usize = 2;
 // Characters of an atom.
 pub const CHARACTERS_MOST: usize = 255;
 // Bytes of a place, in an atom list and in the cache.
