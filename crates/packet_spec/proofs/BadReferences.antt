@@ -8,6 +8,7 @@ use native.Mathlib.Omega.{arith}
 use lib.Dec.{eqb, leb}
 use lib.ListN.{length, get_or, take, drop}
 use borrow.Author.Tests.{eqb-true}
+use Rattle.std.specs.Prelude.{Err}
 use Rattle.term_spec.specs.Numbers.{big_endian}
 use Rattle.term_spec.specs.Connection.{coding_agreed, flags_known}
 use Rattle.term_spec.specs.Text.{Coding, Checked, valid, invalid_at, check, encodes}
@@ -20,12 +21,11 @@ use Rattle.term_spec.proofs.Walk.{Keeps, and_then, next_step, end, no, rule_keep
 use Rattle.term_spec.proofs.BadByte.{bad_bytes}
 use Rattle.term_spec.proofs.BadTexts.{past_check, found_refused, as_told}
 use Rattle.packet_spec.specs.declared.Pending.{Pending}
-use Rattle.packet_spec.specs.declared.PacketAnswer.TheVariants as packets
 use Rattle.packet_spec.specs.Memory.{Memory, Held, nothing, no_text, text, held, memory_of_size, record_true}
 use Rattle.packet_spec.specs.Header.{Reference, flag_bytes, half, is_new, place_at, named, filled, held_or, new_reference, cached_reference, reference, references, header}
 use Rattle.packet_spec.specs.Packet.{Kind, normal, starting, continuing, ids, packet_kind, preamble, Packet, payload_after, rest, packet, judged}
-use Rattle.packet_spec.specs.Calls.{Outcome, payload_at, pending_still, complete, told, taken, take_packet}
-use Rattle.packet_spec.specs.Answers.{outcome_case, packet_answer}
+use Rattle.packet_spec.specs.Calls.{taken, take_packet}
+use Rattle.packet_spec.specs.Answers.{refusal_of, outcome_case, packet_answer}
 use Rattle.packet_spec.specs.BadReferences.{CountAt, after_68, after_69, reference_count, header_flags, header_width, size_at, reference_at, BadReference, BadReferences}
 use Rattle.packet_spec.proofs.Demand.{answer_is}
 
@@ -195,17 +195,12 @@ module _ (flags : ℕ) (m : Memory) (bs : List ℕ) (p : ℕ) where
       (packet_told flags (held m.cache) bs m.pending).refuses p
       (found_refused _ 5 p (past_check (flags_known flags) 14 p _ refl (past_check (memory_of_size m) 13 p _ refl e)))
 
-  taking_bad : packet_answer (take_packet flags m bs) ≡ packets.Refused (record { number = 5; place = p }) → BadReference flags bs p
+  taking_bad : packet_answer (take_packet flags m bs) ≡ Err (refusal_of 5 p) → BadReference flags bs p
   unfolding packet_answer outcome_case take_packet
   taking_bad e = rules_bad (go (judged flags m bs) e)
     where
-      told_case : (o : Outcome) → ¬ (outcome_case o ≡ packets.Refused (record { number = 5; place = p }))
-      told_case (payload_at a b) e = let no_way : ◌≡◌ {A = ℕ} 0 1 = cc in omega arith
-      told_case (pending_still a b) e = let no_way : ◌≡◌ {A = ℕ} 0 1 = cc in omega arith
-      told_case (complete a) e = let no_way : ◌≡◌ {A = ℕ} 0 1 = cc in omega arith
-
-      go : (o : Answer Packet) → packet_answer (taken m o) ≡ packets.Refused (record { number = 5; place = p }) → o ≡ refused 5 p
-      go (good a) e = absurd (told_case (told m a) e)
+      go : (o : Answer Packet) → packet_answer (taken m o) ≡ Err (refusal_of 5 p) → o ≡ refused 5 p
+      go (good a) e = absurd cc
       go (refused n q) e = as_told n q 5 p cc
 
 pub bad_references : BadReferences

@@ -98,7 +98,7 @@ module _ (c : Cache) (r : Reference) (short_text : length r.text ≤ 32) where
   enter_new e p s = go r.new e
     where
       go : (b : Bool) → b ≡ true → Holding (elim b [ true ↦ put c r.place r.text | false ↦ c ]) r.place r.text
-      go false e = let no_way : ◌≡◌ {A = ℕ} 0 1 = cc in absurd (omega arith)
+      go false e = absurd cc
       go true e =
           let l : length (zeros_to 32 r.text) ≡ 32 = long_32 in
           let big : length c.places ≡ 65536 = s.places_are in

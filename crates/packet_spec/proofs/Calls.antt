@@ -3,7 +3,6 @@ use mathlib.Core.Path.{◌≡◌, refl, sym, ap, subst}
 use mathlib.Core.Bool.{true, false}
 use mathlib.Core.List.{List, []}
 use Prim.Native.Nat.{ℕ}
-use native.Mathlib.Omega.{arith}
 use Rattle.term_spec.specs.Answer.{Answer, good, refused}
 use Rattle.term_spec.specs.Numbers.{Under}
 use Rattle.packet_spec.specs.Memory.{Memory, memory_of_size}
@@ -23,7 +22,7 @@ unfolding take_packet after_packet
 refused_keeps flags m bs number place e = go (judged flags m bs) e
   where
     go : (o : Answer Packet) → taken m o ≡ refused number place → left_after m o ≡ m
-    go (good p) f = let no_way : ◌≡◌ {A = ℕ} 0 1 = cc in absurd (omega arith)
+    go (good p) f = absurd cc
     go (refused n q) f = refl
 
 left_other : (m : Memory) (p : Packet) (q : ℕ) → SoundPacket m.pending p → filled q (brought p) ≡ false → Same m.cache (left_by m p).cache q

@@ -3,15 +3,14 @@ use mathlib.Core.Path.{◌≡◌, refl}
 use mathlib.Core.List.{List, [], ◌∷◌, ◌++◌}
 use Prim.Native.Nat.{ℕ}
 use lib.ListN.{replicate}
+use Rattle.std.specs.Prelude.{Ok, Err}
 use Rattle.term_spec.specs.Connection.{flags_known}
 use Rattle.term_spec.specs.AtomList.{AtomList, lent_list, empty_list, of_size, place_length, place_bytes, place_text}
 use Rattle.term_spec.specs.Answer.{Answer, good, refused}
 use Rattle.packet_spec.specs.declared.Pending.{Pending}
-use Rattle.packet_spec.specs.declared.Settled.{Settled}
-use Rattle.packet_spec.specs.declared.StateAnswer.TheVariants as states
 use Rattle.packet_spec.specs.Memory.{Cache, Memory, Held, nothing, text, text_if, held_as, held, cache_of, memory_of, record_true, none_pending, empty_cache}
 use Rattle.packet_spec.specs.Calls.{Outcome, payload_at, pending_still, complete, take_packet, after_packet, drop_sequence, reset}
-use Rattle.packet_spec.specs.Answers.{state_answer, drop_answer, word_bytes}
+use Rattle.packet_spec.specs.Answers.{Settled, refusal_of, state_answer, drop_answer, word_bytes}
 use Rattle.packet_spec.specs.Runs.{with_state}
 use Rattle.packet_spec.specs.Cases.{fresh, answer, then, example, Cases}
 use Rattle.packet_spec.specs.Words.{word_if, listed_word}
@@ -187,9 +186,9 @@ pub record Examples : Type 0 where
   pub false_dropped : dropped 1 (pending_of 65537) ≡ refused 14 0
   -- with other known flags; 14 for an unknown flag, whatever the record is: it stays
   pub none_dropped_newer : dropped 3 none_pending ≡ refused 25 0
-  pub one_dropped_newer : settled 2 (pending_of 5) ≡ record { answer = states.Done; pending = none_pending }
-  pub one_unknown : settled 4 (pending_of 5) ≡ record { answer = states.Refused (record { number = 14; place = 0 }); pending = pending_of 5 }
-  pub false_unknown : settled 255 (pending_of 65537) ≡ record { answer = states.Refused (record { number = 14; place = 0 }); pending = pending_of 65537 }
+  pub one_dropped_newer : settled 2 (pending_of 5) ≡ record { answer = Ok tt; pending = none_pending }
+  pub one_unknown : settled 4 (pending_of 5) ≡ record { answer = Err (refusal_of 14 0); pending = pending_of 5 }
+  pub false_unknown : settled 255 (pending_of 65537) ≡ record { answer = Err (refusal_of 14 0); pending = pending_of 65537 }
   pub none_unknown : dropped 128 none_pending ≡ refused 14 0
   -- a reset: all bytes zero, all lengths 65,535; 13 for a cache not of its size
   pub all_reset : reset_of seven_held.cache ≡ good (cache_of (replicate 65536 0) (replicate 2048 65535), none_pending)

@@ -3,18 +3,16 @@ use mathlib.Core.Path.{◌≡◌, refl, sym, ◌∙◌, ap, ap₂, subst}
 use mathlib.Core.Bool.{Bool, true, false, cond}
 use mathlib.Core.List.{List}
 use Prim.Native.Nat.{ℕ}
-use native.Mathlib.Omega.{arith}
 use lib.ListN.{take}
+use Rattle.std.specs.Prelude.{Ok}
 use Rattle.term_spec.specs.Numbers.{Under}
 use Rattle.term_spec.specs.Answer.{Answer, good, refused}
 use Rattle.packet_spec.specs.declared.Pending.{Pending}
-use Rattle.packet_spec.specs.declared.Taken.{Taken}
-use Rattle.packet_spec.specs.declared.Settled.{Settled}
-use Rattle.packet_spec.specs.declared.PacketAnswer.TheVariants as packets
+use Rattle.packet_spec.specs.declared.PacketOutcome.TheVariants as packets
 use Rattle.packet_spec.specs.Memory.{Cache, Memory, cache_of_size, empty_cache, none_pending, held}
 use Rattle.packet_spec.specs.Packet.{judged}
 use Rattle.packet_spec.specs.Calls.{Outcome, payload_at, pending_still, complete, take_packet, after_packet, cache_after_reset, reset, unless_refused}
-use Rattle.packet_spec.specs.Answers.{outcome_case, packet_answer, taken_answer, drop_answer, reset_answer}
+use Rattle.packet_spec.specs.Answers.{Taken, Settled, outcome_case, packet_answer, taken_answer, drop_answer, reset_answer}
 use Rattle.packet_spec.specs.Promises.{PacketCall, DropCall, ResetCall}
 use Rattle.packet_spec.specs.Runs.{Call, taking, dropping, resetting, AllBytes, with_state, after_call, after_calls}
 use Rattle.packet_spec.specs.Places.{Same, HeldNew, brought}
@@ -53,12 +51,12 @@ ran_is (drop_then {m} {cs = cs} flags r w rest) = ran_is rest ∙ ap (λ (x : Me
 ran_is (reset_then {m} {cs = cs} r c' w rest) = ran_is rest ∙ ap (λ (x : Memory). after_calls x cs) (reset_state m r c' w)
 
 -- the answer Complete is that case of the enum alone
-is_complete : (o : Answer Outcome) (k : ℕ) → packet_answer o ≡ packets.Complete k → o ≡ good (complete k)
+is_complete : (o : Answer Outcome) (k : ℕ) → packet_answer o ≡ Ok (packets.Complete k) → o ≡ good (complete k)
 unfolding packet_answer outcome_case
-is_complete (good (payload_at a b)) k e = let no_way : ◌≡◌ {A = ℕ} 0 1 = cc in absurd (omega arith)
-is_complete (good (pending_still a b)) k e = let no_way : ◌≡◌ {A = ℕ} 0 1 = cc in absurd (omega arith)
+is_complete (good (payload_at a b)) k e = absurd cc
+is_complete (good (pending_still a b)) k e = absurd cc
 is_complete (good (complete n)) k e = let is : n ≡ k = cc in ap (λ (x : ℕ). good (complete x)) is
-is_complete (refused n p) k e = let no_way : ◌≡◌ {A = ℕ} 0 1 = cc in absurd (omega arith)
+is_complete (refused n p) k e = absurd cc
 
 -- what a packet answers, by the promise
 pub answer_is : {flags : ℕ} {packet : List ℕ} {m : Memory} {r : Taken} {m' : Memory} → PacketCall flags packet m r m'
@@ -68,7 +66,7 @@ answer_is w = ap (λ (x : Taken). x.answer) w.packet_answered
 
 -- the packet taken next, with what is gathered before it
 module _ (n : Memory) (g : SoFar) (h : Has n g) (flags : ℕ) (packet : List ℕ) (r : Taken) (m' : Memory) (u : Under 256 packet) (w : PacketCall flags packet n r m') where
-  next_completed : (k : ℕ) → r.answer ≡ packets.Complete k → Completed k (gathered_after n (taking flags packet) g) m'
+  next_completed : (k : ℕ) → r.answer ≡ Ok (packets.Complete k) → Completed k (gathered_after n (taking flags packet) g) m'
   unfolding after_call gathered_after
   next_completed k e =
       let done = gathering.completes flags n packet g k u h (is_complete _ k (sym (answer_is w) ∙ e)) in

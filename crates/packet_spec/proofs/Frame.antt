@@ -3,7 +3,6 @@ use mathlib.Core.Path.{◌≡◌, refl, ◌∙◌, ap, subst, fun_ext}
 use mathlib.Core.Bool.{Bool, true, false, ◌&&◌, ◌||◌, cond}
 use mathlib.Core.List.{List, [], ◌∷◌}
 use Prim.Native.Nat.{ℕ}
-use native.Mathlib.Omega.{arith}
 use lib.Dec.{eqb}
 use borrow.Author.Tests.{eqb-true, eq-eqb}
 use Rattle.term_spec.proofs.Tests.{both_true}
@@ -15,7 +14,7 @@ use Rattle.packet_spec.proofs.Cache.{same_refl, same_trans, same_holding, held_s
 use Rattle.packet_spec.proofs.Judged.{Sound, AllSound}
 
 pub neither : (a b : Bool) → (a || b) ≡ false → (a ≡ false) × (b ≡ false)
-neither true b e = let no_way : ◌≡◌ {A = ℕ} 0 1 = cc in absurd (omega arith)
+neither true b e = absurd cc
 neither false b e = (refl, e)
 
 pub entered_sized : (rs : List Reference) (c : Cache) → CacheSized c → CacheSized (entered c rs)

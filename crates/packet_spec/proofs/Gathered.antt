@@ -154,11 +154,11 @@ completes flags m bs g k u h t = go (judged flags m bs) refl t
   where
     one : (f n : ℕ) (x : Bool) → eqb f 1 ≡ x → ◌≡◌ {A = Answer Outcome} (good (cond x (complete n) (pending_still (f - 1) n))) (good (complete k)) → (k ≡ n) × (eqb f 1 ≡ true)
     one f n true e c = (cc, e)
-    one f n false e c = let no_way : ◌≡◌ {A = ℕ} 0 1 = cc in absurd (omega arith)
+    one f n false e c = absurd cc
 
     go : (o : Answer Packet) → judged flags m bs ≡ o → taken m o ≡ good (complete k)
         → (k ≡ length (gathered_by o g).bytes) × ((gathered_by o g).due ≡ 0) × ((left_after m o).pending ≡ none_pending)
-    go (good (plain rs at p)) e c = let no_way : ◌≡◌ {A = ℕ} 0 1 = cc in absurd (omega arith)
+    go (good (plain rs at p)) e c = absurd cc
     go (good (start q f rs p)) e c =
         let w : (k ≡ length p) × (eqb f 1 ≡ true) = one f (length p) (eqb f 1) refl c in
         let is : f ≡ 1 = eqb-true f 1 w.1 in
@@ -171,4 +171,4 @@ completes flags m bs g k u h t = go (judged flags m bs) refl t
         let so_far : m.pending.gathered ≡ length g.bytes = h.counted (λ z. a.sound.3 (is_due ∙ z)) in
         let total : length (g.bytes ++ p) ≡ length g.bytes + length p = length-append g.bytes p in
         (omega (arith, w.0), omega arith, rw w.1)
-    go (refused n q) e c = let no_way : ◌≡◌ {A = ℕ} 0 1 = cc in absurd (omega arith)
+    go (refused n q) e c = absurd cc

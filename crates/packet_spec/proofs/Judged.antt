@@ -44,13 +44,13 @@ unfolding held_as text_if
 held_as_true n bs t e = go (eqb n 65535) (leb n 32) refl e
   where
     inner : (o : Checked) → check utf_8 (take n bs) ≡ o → text_if (take n bs) o ≡ text t → length (take n bs) ≤ 32 → Text t
-    inner (invalid_at k) u f l = let no_way : ◌≡◌ {A = ℕ} 0 1 = cc in absurd (omega arith)
+    inner (invalid_at k) u f l = absurd cc
     inner (valid cs) u f l = let is : take n bs ≡ t = cc in subst Text is (record { short = l; characters = cs; is_utf8 = u })
 
     go : (x y : Bool) → leb n 32 ≡ y
         → ◌≡◌ {A = Held} (elim x [ true ↦ nothing | false ↦ elim y [ true ↦ text_if (take n bs) (check utf_8 (take n bs)) | false ↦ no_text ] ]) (text t) → Text t
-    go true y l f = let no_way : ◌≡◌ {A = ℕ} 0 1 = cc in absurd (omega arith)
-    go false false l f = let no_way : ◌≡◌ {A = ℕ} 0 1 = cc in absurd (omega arith)
+    go true y l f = absurd cc
+    go false false l f = absurd cc
     go false true l f = inner (check utf_8 (take n bs)) refl f (omega (arith, leb-true n 32 l, length-take n bs))
 
 -- every text that the places hold is one

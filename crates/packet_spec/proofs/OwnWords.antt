@@ -6,6 +6,7 @@ use Prim.Native.Nat.{ℕ, zero, suc, ◌+◌, ◌-◌, ◌*◌, ◌<◌, ◌≤�
 use native.Mathlib.Omega.{arith}
 use lib.Dec.{eqb}
 use lib.ListN.{length, take, drop}
+use Rattle.std.specs.Prelude.{Ok, Err}
 use Rattle.term_spec.specs.Numbers.{Under}
 use Rattle.term_spec.specs.Connection.{flags_known}
 use Rattle.term_spec.specs.Answer.{Answer, good, refused}
@@ -13,14 +14,13 @@ use Rattle.term_spec.specs.AtomList.{AtomList, place_bytes}
 use Rattle.term_spec.specs.declared.Refusal.{Refusal}
 use Rattle.term_spec.proofs.Tests.{never}
 use Rattle.packet_spec.specs.declared.Pending.{Pending}
-use Rattle.packet_spec.specs.declared.Taken.{Taken}
-use Rattle.packet_spec.specs.declared.PacketAnswer.TheVariants as packets
+use Rattle.packet_spec.specs.declared.PacketOutcome.TheVariants as packets
 use Rattle.packet_spec.specs.Memory.{Cache, Memory}
 use Rattle.packet_spec.specs.Header.{Reference}
 use Rattle.packet_spec.specs.Packet.{Packet, plain, start, continuation, judged}
 use Rattle.packet_spec.specs.Calls.{complete, pending_still, told_after, told, taken, take_packet, list_of, left_by, left_after, after_packet}
 use Rattle.packet_spec.specs.Words.{listed_word, own_word}
-use Rattle.packet_spec.specs.Answers.{outcome_case, packet_answer, word_answer, word_bytes}
+use Rattle.packet_spec.specs.Answers.{Taken, outcome_case, packet_answer, word_answer, word_bytes}
 use Rattle.packet_spec.specs.Promises.{PacketCall}
 use Rattle.packet_spec.specs.Runs.{Call, taking, dropping, resetting, Bytes, AllBytes, with_state, after_call, after_calls}
 use Rattle.packet_spec.specs.Demands.{Ran}
@@ -63,7 +63,7 @@ module _ (rs : List Reference) (ok : AllSound [] rs) (few : length rs < 256) whe
       let is : r.text ≡ t = cc in
       subst (λ (u : List ℕ). take (length u) (drop (32 * i) (list_of rs).places) ≡ u) is
       (ap (λ (n : ℕ). take n (drop (32 * i) (list_of rs).places)) (sym (listed_length a)) ∙ listed_bytes a ok))
-      (λ h f. let no_way : ◌≡◌ {A = ℕ} 0 1 = cc in absurd (omega arith))
+      (λ h f. absurd cc)
 
   -- the list that a header fixes says what its references say
   list_says : Says (list_of rs) rs
@@ -124,13 +124,13 @@ none_while_pending (c ∷ cs) m u a = (one c u.0, none_while_pending cs (after_c
     one resetting v = tt
 
 -- no fragment is answered Plain
-no_plain : {A : Type 0} (fragment gathered offset size : ℕ) → packet_answer (good (told_after fragment gathered)) ≡ packets.Plain offset size → A
+no_plain : {A : Type 0} (fragment gathered offset size : ℕ) → packet_answer (good (told_after fragment gathered)) ≡ Ok (packets.Plain offset size) → A
 unfolding told_after packet_answer outcome_case
-no_plain fragment gathered offset size e = go (eqb fragment 1) e
+no_plain fragment gathered offset size e = go (eqb fragment 1) cc
   where
     go : {A : Type 0} (b : Bool) → outcome_case (cond b (complete gathered) (pending_still (fragment - 1) gathered)) ≡ packets.Plain offset size → A
-    go true f = let no_way : ◌≡◌ {A = ℕ} 0 1 = cc in absurd (omega arith)
-    go false f = let no_way : ◌≡◌ {A = ℕ} 0 1 = cc in absurd (omega arith)
+    go true f = absurd cc
+    go false f = absurd cc
 
 -- ---- the statement
 
@@ -164,7 +164,7 @@ module _ {flags : ℕ} {packet : List ℕ} {m m' n : Memory} {cs : List Call} (v
       let s : SoundPacket m.pending (start sequence fragment rs bs) = (accepted flags m packet (start sequence fragment rs bs) v j).sound in
       still_says is_start (λ x. x.pending_list) pending_left (λ x y. refl) (start sequence fragment rs bs) rs j refl s.0 s.1 a
 
-  good_told : ((f : Refusal) → r.answer ≡ packets.Refused f → ⊥) → (p : Packet) × (judged flags m packet ≡ good p)
+  good_told : ((f : Refusal) → r.answer ≡ Err f → ⊥) → (p : Packet) × (judged flags m packet ≡ good p)
   unfolding packet_answer take_packet
   good_told not_refused = go (judged flags m packet) refl (answer_is w)
     where
@@ -172,17 +172,17 @@ module _ {flags : ℕ} {packet : List ℕ} {m m' n : Memory} {cs : List Call} (v
       go (good p) e f = (p, e)
       go (refused k q) e f = absurd (not_refused (record { number = k; place = q }) f)
 
-  plain_good : (offset size : ℕ) → r.answer ≡ packets.Plain offset size
+  plain_good : (offset size : ℕ) → r.answer ≡ Ok (packets.Plain offset size)
       → (rs : List Reference) × ((bs : List ℕ) × (judged flags m packet ≡ good (plain rs offset bs)))
   unfolding packet_answer outcome_case told take_packet
   plain_good offset size h = go (judged flags m packet) refl (sym (answer_is w) ∙ h)
     where
-      go : (o : Answer Packet) → judged flags m packet ≡ o → packet_answer (taken m o) ≡ packets.Plain offset size
+      go : (o : Answer Packet) → judged flags m packet ≡ o → packet_answer (taken m o) ≡ Ok (packets.Plain offset size)
           → (rs : List Reference) × ((bs : List ℕ) × (judged flags m packet ≡ good (plain rs offset bs)))
       go (good (plain rs at bs)) e f = let same : at ≡ offset = cc in (rs, (bs, e ∙ ap (λ (x : ℕ). good (plain rs x bs)) same))
       go (good (start sequence fragment rs bs)) e f = no_plain fragment (length bs) offset size f
       go (good (continuation sequence fragment bs)) e f = no_plain fragment (m.pending.gathered + length bs) offset size f
-      go (refused k q) e f = let no_way : ◌≡◌ {A = ℕ} 0 1 = cc in absurd (omega arith)
+      go (refused k q) e f = absurd cc
 
   pub own_words : OwnWords flags packet m r m' cs n
   own_words =

@@ -1,15 +1,14 @@
 -- Where a packet is refused with 5, its place is the bad byte of a new reference's text that stands in the packet's header: `BadReferences`, at the end.
-use Rattle.std.specs.Prelude.{◌≡◌, true, cond, List, ℕ, zero, suc, ◌+◌, ◌≤◌, ◌<◌, length, get_or, take, drop}
+use Rattle.std.specs.Prelude.{◌≡◌, true, cond, List, ℕ, zero, suc, ◌+◌, ◌≤◌, ◌<◌, length, get_or, take, drop, Err}
 use Rattle.term_spec.specs.Numbers.{big_endian}
 use Rattle.term_spec.specs.Connection.{coding_agreed}
 use Rattle.term_spec.specs.BadByte.{BadByte}
 use Rattle.term_spec.specs.Answer.{refused}
-use Rattle.packet_spec.specs.declared.Taken.{Taken}
-use Rattle.packet_spec.specs.declared.PacketAnswer.TheVariants as packets
 use Rattle.packet_spec.specs.Memory.{Memory}
 use Rattle.packet_spec.specs.Header.{flag_bytes, half, is_new, length_width}
 use Rattle.packet_spec.specs.Packet.{judged}
 use Rattle.packet_spec.specs.Promises.{PacketCall}
+use Rattle.packet_spec.specs.Answers.{Taken, refusal_of}
 
 -- Where the count of references stands in the packet
 pub data CountAt (packet : List ℕ) (at : ℕ) : Type 0 where
@@ -66,4 +65,4 @@ pub record BadReferences : Type 0 where
   pub by_the_rules : (flags : ℕ) (m : Memory) (packet : List ℕ) (p : ℕ) → judged flags m packet ≡ refused 5 p → BadReference flags packet p
   -- of all that a call refuses with 5
   pub by_taking : (flags : ℕ) (packet : List ℕ) (m : Memory) (r : Taken) (m' : Memory) → PacketCall flags packet m r m'
-      → (p : ℕ) → r.answer ≡ packets.Refused (record { number = 5; place = p }) → BadReference flags packet p
+      → (p : ℕ) → r.answer ≡ Err (refusal_of 5 p) → BadReference flags packet p

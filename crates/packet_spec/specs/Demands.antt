@@ -1,13 +1,11 @@
 -- The last sentence of demand 2: what any run of the packet calls, by their promises, comes to.
-use Rattle.std.specs.Prelude.{◌≡◌, List, [], ◌∷◌, ℕ, length, take}
+use Rattle.std.specs.Prelude.{◌≡◌, List, [], ◌∷◌, ℕ, length, take, Ok}
 use Rattle.term_spec.specs.Numbers.{Under}
 use Rattle.term_spec.specs.Answer.{good}
-use Rattle.packet_spec.specs.declared.Taken.{Taken}
-use Rattle.packet_spec.specs.declared.Settled.{Settled}
-use Rattle.packet_spec.specs.declared.PacketAnswer.TheVariants as packets
+use Rattle.packet_spec.specs.declared.PacketOutcome.TheVariants as packets
 use Rattle.packet_spec.specs.Memory.{Cache, Memory, none_pending, held}
 use Rattle.packet_spec.specs.Packet.{Packet, continuation, judged}
-use Rattle.packet_spec.specs.Answers.{packet_answer}
+use Rattle.packet_spec.specs.Answers.{Taken, Settled, packet_answer}
 use Rattle.packet_spec.specs.Promises.{PacketCall, DropCall, ResetCall}
 use Rattle.packet_spec.specs.Runs.{Call, taking, dropping, resetting, with_state}
 use Rattle.packet_spec.specs.Places.{Same, HeldNew, brought, AllAlone, holding_after_all, plain_list_after_all}
@@ -47,7 +45,7 @@ pub record Gathered (m : Memory) (cs : List Call) (n : Memory) : Type 0 where
       → r.answer ≡ packet_answer (packet_told (judged flags n packet) (gathered_after n (taking flags packet) (gathered_after_all m cs (none_begun m))))
   -- if it answers Complete, the sequence is whole
   pub completes : (flags : ℕ) (packet : List ℕ) (r : Taken) (m' : Memory) → Under 256 packet → PacketCall flags packet n r m'
-      → (k : ℕ) → r.answer ≡ packets.Complete k → Completed k (gathered_after n (taking flags packet) (gathered_after_all m cs (none_begun m))) m'
+      → (k : ℕ) → r.answer ≡ Ok (packets.Complete k) → Completed k (gathered_after n (taking flags packet) (gathered_after_all m cs (none_begun m))) m'
 
 -- From any memory m, by the calls of a run, to memory n
 pub record Demand2 (m : Memory) (cs : List Call) (n : Memory) : Type 0 where

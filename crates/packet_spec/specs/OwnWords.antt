@@ -1,17 +1,15 @@
 -- A message's words are those of its own header, as long as its list stands: what the calls' promises come to.
-use Rattle.std.specs.Prelude.{◌≡◌, Bool, true, false, List, [], ◌∷◌, ℕ, ◌*◌, length, take, drop}
+use Rattle.std.specs.Prelude.{◌≡◌, Bool, true, false, List, [], ◌∷◌, ℕ, ◌*◌, length, take, drop, Ok, Err}
 use Rattle.term_spec.specs.Connection.{flags_known}
 use Rattle.term_spec.specs.Answer.{good}
 use Rattle.term_spec.specs.AtomList.{AtomList}
 use Rattle.term_spec.specs.declared.Refusal.{Refusal}
-use Rattle.packet_spec.specs.declared.Taken.{Taken}
-use Rattle.packet_spec.specs.declared.WordAnswer.{WordAnswer}
-use Rattle.packet_spec.specs.declared.PacketAnswer.TheVariants as packets
+use Rattle.packet_spec.specs.declared.PacketOutcome.TheVariants as packets
 use Rattle.packet_spec.specs.Memory.{Memory}
 use Rattle.packet_spec.specs.Header.{Reference}
 use Rattle.packet_spec.specs.Packet.{Packet, plain, start, continuation, judged}
 use Rattle.packet_spec.specs.Words.{own_word}
-use Rattle.packet_spec.specs.Answers.{word_answer, word_bytes}
+use Rattle.packet_spec.specs.Answers.{Taken, WordAnswer, word_answer, word_bytes}
 use Rattle.packet_spec.specs.Promises.{LocateWordCall, WordCall}
 use Rattle.packet_spec.specs.Runs.{Call, taking, dropping, resetting, after_call}
 
@@ -52,8 +50,8 @@ AllPending m (c ∷ cs) = (m.pending.due ≡ 0 → ⊥) × AllPending (after_cal
 -- A packet is taken with memory m, which any packets before may have left, and answered by r; then come any calls, to memory n
 pub record OwnWords (flags : ℕ) (packet : List ℕ) (m : Memory) (r : Taken) (m' : Memory) (cs : List Call) (n : Memory) : Type 0 where
   -- an answer that is no refusal is of an accepted packet, the answer Plain of a plain one
-  pub accepted_told : ((f : Refusal) → r.answer ≡ packets.Refused f → ⊥) → (p : Packet) × (judged flags m packet ≡ good p)
-  pub plain_told : (offset size : ℕ) → r.answer ≡ packets.Plain offset size
+  pub accepted_told : ((f : Refusal) → r.answer ≡ Err f → ⊥) → (p : Packet) × (judged flags m packet ≡ good p)
+  pub plain_told : (offset size : ℕ) → r.answer ≡ Ok (packets.Plain offset size)
       → (rs : List Reference) × ((bs : List ℕ) × (judged flags m packet ≡ good (plain rs offset bs)))
   -- a plain packet's list says what its header's references say, until the next plain packet is accepted
   pub of_plain : (rs : List Reference) (at : ℕ) (bs : List ℕ) → judged flags m packet ≡ good (plain rs at bs)

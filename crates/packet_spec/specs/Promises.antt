@@ -1,15 +1,11 @@
 -- What the packet calls and the word call promise: relations of what is lent to a call, what it answers and what it leaves.
-use Rattle.std.specs.Prelude.{◌≡◌, List, ℕ, ◌+◌, ◌≤◌, length}
+use Rattle.std.specs.Prelude.{◌≡◌, List, ℕ, ◌+◌, ◌≤◌, length, Ok, Err}
 use Rattle.term_spec.specs.AtomList.{AtomList}
 use Rattle.packet_spec.specs.declared.Pending.{Pending}
-use Rattle.packet_spec.specs.declared.Taken.{Taken}
-use Rattle.packet_spec.specs.declared.Settled.{Settled}
-use Rattle.packet_spec.specs.declared.WordAnswer.{WordAnswer}
-use Rattle.packet_spec.specs.declared.WordAnswer.TheVariants as words
 use Rattle.packet_spec.specs.Memory.{Cache, Memory}
 use Rattle.packet_spec.specs.Calls.{after_packet, cache_after_reset}
 use Rattle.packet_spec.specs.Words.{listed_word}
-use Rattle.packet_spec.specs.Answers.{taken_answer, drop_answer, reset_answer, word_answer, word_bytes}
+use Rattle.packet_spec.specs.Answers.{Taken, Settled, WordAnswer, taken_answer, drop_answer, reset_answer, word_answer, word_bytes}
 
 -- Taking a packet: the connection's flags, the memory lent; the answer with the record, and all memory after it
 pub record PacketCall (flags : ℕ) (packet : List ℕ) (m : Memory) (r : Taken) (m' : Memory) : Type 0 where
@@ -27,8 +23,8 @@ pub record ResetCall (c : Cache) (p : Pending) (r : Settled) (c' : Cache) : Type
 
 -- a word's stretch stays inside the list's places
 unfoldable pub WordInside : List ℕ → WordAnswer → Type 0
-WordInside places (words.Word start n) = start + n ≤ length places
-WordInside places (words.Refused refusal) = Unit {0}
+WordInside places (Ok w) = w.start + w.length ≤ length places
+WordInside places (Err refusal) = Unit {0}
 
 -- Where the word of reference i stands, with the connection's flags, by this list: settled whole, and inside the list's places
 pub record LocateWordCall (flags : ℕ) (list : AtomList) (i : ℕ) (answer : WordAnswer) : Type 0 where

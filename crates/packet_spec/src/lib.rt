@@ -24,40 +24,43 @@ pub struct Pending {
     pub gathered: u64,
 }
 
-// What taking a packet answers. Plain: the payload's offset and length in the packet. Pending: the id now due, the bytes gathered.
+// The record with no sequence pending.
+pub const NONE_PENDING: Pending = Pending {
+    sequence: 0,
+    due: 0,
+    gathered: 0,
+};
+
+// What an accepted packet answers. Plain: the payload's offset and length in the packet. Pending: the id now due, the bytes gathered.
 // Complete: the bytes gathered.
-#[derive(Drop)]
-pub enum PacketAnswer {
+#[derive(Clone, Copy)]
+pub enum PacketOutcome {
     Plain { offset: usize, length: usize },
     Pending { due: u64, gathered: u64 },
     Complete { gathered: u64 },
-    Refused(Refusal),
 }
+
+pub type PacketAnswer = Result<PacketOutcome, Refusal>;
 
 // What a drop or a reset answers.
-#[derive(Drop)]
-pub enum StateAnswer {
-    Done,
-    Refused(Refusal),
-}
+pub type StateAnswer = Result<(), Refusal>;
 
 // The text of a reference, by its message's list: its start and length along the list's places.
-#[derive(Drop)]
-pub enum WordAnswer {
-    Word { start: usize, length: usize },
-    Refused(Refusal),
+#[derive(Clone, Copy)]
+pub struct WordAt {
+    pub start: usize,
+    pub length: usize,
 }
 
-// What taking a packet answers, and the record as it is then.
+pub type WordAnswer = Result<WordAt, Refusal>;
+
+// What a call answers, and the record as it is then.
 #[derive(Drop)]
-pub struct Taken {
-    pub answer: PacketAnswer,
+pub struct After<A> {
+    pub answer: A,
     pub pending: Pending,
 }
 
-// What a drop or a reset answers, and the record as it is then.
-#[derive(Drop)]
-pub struct Settled {
-    pub answer: StateAnswer,
-    pub pending: Pending,
-}
+pub type Taken = After<PacketAnswer>;
+
+pub type Settled = After<StateAnswer>;
