@@ -5,6 +5,7 @@ use Prim.Native.Nat.{ℕ, ◌+◌, ◌≤◌, ◌<◌}
 use native.Mathlib.Omega.{arith}
 use lib.ListN.{length}
 use borrow.Author.Tests.{le-leb, lt-leb}
+use Rattle.std.proofs.Common.{Some, None}
 use Rattle.term_spec.proofs.Tests.{by_less}
 use Rattle.octets.specs.Parts.{value, counted_end}
 
@@ -12,18 +13,18 @@ module _ (m : List ℕ) (at w b : ℕ) where
   abbrev past : ℕ
   past = at + 1 + w + b + value m w (at + 1)
 
-  pub past_there : (n : ℕ) → n ≡ value m w (at + 1) → at + 1 + w + b + n ≤ length m → at + 1 + w + b + n ≡ counted_end m at w b
+  pub past_there : (n : ℕ) → n ≡ value m w (at + 1) → at + 1 + w + b + n ≤ length m → Some (at + 1 + w + b + n) ≡ counted_end m at w b
   unfolding counted_end
   past_there n e h = let g : past ≤ length m = omega arith in rw (le-leb past (length m) g, e)
 
-  pub past_cut : length m < past → 0 ≡ counted_end m at w b
+  pub past_cut : length m < past → None ≡ counted_end m at w b
   unfolding counted_end
   past_cut h = rw (lt-leb past (length m) h)
 
   -- what an answer says
-  pub past_some : {r : ℕ} → r ≡ counted_end m at w b → (r ≡ 0 → ⊥) → (r ≡ past) × (past ≤ length m)
-  past_some e some =
-      by_less (length m) past (λ short. let c = past_cut short in absurd (some (omega arith))) (λ there. let c = past_there _ refl there in (omega arith, there))
+  pub past_some : {r : ℕ} → Some r ≡ counted_end m at w b → (r ≡ past) × (past ≤ length m)
+  past_some {r} e =
+      by_less (length m) past (λ short. let c = past_cut short in absurd (cc)) (λ there. let c = past_there _ refl there in let same : r ≡ past = cc in (same, there))
 
-  pub past_none : {r : ℕ} → r ≡ counted_end m at w b → r ≡ 0 → length m < past
-  past_none e none = by_less (length m) past (λ short. short) (λ there. let c = past_there _ refl there in absurd (omega arith))
+  pub past_none : None ≡ counted_end m at w b → length m < past
+  past_none e = by_less (length m) past (λ short. short) (λ there. let c = past_there _ refl there in absurd (cc))

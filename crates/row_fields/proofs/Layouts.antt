@@ -9,6 +9,7 @@ use native.Mathlib.Omega.{arith}
 use lib.Dec.{eqb, leb, ltb}
 use lib.ListN.{length, get_or, take, drop}
 use borrow.Author.Tests.{ltb-true, leb-true}
+use Rattle.std.proofs.Common.{Some, None}
 use Rattle.term_spec.specs.Numbers.{little_endian, with_sign}
 use Rattle.term_spec.specs.Text.{Checked, valid, invalid_at, Coding, latin_1, utf_8, check}
 use Rattle.term_spec.specs.Term.{Label, integer, tuple, list, improper_list, binary, bitstring, map, pid, reference, export}
@@ -49,12 +50,12 @@ module _ (flags : ℕ) (atoms : AtomList) (m : List ℕ) (at r : ℕ) (less : at
   abbrev Ended : Form → Type 0
   Ended f = Holds (fields (given_of flags atoms) at f (at_offset m (at + 1) r)) (λ _ t. t.at ≡ atom_end m at)
 
-  text_ended : (tag w : ℕ) (c : Coding) → 0 < w → text_width tag ≡ w → get_or m at 0 ≡ tag → Ended (atom_ext c w)
+  text_ended : (tag w : ℕ) (c : Coding) → text_width tag ≡ Some w → get_or m at 0 ≡ tag → Ended (atom_ext c w)
   unfolding fields
-  text_ended tag w c k f e =
+  text_ended tag w c f e =
       bind (number_here m at w (at + 1) r (omega arith) λ a. bind (bytes_here m at (value m w (at + 1)) (at + 1 + w) r a λ b.
       bind (text_holds (check c (stretch m (at + 1 + w) (value m w (at + 1)))) 5 _ _ λ cs h.
-      done_holds _ _ (atom_ends m at w _ less (ap text_width e ∙ f) (end_there m at w _ refl k b)))))
+      done_holds _ _ (atom_ends m at (Some w) _ less (ap text_width e ∙ f) (end_there m at w _ refl b)))))
 
   node_ended : (tag : ℕ) (f : Form) → AtomForm tag f → get_or m at 0 ≡ tag → Ended f
   unfolding fields text_width
@@ -62,11 +63,11 @@ module _ (flags : ℕ) (atoms : AtomList) (m : List ℕ) (at r : ℕ) (less : at
       let q : at + 1 + 1 ≡ at + 2 = omega arith in
       bind (number_here m at 1 (at + 1) r (omega arith) λ a. bind (rule_holds (ltb (value m 1 (at + 1)) (given_of flags atoms).n) 6 at _ λ g.
       bind (text_holds ((given_of flags atoms).text (value m 1 (at + 1))) 14 _ _ λ cs h.
-      done_holds _ _ (q ∙ atom_ends m at 0 _ less (ap text_width e) (end_listed m at)))))
-  node_ended tag f is_100 e = text_ended 100 2 latin_1 (omega arith) refl e
-  node_ended tag f is_115 e = text_ended 115 1 latin_1 (omega arith) refl e
-  node_ended tag f is_118 e = text_ended 118 2 utf_8 (omega arith) refl e
-  node_ended tag f is_119 e = text_ended 119 1 utf_8 (omega arith) refl e
+      done_holds _ _ (q ∙ atom_ends m at None _ less (ap text_width e) (end_listed m at)))))
+  node_ended tag f is_100 e = text_ended 100 2 latin_1 refl e
+  node_ended tag f is_115 e = text_ended 115 1 latin_1 refl e
+  node_ended tag f is_118 e = text_ended 118 2 utf_8 refl e
+  node_ended tag f is_119 e = text_ended 119 1 utf_8 refl e
 
 node_ends : (flags : ℕ) (atoms : AtomList) (m : List ℕ) (at r : ℕ) → at ≤ length m → Holds (term_head (given_of flags atoms) an_atom (at_offset m at r)) (λ _ t. t.at ≡ atom_end m at)
 node_ends flags atoms m at r h = head_here m (given_of flags atoms) an_atom at r h λ less f e a. node_ended flags atoms m at r less (get_or m at 0) f (atom_form (get_or m at 0) f e a) refl
@@ -161,22 +162,22 @@ module _ (flags : ℕ) (atoms : AtomList) (m : List ℕ) (l : Lent atoms m) (cap
 
     -- ---- atoms
 
-    latin_row : (tag w : ℕ) → 0 < w → text_width tag ≡ w → ltb tag 118 ≡ true → Row tag (atom_ext latin_1 w)
+    latin_row : (tag w : ℕ) → text_width tag ≡ Some w → ltb tag 118 ≡ true → Row tag (atom_ext latin_1 w)
     unfolding fields kind_of
-    latin_row tag w k f g e =
+    latin_row tag w f g e =
         bind (number_here m p w (p + 1) r (omega arith) λ a. bind (bytes_here m p (value m w (p + 1)) (p + 1 + w) r a λ b.
         bind (text_holds (check latin_1 (stretch m (p + 1 + w) (value m w (p + 1)))) 5 _ _ λ cs h.
         done_holds _ _ (leaf_told _ _ (atom_says tag e _ (Text true false (p + 1 + w) (value m w (p + 1)))
-        (text_there m p w _ true refl b ∙ tag_text m p atoms.places atoms.lengths tag w true f k g)
+        (text_there m p w _ true refl b ∙ tag_text m p atoms.places atoms.lengths tag w true f g)
         (latin_says atoms m 3 (p + 1 + w) (value m w (p + 1)) cs l.under b h))))))
 
-    utf8_row : (tag w : ℕ) → 0 < w → text_width tag ≡ w → ltb tag 118 ≡ false → Row tag (atom_ext utf_8 w)
+    utf8_row : (tag w : ℕ) → text_width tag ≡ Some w → ltb tag 118 ≡ false → Row tag (atom_ext utf_8 w)
     unfolding fields kind_of
-    utf8_row tag w k f g e =
+    utf8_row tag w f g e =
         bind (number_here m p w (p + 1) r (omega arith) λ a. bind (bytes_here m p (value m w (p + 1)) (p + 1 + w) r a λ b.
         bind (text_holds (check utf_8 (stretch m (p + 1 + w) (value m w (p + 1)))) 5 _ _ λ cs h.
         done_holds _ _ (leaf_told _ _ (atom_says tag e _ (Text false false (p + 1 + w) (value m w (p + 1)))
-        (text_there m p w _ false refl b ∙ tag_text m p atoms.places atoms.lengths tag w false f k g)
+        (text_there m p w _ false refl b ∙ tag_text m p atoms.places atoms.lengths tag w false f g)
         (utf8_says atoms m 3 false (p + 1 + w) (value m w (p + 1)) cs b h))))))
 
     row_82 : Row 82 atom_cache_ref
@@ -350,10 +351,10 @@ module _ (flags : ℕ) (atoms : AtomList) (m : List ℕ) (l : Lent atoms m) (cap
         (also (big_row 110 1 (tag_110 m p))
         (also (big_row 111 4 (tag_111 m p))
         (also row_70
-        (also (latin_row 100 2 (omega arith) refl refl)
-        (also (latin_row 115 1 (omega arith) refl refl)
-        (also (utf8_row 118 2 (omega arith) refl refl)
-        (also (utf8_row 119 1 (omega arith) refl refl)
+        (also (latin_row 100 2 refl refl)
+        (also (latin_row 115 1 refl refl)
+        (also (utf8_row 118 2 refl refl)
+        (also (utf8_row 119 1 refl refl)
         (also row_82
         (also (tuple_row 104 1)
         (also (tuple_row 105 4)

@@ -1,21 +1,29 @@
 -- What is found where the fields are there, one law for each layout and each tag.
-use mathlib.Core.Path.{◌≡◌, refl, sym, ◌∙◌, ap, ap₂}
-use mathlib.Core.Bool.{Bool, true, false, cond}
+use mathlib.Core.Path.{◌≡◌, refl, sym, ◌∙◌, ap}
+use mathlib.Core.Bool.{Bool, true, false}
 use mathlib.Core.List.{List}
 use Prim.Native.Nat.{ℕ, ◌+◌, ◌*◌, ◌≤◌, ◌<◌}
 use native.Mathlib.Omega.{arith}
-use lib.Dec.{eqb, ltb}
+use lib.Dec.{ltb}
 use lib.ListN.{length, get_or}
+use Rattle.std.proofs.Common.{Option, Some, None}
+use Rattle.std.specs.Option.{unwrap_or}
 use Rattle.octets.specs.Parts.{counted_end}
 use Rattle.octets.proofs.Counted.{past_there}
-use Rattle.row_fields.specs.declared.Content.TheVariants.{Whole, Float, Text, Bytes, Pid, Port, Reference}
-use Rattle.row_fields.specs.Found.{value, stripped, byte_found, signed_whole, signed_found, stripped_found, big_found, integer_found, float_found, text_width, text_found, place_found, listed_found, atom_found, text_end, atom_end, bytes_found, bits_of, bits_found, binary_found, pid_found, port_found, words_found, word_found, counted_found, pids_found, ports_found, references_found}
-use Rattle.row_fields.proofs.Tests.{enough, above, unequal}
+use Rattle.row_fields.specs.declared.Content.{Content}
+use Rattle.row_fields.specs.declared.Content.TheVariants.{Nothing, Whole, Float, Text, Bytes, Pid, Port, Reference}
+use Rattle.row_fields.specs.Found.{value, if_counted, stripped, byte_found, signed_whole, signed_found, stripped_found, big_found, integer_found, float_found, text_width, text_found, place_found, listed_found, atom_found, text_end, atom_end, bytes_found, bits_of, bits_found, binary_found, pid_found, port_found, words_found, word_found, counted_found, pids_found, ports_found, references_found}
+use Rattle.row_fields.proofs.Tests.{enough, above}
 
 -- a length in w bytes after the tag at `at`, and so many bytes with b before them
-counted : {A : Type 0} {z y : A} (a : A) (m : List ℕ) (w at b n : ℕ) → value m w (at + 1) ≡ n → at + 1 + w + b + n ≤ length m → z ≡ y
-    → z ≡ cond (eqb (counted_end m at w b) 0) a y
-counted a m w at b n e h f = unequal a (past_there m at w b n (sym e) h) refl (λ z. omega arith) f
+counted : {z y : Content} (m : List ℕ) (w at b n : ℕ) → value m w (at + 1) ≡ n → at + 1 + w + b + n ≤ length m → z ≡ y → z ≡ if_counted (counted_end m at w b) y
+unfolding if_counted
+counted {z} {y} m w at b n e h f = f ∙ ap (λ (o : Option ℕ). if_counted o y) (past_there m at w b n (sym e) h)
+
+-- and where they are cut
+pub uncounted : (m : List ℕ) (at w b : ℕ) (y : Content) → None ≡ counted_end m at w b → Nothing ≡ if_counted (counted_end m at w b) y
+unfolding if_counted
+uncounted m at w b y e = ap (λ (o : Option ℕ). if_counted o y) e
 
 module _ (m : List ℕ) (at : ℕ) where
   pub byte_there : at + 1 ≤ length m → Whole false (value m 1 at) ≡ byte_found m at
@@ -30,7 +38,7 @@ module _ (m : List ℕ) (at : ℕ) where
       → stripped_found m (ltb 0 (value m 1 (at + 1 + w))) (at + 2 + w) (stripped m (at + 2 + w) n) ≡ big_found m w at
   unfolding big_found
   big_there w n e h =
-      counted _ m w at 1 n e (omega arith) (ap (λ (x : ℕ). stripped_found m (ltb 0 (value m 1 (at + 1 + w))) (at + 2 + w) (stripped m (at + 2 + w) x)) (sym e))
+      counted m w at 1 n e (omega arith) (ap (λ (x : ℕ). stripped_found m (ltb 0 (value m 1 (at + 1 + w))) (at + 2 + w) (stripped m (at + 2 + w) x)) (sym e))
 
   pub float_there : at + 9 ≤ length m → Float (value m 8 (at + 1)) ≡ float_found m at
   unfolding float_found
@@ -38,28 +46,29 @@ module _ (m : List ℕ) (at : ℕ) where
 
   pub text_there : (w n : ℕ) (latin1 : Bool) → value m w (at + 1) ≡ n → at + 1 + w + n ≤ length m → Text latin1 false (at + 1 + w) n ≡ text_found m w latin1 at
   unfolding text_found
-  text_there w n latin1 e h = counted _ m w at 0 n e (omega arith) (ap (Text latin1 false (at + 1 + w)) (sym e))
+  text_there w n latin1 e h = counted m w at 0 n e (omega arith) (ap (Text latin1 false (at + 1 + w)) (sym e))
 
-  pub end_there : (w n : ℕ) → value m w (at + 1) ≡ n → 0 < w → at + 1 + w + n ≤ length m → at + 1 + w + n ≡ text_end m w at
+  pub end_there : (w n : ℕ) → value m w (at + 1) ≡ n → at + 1 + w + n ≤ length m → at + 1 + w + n ≡ text_end m (Some w) at
   unfolding text_end
-  end_there w n e k h =
-      unequal {x = w} {k = 0} _ refl refl (λ z. omega arith) (counted _ m w at 0 n e (omega arith) (let g : at + 1 + w + 0 + n ≡ counted_end m at w 0 = past_there m at w 0 n (sym e) (omega arith) in omega arith))
+  end_there w n e h =
+      let g : at + 1 + w + n ≡ at + 1 + w + 0 + n = omega arith in
+      g ∙ ap (λ (o : Option ℕ). unwrap_or o (length m)) (past_there m at w 0 n (sym e) (omega arith))
 
-  pub end_listed : at + 2 ≡ text_end m 0 at
+  pub end_listed : at + 2 ≡ text_end m None at
   unfolding text_end
   end_listed = refl
 
-  pub atom_ends : (w n : ℕ) → at < length m → text_width (get_or m at 0) ≡ w → n ≡ text_end m w at → n ≡ atom_end m at
+  pub atom_ends : (w : Option ℕ) (n : ℕ) → at < length m → text_width (get_or m at 0) ≡ w → n ≡ text_end m w at → n ≡ atom_end m at
   unfolding atom_end
-  atom_ends w n h e f = enough _ (length m) at 1 1 refl (omega arith) (f ∙ ap (λ (x : ℕ). text_end m x at) (sym e))
+  atom_ends w n h e f = enough _ (length m) at 1 1 refl (omega arith) (f ∙ ap (λ (x : Option ℕ). text_end m x at) (sym e))
 
   pub bytes_there : (n : ℕ) → value m 4 (at + 1) ≡ n → at + 5 + n ≤ length m → Bytes (at + 5) n ≡ bytes_found m at
   unfolding bytes_found
-  bytes_there n e h = counted _ m 4 at 0 n e (omega arith) (ap (Bytes (at + 5)) (sym e))
+  bytes_there n e h = counted m 4 at 0 n e (omega arith) (ap (Bytes (at + 5)) (sym e))
 
   pub bits_there : (n : ℕ) → value m 4 (at + 1) ≡ n → at + 6 + n ≤ length m → bits_of (value m 1 (at + 5)) (at + 6) n ≡ bits_found m at
   unfolding bits_found
-  bits_there n e h = counted _ m 4 at 1 n e (omega arith) (ap (bits_of (value m 1 (at + 5)) (at + 6)) (sym e))
+  bits_there n e h = counted m 4 at 1 n e (omega arith) (ap (bits_of (value m 1 (at + 5)) (at + 6)) (sym e))
 
   pub listed_there : (places lengths : List ℕ) → at + 2 ≤ length m → place_found places lengths (value m 1 (at + 1)) ≡ listed_found m places lengths at
   unfolding listed_found
@@ -112,11 +121,18 @@ module _ (m : List ℕ) (at : ℕ) where
   unfolding atom_found text_width
   tag_82 places lengths = refl
 
-  -- an atom's tag with the width of its length, and its coding
-  pub tag_text : (places lengths : List ℕ) (tag w : ℕ) (latin1 : Bool) → text_width tag ≡ w → 0 < w → ltb tag 118 ≡ latin1 → text_found m w latin1 at ≡ atom_found m places lengths at tag
+  -- an atom's text, by the width of its length
+  abbrev text_by : List ℕ → List ℕ → ℕ → Option ℕ → Content
+  text_by places lengths tag (Some w) = text_found m w (ltb tag 118) at
+  text_by places lengths tag None = listed_found m places lengths at
+
+  pub by_width : (places lengths : List ℕ) (tag : ℕ) (width : Option ℕ) → width ≡ text_width tag → text_by places lengths tag width ≡ atom_found m places lengths at tag
   unfolding atom_found
-  tag_text places lengths tag w latin1 e k f =
-      unequal {x = w} {k = 0} _ (sym e) refl (λ z. omega arith) (ap₂ (λ (x : ℕ) (y : Bool). text_found m x y at) (sym e) (sym f))
+  by_width places lengths tag width e = ap (text_by places lengths tag) e
+
+  -- an atom's tag with the width of its length, and its coding
+  pub tag_text : (places lengths : List ℕ) (tag w : ℕ) (latin1 : Bool) → text_width tag ≡ Some w → ltb tag 118 ≡ latin1 → text_found m w latin1 at ≡ atom_found m places lengths at tag
+  tag_text places lengths tag w latin1 e f = ap (λ (x : Bool). text_found m w x at) (sym f) ∙ by_width places lengths tag (Some w) (sym e)
 
   pub tag_77 : bits_found m at ≡ binary_found m at 77
   unfolding binary_found

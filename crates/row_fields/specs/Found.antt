@@ -1,12 +1,17 @@
 -- The own fields of the term whose tag stands at an offset of the message, as they are found again: total, with the tests of the code in their order.
 -- The message was read before, so nothing is judged again: fields that are not there are Nothing.
 -- About the code alone, proved against the definitions of term_spec: nothing here has to be believed.
-use Rattle.std.specs.Prelude.{Bool, true, false, cond, List, ℕ, zero, suc, ◌+◌, ◌*◌, ◌-◌, eqb, leb, ltb, length, get_or, take, drop}
+use Rattle.std.specs.Prelude.{Bool, true, false, cond, List, ℕ, zero, suc, ◌+◌, ◌*◌, ◌-◌, eqb, leb, ltb, length, get_or, take, drop, Option, Some, None, unwrap_or}
 use Rattle.term_spec.specs.Numbers.{little_endian}
 pub use Rattle.octets.specs.Parts.{Width, value}
 use Rattle.octets.specs.Parts.{counted_end}
 use Rattle.row_fields.specs.declared.Content.{Content}
 use Rattle.row_fields.specs.declared.Content.TheVariants.{Nothing, Whole, Big, Float, Text, Bytes, Bits, Pid, Port, Reference}
+
+-- a content where the message has the bytes that are counted
+unfoldable pub if_counted : Option ℕ → Content → Content
+if_counted None c = Nothing
+if_counted (Some end) c = c
 
 -- the number of digits, of the n from `start` on, up to the highest that is not zero
 unfoldable pub stripped : List ℕ → ℕ → ℕ → ℕ
@@ -35,7 +40,7 @@ stripped_found m negative start n =
 -- an integer by its sign and digits, with w bytes of their number
 unfoldable pub big_found : List ℕ → ℕ → ℕ → Content
 big_found m w at =
-    cond (eqb (counted_end m at w 1) 0) Nothing
+    if_counted (counted_end m at w 1)
     (stripped_found m (ltb 0 (value m 1 (at + 1 + w))) (at + 2 + w) (stripped m (at + 2 + w) (value m w (at + 1))))
 
 unfoldable pub integer_found : List ℕ → ℕ → ℕ → Content
@@ -48,13 +53,13 @@ integer_found m at tag =
 unfoldable pub float_found : List ℕ → ℕ → Content
 float_found m at = cond (ltb (length m - at) 9) Nothing (Float (value m 8 (at + 1)))
 
--- the width of an atom's length; 0 for tag 82, which has none
-unfoldable pub text_width : ℕ → ℕ
-text_width tag = cond (eqb tag 100) 2 (cond (eqb tag 118) 2 (cond (eqb tag 115) 1 (cond (eqb tag 119) 1 0)))
+-- the width of an atom's length; None for tag 82, which has none
+unfoldable pub text_width : ℕ → Option ℕ
+text_width tag = cond (eqb tag 100) (Some 2) (cond (eqb tag 118) (Some 2) (cond (eqb tag 115) (Some 1) (cond (eqb tag 119) (Some 1) None)))
 
 -- an atom's text in the message
 unfoldable pub text_found : List ℕ → ℕ → Bool → ℕ → Content
-text_found m w latin1 at = cond (eqb (counted_end m at w 0) 0) Nothing (Text latin1 false (at + 1 + w) (value m w (at + 1)))
+text_found m w latin1 at = if_counted (counted_end m at w 0) (Text latin1 false (at + 1 + w) (value m w (at + 1)))
 
 -- the text of the list's place i
 unfoldable pub place_found : List ℕ → List ℕ → ℕ → Content
@@ -68,25 +73,26 @@ listed_found m places lengths at = cond (ltb (length m - at) 2) Nothing (place_f
 
 unfoldable pub atom_found : List ℕ → List ℕ → List ℕ → ℕ → ℕ → Content
 atom_found m places lengths at tag =
-    cond (eqb (text_width tag) 0) (listed_found m places lengths at) (text_found m (text_width tag) (ltb tag 118) at)
+    elim (text_width tag) [ Some w ↦ text_found m w (ltb tag 118) at | None ↦ listed_found m places lengths at ]
 
 -- where an atom of the message ends
-unfoldable pub text_end : List ℕ → ℕ → ℕ → ℕ
-text_end m w at = cond (eqb w 0) (at + 2) (cond (eqb (counted_end m at w 0) 0) (length m) (counted_end m at w 0))
+unfoldable pub text_end : List ℕ → Option ℕ → ℕ → ℕ
+text_end m (Some w) at = unwrap_or (counted_end m at w 0) (length m)
+text_end m None at = at + 2
 
 unfoldable pub atom_end : List ℕ → ℕ → ℕ
 atom_end m at = cond (ltb (length m - at) 1) (length m) (text_end m (text_width (get_or m at 0)) at)
 
 -- bytes, and bytes of whose last one some bits count
 unfoldable pub bytes_found : List ℕ → ℕ → Content
-bytes_found m at = cond (eqb (counted_end m at 4 0) 0) Nothing (Bytes (at + 5) (value m 4 (at + 1)))
+bytes_found m at = if_counted (counted_end m at 4 0) (Bytes (at + 5) (value m 4 (at + 1)))
 
 unfoldable pub bits_of : ℕ → ℕ → ℕ → Content
 bits_of bits start n = cond (eqb bits 0) (Bytes start n) (cond (eqb bits 8) (Bytes start n) (Bits bits start n))
 
 unfoldable pub bits_found : List ℕ → ℕ → Content
 bits_found m at =
-    cond (eqb (counted_end m at 4 1) 0) Nothing (bits_of (value m 1 (at + 5)) (at + 6) (value m 4 (at + 1)))
+    if_counted (counted_end m at 4 1) (bits_of (value m 1 (at + 5)) (at + 6) (value m 4 (at + 1)))
 
 unfoldable pub binary_found : List ℕ → ℕ → ℕ → Content
 binary_found m at tag = cond (eqb tag 77) (bits_found m at) (bytes_found m at)

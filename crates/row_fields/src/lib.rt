@@ -1,7 +1,7 @@
 // The own fields of a row's term, found again in the message and the atom list. The message was read before: only bounds are tested.
 #![tactic(auto)]
 
-ghost use Rattle.std.specs.Prelude.{◌≡◌, ◌+◌, ◌-◌, ◌≤◌, ◌<◌, length, get_or, take, drop};
+ghost use Rattle.std.specs.Prelude.{◌≡◌, ◌+◌, ◌-◌, ◌≤◌, ◌<◌, length, get_or, take, drop, MatchOption, ⊤};
 ghost use Rattle.term_spec.specs.Numbers.{little_endian};
 ghost use Rattle.row_fields.specs.Found.{Width, stripped, byte_found, signed_whole, signed_found, integer_of, stripped_found, big_found, integer_found, float_found, text_width, text_found, place_found, listed_found, atom_found, text_end, atom_end, bytes_found, bits_of, bits_found, binary_found, pid_found, port_found, words_found, word_found, counted_found, pids_found, ports_found, references_found, content_of};
 
@@ -174,10 +174,9 @@ fn big(msg: &[u8], w: usize, at: usize) -> Content
     requires { Width w × (at < length msg.now) }
     ensures { result ≡ big_found msg.now w at }
 {
-    let end = octets::past_counted(msg, at, w, 1);
-    if end == 0 {
+    let Some(end) = octets::past_counted(msg, at, w, 1) else {
         return Content::Nothing;
-    }
+    };
     let start = at + 2 + w;
     let negative = 0 < octets::big1(msg, at + 1 + w);
     of_digits(msg, negative, start, strip(msg, start, end - start))
@@ -208,16 +207,14 @@ fn float(msg: &[u8], at: usize) -> Content
     Content::Float { bits: bits }
 }
 
-// The width of the length of an atom with this tag; 0 for one of the list, which has none.
-fn width_of(tag: u8) -> usize
-    ensures { (result ≡ text_width tag) × (result ≤ 2) × ((result ≡ 0 → ⊥) → Width result) }
+// The width of the length of an atom with this tag; None for one of the list, which has none.
+fn width_of(tag: u8) -> Option<usize>
+    ensures { (result ≡ text_width tag) × MatchOption result ⊤ Width }
 {
     match tag {
-        tags::ATOM_EXT => 2,
-        tags::ATOM_UTF8_EXT => 2,
-        tags::SMALL_ATOM_EXT => 1,
-        tags::SMALL_ATOM_UTF8_EXT => 1,
-        _ => 0,
+        tags::ATOM_EXT | tags::ATOM_UTF8_EXT => Some(2),
+        tags::SMALL_ATOM_EXT | tags::SMALL_ATOM_UTF8_EXT => Some(1),
+        _ => None,
     }
 }
 
@@ -226,10 +223,9 @@ fn text(msg: &[u8], w: usize, latin1: bool, at: usize) -> Content
     requires { Width w × (at < length msg.now) }
     ensures { result ≡ text_found msg.now w latin1 at }
 {
-    let end = octets::past_counted(msg, at, w, 0);
-    if end == 0 {
+    let Some(end) = octets::past_counted(msg, at, w, 0) else {
         return Content::Nothing;
-    }
+    };
     let start = at + 1 + w;
     Content::Text {
         latin1: latin1,
@@ -283,25 +279,20 @@ fn atom(msg: &[u8], places: &[u8], lengths: &[u16], at: usize, tag: u8) -> Conte
     requires { at < length msg.now }
     ensures { result ≡ atom_found msg.now places.now lengths.now at tag }
 {
-    let w = width_of(tag);
-    if w == 0 {
-        return listed(msg, places, lengths, at);
+    match width_of(tag) {
+        Some(w) => text(msg, w, tag < tags::ATOM_UTF8_EXT, at),
+        None => listed(msg, places, lengths, at),
     }
-    text(msg, w, tag < tags::ATOM_UTF8_EXT, at)
 }
 
-fn text_end(msg: &[u8], w: usize, at: usize) -> usize
-    requires { ((w ≡ 0 → ⊥) → Width w) × (w ≤ 8) × (at < length msg.now) }
-    ensures { result ≡ text_end msg.now w at }
+fn text_end(msg: &[u8], width: Option<usize>, at: usize) -> usize
+    requires { MatchOption width ⊤ Width × (at < length msg.now) }
+    ensures { result ≡ text_end msg.now width at }
 {
-    if w == 0 {
-        return at + 2;
+    match width {
+        Some(w) => octets::past_counted(msg, at, w, 0).unwrap_or(msg.len()),
+        None => at + 2,
     }
-    let end = octets::past_counted(msg, at, w, 0);
-    if end == 0 {
-        return msg.len();
-    }
-    end
 }
 
 // Where the atom whose tag is at `at` ends.
@@ -319,10 +310,9 @@ fn bytes(msg: &[u8], at: usize) -> Content
     requires { at < length msg.now }
     ensures { result ≡ bytes_found msg.now at }
 {
-    let end = octets::past_counted(msg, at, 4, 0);
-    if end == 0 {
+    let Some(end) = octets::past_counted(msg, at, 4, 0) else {
         return Content::Nothing;
-    }
+    };
     Content::Bytes {
         start: at + 5,
         length: end - (at + 5),
@@ -356,10 +346,9 @@ fn bits(msg: &[u8], at: usize) -> Content
     requires { at < length msg.now }
     ensures { result ≡ bits_found msg.now at }
 {
-    let end = octets::past_counted(msg, at, 4, 1);
-    if end == 0 {
+    let Some(end) = octets::past_counted(msg, at, 4, 1) else {
         return Content::Nothing;
-    }
+    };
     of_bits(octets::big1(msg, at + 5), at + 6, end - (at + 6))
 }
 

@@ -30,4 +30,4 @@ pub returns-in-7 : goal.returns-in-7
 returns-in-7 c = (ap (λ (k : ℕ). 2 ^ (8 - k)) (sym c.in-7.is), omega arith)
 
 pub returns-in_default : goal.returns-in_default
-returns-in_default c = (sym (ap (λ (k : ℕ). 2 ^ k) (no_bits_left c.args.bits c.in_default.in_default-own.rest.0.0.0.0.0.0.0.1 c.in_default.in_default-own.rest.0.0.0.0.0.0.1 c.in_default.in_default-own.rest.0.0.0.0.0.1 c.in_default.in_default-own.rest.0.0.0.0.1 c.in_default.in_default-own.rest.0.0.0.1 c.in_default.in_default-own.rest.0.0.1 c.in_default.in_default-own.rest.0.1 c.in_default.in_default-own.rest.1)), omega arith)
+returns-in_default c = (sym (ap (λ (k : ℕ). 2 ^ k) (no_bits_left c.args.bits (λ e. omega arith) (λ e. omega arith) (λ e. omega arith) (λ e. omega arith) (λ e. omega arith) (λ e. omega arith) (λ e. omega arith) (λ e. omega arith))), omega arith)

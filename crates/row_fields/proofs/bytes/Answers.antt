@@ -1,18 +1,12 @@
 -- `bytes` meets its contract.
-use mathlib.Core.Path.{refl}
 use native.Mathlib.Omega.{arith}
-use Rattle.octets.proofs.Counted.{past_some}
 use Rattle.row_fields.specs.Found.{bytes_found}
-use Rattle.row_fields.proofs.Tests.{equal}
-use Rattle.row_fields.proofs.There.{bytes_there}
+use Rattle.row_fields.proofs.There.{uncounted, bytes_there}
 use Rattle.row_fields.proofs.bytes.Goals as goal
 
-pub returns-then-end-eq0 : goal.returns-then-end-eq0
+pub returns-in_default : goal.returns-in_default
 unfolding bytes_found
-returns-then-end-eq0 c = equal _ c.past_counted-end.ensures refl c.if-end-eq0.true refl
-
-pub overflow_sub-result : goal.overflow_sub-result
-overflow_sub-result c = let t = past_some _ _ _ _ c.past_counted-end.ensures c.if-end-eq0.false in omega (arith, t.0, t.1)
+returns-in_default c = uncounted _ _ _ _ _ c.in_default.ensures.0
 
 pub returns : goal.returns
-returns c = let t = past_some _ _ _ _ c.past_counted-end.ensures c.if-end-eq0.false in bytes_there _ _ _ (omega (arith, t.0, t.1)) (omega (arith, t.0, t.1))
+returns c = let t = c.in-Some.ensures.1 in bytes_there _ _ _ (omega (arith, t.0)) (omega (arith, t.0, t.1))

@@ -1,5 +1,6 @@
 -- `content_at` meets its contract.
 use mathlib.Core.Path.{refl, ◌∙◌}
+use native.Mathlib.Omega.{arith}
 use Rattle.row_fields.specs.Found.{content_of}
 use Rattle.row_fields.proofs.ByKind.{kind_1, kind_2, kind_3, kind_7, kind_8, kind_10, kind_11, kind_12, kind_14, kind_other}
 use Rattle.row_fields.proofs.Tests.{at_most, above}
@@ -47,4 +48,4 @@ returns-in-14 c = above _ refl refl c.if-msg-offset.false (c.byte.ensures ∙ ki
 
 pub returns-in_default : goal.returns-in_default
 unfolding content_of
-returns-in_default c = above _ refl refl c.if-msg-offset.false (kind_other c.args.msg.now c.args.places.now c.args.lengths.now c.args.offset c.args.kind c.in_default.in_default-own.rest.0.0.0.0.0.0.0.0.1 c.in_default.in_default-own.rest.0.0.0.0.0.0.0.1 c.in_default.in_default-own.rest.0.0.0.0.0.0.1 c.in_default.in_default-own.rest.0.0.0.0.0.1 c.in_default.in_default-own.rest.0.0.0.0.1 c.in_default.in_default-own.rest.0.0.0.1 c.in_default.in_default-own.rest.0.0.1 c.in_default.in_default-own.rest.0.1 c.in_default.in_default-own.rest.1)
+returns-in_default c = above _ refl refl c.if-msg-offset.false (kind_other c.args.msg.now c.args.places.now c.args.lengths.now c.args.offset c.args.kind (λ e. omega arith) (λ e. omega arith) (λ e. omega arith) (λ e. omega arith) (λ e. omega arith) (λ e. omega arith) (λ e. omega arith) (λ e. omega arith) (λ e. omega arith))

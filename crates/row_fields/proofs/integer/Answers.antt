@@ -30,4 +30,4 @@ returns-in-111 c = c.big-in-111.ensures ∙ sym (ap (integer_found c.args.msg.no
 
 pub returns-in_default : goal.returns-in_default
 unfolding integer_found
-returns-in_default c = sym (simp (ne_eqb c.args.tag 97 c.in_default.in_default-own.rest.0.0.0.1, ne_eqb c.args.tag 98 c.in_default.in_default-own.rest.0.0.1, ne_eqb c.args.tag 110 c.in_default.in_default-own.rest.0.1, ne_eqb c.args.tag 111 c.in_default.in_default-own.rest.1))
+returns-in_default c = sym (simp (ne_eqb c.args.tag 97 (λ e. omega arith), ne_eqb c.args.tag 98 (λ e. omega arith), ne_eqb c.args.tag 110 (λ e. omega arith), ne_eqb c.args.tag 111 (λ e. omega arith)))

@@ -1,21 +1,17 @@
 -- `text_end` meets its contract.
-use mathlib.Core.Path.{refl}
-use native.Mathlib.Omega.{arith}
+use mathlib.Core.Path.{sym, ◌∙◌, ap}
+use Rattle.std.proofs.Common.{Option}
+use Prim.Native.Nat.{ℕ}
+use Rattle.std.specs.Option.{unwrap_or}
+use lib.ListN.{length}
 use Rattle.row_fields.specs.Found.{text_end}
-use Rattle.row_fields.proofs.Tests.{equal, unequal}
 use Rattle.row_fields.proofs.text_end.Goals as goal
 
-pub returns-then-w-eq0 : goal.returns-then-w-eq0
+pub returns-in-Some : goal.returns-in-Some
 unfolding text_end
-returns-then-w-eq0 c = equal _ refl refl c.if-w-eq0.true refl
+returns-in-Some c = let a = c.args in
+    c.unwrap_or.ensures ∙ ap (λ (o : Option ℕ). unwrap_or o (length a.msg.now)) c.past_counted.ensures.0 ∙ sym (ap (λ (o : Option ℕ). text_end a.msg.now o a.at) c.in-Some.is)
 
-pub past_counted-end-requires : goal.past_counted-end-requires
-past_counted-end-requires c = (omega arith, c.requires.0 c.if-w-eq0.false, omega arith)
-
-pub returns-then-end-eq0 : goal.returns-then-end-eq0
+pub returns-in-None : goal.returns-in-None
 unfolding text_end
-returns-then-end-eq0 c = unequal _ refl refl c.if-w-eq0.false (equal _ c.past_counted-end.ensures refl c.if-end-eq0.true refl)
-
-pub returns : goal.returns
-unfolding text_end
-returns c = unequal _ refl refl c.if-w-eq0.false (unequal _ c.past_counted-end.ensures refl c.if-end-eq0.false c.past_counted-end.ensures)
+returns-in-None c = let a = c.args in sym (ap (λ (o : Option ℕ). text_end a.msg.now o a.at) c.in-None.is)
