@@ -3,6 +3,7 @@ use mathlib.Core.Path.{◌≡◌, refl, sym, ap, ap₂, ◌∙◌}
 use mathlib.Core.Bool.{Bool, true, false}
 use mathlib.Core.List.{List, [], ◌∷◌, ◌++◌, append-nil}
 use mathlib.Core.Option as option
+use Rattle.std.specs.Prelude.{Some, None, Ok, Err}
 use Prim.Native.Nat.{ℕ, ◌+◌, ◌-◌, ◌≤◌, ◌<◌, min}
 use native.Mathlib.Omega.{arith}
 use lib.Dec.{leb}
@@ -12,7 +13,7 @@ use borrow.Author.Tests.{eq-eqb, ne_eqb, le-leb, lt-leb, leb-true}
 use Rattle.term_spec.specs.Tree.{empty, ◌▹◌, count, size, sizes, EachNode}
 use Rattle.term_spec.specs.Connection.{flags_known}
 use Rattle.term_spec.specs.Answer.{Answer, good, refused, Position, at_offset, Reading, after, done}
-use Rattle.term_spec.specs.Answers.{read_answer}
+use Rattle.term_spec.specs.Answers.{ReadAnswer, read_answer}
 use Rattle.term_spec.specs.Promises.{ReadCall}
 use Rattle.term_spec.specs.AtomList.{AtomList, of_size, given_of, lent_list}
 use Rattle.term_spec.specs.Head.{Given, any}
@@ -20,9 +21,6 @@ use Rattle.term_spec.specs.Message as message
 use Rattle.term_spec.specs.Message.{Terms, version, ending, standalone_term, payload_terms, terms_framed, result_of, first_check, read}
 use Rattle.term_spec.specs.Reading.{Located, term}
 use Rattle.term_spec.specs.Rows.{Row, tree_rows, rows, row_words, table_after, Placed}
-use Rattle.term_spec.specs.declared.Refusal.{Refusal}
-use Rattle.term_spec.specs.declared.ReadAnswer.{ReadAnswer}
-use Rattle.term_spec.specs.declared.ReadAnswer.TheVariants as reads
 use Rattle.term_spec.proofs.Rows.{length_rows}
 use Rattle.term_spec.proofs.Words.{length_words_of}
 use Rattle.octets.specs.Cleared.{cleared}
@@ -38,7 +36,10 @@ use Rattle.term_reader.proofs.Runs.{after_same}
 use Rattle.term_reader.proofs.Found.{Found, step_found, step_refused, joined_words}
 
 abbrev pub refusal : ℕ → ℕ → ReadAnswer
-refusal n p = reads.Refused (record { number = n; place = p })
+refusal n p = Err (record { number = n; place = p })
+
+abbrev pub terms_read : ℕ → ℕ → ReadAnswer
+terms_read n r = Ok (record { terms = n; rows = r })
 
 -- the bytes left after a term: some, or none
 left_over : (m : List ℕ) (at r : ℕ) → at < length m → ending (drop at m) (at_offset m at r) ≡ refused 10 at
@@ -51,11 +52,11 @@ none_left m at r h = rw (drop_of_length-le m h)
 
 -- one term is read and nothing is left
 one_done : (m : List ℕ) (cap : ℕ) (T T' : List ℕ) (t : Located) (next end : ℕ) → T' ≡ sets T 0 (row_words (tree_rows (whole_of 0) 0 t)) → next ≤ length m → end ≡ 0 + size t → end ≤ cap
-    → MessageDone m cap T (good (t ▹ empty, at_offset m next end)) (reads.Terms 1 end) T'
+    → MessageDone m cap T (good (t ▹ empty, at_offset m next end)) (terms_read 1 end) T'
 unfolding Done rows whole_of
 one_done m cap T T' t next end e near f room =
     let a : end ≡ 0 + (size t + 0) = omega arith in (
-      ap (reads.Terms 1) a,
+      ap (terms_read 1) a,
       record {
         table_is = e ∙ ap (λ (rs : List Row). sets T 0 (row_words rs)) (sym (append-nil (tree_rows option.none 0 t)));
         stands = ap (λ (k : ℕ). at_offset m next k) a;
@@ -107,7 +108,7 @@ module _ (given : Given) (cap : ℕ) (m : List ℕ) (T : List ℕ) where
       unfolding standalone_term Done
       standalone_over U h = rw (version_there m some first, only.is, left_over m next end h)
 
-      pub standalone_one : length m ≤ next → StandaloneDone (reads.Terms 1 end) T'
+      pub standalone_one : length m ≤ next → StandaloneDone (terms_read 1 end) T'
       unfolding standalone_term
       standalone_one h =
           rw (version_there m some first, only.is, none_left m next end h)
@@ -147,7 +148,7 @@ module _ (given : Given) (cap : ℕ) (m : List ℕ) (T : List ℕ) (r : Step) (T
         rest_is t [] s = refl
         rest_is t (b ∷ bs) s = refl
 
-    pub payload_one : length m ≤ next → PayloadDone (reads.Terms 1 end) T'
+    pub payload_one : length m ≤ next → PayloadDone (terms_read 1 end) T'
     payload_one h =
         rw (payload_is ∙ ap (λ (l : List ℕ). rest given cap one.x l (at_offset m next end)) (drop_of_length-le m h)) (one_done m cap T T' one.x next end one.table_is one.near one.rows_are one.room)
 
@@ -169,7 +170,7 @@ module _ (given : Given) (cap : ℕ) (m : List ℕ) (T : List ℕ) (r : Step) (T
         unfolding Done
         payload_over U h = rw (second, two.is, left_over m next' end' h)
 
-        pub payload_two : length m ≤ next' → PayloadDone (reads.Terms 2 end') T''
+        pub payload_two : length m ≤ next' → PayloadDone (terms_read 2 end') T''
         unfolding Done rows whole_of
         payload_two h =
             let t : Located = one.x in
@@ -181,7 +182,7 @@ module _ (given : Given) (cap : ℕ) (m : List ℕ) (T : List ℕ) (r : Step) (T
             let e₂ : T'' ≡ sets T' end (row_words (rows (whole_of 0) end (u ▹ empty)))
             = two.table_is ∙ ap (λ (rs : List Row). sets T' end (row_words rs)) (sym (append-nil (tree_rows (whole_of 0) end u))) in
             rw (second, two.is, none_left m next' end' h) (
-              ap (reads.Terms 2) a,
+              ap (terms_read 2) a,
               record {
                 table_is = e₂ ∙ joined_words m cap 0 0 T T' (t ▹ empty) end e₁ o (u ▹ empty);
                 stands = ap (λ (k : ℕ). at_offset m next' k) a;
@@ -208,60 +209,55 @@ module _ (given : Given) (cap : ℕ) (m T : List ℕ) (framing : Framing) (r : R
 -- ---- `first_refusal`
 
 module _ (flags : ℕ) (list : AtomList) (m : List ℕ) where
-  pub first_size : of_size list ≡ false → 13 ≡ first_refusal flags list m
+  pub first_size : of_size list ≡ false → Some 13 ≡ first_refusal flags list m
   unfolding first_refusal first_number
   first_size h = rw h
 
-  pub first_unknown : of_size list ≡ true → flags_known flags ≡ false → 14 ≡ first_refusal flags list m
+  pub first_unknown : of_size list ≡ true → flags_known flags ≡ false → Some 14 ≡ first_refusal flags list m
   unfolding first_refusal first_number
   first_unknown e h = rw (e, h)
 
-  pub first_long : of_size list ≡ true → flags_known flags ≡ true → 65536 < length m → 12 ≡ first_refusal flags list m
+  pub first_long : of_size list ≡ true → flags_known flags ≡ true → 65536 < length m → Some 12 ≡ first_refusal flags list m
   unfolding first_refusal first_number
   first_long e g h = rw (e, g, lt-leb (length m) 65536 h)
 
-  pub first_none : of_size list ≡ true → flags_known flags ≡ true → length m ≤ 65536 → 0 ≡ first_refusal flags list m
+  pub first_none : of_size list ≡ true → flags_known flags ≡ true → length m ≤ 65536 → None ≡ first_refusal flags list m
   unfolding first_refusal first_number
   first_none e g h = rw (e, g, le-leb (length m) 65536 h)
 
   -- what reading answers after it
-  pub read_refused : (framing : message.Framing) (lent k : ℕ) → k ≡ first_refusal flags list m → (k ≡ 0 → ⊥) → read flags framing list lent m ≡ refused k 0
+  pub read_refused : (framing : message.Framing) (lent k : ℕ) → Some k ≡ first_refusal flags list m → read flags framing list lent m ≡ refused k 0
   unfolding first_refusal first_number read
-  read_refused framing lent k e h = go (of_size list) (flags_known flags) (leb (length m) 65536) e
+  read_refused framing lent k e = go (of_size list) (flags_known flags) (leb (length m) 65536) e
     where
-      go : (a b c : Bool) → k ≡ first_number a b c
+      go : (a b c : Bool) → Some k ≡ first_number a b c
           → first_check a 13 (first_check b 14 (first_check c 12
           (result_of (terms_framed (given_of flags list) (min 8192 lent) framing (record { at = 0; left = m; rows_taken = 0 }))))) ≡ refused k 0
-      go false b c e = ap (λ (n : ℕ). refused n 0) (sym e)
-      go true false c e = ap (λ (n : ℕ). refused n 0) (sym e)
-      go true true false e = ap (λ (n : ℕ). refused n 0) (sym e)
-      go true true true e = absurd (h e)
+      go false b c e = let z : 13 ≡ k = cc in ap (λ (n : ℕ). refused n 0) z
+      go true false c e = let z : 14 ≡ k = cc in ap (λ (n : ℕ). refused n 0) z
+      go true true false e = let z : 12 ≡ k = cc in ap (λ (n : ℕ). refused n 0) z
+      go true true true e = absurd (cc)
 
-  pub read_first : 0 ≡ first_refusal flags list m → (of_size list ≡ true) × (flags_known flags ≡ true) × (length m ≤ 65536)
+  pub read_first : None ≡ first_refusal flags list m → (of_size list ≡ true) × (flags_known flags ≡ true) × (length m ≤ 65536)
   unfolding first_refusal first_number
   read_first e = go (of_size list) (flags_known flags) (leb (length m) 65536) refl refl refl e
     where
-      go : (a b c : Bool) → of_size list ≡ a → flags_known flags ≡ b → leb (length m) 65536 ≡ c → 0 ≡ first_number a b c
+      go : (a b c : Bool) → of_size list ≡ a → flags_known flags ≡ b → leb (length m) 65536 ≡ c → None ≡ first_number a b c
           → (of_size list ≡ true) × (flags_known flags ≡ true) × (length m ≤ 65536)
-      go false b c x y z e = absurd (omega arith)
-      go true false c x y z e = absurd (omega arith)
-      go true true false x y z e = absurd (omega arith)
+      go false b c x y z e = absurd (cc)
+      go true false c x y z e = absurd (cc)
+      go true true false x y z e = absurd (cc)
       go true true true x y z e = (x, y, leb-true (length m) 65536 z)
 
-  pub read_goes : (framing : message.Framing) (lent : ℕ) → 0 ≡ first_refusal flags list m
+  pub read_goes : (framing : message.Framing) (lent : ℕ) → None ≡ first_refusal flags list m
       → read flags framing list lent m ≡ result_of (terms_framed (given_of flags list) (min 8192 lent) framing (at_offset m 0 0))
   unfolding read
   read_goes framing lent e = let h = read_first e in rw (h.0, h.1, le-leb (length m) 65536 h.2)
 
 -- ---- `settle`
 
-pub settled_terms : (a : ReadAnswer) (T U : List ℕ) (n r : ℕ) → a ≡ reads.Terms n r → U ≡ cleared r T → U ≡ cleared (rows_in a) T
-unfolding rows_in
-settled_terms a T U n r e f = f ∙ ap (λ (k : ℕ). cleared k T) (sym (ap rows_in e))
-
-pub settled_refused : (a : ReadAnswer) (T U : List ℕ) (x : Refusal) → a ≡ reads.Refused x → U ≡ cleared 0 T → U ≡ cleared (rows_in a) T
-unfolding rows_in
-settled_refused a T U x e f = f ∙ ap (λ (k : ℕ). cleared k T) (sym (ap rows_in e))
+pub settled_rows : (a : ReadAnswer) (T U : List ℕ) (r : ℕ) → r ≡ rows_in a → U ≡ cleared r T → U ≡ cleared (rows_in a) T
+settled_rows a T U r e f = f ∙ ap (λ (k : ℕ). cleared k T) e
 
 -- ---- the public calls: what is read, and then the rest cleared
 
@@ -277,19 +273,19 @@ settled m cap T (good y) a T' U wide long d e =
     let n : length ws ≡ sizes ts = length_words_of (rows option.none 0 ts) ∙ length_rows option.none 0 ts in
     let f : rows_in a ≡ sizes ts = ap rows_in d.0 ∙ omega arith in
     let z : 0 + sizes ts ≡ sizes ts = omega arith in (
-      d.0 ∙ ap (reads.Terms (count ts)) z,
+      d.0 ∙ ap (terms_read (count ts)) z,
       e ∙ ap₂ cleared f d.1.table_is ∙ cleared_sets T ws (sizes ts) n (omega (arith, d.1.room)) ∙ ap (λ (k : ℕ). ws ++ replicate (length T - k) 0) (sym n),
     )
 
-pub refused_first : (flags : ℕ) (framing : message.Framing) (list : AtomList) (m T : List ℕ) (k : ℕ) (a : ReadAnswer) (U : List ℕ) → k ≡ first_refusal flags list m → (k ≡ 0 → ⊥)
+pub refused_first : (flags : ℕ) (framing : message.Framing) (list : AtomList) (m T : List ℕ) (k : ℕ) (a : ReadAnswer) (U : List ℕ) → Some k ≡ first_refusal flags list m
     → (a ≡ refusal k 0) × (U ≡ cleared (rows_in (refusal k 0)) T) → ReadCall flags framing list m T a U
 unfolding rows_in read_answer table_after
-refused_first flags framing list m T k a U e h d =
-    let w : read flags framing list (length T) m ≡ refused k 0 = read_refused flags list m framing (length T) k e h in
+refused_first flags framing list m T k a U e d =
+    let w : read flags framing list (length T) m ≡ refused k 0 = read_refused flags list m framing (length T) k e in
     record { read_answered = rw w d.0; table_left = rw w (d.1 ∙ cleared_all T) }
 
 -- with the word of the list's count, the flags and the number of rows
-module _ (flags n : ℕ) (places lengths m T : List ℕ) (k cap context : ℕ) (e : k ≡ first_refusal flags (lent_list n places lengths) m) (z : k ≡ 0)
+module _ (flags n : ℕ) (places lengths m T : List ℕ) (cap context : ℕ) (e : None ≡ first_refusal flags (lent_list n places lengths) m)
     (c : cap ≡ min (length T) 8192) (packed : Packed n flags cap context) where
   pub read_settled : (framing : message.Framing) (r a : ReadAnswer) (T' U : List ℕ) → length T' ≡ length T
       → MessageDone m (capacity_in context) T (terms_framed (given_in context places lengths) (capacity_in context) framing (at_offset m 0 0)) r T'
@@ -300,11 +296,11 @@ module _ (flags n : ℕ) (places lengths m T : List ℕ) (k cap context : ℕ) (
       let d' = rw (packed.count_is, packed.flags_are, packed.capacity_is) at d in
       let h = settled m cap T (terms_framed (given_of flags list) cap framing (at_offset m 0 0)) r T' U (omega arith) long d' f.1 in
       let w : read flags framing list (length T) m ≡ result_of (terms_framed (given_of flags list) cap framing (at_offset m 0 0))
-      = read_goes flags list m framing (length T) (sym z ∙ e) ∙ ap (λ (j : ℕ). result_of (terms_framed (given_of flags list) j framing (at_offset m 0 0))) (sym g) in
+      = read_goes flags list m framing (length T) e ∙ ap (λ (j : ℕ). result_of (terms_framed (given_of flags list) j framing (at_offset m 0 0))) (sym g) in
       record { read_answered = rw w (f.0 ∙ h.0); table_left = rw w h.1 }
 
   pub room_first : Room m (list_in context places lengths) T (capacity_in context) 0 0 0
   room_first =
-      let h = read_first flags (lent_list n places lengths) m (sym z ∙ e) in
+      let h = read_first flags (lent_list n places lengths) m e in
       let same : capacity_in context ≡ cap = packed.capacity_is in
       record { sized = rw packed.count_is h.0; short = h.2; near = omega arith; few = omega arith; wide = omega arith; low = omega arith; inside = omega arith }

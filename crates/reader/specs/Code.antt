@@ -1,6 +1,6 @@
 -- What the contracts of the message level say of the code's own values.
 -- About the code alone, proved against the definitions of term_spec: nothing here has to be believed.
-use Rattle.std.specs.Prelude.{Bool, true, false, List, ℕ, leb, length}
+use Rattle.std.specs.Prelude.{Bool, true, false, List, ℕ, Option, Some, None, Ok, Err, leb, length}
 use Rattle.std.proofs.Math.Option.{none}
 use Rattle.term_spec.specs.Tree.{count, sizes}
 use Rattle.term_spec.specs.Connection.{flags_known}
@@ -10,8 +10,7 @@ use Rattle.term_spec.specs.AtomList.{AtomList, of_size}
 use Rattle.term_spec.specs.Message as message
 use Rattle.term_spec.specs.Message.{Terms, outermost, terms_framed}
 use Rattle.term_spec.specs.Rows.{rows, row_words}
-use Rattle.term_spec.specs.declared.ReadAnswer.{ReadAnswer}
-use Rattle.term_spec.specs.declared.ReadAnswer.TheVariants as reads
+use Rattle.term_spec.specs.Answers.{ReadAnswer}
 use Rattle.term_reader.specs.declared.Step.{Step}
 use Rattle.term_reader.specs.Code.{Done, TermDone}
 use Rattle.reader.specs.declared.Framing.{Framing}
@@ -24,7 +23,7 @@ OutermostRead m given cap at row T = TermDone m cap row 0 T (outermost given cap
 -- some terms: their rows are stored in the table from its front on
 abbrev pub MessageDone : List ℕ → ℕ → List ℕ → Answer (Terms × Position) → ReadAnswer → List ℕ → Type 0
 MessageDone m cap =
-    Done (λ ts next end. reads.Terms (count ts) end) (λ n p. reads.Refused (record { number = n; place = p })) sizes (λ ts. row_words (rows none 0 ts)) (λ ts. Unit {0}) m cap 0
+    Done (λ ts next end. Ok (record { terms = count ts; rows = end })) (λ n p. Err (record { number = n; place = p })) sizes (λ ts. row_words (rows none 0 ts)) (λ ts. Unit {0}) m cap 0
 
 -- the terms of a message that are set so
 abbrev pub MessageRead : message.Framing → List ℕ → Given → ℕ → List ℕ → ReadAnswer → List ℕ → Type 0
@@ -35,17 +34,17 @@ unfoldable pub framing_of : Framing → message.Framing
 framing_of framing.Standalone = message.standalone
 framing_of framing.Payload = message.payload
 
--- the refusal before any byte is read: 13, then 14, then 12; 0 for none
-unfoldable pub first_number : Bool → Bool → Bool → ℕ
-first_number false known short = 13
-first_number true false short = 14
-first_number true true false = 12
-first_number true true true = 0
+-- the refusal before any byte is read: 13, then 14, then 12
+unfoldable pub first_number : Bool → Bool → Bool → Option ℕ
+first_number false known short = Some 13
+first_number true false short = Some 14
+first_number true true false = Some 12
+first_number true true true = None
 
-unfoldable pub first_refusal : ℕ → AtomList → List ℕ → ℕ
+unfoldable pub first_refusal : ℕ → AtomList → List ℕ → Option ℕ
 first_refusal flags list m = first_number (of_size list) (flags_known flags) (leb (length m) 65536)
 
 -- the rows that an answer says
 unfoldable pub rows_in : ReadAnswer → ℕ
-rows_in (reads.Terms n r) = r
-rows_in (reads.Refused x) = 0
+rows_in (Ok x) = x.rows
+rows_in (Err x) = 0

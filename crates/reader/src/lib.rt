@@ -1,7 +1,7 @@
 // Reading messages into a table of rows: a standalone term, or the terms of a payload.
 #![tactic(auto)]
 
-ghost use Rattle.std.specs.Prelude.{◌≡◌, ℕ, ◌<◌, length};
+ghost use Rattle.std.specs.Prelude.{◌≡◌, ℕ, ◌<◌, ◌≤◌, length};
 ghost use Rattle.term_spec.specs.AtomList.{lent_list};
 ghost use Rattle.term_spec.specs.Message.{standalone, payload};
 ghost use Rattle.term_spec.specs.Promises.{ReadCall};
@@ -13,7 +13,7 @@ ghost use Rattle.reader.specs.Code.{first_refusal, rows_in, framing_of, Outermos
 use connection::Connection;
 use term_head::Wanted;
 use term_reader::Step;
-use term_spec::{ReadAnswer, Refusal, refusals, sizes, tags};
+use term_spec::{ReadAnswer, Refusal, TermsRead, refusals, sizes, tags};
 
 // Messages of at most few, some and more bytes, each with as many slots as its keys may need and half as many again; a longer one has MOST_SLOTS.
 pub const FEW_BYTES: usize = 256;
@@ -22,7 +22,7 @@ pub const SOME_BYTES: usize = 1024;
 
 const MORE_BYTES: usize = 4096;
 
-const FEW_SLOTS: usize = 128;
+pub const FEW_SLOTS: usize = 128;
 
 const SOME_SLOTS: usize = 512;
 
@@ -31,7 +31,7 @@ const MORE_SLOTS: usize = 2048;
 const MOST_SLOTS: usize = 8192;
 
 // How the terms of a message are set: as a standalone term, or as a payload.
-#[derive(Drop)]
+#[derive(Clone, Copy)]
 pub enum Framing {
     Standalone,
     Payload,
@@ -81,28 +81,22 @@ fn standalone_terms(
     requires seen_nonzero { 0 < length seen.old }
     ensures { MessageRead standalone msg.now (given_in context places.now lengths.now) (capacity_in context) table.old result table.new }
 {
-    if msg.len() == 0 {
-        return ReadAnswer::Refused(Refusal {
-            number: refusals::NO_VERSION,
-            place: 0,
-        });
-    }
-    if msg[0] != tags::VERSION {
-        return ReadAnswer::Refused(Refusal {
+    if msg.len() == 0 || msg[0] != tags::VERSION {
+        return Err(Refusal {
             number: refusals::NO_VERSION,
             place: 0,
         });
     }
     match read_outermost(msg, context, places, lengths, table, seen, 1, 0) {
-        Step::Refused { number, place } => ReadAnswer::Refused(Refusal { number, place }),
+        Step::Refused { number, place } => Err(Refusal { number, place }),
         Step::Got { next, rows } => {
             if next < msg.len() {
-                return ReadAnswer::Refused(Refusal {
+                return Err(Refusal {
                     number: refusals::LEFT_OVER,
                     place: next,
                 });
             }
-            ReadAnswer::Terms { terms: 1, rows }
+            Ok(TermsRead { terms: 1, rows })
         }
     }
 }
@@ -121,21 +115,21 @@ fn payload_terms(
     ensures { MessageRead payload msg.now (given_in context places.now lengths.now) (capacity_in context) table.old result table.new }
 {
     match read_outermost(msg, context, places, lengths, table, seen, 0, 0) {
-        Step::Refused { number, place } => ReadAnswer::Refused(Refusal { number, place }),
+        Step::Refused { number, place } => Err(Refusal { number, place }),
         Step::Got { next, rows } => {
             if msg.len() <= next {
-                return ReadAnswer::Terms { terms: 1, rows };
+                return Ok(TermsRead { terms: 1, rows });
             }
             match read_outermost(msg, context, places, lengths, table, seen, next, rows) {
-                Step::Refused { number, place } => ReadAnswer::Refused(Refusal { number, place }),
+                Step::Refused { number, place } => Err(Refusal { number, place }),
                 Step::Got { next, rows } => {
                     if next < msg.len() {
-                        return ReadAnswer::Refused(Refusal {
+                        return Err(Refusal {
                             number: refusals::LEFT_OVER,
                             place: next,
                         });
                     }
-                    ReadAnswer::Terms { terms: 2, rows }
+                    Ok(TermsRead { terms: 2, rows })
                 }
             }
         }
@@ -162,36 +156,32 @@ fn framed_terms(
     }
 }
 
-// The refusal that comes before any byte is read: 13 for an atom list not of its size, 14 for an unknown flag, 12 for a message too long, or 0.
-fn first_refusal(flags: u8, msg: &[u8], places: &[u8], lengths: &[u16]) -> u8
+// The refusal that comes before any byte is read: 13 for an atom list not of its size, 14 for an unknown flag, 12 for a message too long.
+fn first_refusal(flags: u8, msg: &[u8], places: &[u8], lengths: &[u16]) -> Option<u8>
     ensures { (n : ℕ) → result ≡ first_refusal flags (lent_list n places.now lengths.now) msg.now }
 {
     if !atom_list::list_fits(places, lengths) {
-        return refusals::SIZE;
+        return Some(refusals::SIZE);
     }
     if !connection::flags_known(flags) {
-        return refusals::STATE;
+        return Some(refusals::STATE);
     }
     if sizes::MESSAGE_MOST < msg.len() {
-        return refusals::LONG;
+        return Some(refusals::LONG);
     }
-    0
+    None
 }
 
 // Past the rows of what was read, or everywhere after a refusal, the table is zero.
 fn settle(table: &mut [u64], answer: ReadAnswer) -> ReadAnswer
     ensures { (result ≡ answer) × (table.new ≡ cleared (rows_in answer) table.old) }
 {
-    match answer {
-        ReadAnswer::Terms { terms, rows } => {
-            octets::clear_words(table, rows);
-            ReadAnswer::Terms { terms, rows }
-        }
-        ReadAnswer::Refused(refusal) => {
-            octets::clear_words(table, 0);
-            ReadAnswer::Refused(refusal)
-        }
-    }
+    let rows = match answer {
+        Ok(read) => read.rows,
+        Err(_) => 0,
+    };
+    octets::clear_words(table, rows);
+    answer
 }
 
 // Reads the terms of a message that are set so into the table, with these flags, this atom list and these slots for keys.
@@ -208,9 +198,8 @@ fn read_with(
     requires { 0 < length seen.old }
     ensures { ReadCall flags (framing_of framing) (lent_list n places.now lengths.now) msg.now table.old result table.new }
 {
-    let number = first_refusal(flags, msg, places, lengths);
-    if number != 0 {
-        return settle(table, ReadAnswer::Refused(Refusal { number, place: 0 }));
+    if let Some(number) = first_refusal(flags, msg, places, lengths) {
+        return settle(table, Err(Refusal { number, place: 0 }));
     }
     let context = context::pack(
         n,
@@ -221,8 +210,8 @@ fn read_with(
     settle(table, answer)
 }
 
-// Reads a message with the slots that one of at most FEW_BYTES needs.
-pub fn read_few(
+// Reads a message with SLOTS slots for the keys of its maps: FEW_SLOTS serve one of at most FEW_BYTES.
+pub fn read_sized<const SLOTS: usize>(
     flags: u8,
     msg: &[u8],
     n: u8,
@@ -231,57 +220,11 @@ pub fn read_few(
     table: &mut [u64],
     framing: Framing,
 ) -> ReadAnswer
+    requires some { 0 < SLOTS }
+    requires few { SLOTS ≤ 8192 }
     ensures { ReadCall flags (framing_of framing) (lent_list n places.now lengths.now) msg.now table.old result table.new }
 {
-    let mut seen = [0u16; FEW_SLOTS];
-    read_with(flags, msg, n, places, lengths, table, &mut seen, framing)
-}
-
-// Reads a message with the slots that one of at most SOME_BYTES needs.
-fn read_some(
-    flags: u8,
-    msg: &[u8],
-    n: u8,
-    places: &[u8],
-    lengths: &[u16],
-    table: &mut [u64],
-    framing: Framing,
-) -> ReadAnswer
-    ensures { ReadCall flags (framing_of framing) (lent_list n places.now lengths.now) msg.now table.old result table.new }
-{
-    let mut seen = [0u16; SOME_SLOTS];
-    read_with(flags, msg, n, places, lengths, table, &mut seen, framing)
-}
-
-// Reads a message with the slots that one of at most MORE_BYTES needs.
-fn read_more(
-    flags: u8,
-    msg: &[u8],
-    n: u8,
-    places: &[u8],
-    lengths: &[u16],
-    table: &mut [u64],
-    framing: Framing,
-) -> ReadAnswer
-    ensures { ReadCall flags (framing_of framing) (lent_list n places.now lengths.now) msg.now table.old result table.new }
-{
-    let mut seen = [0u16; MORE_SLOTS];
-    read_with(flags, msg, n, places, lengths, table, &mut seen, framing)
-}
-
-// Reads a message with the slots that the longest needs.
-fn read_most(
-    flags: u8,
-    msg: &[u8],
-    n: u8,
-    places: &[u8],
-    lengths: &[u16],
-    table: &mut [u64],
-    framing: Framing,
-) -> ReadAnswer
-    ensures { ReadCall flags (framing_of framing) (lent_list n places.now lengths.now) msg.now table.old result table.new }
-{
-    let mut seen = [0u16; MOST_SLOTS];
+    let mut seen = [0u16; SLOTS];
     read_with(flags, msg, n, places, lengths, table, &mut seen, framing)
 }
 
@@ -299,15 +242,15 @@ pub fn read_larger(
     ensures { ReadCall flags (framing_of framing) (lent_list n places.now lengths.now) msg.now table.old result table.new }
 {
     if !atom_list::list_fits(places, lengths) {
-        return read_few(flags, msg, n, places, lengths, table, framing);
+        return read_sized::<FEW_SLOTS>(flags, msg, n, places, lengths, table, framing);
     }
     if msg.len() <= SOME_BYTES {
-        return read_some(flags, msg, n, places, lengths, table, framing);
+        return read_sized::<SOME_SLOTS>(flags, msg, n, places, lengths, table, framing);
     }
     if msg.len() <= MORE_BYTES {
-        return read_more(flags, msg, n, places, lengths, table, framing);
+        return read_sized::<MORE_SLOTS>(flags, msg, n, places, lengths, table, framing);
     }
-    read_most(flags, msg, n, places, lengths, table, framing)
+    read_sized::<MOST_SLOTS>(flags, msg, n, places, lengths, table, framing)
 }
 
 // Reads a standalone term into the table, with the connection's flags and this atom list.
@@ -322,7 +265,7 @@ pub fn read_standalone(
     ensures { ReadCall connection.flags standalone (lent_list n places.now lengths.now) msg.now table.old result table.new }
 {
     if msg.len() <= FEW_BYTES {
-        return read_few(
+        return read_sized::<FEW_SLOTS>(
             connection.flags,
             msg,
             n,
@@ -355,7 +298,7 @@ pub fn read_payload(
     ensures { ReadCall connection.flags payload (lent_list n places.now lengths.now) msg.now table.old result table.new }
 {
     if msg.len() <= FEW_BYTES {
-        return read_few(
+        return read_sized::<FEW_SLOTS>(
             connection.flags,
             msg,
             n,

@@ -1,10 +1,14 @@
 -- `settle` meets its contract.
-use Rattle.reader.proofs.Message.{settled_terms, settled_refused}
-use mathlib.Core.Path.{sym}
+use Rattle.reader.specs.Code.{rows_in}
+use Rattle.std.proofs.Common.{arith}
+use Rattle.std.proofs.lemmas.Grind.{common_steps}
 use Rattle.reader.proofs.settle.Goals as goal
+use Rattle.reader.proofs.settle.Goals.{in-Ok, in-Err}
 
-pub returns-in-Terms : goal.returns-in-Terms
-returns-in-Terms c = (sym c.in-Terms.is, settled_terms _ _ _ _ _ c.in-Terms.is c.clear_words.ensures)
-
-pub returns-in-Refused : goal.returns-in-Refused
-returns-in-Refused c = (sym c.in-Refused.is, settled_refused _ _ _ _ c.in-Refused.is c.clear_words-in-Refused.ensures)
+pub returns : goal.returns
+unfolding rows_in
+returns c =
+    elim c.match-answer.branch [
+      | in-Ok w ↦ grind (arith, common_steps)
+      | in-Err w ↦ grind (arith, common_steps)
+    ]

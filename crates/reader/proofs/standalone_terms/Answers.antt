@@ -3,12 +3,14 @@ use Rattle.reader.proofs.Message.{standalone_empty, standalone_other, standalone
 use Rattle.term_reader.proofs.Bodies.{room_at}
 use native.Mathlib.Omega.{arith}
 use Rattle.reader.proofs.standalone_terms.Goals as goal
+use Rattle.reader.proofs.standalone_terms.Goals.{then-msg-eq0-via-then-msg-eq0, then-msg-eq0-via-else-msg-eq0+then-msg}
 
 pub returns-then-msg-eq0 : goal.returns-then-msg-eq0
-returns-then-msg-eq0 c = standalone_empty _ _ _ _ _ c.if-msg-eq0.true
-
-pub returns-then-msg : goal.returns-then-msg
-returns-then-msg c = standalone_other _ _ _ _ _ c.if-msg.true
+returns-then-msg-eq0 c =
+    elim c.then-msg-eq0.branch [
+      | then-msg-eq0-via-then-msg-eq0 w ↦ standalone_empty _ _ _ _ _ w.if-msg-eq0.true
+      | then-msg-eq0-via-else-msg-eq0+then-msg w ↦ standalone_other _ _ _ _ _ w.if-msg.true
+    ]
 
 pub read_outermost-requires : goal.read_outermost-requires
 read_outermost-requires c = record { room = room_at _ _ _ _ _ _ _ _ c.requires.room (omega (arith, c.if-msg-eq0.false)); seen_nonzero = c.requires.seen_nonzero }
