@@ -1,11 +1,12 @@
 -- The pairs of a map written in the order that their slots give, and which parts are written so.
 use mathlib.Core.Path.{◌≡◌, refl, sym, ◌∙◌, ap}
-use mathlib.Core.Bool.{Bool}
+use mathlib.Core.Bool.{Bool, true, false}
+use Rattle.std.specs.Prelude.{Option, Some, None, MatchOption, is_some}
 use mathlib.Core.Logic.{◌⊎◌, inl, inr, ⊎_map}
 use mathlib.Core.List.{List, [], ◌∷◌, ◌++◌, append_assoc, append-nil}
 use Prim.Native.Nat.{ℕ, suc, ◌+◌, ◌*◌, ◌-◌, ◌/◌, ◌≤◌, ◌<◌}
 use native.Mathlib.Omega.{arith}
-use lib.ListN.{length, get_or, length-append}
+use lib.ListN.{length, get_or, get_or-eq_default, length-append}
 use lib.Seq.{sets}
 use Rattle.term_spec.specs.Tree.{Forest, node, empty, ◌▹◌, count, sizes}
 use Rattle.term_spec.specs.Term.{Label, Term, map}
@@ -155,9 +156,9 @@ module _ {m places lengths T : List ℕ} where
               }
 
           pub pairs_step : (s : ℕ) → s ≡ size_in (get_or T key 0) → (z : ℕ) → z ≡ size_in (get_or T (key + s) 0) → {next_out : List ℕ} (r : ℕ)
-              → RunPut m places lengths T slot R canonicals 2 out end r next_out
-              → PairsLeft m places lengths T R row ts us O at (key + s + z) (left - 1) next_out r
-          pairs_step s e z f {next_out} r put =
+              → RunPut m places lengths T slot R canonicals 2 out end r next_out → {later : ℕ} → later + 1 ≡ left
+              → PairsLeft m places lengths T R row ts us O at (key + s + z) later next_out r
+          pairs_step s e z f {next_out} r put {later} less =
               let n = pair_next in
               let l = first_listed in
               let bs : List ℕ = canonicals (as_read l.key ▹ as_read l.value ▹ empty) in
@@ -183,9 +184,9 @@ module _ {m places lengths T : List ℕ} where
                 stored = ap (λ (v : List ℕ). sets v r cs) i.stored ∙ sets_at out end bs cs r (sym y) ∙ ap (λ (v : List ℕ). sets out end v) (sym forms_left) ∙ g.stored;
               }
 
-  pub pairs_start : (O : List ℕ) (at n row : ℕ) (R : List ℕ) (ts : Terms) → RunInTable m places lengths T row ts → (p : PairsOrdered R row ts) → count ts ≡ 2 * n
-      → 0 < get_or R row 0 → PairsLeft m places lengths T R row ts p.sorted O at row n O at
-  pairs_start O at n row R ts h p c l =
+  pub pairs_start : (O : List ℕ) (at left row : ℕ) (R : List ℕ) (ts : Terms) → RunInTable m places lengths T row ts → (p : PairsOrdered R row ts) → count ts ≡ 2 * left
+      → 0 < get_or R row 0 → PairsLeft m places lengths T R row ts p.sorted O at row left O at
+  pairs_start O at left row R ts h p c l =
       record { rest = ts; rest_held = h; rest_count = c; to_come = p.sorted; to_come_listed = p.listed l; past = refl; stored = refl }
 
   pub pairs_end : {R : List ℕ} {row : ℕ} {ts us : Terms} {O : List ℕ} {at key left : ℕ} {out : List ℕ} {end : ℕ} → PairsLeft m places lengths T R row ts us O at key left out end
@@ -210,10 +211,22 @@ module _ {m places lengths T : List ℕ} where
       pub pair_from : row ≤ slot
       pair_from = slot_from pairs_here p slot w a.fit_pairs_held
 
+      pub slot_there : key < length R
+      slot_there = by_less key (length R) (λ x. x) (λ x. let z : get_or R key 0 ≡ 0 = get_or-eq_default R 0 x in let f = pair_from in absurd (omega (arith, a.fit_below)))
+
       pub pair_fits : (other : ℕ) → other ≡ room → RunFits m places lengths T slot R canonicals 2 other end
       pair_fits other e = slot_fits pairs_here p slot w a.fit_pairs_held a.fit_each other (rw e a.fit_pairs_room)
 
 -- ---- which parts are written so
+
+-- a slot that is found is not 0; where none is, it is 0
+pub slot_some : {x : ℕ} (o : Option ℕ) → MatchOption o (x ≡ 0) (λ s. (s ≡ x) × (0 < s)) → is_some o ≡ true → 0 < x
+slot_some None m e = cc
+slot_some (Some s) m e = omega (arith, m)
+
+pub slot_none : {x : ℕ} (o : Option ℕ) → MatchOption o (x ≡ 0) (λ s. (s ≡ x) × (0 < s)) → is_some o ≡ false → x ≡ 0
+slot_none None m e = m
+slot_none (Some s) m e = cc
 
 -- a run of one pair at most is in order
 few_in_order : (before : Pair → Pair → Bool) (us : Forest Label) → count us < 4 → in_order before us ≡ us
@@ -288,6 +301,7 @@ module _ {m places lengths T : List ℕ} (R : List ℕ) {row n : ℕ} (f : n ≡
     pairs_room {room} {at} a =
         let p : PairsOrdered R (row + 1) a.fit_parts = pairs_of w a.fit_node a.fit_node_ordered in
         record {
+          fit_below = omega arith;
           fit_pairs = a.fit_parts;
           fit_pairs_held = held_parts a.fit_node;
           fit_each = a.fit_node_ordered.1;

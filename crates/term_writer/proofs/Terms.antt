@@ -264,10 +264,10 @@ module _ {m places lengths T : List ℕ} where
   pub length_start : (n row : ℕ) (ts : Terms) → RunInTable m places lengths T row ts → count ts ≡ n → LengthLeft m places lengths T ts row n 0
   length_start n row ts h c = record { rest = ts; rest_held = h; rest_count = c; total = omega arith; bound = omega arith }
 
-  pub length_step : {ts : Terms} {next left sum : ℕ} (s r : ℕ) → LengthLeft m places lengths T ts next left sum → 0 < left → s ≡ size_in (get_or T next 0)
-      → TermLength m places lengths T next r → LengthLeft m places lengths T ts (next + s) (left - 1) (sum + r)
+  pub length_step : {ts : Terms} {next left later sum : ℕ} (s r : ℕ) → LengthLeft m places lengths T ts next left sum → later + 1 ≡ left → s ≡ size_in (get_or T next 0)
+      → TermLength m places lengths T next r → LengthLeft m places lengths T ts (next + s) later (sum + r)
   unfolding all_bytes
-  length_step {ts} {next} {left} {sum} s r g p e w =
+  length_step {ts} {next} {left} {later} {sum} s r g p e w =
       let c : count g.rest ≡ left = g.rest_count in
       let f = front next g.rest g.rest_held (omega arith) in
       let u : Located = node f.label f.parts in
@@ -336,11 +336,11 @@ module _ {m places lengths T R : List ℕ} (one : Term → List ℕ) (all : Fore
       → PutLeft m places lengths T R all O at ts row n O at
   put_start O at n row ts h o c = record { rest = ts; rest_held = h; rest_ordered = o; rest_count = c; past = refl; stored = refl }
 
-  pub put_step : {O out next_out : List ℕ} {at next left end : ℕ} {ts : Terms} (s r : ℕ) → PutLeft m places lengths T R all O at ts next left out end → 0 < left
-      → s ≡ size_in (get_or T next 0) → TermPut m places lengths T next R one out end r next_out
-      → PutLeft m places lengths T R all O at ts (next + s) (left - 1) next_out r
+  pub put_step : {O out next_out : List ℕ} {at next left later end : ℕ} {ts : Terms} (s r : ℕ) → PutLeft m places lengths T R all O at ts next left out end
+      → later + 1 ≡ left → s ≡ size_in (get_or T next 0) → TermPut m places lengths T next R one out end r next_out
+      → PutLeft m places lengths T R all O at ts (next + s) later next_out r
   unfolding Ordered
-  put_step {O} {out} {next_out} {at} {next} {left} {end} {ts} s r g p e w =
+  put_step {O} {out} {next_out} {at} {next} {left} {later} {end} {ts} s r g p e w =
       let c : count g.rest ≡ left = g.rest_count in
       let f = front next g.rest g.rest_held (omega arith) in
       let v : AllOrdered R 0 next (node f.label f.parts ▹ f.others) = rw f.is at g.rest_ordered in

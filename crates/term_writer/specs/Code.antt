@@ -94,6 +94,7 @@ module _ (m places lengths T : List ℕ) (row : ℕ) where
         → Put O at (canonicals (all_as_read p.sorted)) r P
 
     pub record PairsFit (n room at : ℕ) : Type 0 where
+      pub fit_below : 0 < row
       pub fit_pairs : Terms
       pub fit_pairs_held : RunInTable m places lengths T row fit_pairs
       pub fit_each : AllOrdered R 0 row fit_pairs

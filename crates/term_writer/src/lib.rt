@@ -1,7 +1,7 @@
 // One term in canonical form, and terms one after the other: measured and written from the rows that reading made of them, with the order of maps' pairs in slots.
 #![tactic(auto)]
 
-ghost use Rattle.std.specs.Prelude.{◌≡◌, true, false, ◌+◌, ◌≤◌, ◌<◌, length, get_or};
+ghost use Rattle.std.specs.Prelude.{◌≡◌, true, false, ◌+◌, ◌≤◌, ◌<◌, length, get_or, MatchOption};
 ghost use Rattle.term_spec.specs.Canonical.{canonical};
 ghost use Rattle.term_writer.specs.PairOrder.{HasOrder};
 ghost use Rattle.term_writer.specs.Code.{canonicals, SomeTerm, SomeRun, SomeSmall, StringTold, SmallTold, CharactersPut, StringPut, TermLength, TermPut, TermFits, RunLength, RunPut, RunFits, PairsPut, PairsFit, PartsPut, PartsFit};
@@ -20,23 +20,17 @@ const ORDERED_PARTS: usize = 4;
 pub fn has_order(word: u64) -> bool
     ensures { (result ≡ true → HasOrder word) × (result ≡ false → HasOrder word → ⊥) }
 {
-    if row::kind_in(word) != kinds::MAP {
-        return false;
-    }
-    if row::parts_in(word) < ORDERED_PARTS {
-        return false;
-    }
-    true
+    row::kind_in(word) == kinds::MAP && ORDERED_PARTS <= row::parts_in(word)
 }
 
-// The slot at a row, 0 past the end of them.
-fn slot_at(order: &[u16], row: usize) -> usize
-    ensures { result ≡ get_or order.now row 0 }
+// The slot at a row; none where it is 0 or past the end of them.
+fn slot_at(order: &[u16], row: usize) -> Option<usize>
+    ensures { MatchOption result (get_or order.now row 0 ≡ 0) (λ slot. (slot ≡ get_or order.now row 0) × (0 < slot)) }
 {
-    if row < order.len() {
-        return octets::wide16(order[row]);
-    }
-    0
+    order
+        .get(row)
+        .filter(|slot| **slot != 0)
+        .map(|slot| octets::wide16(*slot))
 }
 
 // Whether the n terms whose rows begin at `row` are all integers 0 to 255.
@@ -51,13 +45,11 @@ fn all_small(
     requires { SomeRun msg.now places.now lengths.now table.now row n }
     ensures { SmallTold msg.now places.now lengths.now table.now row n result }
 {
-    let mut i = 0;
-    while i < n {
+    for i in 0..n {
         let c = characters::character_at(msg, places, lengths, table[row + i]);
         if c == characters::NO_CHARACTER {
             return false;
         }
-        i += 1;
     }
     true
 }
@@ -68,14 +60,10 @@ fn is_string(msg: &[u8], places: &[u8], lengths: &[u16], table: &[u64], row: usi
     ensures { StringTold msg.now places.now lengths.now table.now row result }
 {
     let word = table[row];
-    if row::kind_in(word) != kinds::LIST {
-        return false;
-    }
     let n = row::parts_in(word);
-    if n == 0 {
-        return false;
-    }
-    all_small(msg, places, lengths, table, row + 1, n)
+    row::kind_in(word) == kinds::LIST
+        && n != 0
+        && all_small(msg, places, lengths, table, row + 1, n)
 }
 
 // Writes the n integers 0 to 255 whose rows begin at `row` as bytes from `at` on; the offset past them.
@@ -92,11 +80,9 @@ fn put_characters(
     requires { SomeSmall msg.now places.now lengths.now table.now row n × (at + n ≤ length out.old) }
     ensures { CharactersPut msg.now places.now lengths.now table.now row n out.old at result out.new }
 {
-    let mut i = 0;
-    while i < n {
+    for i in 0..n {
         let c = characters::character_at(msg, places, lengths, table[row + i]);
         octets::put1(out, at + i, c);
-        i += 1;
     }
     at + n
 }
@@ -153,12 +139,10 @@ pub fn length_run(
     ensures { RunLength msg.now places.now lengths.now table.now row n result }
 {
     let mut next = row;
-    let mut left = n;
     let mut sum = 0;
-    while 0 < left {
+    for _ in 0..n {
         sum += length_term(msg, places, lengths, table, next);
         next += row::size_in(table[next]);
-        left -= 1;
     }
     sum
 }
@@ -208,20 +192,18 @@ fn write_parts(
 {
     let word = table[row];
     let n = row::parts_in(word);
-    if has_order(word) {
-        if slot_at(order, row + 1) != 0 {
-            return write_pairs(
-                msg,
-                places,
-                lengths,
-                table,
-                order,
-                row + 1,
-                n / PAIR_PARTS,
-                out,
-                at,
-            );
-        }
+    if has_order(word) && slot_at(order, row + 1).is_some() {
+        return write_pairs(
+            msg,
+            places,
+            lengths,
+            table,
+            order,
+            row + 1,
+            n / PAIR_PARTS,
+            out,
+            at,
+        );
     }
     write_run(msg, places, lengths, table, order, row + 1, n, out, at)
 }
@@ -243,12 +225,10 @@ fn write_run(
     ensures { RunPut msg.now places.now lengths.now table.now row order.now canonicals n out.old at result out.new }
 {
     let mut next = row;
-    let mut left = n;
     let mut end = at;
-    while 0 < left {
+    for _ in 0..n {
         end = write_term(msg, places, lengths, table, order, next, out, end);
         next += row::size_in(table[next]);
-        left -= 1;
     }
     end
 }
@@ -270,16 +250,14 @@ fn write_pairs(
     ensures { PairsPut msg.now places.now lengths.now table.now row order.now n out.old at result out.new }
 {
     let mut key = row;
-    let mut left = n;
     let mut end = at;
-    while 0 < left {
-        let slot = slot_at(order, key);
+    for _ in 0..n {
+        let slot = octets::wide16(order[key]);
         end = write_run(
             msg, places, lengths, table, order, slot, PAIR_PARTS, out, end,
         );
         let value = key + row::size_in(table[key]);
         key = value + row::size_in(table[value]);
-        left -= 1;
     }
     end
 }

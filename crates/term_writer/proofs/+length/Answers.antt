@@ -5,35 +5,29 @@ use native.Mathlib.Omega.{arith}
 use mathlib.Core.Path.{refl, sym, ◌∙◌}
 use Rattle.term_writer.proofs.+length.Goals as goal
 
-pub length_run-loop-left-init : goal.length_run-loop-left-init
-length_run-loop-left-init t c = (omega arith, λ ts h e. length_start _ _ ts h e)
+pub length_run-loop-init : goal.length_run-loop-init
+length_run-loop-init t c = (omega arith, λ ts h e. length_start _ _ ts h (omega arith))
 
 pub length_run-length_term-sum-requires : goal.length_run-length_term-sum-requires
-length_run-length_term-sum-requires t c = (omega arith, left_term (length_rest c.requires c.loop-left.invariant.1) c.loop-left-test.true)
+length_run-length_term-sum-requires t c = (omega arith, left_term (length_rest c.requires c.loop.invariant.1) (omega arith))
 
 pub length_run-overflow_add-sum : goal.length_run-overflow_add-sum
-length_run-overflow_add-sum t c = let b = length_room c.requires c.loop-left.invariant.1 _ c.loop-left-test.true c.length_term-sum.ensures in omega arith
+length_run-overflow_add-sum t c = let b = length_room c.requires c.loop.invariant.1 _ (omega arith) c.length_term-sum.ensures in omega arith
 
 pub length_run-offset_bounds-table-next : goal.length_run-offset_bounds-table-next
-length_run-offset_bounds-table-next t c = let b = left_size _ (length_rest c.requires c.loop-left.invariant.1) c.loop-left-test.true refl in omega arith
+length_run-offset_bounds-table-next t c = let b = left_size _ (length_rest c.requires c.loop.invariant.1) (omega arith) refl in omega arith
 
 pub length_run-bounds-table-next : goal.length_run-bounds-table-next
-length_run-bounds-table-next t c = run_below (length_rest c.requires c.loop-left.invariant.1) c.loop-left-test.true
+length_run-bounds-table-next t c = run_below (length_rest c.requires c.loop.invariant.1) (omega arith)
 
 pub length_run-overflow_add-next : goal.length_run-overflow_add-next
-length_run-overflow_add-next t c = let b = left_size _ (length_rest c.requires c.loop-left.invariant.1) c.loop-left-test.true c.size_in-next.ensures.0 in omega arith
+length_run-overflow_add-next t c = let b = left_size _ (length_rest c.requires c.loop.invariant.1) (omega arith) c.size_in-next.ensures.0 in omega arith
 
-pub length_run-overflow_sub-left : goal.length_run-overflow_sub-left
-length_run-overflow_sub-left t c = omega arith
-
-pub length_run-loop-left-smaller : goal.length_run-loop-left-smaller
-length_run-loop-left-smaller t c = omega arith
-
-pub length_run-loop-left-preserved : goal.length_run-loop-left-preserved
-length_run-loop-left-preserved t c = (omega arith, λ ts h e. length_step _ _ (c.loop-left.invariant.1 ts h e) c.loop-left-test.true c.size_in-next.ensures.0 c.length_term-sum.ensures)
+pub length_run-loop-preserved : goal.length_run-loop-preserved
+length_run-loop-preserved t c = (omega arith, λ ts h e. length_step _ _ (c.loop.invariant.1 ts h e) (omega arith) c.size_in-next.ensures.0 c.length_term-sum.ensures)
 
 pub length_run-returns : goal.length_run-returns
-length_run-returns t c = λ ts h e. length_end (c.loop-left.invariant.1 ts h e) c.loop-left-test.false
+length_run-returns t c = λ ts h e. length_end (c.loop.invariant.1 ts h e) (omega arith)
 
 pub length_term-offset_bounds-table-row : goal.length_term-offset_bounds-table-row
 length_term-offset_bounds-table-row t c = omega (arith, c.requires.held.few)

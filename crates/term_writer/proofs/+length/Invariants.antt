@@ -13,8 +13,5 @@ decreases-length_run l = 2 * (length l.table.now - l.row) + 1
 abbrev pub decreases-length_term : goal.decreases-length_term
 decreases-length_term l = 2 * (length l.table.now - l.row)
 
-abbrev pub invariant-length_run-loop-left : goal.invariant-length_run-loop-left
-invariant-length_run-loop-left l = (l.row ≤ l.next) × ((ts : Terms) → RunInTable l.msg l.places l.lengths l.table l.row ts → count ts ≡ l.n → LengthLeft l.msg l.places l.lengths l.table ts l.next l.left l.sum)
-
-abbrev pub decreases-length_run-loop-left : goal.decreases-length_run-loop-left
-decreases-length_run-loop-left l = l.left
+abbrev pub invariant-length_run-loop : goal.invariant-length_run-loop
+invariant-length_run-loop l = (l.row ≤ l.next) × ((ts : Terms) → RunInTable l.msg l.places l.lengths l.table l.row ts → count ts ≡ l.n → LengthLeft l.msg l.places l.lengths l.table ts l.next (l.n - l.counter) l.sum)

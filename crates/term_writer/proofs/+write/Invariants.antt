@@ -22,18 +22,10 @@ decreases-write_run l = 4 * (length l.table.now - l.row) + 2
 abbrev pub decreases-write_term : goal.decreases-write_term
 decreases-write_term l = 4 * (length l.table.now - l.row) + 1
 
-abbrev pub invariant-write_pairs-loop-left : goal.invariant-write_pairs-loop-left
-invariant-write_pairs-loop-left l = (length l.out ≡ length l.initial.out)
-    × ((ts : Terms) → RunInTable l.msg l.places l.lengths l.table l.row ts → AllOrdered l.order 0 l.row ts → (p : PairsOrdered l.order l.row ts) → count ts ≡ 2 * l.n
-    → PairsLeft l.msg l.places l.lengths l.table l.order l.row ts p.sorted l.initial.out l.at l.key l.left l.out l.end)
+abbrev pub invariant-write_pairs-loop : goal.invariant-write_pairs-loop
+invariant-write_pairs-loop l = (ts : Terms) → RunInTable l.msg l.places l.lengths l.table l.row ts → AllOrdered l.order 0 l.row ts → (p : PairsOrdered l.order l.row ts) → count ts ≡ 2 * l.n
+    → PairsLeft l.msg l.places l.lengths l.table l.order l.row ts p.sorted l.initial.out l.at l.key (l.n - l.counter) l.out l.end
 
-abbrev pub decreases-write_pairs-loop-left : goal.decreases-write_pairs-loop-left
-decreases-write_pairs-loop-left l = l.left
-
-abbrev pub invariant-write_run-loop-left : goal.invariant-write_run-loop-left
-invariant-write_run-loop-left l = (l.row ≤ l.next) × (length l.out ≡ length l.initial.out)
-    × ((ts : Terms) → RunInTable l.msg l.places l.lengths l.table l.row ts → AllOrdered l.order 0 l.row ts → count ts ≡ l.n
-    → PutLeft l.msg l.places l.lengths l.table l.order canonicals l.initial.out l.at ts l.next l.left l.out l.end)
-
-abbrev pub decreases-write_run-loop-left : goal.decreases-write_run-loop-left
-decreases-write_run-loop-left l = l.left
+abbrev pub invariant-write_run-loop : goal.invariant-write_run-loop
+invariant-write_run-loop l = (l.row ≤ l.next) × ((ts : Terms) → RunInTable l.msg l.places l.lengths l.table l.row ts → AllOrdered l.order 0 l.row ts → count ts ≡ l.n
+    → PutLeft l.msg l.places l.lengths l.table l.order canonicals l.initial.out l.at ts l.next (l.n - l.counter) l.out l.end)

@@ -4,31 +4,25 @@ use native.Mathlib.Omega.{arith}
 use Rattle.term_writer.proofs.all_small.Goals as goal
 
 pub loop-i-init : goal.loop-i-init
-loop-i-init c = (omega arith, λ ts h e. small_start _ _ ts h e)
+loop-i-init c = λ ts h e. small_start _ _ ts h e
 
 pub overflow_add-row : goal.overflow_add-row
-overflow_add-row c = let b = run_below (small_rest c.requires c.loop-i.invariant.1) (omega arith) in omega arith
+overflow_add-row c = let b = run_below (small_rest c.requires c.loop-i.invariant) (omega arith) in omega arith
 
 pub offset_bounds-table-row : goal.offset_bounds-table-row
-offset_bounds-table-row c = let b = run_below (small_rest c.requires c.loop-i.invariant.1) (omega arith) in omega arith
+offset_bounds-table-row c = let b = run_below (small_rest c.requires c.loop-i.invariant) (omega arith) in omega arith
 
 pub bounds-table-row : goal.bounds-table-row
-bounds-table-row c = run_below (small_rest c.requires c.loop-i.invariant.1) (omega arith)
+bounds-table-row c = run_below (small_rest c.requires c.loop-i.invariant) (omega arith)
 
 pub character_at-c-requires : goal.character_at-c-requires
-character_at-c-requires c = run_sound (small_rest c.requires c.loop-i.invariant.1) (omega arith)
+character_at-c-requires c = run_sound (small_rest c.requires c.loop-i.invariant) (omega arith)
 
 pub returns-then-c-eq-NO_CHARACTER : goal.returns-then-c-eq-NO_CHARACTER
-returns-then-c-eq-NO_CHARACTER c = λ ts h e. small_stop _ (c.loop-i.invariant.1 ts h e) c.loop-i-test.true c.character_at-c.ensures.0 c.if-c-eq-NO_CHARACTER.true
-
-pub overflow_add-i : goal.overflow_add-i
-overflow_add-i c = omega arith
-
-pub loop-i-smaller : goal.loop-i-smaller
-loop-i-smaller c = omega arith
+returns-then-c-eq-NO_CHARACTER c = λ ts h e. small_stop _ (c.loop-i.invariant ts h e) c.loop-i-test.true c.character_at-c.ensures.0 c.if-c-eq-NO_CHARACTER.true
 
 pub loop-i-preserved : goal.loop-i-preserved
-loop-i-preserved c = (omega arith, λ ts h e. small_step _ (c.loop-i.invariant.1 ts h e) c.loop-i-test.true c.character_at-c.ensures.0 c.if-c-eq-NO_CHARACTER.false)
+loop-i-preserved c = λ ts h e. small_step _ (c.loop-i.invariant ts h e) c.loop-i-test.true c.character_at-c.ensures.0 c.if-c-eq-NO_CHARACTER.false
 
 pub returns : goal.returns
-returns c = λ ts h e. small_end (c.loop-i.invariant.1 ts h e) c.loop-i-test.false
+returns c = λ ts h e. small_end (c.loop-i.invariant ts h e) c.loop-i-test.false

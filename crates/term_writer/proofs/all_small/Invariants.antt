@@ -7,7 +7,4 @@ use mathlib.Core.Path.{◌≡◌}
 use Rattle.term_writer.proofs.all_small.Given as goal
 
 abbrev pub invariant-loop-i : goal.invariant-loop-i
-invariant-loop-i l = (l.i ≤ l.n) × ((ts : Terms) → RunInTable l.msg l.places l.lengths l.table l.row ts → count ts ≡ l.n → SmallLeft l.msg l.places l.lengths l.table l.row l.n ts l.i)
-
-abbrev pub decreases-loop-i : goal.decreases-loop-i
-decreases-loop-i l = l.n - l.i
+invariant-loop-i l = ((ts : Terms) → RunInTable l.msg l.places l.lengths l.table l.row ts → count ts ≡ l.n → SmallLeft l.msg l.places l.lengths l.table l.row l.n ts l.i)

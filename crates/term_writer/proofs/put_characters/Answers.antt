@@ -5,41 +5,26 @@ use mathlib.Core.Path.{refl, ◌∙◌}
 use Rattle.term_writer.proofs.put_characters.Goals as goal
 
 pub loop-i-init : goal.loop-i-init
-loop-i-init c = (omega arith, refl, λ ts cs h e f. characters_start _ _ _ ts cs _ h e f)
+loop-i-init c = λ ts cs h e f. characters_start _ _ _ ts cs _ h e f
 
 pub overflow_add-row : goal.overflow_add-row
-overflow_add-row c = let b = run_below (characters_rest c.requires.0 c.loop-i.invariant.2) (omega arith) in omega arith
+overflow_add-row c = let b = run_below (characters_rest c.requires.0 c.loop-i.invariant) (omega arith) in omega arith
 
 pub offset_bounds-table-row : goal.offset_bounds-table-row
-offset_bounds-table-row c = let b = run_below (characters_rest c.requires.0 c.loop-i.invariant.2) (omega arith) in omega arith
+offset_bounds-table-row c = let b = run_below (characters_rest c.requires.0 c.loop-i.invariant) (omega arith) in omega arith
 
 pub bounds-table-row : goal.bounds-table-row
-bounds-table-row c = run_below (characters_rest c.requires.0 c.loop-i.invariant.2) (omega arith)
+bounds-table-row c = run_below (characters_rest c.requires.0 c.loop-i.invariant) (omega arith)
 
 pub character_at-c-requires : goal.character_at-c-requires
-character_at-c-requires c = run_sound (characters_rest c.requires.0 c.loop-i.invariant.2) (omega arith)
-
-pub overflow_add-at : goal.overflow_add-at
-overflow_add-at c = omega arith
+character_at-c-requires c = run_sound (characters_rest c.requires.0 c.loop-i.invariant) (omega arith)
 
 pub put1-requires : goal.put1-requires
-put1-requires c = (omega arith, character_small _ (characters_here c.requires.0 c.loop-i.invariant.2) c.loop-i-test.true c.character_at-c.ensures.0)
-
-pub overflow_add-i : goal.overflow_add-i
-overflow_add-i c = omega arith
-
-pub loop-i-smaller : goal.loop-i-smaller
-loop-i-smaller c = omega arith
+put1-requires c = (omega arith, character_small _ (characters_here c.requires.0 c.loop-i.invariant) c.loop-i-test.true c.character_at-c.ensures.0)
 
 pub loop-i-preserved : goal.loop-i-preserved
 loop-i-preserved c = let here = c.loop-i in
-    (omega arith, c.put1.auto.dst ∙ here.invariant.1, λ ts cs h e f. characters_step _ (here.invariant.2 ts cs h e f) c.loop-i-test.true c.character_at-c.ensures.0 c.put1.ensures)
-
-pub overflow_add-result : goal.overflow_add-result
-overflow_add-result c = omega arith
-
-pub shape_of-out : goal.shape_of-out
-shape_of-out c = c.loop-i.invariant.1
+    λ ts cs h e f. characters_step _ (here.invariant ts cs h e f) c.loop-i-test.true c.character_at-c.ensures.0 c.put1.ensures
 
 pub returns : goal.returns
-returns c = λ ts cs h e f. characters_end ts (c.loop-i.invariant.2 ts cs h e f) c.loop-i-test.false e f
+returns c = λ ts cs h e f. characters_end ts (c.loop-i.invariant ts cs h e f) c.loop-i-test.false e f

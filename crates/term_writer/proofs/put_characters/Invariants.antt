@@ -3,7 +3,6 @@ use Rattle.term_writer.specs.InTable.{RunInTable}
 use Rattle.term_spec.specs.Canonical.{all_small}
 use Rattle.term_spec.specs.Message.{Terms, all_as_read}
 use Rattle.term_spec.specs.Tree.{count}
-use lib.ListN.{length}
 use Prim.Native.Nat.{ℕ, ◌-◌, ◌≤◌}
 use mathlib.Core.Option.{some}
 use mathlib.Core.List.{List}
@@ -11,7 +10,4 @@ use mathlib.Core.Path.{◌≡◌}
 use Rattle.term_writer.proofs.put_characters.Given as goal
 
 abbrev pub invariant-loop-i : goal.invariant-loop-i
-invariant-loop-i l = (l.i ≤ l.n) × (length l.out ≡ length l.initial.out) × ((ts : Terms) (cs : List ℕ) → RunInTable l.msg l.places l.lengths l.table l.row ts → count ts ≡ l.n → all_small (all_as_read ts) ≡ some cs → CharactersLeft l.msg l.places l.lengths l.table l.row l.n l.at cs l.initial.out l.out l.i)
-
-abbrev pub decreases-loop-i : goal.decreases-loop-i
-decreases-loop-i l = l.n - l.i
+invariant-loop-i l = ((ts : Terms) (cs : List ℕ) → RunInTable l.msg l.places l.lengths l.table l.row ts → count ts ≡ l.n → all_small (all_as_read ts) ≡ some cs → CharactersLeft l.msg l.places l.lengths l.table l.row l.n l.at cs l.initial.out l.out l.i)
