@@ -6,12 +6,9 @@ ghost use Rattle.term_spec.specs.Canonical.{canonical};
 ghost use Rattle.term_writer.specs.PairOrder.{HasOrder};
 ghost use Rattle.term_writer.specs.Code.{canonicals, SomeTerm, SomeRun, SomeSmall, StringTold, SmallTold, CharactersPut, StringPut, TermLength, TermPut, TermFits, RunLength, RunPut, RunFits, PairsPut, PairsFit, PartsPut, PartsFit};
 
-use term_spec::{kinds, tags};
+use term_spec::{kinds, sizes, tags};
 
 const STRING: usize = tags::STRING_EXT as usize;
-
-// The parts of a pair: a key and its value.
-const PAIR_PARTS: usize = 2;
 
 // A map with so many parts has two pairs: fewer need no order.
 const ORDERED_PARTS: usize = 4;
@@ -200,7 +197,7 @@ fn write_parts(
             table,
             order,
             row + 1,
-            n / PAIR_PARTS,
+            n / sizes::PAIR_PARTS,
             out,
             at,
         );
@@ -254,7 +251,15 @@ fn write_pairs(
     for _ in 0..n {
         let slot = octets::wide16(order[key]);
         end = write_run(
-            msg, places, lengths, table, order, slot, PAIR_PARTS, out, end,
+            msg,
+            places,
+            lengths,
+            table,
+            order,
+            slot,
+            sizes::PAIR_PARTS,
+            out,
+            end,
         );
         let value = key + row::size_in(table[key]);
         key = value + row::size_in(table[value]);

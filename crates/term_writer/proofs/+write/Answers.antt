@@ -73,17 +73,22 @@ pub write_parts-overflow_add-row-2 : goal.write_parts-overflow_add-row-2
 write_parts-overflow_add-row-2 t c = omega (arith, c.requires.fit_node.few)
 
 pub write_parts-write_run-requires : goal.write_parts-write_run-requires
-write_parts-write_run-requires t c = let a = c.requires in let b = term_below (parts_some a) in let o = c.has_order.ensures in (omega arith, run_room _ c.parts_in-n.ensures.0 (elim c.else-has_order.branch [
-      write_parts-else-has_order-via-then-has_order+else-is_some w ↦ inl (o.0 w.if-has_order.true, slot_none _ w.slot_at.ensures (sym w.is_some.ensures ∙ w.if-is_some.false))
-      | write_parts-else-has_order-via-else-has_order w ↦ inr (o.1 w.if-has_order.false) ]) a)
+write_parts-write_run-requires t c = let a = c.requires in let b = term_below (parts_some a) in let o = c.has_order.ensures in (
+  omega arith,
+  run_room _ c.parts_in-n.ensures.0 (elim c.else-has_order.branch [
+    | write_parts-else-has_order-via-then-has_order+else-is_some w ↦ inl (o.0 w.if-has_order.true, slot_none _ w.slot_at.ensures (sym w.is_some.ensures ∙ w.if-is_some.false))
+    | write_parts-else-has_order-via-else-has_order w ↦ inr (o.1 w.if-has_order.false)
+  ]) a,
+)
 
 pub write_parts-shape_of-out : goal.write_parts-shape_of-out
 write_parts-shape_of-out t c = c.write_run.auto.out
 
 pub write_parts-returns : goal.write_parts-returns
 write_parts-returns t c = let o = c.has_order.ensures in run_put _ c.parts_in-n.ensures.0 (elim c.else-has_order.branch [
-      write_parts-else-has_order-via-then-has_order+else-is_some w ↦ inl (o.0 w.if-has_order.true, slot_none _ w.slot_at.ensures (sym w.is_some.ensures ∙ w.if-is_some.false))
-      | write_parts-else-has_order-via-else-has_order w ↦ inr (o.1 w.if-has_order.false) ]) c.write_run.ensures
+  | write_parts-else-has_order-via-then-has_order+else-is_some w ↦ inl (o.0 w.if-has_order.true, slot_none _ w.slot_at.ensures (sym w.is_some.ensures ∙ w.if-is_some.false))
+  | write_parts-else-has_order-via-else-has_order w ↦ inr (o.1 w.if-has_order.false)
+]) c.write_run.ensures
 
 pub write_run-loop-init : goal.write_run-loop-init
 write_run-loop-init t c = (omega arith, λ ts h o e. put_start canonical canonicals canonicals_none canonicals_more _ _ _ _ ts h o (omega arith))
@@ -103,7 +108,7 @@ write_run-overflow_add-next t c = let b = left_size _ (put_rest c.requires c.loo
 pub write_run-loop-preserved : goal.write_run-loop-preserved
 write_run-loop-preserved t c = let here = c.loop in (
   omega arith,
-    λ ts h o e. put_step canonical canonicals canonicals_none canonicals_more _ _ (here.invariant.1 ts h o e) (omega arith) c.size_in-next.ensures.0 c.write_term-end.ensures,
+  λ ts h o e. put_step canonical canonicals canonicals_none canonicals_more _ _ (here.invariant.1 ts h o e) (omega arith) c.size_in-next.ensures.0 c.write_term-end.ensures,
 )
 
 pub write_run-returns : goal.write_run-returns

@@ -2,7 +2,6 @@ use Rattle.term_writer.proofs.Strings.{SmallLeft}
 use Rattle.term_writer.specs.InTable.{RunInTable}
 use Rattle.term_spec.specs.Message.{Terms}
 use Rattle.term_spec.specs.Tree.{count}
-use Prim.Native.Nat.{◌-◌, ◌≤◌}
 use mathlib.Core.Path.{◌≡◌}
 use Rattle.term_writer.proofs.all_small.Given as goal
 

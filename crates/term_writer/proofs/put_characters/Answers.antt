@@ -1,7 +1,6 @@
 -- `put_characters` meets its contract. What is left to store comes to all characters, by `characters_step`.
 use Rattle.term_writer.proofs.Strings.{characters_start, characters_step, characters_end, character_small, characters_here, characters_rest, run_below, run_sound}
 use native.Mathlib.Omega.{arith}
-use mathlib.Core.Path.{refl, ◌∙◌}
 use Rattle.term_writer.proofs.put_characters.Goals as goal
 
 pub loop-i-init : goal.loop-i-init

@@ -3,7 +3,7 @@ use Rattle.term_writer.specs.InTable.{RunInTable}
 use Rattle.term_spec.specs.Canonical.{all_small}
 use Rattle.term_spec.specs.Message.{Terms, all_as_read}
 use Rattle.term_spec.specs.Tree.{count}
-use Prim.Native.Nat.{ℕ, ◌-◌, ◌≤◌}
+use Prim.Native.Nat.{ℕ}
 use mathlib.Core.Option.{some}
 use mathlib.Core.List.{List}
 use mathlib.Core.Path.{◌≡◌}
