@@ -1,6 +1,5 @@
 -- Two contents that are found of nodes are the same exactly where they say the same label.
-use mathlib.Core.Path.{◌≡◌, refl, sym, ◌∙◌, ap, ap₂, subst}
-use mathlib.Core.Logic.{◌⊎◌, inl, inr}
+use mathlib.Core.Path.{◌≡◌, refl, sym, ◌∙◌, ap, ap₂}
 use mathlib.Core.Bool.{Bool, true, false, cond}
 use mathlib.Core.List.{List, [], ◌∷◌, ◌++◌}
 use Prim.Native.Nat.{ℕ, zero, suc, ◌+◌, ◌*◌, ◌-◌, ◌/◌, ◌^◌, ◌≤◌, ◌<◌}
@@ -22,12 +21,11 @@ use Rattle.term_spec.proofs.Tests.{never, by_less}
 use Rattle.term_spec.proofs.Holds.{little_under}
 use Rattle.octets.proofs.Parts.{length_part, part_last, length_words_at, part_add}
 use Rattle.octets.proofs.Bits.{clear_last}
-use Rattle.row_compare.specs.declared.Flat.{Flat}
 use Rattle.row_fields.specs.declared.Content.{Content}
 use Rattle.row_fields.specs.declared.Content.TheVariants.{Nothing, Whole, Big, Float, Text, Bytes, Bits, Pid, Port, Reference}
 use Rattle.row_fields.specs.Found.{value}
 use Rattle.row_fields.specs.Meaning.{stretch, sign, words_at, characters_of, coded, bare, label_of}
-use Rattle.row_compare.specs.Same.{same_list, high, same_part, same_stretch, same_spelling, same_text, same_last, same_bits, same_words, numbers_of, stretch_of, text_flat, flat_of, same_numbers, source, same_texts, same_atoms, same_stretches, same_flat, same_contents}
+use Rattle.row_compare.specs.Same.{same_list, high, same_part, same_stretch, same_spelling, same_text, same_last, same_bits, same_words, source, same_contents}
 use Rattle.row_compare.proofs.Lists.{same_true, same_self}
 use Rattle.row_fields.proofs.Values.{under_part, big_same, little_same, little_least}
 use Rattle.row_fields.proofs.Says.{Readable, Sound}
@@ -48,10 +46,6 @@ both {t} {u} {A} {B} p q = go t p
 -- the same by another equality
 pub through : {t : Bool} {A B : Type 0} → (A → B) → (B → A) → Agree t A → Agree t B
 through f g p = record { sure = λ e. f (p.sure e); back = λ b. p.back (g b) }
-
--- decided where either holds
-agree_when : {t : Bool} {A : Type 0} → (t ≡ true → Agree t A) → (A → Agree t A) → Agree t A
-agree_when f g = record { sure = λ e. (f e).sure e; back = λ x. (g x).back x }
 
 pub numbers_agree : (x y : ℕ) → Agree (eqb x y) (x ≡ y)
 numbers_agree x y = record { sure = eqb-true x y; back = eq-eqb x y }
@@ -251,40 +245,9 @@ module _ (m : List ℕ) (under : Under 256 m) where
       let q : 256 ^ 8 ≤ 256 ^ (n - 1) = pow-le-pow_right {n = 256} (omega arith) {i = 8} {j = n - 1} u in
       omega (arith, little_least m i n (omega arith) k f)
 
--- ---- contents by their case's number
+-- ---- the case of a content, as a number
 
-case_of : ℕ → Flat → Content
-case_of code f =
-    cond (eqb code 0) Nothing
-    (cond (eqb code 1) (Whole (eqb f.second 1) f.first)
-    (cond (eqb code 2) (Big (eqb f.first 1) f.start f.length)
-    (cond (eqb code 3) (Float f.first)
-    (cond (eqb code 4) (Text f.latin1 f.listed f.start f.length)
-    (cond (eqb code 5) (Bytes f.start f.length)
-    (cond (eqb code 6) (Bits f.first f.start f.length)
-    (cond (eqb code 7) (Pid f.first f.second f.third)
-    (cond (eqb code 8) (Port f.first f.second)
-    (Reference f.first f.start f.length)))))))))
-
-case_is : (c : Content) → c ≡ case_of (flat_of c).code (flat_of c)
-unfolding case_of flat_of numbers_of stretch_of text_flat
-case_is Nothing = refl
-case_is (Whole true n) = refl
-case_is (Whole false n) = refl
-case_is (Big true i n) = refl
-case_is (Big false i n) = refl
-case_is (Float b) = refl
-case_is (Text l p i n) = refl
-case_is (Bytes i n) = refl
-case_is (Bits b i n) = refl
-case_is (Pid i s c) = refl
-case_is (Port i c) = refl
-case_is (Reference c i n) = refl
-
-shape : (c : Content) (code : ℕ) → (flat_of c).code ≡ code → c ≡ case_of code (flat_of c)
-shape c code e = case_is c ∙ ap (λ (n : ℕ). case_of n (flat_of c)) e
-
--- labels by the same numbers; those with no fields have 0
+-- labels by their contents' case; those with no fields have 0
 class : Label → ℕ
 class (integer z) = 1
 class (float b) = 3
@@ -300,10 +263,6 @@ class (port i c) = 8
 class (reference c ws) = 9
 class export = 0
 
--- integers have two cases
-merged : ℕ → ℕ
-merged code = cond (eqb code 2) 1 code
-
 bare_class : (kind : ℕ) → class (bare kind) ≡ 0
 unfolding class bare
 bare_class kind = go (eqb kind 4) (eqb kind 5) (eqb kind 6) (eqb kind 9)
@@ -315,55 +274,34 @@ bare_class kind = go (eqb kind 4) (eqb kind 5) (eqb kind 6) (eqb kind 9)
     go false false false true = refl
     go false false false false = refl
 
-label_class : (m : List ℕ) (atoms : AtomList) (kind : ℕ) (c : Content) → class (label_of m atoms kind c) ≡ merged (flat_of c).code
-unfolding class merged label_of flat_of numbers_of stretch_of text_flat
+-- integers have two cases
+case_of : Content → ℕ
+case_of Nothing = 0
+case_of (Whole s n) = 1
+case_of (Big s i n) = 1
+case_of (Float b) = 3
+case_of (Text l p i n) = 4
+case_of (Bytes i n) = 5
+case_of (Bits b i n) = 6
+case_of (Pid i s c) = 7
+case_of (Port i c) = 8
+case_of (Reference c i n) = 9
+
+label_class : (m : List ℕ) (atoms : AtomList) (kind : ℕ) (c : Content) → class (label_of m atoms kind c) ≡ case_of c
+unfolding class case_of label_of
 label_class m atoms kind Nothing = bare_class kind
-label_class m atoms kind (Whole s n) = refl
-label_class m atoms kind (Big s i n) = refl
-label_class m atoms kind (Float b) = refl
-label_class m atoms kind (Text l p i n) = refl
-label_class m atoms kind (Bytes i n) = refl
-label_class m atoms kind (Bits b i n) = refl
-label_class m atoms kind (Pid i s c) = refl
-label_class m atoms kind (Port i c) = refl
-label_class m atoms kind (Reference c i n) = refl
-
-merged_other : (x c : ℕ) → merged x ≡ c → (c ≡ 1 → ⊥) → x ≡ c
-unfolding merged
-merged_other x c e f = go (eqb x 2) e
-  where
-    go : (t : Bool) → cond t 1 x ≡ c → x ≡ c
-    go true k = absurd (f (sym k))
-    go false k = k
-
-merged_integer : (x : ℕ) → merged x ≡ 1 → (x ≡ 1) ⊎ (x ≡ 2)
-unfolding merged
-merged_integer x e = go (eqb x 2) refl e
-  where
-    go : (t : Bool) → eqb x 2 ≡ t → cond t 1 x ≡ 1 → (x ≡ 1) ⊎ (x ≡ 2)
-    go true p k = inr (eqb-true x 2 p)
-    go false p k = inl k
+label_class m atoms kind _ = refl
 
 -- ---- two contents
 
-pub record Numbers (a b : Flat) : Type 0 where
-  pub code : a.code ≡ b.code
-  pub first : a.first ≡ b.first
-  pub second : a.second ≡ b.second
-  pub third : a.third ≡ b.third
-
-pub flats_agree : (m places : List ℕ) (a b : Flat) {A : Type 0} → Agree (same_stretches m places a.code a b) A → Agree (same_flat m places a b) (Numbers a b × A)
-unfolding same_flat same_numbers
-flats_agree m places a b p =
-    through (λ x. (record { code = x.0.0; first = x.0.1.0; second = x.0.1.1.0; third = x.0.1.1.1 }, x.1))
-    (λ x. let n = x.0 in ((n.code, (n.first, (n.second, n.third))), x.1))
-    (both (both (numbers_agree a.code b.code) (both (numbers_agree a.first b.first) (both (numbers_agree a.second b.second) (numbers_agree a.third b.third)))) p)
-
-yes_agrees : Agree true (Unit {0})
-yes_agrees = record { sure = λ _. tt; back = λ _. refl }
-
 pub self_agrees : (t : Bool) → Agree t (t ≡ true)
 self_agrees t = record { sure = λ e. e; back = λ e. e }
+
+signs_agree : (s t : Bool) → Agree (eqb (sign s) (sign t)) (s ≡ t)
+signs_agree true true = record { sure = λ _. refl; back = λ _. refl }
+signs_agree true false = record { sure = λ e. never e; back = λ e. never (sym e) }
+signs_agree false true = record { sure = λ e. never e; back = λ e. never e }
+signs_agree false false = record { sure = λ _. refl; back = λ _. refl }
 
 -- the kinds k and k' are equal where neither term has fields of its own
 module _ (atoms : AtomList) (m : List ℕ) (under : Under 256 m) (k k' : ℕ) (alike : bare k ≡ bare k') where
@@ -373,30 +311,28 @@ module _ (atoms : AtomList) (m : List ℕ) (under : Under 256 m) (k k' : ℕ) (a
   -- contents of one case
 
   nothings : Goal Nothing Nothing
-  unfolding same_contents same_flat same_numbers same_stretches flat_of numbers_of label_of
+  unfolding same_contents label_of
   nothings = record { sure = λ _. alike; back = λ _. refl }
 
   wholes : (s t : Bool) (n o : ℕ) → (n ≡ 0 → s ≡ false) → (o ≡ 0 → t ≡ false) → Goal (Whole s n) (Whole t o)
-  unfolding same_contents flat_of numbers_of same_stretches label_of
+  unfolding same_contents label_of
   wholes s t n o f g =
       through
-      (λ x. ap₂ (λ (z y : ℕ). integer (with_sign z y)) x.0.second x.0.first)
-      (λ e. let w : with_sign (sign s) n ≡ with_sign (sign t) o = cc in let v = sign_magnitude s t n o f g w in (record { code = refl; first = v.1; second = ap sign v.0; third = refl }, tt))
-      (flats_agree m atoms.places (flat_of (Whole s n)) (flat_of (Whole t o)) yes_agrees)
+      (λ x. ap₂ (λ (z : Bool) (y : ℕ). integer (with_sign (sign z) y)) x.0 x.1)
+      (λ e. let w : with_sign (sign s) n ≡ with_sign (sign t) o = cc in sign_magnitude s t n o f g w)
+      (both (signs_agree s t) (numbers_agree n o))
 
   module _ (s t : Bool) (i n j o : ℕ) (a : Sound m atoms.places (Big s i n)) (b : Sound m atoms.places (Big t j o)) where
     bigs : Goal (Big s i n) (Big t j o)
-    unfolding same_contents flat_of stretch_of same_stretches label_of
+    unfolding same_contents label_of
     bigs =
         let x : 18446744073709551616 ≤ little_endian (stretch m i n) = large m under i n a.0 a.1 a.2 in
         let y : 18446744073709551616 ≤ little_endian (stretch m j o) = large m under j o b.0 b.1 b.2 in
         through
-        (λ x. ap₂ (λ (z y : ℕ). integer (with_sign z y)) x.0.first x.1)
+        (λ z. ap₂ (λ (u : Bool) (v : ℕ). integer (with_sign (sign u) v)) z.0 z.1)
         (λ e. let w : with_sign (sign s) (little_endian (stretch m i n)) ≡ with_sign (sign t) (little_endian (stretch m j o)) = cc in
-        let v = sign_magnitude s t (little_endian (stretch m i n)) (little_endian (stretch m j o)) (λ z. absurd (omega arith)) (λ z. absurd (omega arith)) w in
-        (record { code = refl; first = ap sign v.0; second = refl; third = refl }, v.1))
-        (flats_agree m atoms.places (flat_of (Big s i n)) (flat_of (Big t j o))
-        (digits_agree m under i n j o a.1 b.1 (omega (arith, a.0)) (omega (arith, b.0)) a.2 b.2))
+        sign_magnitude s t (little_endian (stretch m i n)) (little_endian (stretch m j o)) (λ z. absurd (omega arith)) (λ z. absurd (omega arith)) w)
+        (both (signs_agree s t) (digits_agree m under i n j o a.1 b.1 (omega (arith, a.0)) (omega (arith, b.0)) a.2 b.2))
 
   module _ (s t : Bool) (n j o : ℕ) (a : Sound m atoms.places (Whole s n)) (b : Sound m atoms.places (Big t j o)) where
     apart : with_sign (sign s) n ≡ with_sign (sign t) (little_endian (stretch m j o)) → ⊥
@@ -406,119 +342,70 @@ module _ (atoms : AtomList) (m : List ℕ) (under : Under 256 m) (k k' : ℕ) (a
         omega (arith, v.1, a.0)
 
     whole_big : Goal (Whole s n) (Big t j o)
-    unfolding same_contents same_flat same_numbers flat_of numbers_of stretch_of label_of
+    unfolding same_contents label_of
     whole_big = record { sure = λ e. never e; back = λ e. let w : with_sign (sign s) n ≡ with_sign (sign t) (little_endian (stretch m j o)) = cc in absurd (apart w) }
 
     big_whole : Goal (Big t j o) (Whole s n)
-    unfolding same_contents same_flat same_numbers flat_of numbers_of stretch_of label_of
+    unfolding same_contents label_of
     big_whole = record { sure = λ e. never e; back = λ e. let w : with_sign (sign s) n ≡ with_sign (sign t) (little_endian (stretch m j o)) = cc in absurd (apart w) }
 
   floats : (x y : ℕ) → Goal (Float x) (Float y)
-  unfolding same_contents flat_of numbers_of same_stretches label_of
-  floats x y =
-      through (λ x. ap float x.0.first)
-      (λ e. (record { code = refl; first = cc; second = refl; third = refl }, tt))
-      (flats_agree m atoms.places (flat_of (Float x)) (flat_of (Float y)) yes_agrees)
+  unfolding same_contents label_of
+  floats x y = through (ap float) (λ e. cc) (numbers_agree x y)
 
   texts : (x y p q : Bool) (i n j o : ℕ) → Sound m atoms.places (Text x p i n) → Sound m atoms.places (Text y q j o) → Goal (Text x p i n) (Text y q j o)
-  unfolding same_contents flat_of text_flat same_stretches same_atoms same_texts label_of
+  unfolding same_contents label_of
   texts x y p q i n j o a b =
-      through (λ z. ap atom z.1)
-      (λ e. (record { code = refl; first = refl; second = refl; third = refl }, cc))
-      (flats_agree m atoms.places (flat_of (Text x p i n)) (flat_of (Text y q j o))
-      (texts_agree (source m atoms.places p) i n (source m atoms.places q) j o a.0 b.0 x y a.1 b.1))
+      through (ap atom) (λ e. cc) (texts_agree (source m atoms.places p) i n (source m atoms.places q) j o a.0 b.0 x y a.1 b.1)
 
   byteses : (i n j o : ℕ) → i + n ≤ length m → j + o ≤ length m → Goal (Bytes i n) (Bytes j o)
-  unfolding same_contents flat_of stretch_of same_stretches label_of
-  byteses i n j o a b =
-      through (λ z. ap binary z.1)
-      (λ e. (record { code = refl; first = refl; second = refl; third = refl }, cc))
-      (flats_agree m atoms.places (flat_of (Bytes i n)) (flat_of (Bytes j o)) (stretch_agrees m i m j n o a b))
+  unfolding same_contents label_of
+  byteses i n j o a b = through (ap binary) (λ e. cc) (stretch_agrees m i m j n o a b)
 
   bitses : (x y i n j o : ℕ) → i + n ≤ length m → j + o ≤ length m → Goal (Bits x i n) (Bits y j o)
-  unfolding same_contents flat_of stretch_of same_stretches label_of
+  unfolding same_contents label_of
   bitses x y i n j o a b =
       through
-      (λ z. ap₂ (λ (u : ℕ) (v : List ℕ). bitstring u v) z.0.first (z.1 ∙ ap (λ (u : ℕ). clear_low u (stretch m j o)) z.0.first))
+      (λ z. ap₂ (λ (u : ℕ) (v : List ℕ). bitstring u v) z.0 (z.1 ∙ ap (λ (u : ℕ). clear_low u (stretch m j o)) z.0))
       (λ e. let f : x ≡ y = cc in let g : clear_low x (stretch m i n) ≡ clear_low y (stretch m j o) = cc in
-      (record { code = refl; first = f; second = refl; third = refl }, g ∙ ap (λ (u : ℕ). clear_low u (stretch m j o)) (sym f)))
-      (flats_agree m atoms.places (flat_of (Bits x i n)) (flat_of (Bits y j o)) (bits_agree m x i j n o a b))
+      (f, g ∙ ap (λ (u : ℕ). clear_low u (stretch m j o)) (sym f)))
+      (both (numbers_agree x y) (bits_agree m x i j n o a b))
 
   pids : (i s c j t d : ℕ) → Goal (Pid i s c) (Pid j t d)
-  unfolding same_contents flat_of numbers_of same_stretches label_of
+  unfolding same_contents label_of
   pids i s c j t d =
-      through (λ z. let n = z.0 in ap₂ (λ (u : ℕ) (v : ℕ). pid u v c) n.first n.second ∙ ap (pid j t) n.third)
-      (λ e. (record { code = refl; first = cc; second = cc; third = cc }, tt))
-      (flats_agree m atoms.places (flat_of (Pid i s c)) (flat_of (Pid j t d)) yes_agrees)
+      through (λ z. ap₂ (λ (u : ℕ) (v : ℕ). pid u v c) z.0 z.1.0 ∙ ap (pid j t) z.1.1) (λ e. (cc, (cc, cc)))
+      (both (numbers_agree i j) (both (numbers_agree s t) (numbers_agree c d)))
 
   ports : (i c j d : ℕ) → Goal (Port i c) (Port j d)
-  unfolding same_contents flat_of numbers_of same_stretches label_of
-  ports i c j d =
-      through (λ z. let n = z.0 in ap₂ (λ (u : ℕ) (v : ℕ). port u v) n.first n.second)
-      (λ e. (record { code = refl; first = cc; second = cc; third = refl }, tt))
-      (flats_agree m atoms.places (flat_of (Port i c)) (flat_of (Port j d)) yes_agrees)
+  unfolding same_contents label_of
+  ports i c j d = through (λ z. ap₂ (λ (u : ℕ) (v : ℕ). port u v) z.0 z.1) (λ e. (cc, cc)) (both (numbers_agree i j) (numbers_agree c d))
 
   references : (c i n d j o : ℕ) → i + 4 * n ≤ length m → j + 4 * o ≤ length m → Goal (Reference c i n) (Reference d j o)
-  unfolding same_contents flat_of stretch_of same_stretches label_of
+  unfolding same_contents label_of
   references c i n d j o a b =
-      through (λ z. ap₂ (λ (u : ℕ) (v : List ℕ). reference u v) z.0.first z.1)
-      (λ e. (record { code = refl; first = cc; second = refl; third = refl }, cc))
-      (flats_agree m atoms.places (flat_of (Reference c i n)) (flat_of (Reference d j o)) (words_agree m under i n j o a b))
+      through (λ z. ap₂ (λ (u : ℕ) (v : List ℕ). reference u v) z.0 z.1) (λ e. (cc, cc)) (both (numbers_agree c d) (words_agree m under i n j o a b))
 
   -- contents of any case
 
   abbrev S : Content → Type 0
   S = Sound m atoms.places
 
-  same_code : (a b : Content) → same_contents m atoms.places a b ≡ true → (flat_of a).code ≡ (flat_of b).code
-  unfolding same_contents
-  same_code a b e = ((flats_agree m atoms.places (flat_of a) (flat_of b) (self_agrees (same_stretches m atoms.places (flat_of a).code (flat_of a) (flat_of b)))).sure e).0.code
-
-  label_code : (a b : Content) → label_of m atoms k a ≡ label_of m atoms k' b → merged (flat_of a).code ≡ merged (flat_of b).code
-  label_code a b e = sym (label_class m atoms k a) ∙ ap class e ∙ label_class m atoms k' b
-
-  at_case : (a b : Content) (code : ℕ) → S b → (S (case_of code (flat_of b)) → Goal a (case_of code (flat_of b))) → (flat_of b).code ≡ code → Goal a b
-  at_case a b code s h x = subst (λ (c : Content). S c → Goal a c) (sym (shape b code x)) h s
-
-  -- where b can only be of one case
-  one_case : (a b : Content) (code : ℕ) → (flat_of a).code ≡ code → merged code ≡ code → (code ≡ 1 → ⊥) → S b
-      → (S (case_of code (flat_of b)) → Goal a (case_of code (flat_of b))) → Goal a b
-  one_case a b code e f g s h =
-      agree_when (λ x. at_case a b code s h (sym (same_code a b x) ∙ e))
-      (λ x. at_case a b code s h (merged_other (flat_of b).code code (sym (label_code a b x) ∙ ap merged e ∙ f) g))
-
-  -- where both are integers
-  two_cases : (a b : Content) → merged (flat_of a).code ≡ 1 → S b
-      → (S (case_of 1 (flat_of b)) → Goal a (case_of 1 (flat_of b))) → (S (case_of 2 (flat_of b)) → Goal a (case_of 2 (flat_of b))) → Goal a b
-  two_cases a b e s g h =
-      agree_when (λ x. go (merged_integer (flat_of b).code (ap merged (sym (same_code a b x)) ∙ e)))
-      (λ x. go (merged_integer (flat_of b).code (sym (label_code a b x) ∙ e)))
-    where
-      go : ((flat_of b).code ≡ 1) ⊎ ((flat_of b).code ≡ 2) → Goal a b
-      go (inl x) = at_case a b 1 s g x
-      go (inr x) = at_case a b 2 s h x
+  other_case : (a b : Content) → (case_of a ≡ case_of b → ⊥) → label_of m atoms k a ≡ label_of m atoms k' b → ⊥
+  other_case a b f e = f (sym (label_class m atoms k a) ∙ ap class e ∙ label_class m atoms k' b)
 
   pub alike_contents : (a b : Content) → S a → S b → Goal a b
-  unfolding case_of flat_of numbers_of stretch_of text_flat merged
-  alike_contents Nothing b s t = one_case Nothing b 0 refl refl (λ z. omega arith) t (λ _. nothings)
-  alike_contents (Whole x n) b s t =
-      let f : Flat = flat_of b in
-      two_cases (Whole x n) b refl t (λ u. wholes x (eqb f.second 1) n f.first s.1 u.1) (λ u. whole_big x (eqb f.first 1) n f.start f.length s u)
-  alike_contents (Big x i n) b s t =
-      let f : Flat = flat_of b in
-      two_cases (Big x i n) b refl t (λ u. big_whole (eqb f.second 1) x f.first i n u s) (λ u. bigs x (eqb f.first 1) i n f.start f.length s u)
-  alike_contents (Float x) b s t = one_case (Float x) b 3 refl refl (λ z. omega arith) t (λ _. floats x (flat_of b).first)
-  alike_contents (Text x p i n) b s t =
-      let f : Flat = flat_of b in
-      one_case (Text x p i n) b 4 refl refl (λ z. omega arith) t (λ u. texts x f.latin1 p f.listed i n f.start f.length s u)
-  alike_contents (Bytes i n) b s t = one_case (Bytes i n) b 5 refl refl (λ z. omega arith) t (λ u. byteses i n (flat_of b).start (flat_of b).length s u)
-  alike_contents (Bits x i n) b s t =
-      let f : Flat = flat_of b in
-      one_case (Bits x i n) b 6 refl refl (λ z. omega arith) t (λ u. bitses x f.first i n f.start f.length s u)
-  alike_contents (Pid i x c) b s t =
-      let f : Flat = flat_of b in
-      one_case (Pid i x c) b 7 refl refl (λ z. omega arith) t (λ _. pids i x c f.first f.second f.third)
-  alike_contents (Port i c) b s t = one_case (Port i c) b 8 refl refl (λ z. omega arith) t (λ _. ports i c (flat_of b).first (flat_of b).second)
-  alike_contents (Reference c i n) b s t =
-      let f : Flat = flat_of b in
-      one_case (Reference c i n) b 9 refl refl (λ z. omega arith) t (λ u. references c i n f.first f.start f.length s u)
+  unfolding same_contents case_of
+  alike_contents Nothing Nothing s t = nothings
+  alike_contents (Whole x n) (Whole y o) s t = wholes x y n o s.1 t.1
+  alike_contents (Whole x n) (Big y j o) s t = whole_big x y n j o s t
+  alike_contents (Big x i n) (Whole y o) s t = big_whole y x o i n t s
+  alike_contents (Big x i n) (Big y j o) s t = bigs x y i n j o s t
+  alike_contents (Float x) (Float y) s t = floats x y
+  alike_contents (Text x p i n) (Text y q j o) s t = texts x y p q i n j o s t
+  alike_contents (Bytes i n) (Bytes j o) s t = byteses i n j o s t
+  alike_contents (Bits x i n) (Bits y j o) s t = bitses x y i n j o s t
+  alike_contents (Pid i x c) (Pid j y d) s t = pids i x c j y d
+  alike_contents (Port i c) (Port j d) s t = ports i c j d
+  alike_contents (Reference c i n) (Reference d j o) s t = references c i n d j o s t
+  alike_contents a b s t = record { sure = λ e. never e; back = λ e. absurd (other_case a b (λ z. omega arith) e) }

@@ -7,11 +7,10 @@ use native.Mathlib.Omega.{arith}
 use lib.Dec.{eqb}
 use lib.ListN.{length, get_or, take, drop}
 use lib.Seq.{drop-drop, take-nil}
-use borrow.Author.Tests.{eqb-true, eqb-false, eq-eqb, ne_eqb, lt-ltb, le-ltb}
+use borrow.Author.Tests.{eqb-true, eqb-false, eq-eqb, lt-ltb, le-ltb}
 use Rattle.term_spec.specs.Text.{encode, encodes}
-use Rattle.term_spec.proofs.Tests.{by_less}
 use Rattle.octets.proofs.Parts.{length_part, part_cons}
-use Rattle.row_compare.specs.Same.{same_list, Spelling}
+use Rattle.row_compare.specs.Same.{same_list, Spelled, NotSpelled}
 
 -- ---- equality as a test
 
@@ -50,10 +49,6 @@ same_cons : (x : ℕ) (xs : List ℕ) (y : ℕ) (ys : List ℕ) → x ≡ y → 
 unfolding same_list
 same_cons x xs y ys e = rw (eq-eqb x y e)
 
-differ_cons : (x : ℕ) (xs : List ℕ) (y : ℕ) (ys : List ℕ) → (x ≡ y → ⊥) → same_list (x ∷ xs) (y ∷ ys) ≡ false
-unfolding same_list
-differ_cons x xs y ys e = rw (ne_eqb x y e)
-
 -- ---- characters under 256 in UTF-8
 
 pub encode_low : (c : ℕ) → c < 128 → encode c ≡ c ∷ []
@@ -64,75 +59,50 @@ pub encode_high : (c : ℕ) → 128 ≤ c → c < 256 → encode c ≡ (192 + c 
 unfolding encode
 encode_high c h k = rw (le-ltb c 0x80 h, lt-ltb c 0x800 (omega arith))
 
-none_spelt : (c : ℕ) (bs : List ℕ) → ((more : List ℕ) → same_list (encode c ++ more) bs ≡ false) → Spelling c bs 0
-none_spelt c bs f = record { fits = omega arith; spells = λ e. absurd (e refl); differs = λ _ more. f more }
-
-module _ (c : ℕ) (b : List ℕ) (j k : ℕ) where
-  pub spelling_end : c < 256 → k ≡ 0 → Spelling c (take k (drop j b)) 0
-  unfolding same_list
-  spelling_end small e =
-      none_spelt c (take k (drop j b))
-      (λ more. rw e (by_less c 128 (λ h. ap (λ (x : List ℕ). same_list (x ++ more) []) (encode_low c h)) (λ h. ap (λ (x : List ℕ). same_list (x ++ more) []) (encode_high c h small))))
-
-  module _ (some : k ≡ 0 → ⊥) (fits : j + k ≤ length b) where
-    first_byte : take k (drop j b) ≡ get_or b j 0 ∷ take (k - 1) (drop (j + 1) b)
-    first_byte = part_cons b j k (omega arith) (omega arith)
-
-    pub spelling_low : (x : ℕ) → x ≡ get_or b j 0 → c < 128 → x ≡ c → Spelling c (take k (drop j b)) 1
-    spelling_low x p h e =
-        let f : c ≡ get_or b j 0 = sym e ∙ p in
+module _ (c : ℕ) (b : List ℕ) (j k : ℕ) (fits : j + k ≤ length b) where
+  -- a character of one byte
+  module _ (low : c < 128) where
+    pub spelled_low : 0 < k → get_or b j 0 ≡ c → Spelled c (take k (drop j b)) 1
+    spelled_low some e =
         record {
           fits = omega (arith, length_part b j k fits);
-          spells = λ _ more. rw (encode_low c h, first_byte) (same_cons c more (get_or b j 0) (take (k - 1) (drop (j + 1) b)) f);
-          differs = λ z. absurd (omega arith);
+          spells = λ more. rw (encode_low c low, part_cons b j k some (omega arith)) (same_cons c more (get_or b j 0) (take (k - 1) (drop (j + 1) b)) (sym e));
         }
 
-    pub spelling_not_low : (x : ℕ) → x ≡ get_or b j 0 → c < 128 → (x ≡ c → ⊥) → Spelling c (take k (drop j b)) 0
-    spelling_not_low x p h e =
-        none_spelt c (take k (drop j b))
-        (λ more. rw (encode_low c h, first_byte) (differ_cons c more (get_or b j 0) (take (k - 1) (drop (j + 1) b)) (λ q. e (p ∙ sym q))))
+    pub not_spelled_low : (0 < k → get_or b j 0 ≡ c → ⊥) → NotSpelled c (take k (drop j b))
+    not_spelled_low f more =
+        rw (encode_low c low)
+        (sym (same_unequal (c ∷ more) (take k (drop j b))
+        (λ e.
+        let some : 0 < k = omega (arith, ap length e, length_part b j k fits) in
+        let q : ◌≡◌ {A = List ℕ} (c ∷ more) (get_or b j 0 ∷ take (k - 1) (drop (j + 1) b)) = e ∙ part_cons b j k some (omega arith) in
+        f some (cc))))
 
-    module _ (small : c < 256) (h : 128 ≤ c) where
-      pub spelling_not_first : (x : ℕ) → x ≡ get_or b j 0 → (x ≡ 192 + c / 64 → ⊥) → Spelling c (take k (drop j b)) 0
-      spelling_not_first x p e =
-          none_spelt c (take k (drop j b))
-          (λ more. rw (encode_high c h small, first_byte) (differ_cons (192 + c / 64) ((128 + c % 64) ∷ more) (get_or b j 0) (take (k - 1) (drop (j + 1) b)) (λ q. e (p ∙ sym q))))
+  -- of two bytes
+  module _ (high : 128 ≤ c) (small : c < 256) where
+    module _ (two : 1 < k) where
+      abbrev tail : List ℕ
+      tail = take (k - 1 - 1) (drop (j + 1 + 1) b)
 
-      high_next : (x : ℕ) → x ≡ get_or b j 0 → x ≡ 192 + c / 64 → (more : List ℕ)
-          → same_list (encode c ++ more) (take k (drop j b)) ≡ same_list ((128 + c % 64) ∷ more) (take (k - 1) (drop (j + 1) b))
-      high_next x p e more =
-          let f : 192 + c / 64 ≡ get_or b j 0 = sym e ∙ p in
-          rw (encode_high c h small, first_byte) (same_cons (192 + c / 64) ((128 + c % 64) ∷ more) (get_or b j 0) (take (k - 1) (drop (j + 1) b)) f)
+      two_bytes : take k (drop j b) ≡ get_or b j 0 ∷ get_or b (j + 1) 0 ∷ tail
+      two_bytes = part_cons b j k (omega arith) (omega arith) ∙ ap (λ (l : List ℕ). get_or b j 0 ∷ l) (part_cons b (j + 1) (k - 1) (omega arith) (omega arith))
 
-      pub spelling_short : (x : ℕ) → x ≡ get_or b j 0 → k ≡ 1 → Spelling c (take k (drop j b)) 0
-      unfolding same_list
-      spelling_short x p e =
-          none_spelt c (take k (drop j b))
-          (λ more. rw (encode_high c h small, first_byte) (go more (eqb (192 + c / 64) (get_or b j 0))))
-        where
-          go : (more : List ℕ) (t : Bool) → cond t (same_list ((128 + c % 64) ∷ more) (take (k - 1) (drop (j + 1) b))) false ≡ false
-          go more true = let u : k - 1 ≡ 0 = omega arith in rw u
-          go more false = refl
+      pub spelled_high : get_or b j 0 ≡ 192 + c / 64 → get_or b (j + 1) 0 ≡ 128 + c % 64 → Spelled c (take k (drop j b)) 2
+      spelled_high e f =
+          record {
+            fits = omega (arith, length_part b j k fits);
+            spells = λ more. rw (encode_high c high small, two_bytes)
+                (same_cons (192 + c / 64) ((128 + c % 64) ∷ more) (get_or b j 0) (get_or b (j + 1) 0 ∷ tail) (sym e) ∙ same_cons (128 + c % 64) more (get_or b (j + 1) 0) tail (sym f));
+          }
 
-      module _ (x y : ℕ) (p : x ≡ get_or b j 0) (e : x ≡ 192 + c / 64) (q : y ≡ get_or b (j + 1) 0) (two : k ≡ 1 → ⊥) where
-        second_byte : take (k - 1) (drop (j + 1) b) ≡ get_or b (j + 1) 0 ∷ take (k - 1 - 1) (drop (j + 1 + 1) b)
-        second_byte = part_cons b (j + 1) (k - 1) (omega arith) (omega arith)
-
-        pub spelling_not_second : (y ≡ 128 + c % 64 → ⊥) → Spelling c (take k (drop j b)) 0
-        spelling_not_second f =
-            none_spelt c (take k (drop j b))
-            (λ more. high_next x p e more ∙ rw second_byte (differ_cons (128 + c % 64) more (get_or b (j + 1) 0) (take (k - 1 - 1) (drop (j + 1 + 1) b)) (λ z. f (q ∙ sym z))))
-
-        pub spelling_high : y ≡ 128 + c % 64 → Spelling c (take k (drop j b)) 2
-        spelling_high f =
-            let z : 128 + c % 64 ≡ get_or b (j + 1) 0 = sym f ∙ q in
-            let tail : List ℕ = take (k - 1 - 1) (drop (j + 1 + 1) b) in
-            let d : drop 2 (take k (drop j b)) ≡ tail = rw (first_byte, second_byte) in
-            record {
-              fits = omega (arith, length_part b j k fits);
-              spells = λ _ more. high_next x p e more ∙ rw second_byte (same_cons (128 + c % 64) more (get_or b (j + 1) 0) tail z) ∙ ap (same_list more) (sym d);
-              differs = λ w. absurd (omega arith);
-            }
+    pub not_spelled_high : (1 < k → get_or b j 0 ≡ 192 + c / 64 → get_or b (j + 1) 0 ≡ 128 + c % 64 → ⊥) → NotSpelled c (take k (drop j b))
+    not_spelled_high f more =
+        rw (encode_high c high small)
+        (sym (same_unequal ((192 + c / 64) ∷ (128 + c % 64) ∷ more) (take k (drop j b))
+        (λ e.
+        let two : 1 < k = omega (arith, ap length e, length_part b j k fits) in
+        let q : ◌≡◌ {A = List ℕ} ((192 + c / 64) ∷ (128 + c % 64) ∷ more) (get_or b j 0 ∷ get_or b (j + 1) 0 ∷ tail two) = e ∙ two_bytes two in
+        f two (cc) (cc))))
 
 -- ---- a walk over characters and their bytes
 
@@ -159,7 +129,7 @@ module _ (a : List ℕ) (i n : ℕ) (b : List ℕ) (j k : ℕ) where
       ap₂ (λ (x y : ℕ). same_list (encodes (take x (drop y a))) (take k (drop j b))) u s
       ∙ ap₂ (λ (x y : ℕ). same_list (encodes (take (n - 0) (drop (i + 0) a))) (take x (drop y b))) v t
 
-  module _ (x y c w : ℕ) (fits : i + n ≤ length a) (less : x < n) (is : c ≡ get_or a (i + x) 0) (s : Spelling c (take (k - y) (drop (j + y) b)) w) where
+  module _ (x y c : ℕ) (fits : i + n ≤ length a) (less : x < n) (is : c ≡ get_or a (i + x) 0) where
     next_character : rest x y ≡ same_list (encode c ++ encodes (take (n - (x + 1)) (drop (i + (x + 1)) a))) (take (k - y) (drop (j + y) b))
     unfolding encodes
     next_character =
@@ -167,17 +137,18 @@ module _ (a : List ℕ) (i n : ℕ) (b : List ℕ) (j k : ℕ) where
         let v : i + x + 1 ≡ i + (x + 1) = omega arith in
         rw (part_cons a (i + x) (n - x) (omega arith) (omega arith), u, v, ← is)
 
-    pub walk_differs : w ≡ 0 → false ≡ rest x y
-    walk_differs e = sym (next_character ∙ s.differs e _)
+    pub walk_differs : NotSpelled c (take (k - y) (drop (j + y) b)) → false ≡ rest x y
+    walk_differs s = sym (next_character ∙ s _)
 
-    pub walk_more : (w ≡ 0 → ⊥) → rest x y ≡ rest (x + 1) (y + w)
-    walk_more f =
-        let u : k - y - w ≡ k - (y + w) = omega arith in
-        let v : j + y + w ≡ j + (y + w) = omega arith in
-        next_character ∙ s.spells f _ ∙ ap (same_list _) (drop_part w (k - y) (j + y) b ∙ rw (u, v))
+    module _ (w : ℕ) (s : Spelled c (take (k - y) (drop (j + y) b)) w) where
+      pub walk_more : rest x y ≡ rest (x + 1) (y + w)
+      walk_more =
+          let u : k - y - w ≡ k - (y + w) = omega arith in
+          let v : j + y + w ≡ j + (y + w) = omega arith in
+          next_character ∙ s.spells _ ∙ ap (same_list _) (drop_part w (k - y) (j + y) b ∙ rw (u, v))
 
-    pub walk_inside : j + k ≤ length b → y ≤ k → y + w ≤ k
-    walk_inside h l = omega (arith, s.fits, length_part b (j + y) (k - y) (omega arith))
+      pub walk_inside : j + k ≤ length b → y ≤ k → y + w ≤ k
+      walk_inside h l = omega (arith, s.fits, length_part b (j + y) (k - y) (omega arith))
 
   pub walk_end : (x y : ℕ) → j + k ≤ length b → y ≤ k → n ≤ x → eqb y k ≡ rest x y
   unfolding encodes same_list

@@ -2,22 +2,18 @@
 -- About the code alone, proved against the definitions of term_spec: nothing here has to be believed.
 use Rattle.std.specs.Prelude.{Bool, cond, List, [], ◌∷◌, ℕ, ◌+◌, ◌*◌, ◌-◌, ◌/◌, ◌%◌, eqb, leb, ltb, length, get_or, take, drop}
 use Rattle.term_spec.specs.Text.{encodes}
-use Rattle.row_fields.specs.Meaning.{stretch}
-use Rattle.row_compare.specs.Same.{flat_of, source, high}
-use Rattle.row_compare.specs.declared.Flat.{Flat}
+use Rattle.row_fields.specs.Meaning.{stretch, sign}
+use Rattle.row_compare.specs.Same.{source, high}
 use Rattle.row_fields.specs.declared.Content.{Content}
+use Rattle.row_fields.specs.declared.Content.TheVariants.{Nothing, Whole, Big, Float, Text, Bytes, Bits, Pid, Port, Reference}
 
 -- a text's bytes in UTF-8
 unfoldable pub as_utf8 : Bool → List ℕ → List ℕ
 as_utf8 latin1 bs = cond latin1 (encodes bs) bs
 
--- how many bytes of a stretch that is no text count: of bits (6) all but the last, of n words (9) four times as many
-unfoldable pub hashed : List ℕ → ℕ → ℕ → ℕ
-hashed m code n =
-    cond (eqb code 2) n
-    (cond (eqb code 5) n
-    (cond (eqb code 6) (n - 1)
-    (cond (eqb code 9) (cond (ltb (length m / 4) n) 0 (4 * n)) 0)))
+-- how many bytes n words have that are there; none of more than the message can hold
+unfoldable pub words_length : List ℕ → ℕ → ℕ
+words_length m n = cond (ltb (length m / 4) n) 0 (4 * n)
 
 -- the bits that count of the last of n bytes; 0 where there is none
 unfoldable pub last_bits : List ℕ → ℕ → ℕ → ℕ → ℕ
@@ -46,16 +42,15 @@ module _ (factor : ℕ) where
   unfoldable pub hash_ends : List ℕ → ℕ → ℕ → ℕ → ℕ
   hash_ends s at n h = cond (leb (at + n) (length s)) (mix_ends h (stretch s at n)) h
 
-  -- what a content says beside its first two numbers: a pid (7) its third, a text (4) and others their bytes
-  unfoldable pub hash_stretch : List ℕ → List ℕ → ℕ → ℕ → Flat → ℕ
-  hash_stretch m places h code f =
-      cond (eqb code 7) (mix h f.third)
-      (cond (eqb code 4) (hash_part (source m places f.listed) f.start f.length f.latin1 h)
-      (cond (eqb code 6) (mix (hash_ends m f.start (hashed m code f.length) h) (last_bits m f.first f.start f.length))
-      (hash_ends m f.start (hashed m code f.length) h)))
-
-  unfoldable pub hash_flat : List ℕ → List ℕ → ℕ → Flat → ℕ
-  hash_flat m places h f = hash_stretch m places (mix (mix h f.first) f.second) f.code f
-
+  -- two numbers, 0 where there is none, and then the bytes that count: of bits all but the last, and of the last so many bits
   unfoldable pub hash_contents : List ℕ → List ℕ → ℕ → Content → ℕ
-  hash_contents m places h c = hash_flat m places h (flat_of c)
+  hash_contents m places h Nothing = mix (mix h 0) 0
+  hash_contents m places h (Whole negative n) = mix (mix h n) (sign negative)
+  hash_contents m places h (Big negative start n) = hash_ends m start n (mix (mix h (sign negative)) 0)
+  hash_contents m places h (Float bits) = mix (mix h bits) 0
+  hash_contents m places h (Text latin1 listed start n) = hash_part (source m places listed) start n latin1 (mix (mix h 0) 0)
+  hash_contents m places h (Bytes start n) = hash_ends m start n (mix (mix h 0) 0)
+  hash_contents m places h (Bits bits start n) = mix (hash_ends m start (n - 1) (mix (mix h bits) 0)) (last_bits m bits start n)
+  hash_contents m places h (Pid id serial creation) = mix (mix (mix h id) serial) creation
+  hash_contents m places h (Port id creation) = mix (mix h id) creation
+  hash_contents m places h (Reference creation start n) = hash_ends m start (words_length m n) (mix (mix h creation) 0)

@@ -1,24 +1,32 @@
--- `spelling` meets its contract.
-use Rattle.row_compare.proofs.Lists.{spelling_end, spelling_low, spelling_not_low, spelling_short, spelling_not_first, spelling_not_second, spelling_high}
+-- `spelling` meets its contract: one law for each answer.
+use mathlib.Core.Path.{sym, ◌∙◌}
+use native.Mathlib.Omega.{arith}
+use Rattle.row_compare.proofs.Lists.{spelled_low, not_spelled_low, spelled_high, not_spelled_high}
 use Rattle.row_compare.proofs.spelling.Goals as goal
-
-pub returns-then-k-eq0 : goal.returns-then-k-eq0
-returns-then-k-eq0 c = spelling_end c.args.c c.args.b.now c.args.j c.args.k c.requires.0 c.if-k-eq0.true
-
-pub returns-then-first-c : goal.returns-then-first-c
-returns-then-first-c c = spelling_low c.args.c c.args.b.now c.args.j c.args.k c.if-k-eq0.false c.requires.1 c.wide-first.result c.wide-first.ensures.0 c.if-c-lt128.true c.if-first-c.true
-
-pub returns-then-c-lt128 : goal.returns-then-c-lt128
-returns-then-c-lt128 c = spelling_not_low c.args.c c.args.b.now c.args.j c.args.k c.if-k-eq0.false c.requires.1 c.wide-first.result c.wide-first.ensures.0 c.if-c-lt128.true c.if-first-c.false
-
-pub returns-then-k-eq1 : goal.returns-then-k-eq1
-returns-then-k-eq1 c = spelling_short c.args.c c.args.b.now c.args.j c.args.k c.if-k-eq0.false c.requires.1 c.requires.0 c.if-c-lt128.false c.wide-first.result c.wide-first.ensures.0 c.if-k-eq1.true
-
-pub returns-then-first-c-2 : goal.returns-then-first-c-2
-returns-then-first-c-2 c = spelling_not_first c.args.c c.args.b.now c.args.j c.args.k c.if-k-eq0.false c.requires.1 c.requires.0 c.if-c-lt128.false c.wide-first.result c.wide-first.ensures.0 c.if-first-c-2.true
+use Rattle.row_compare.proofs.spelling.Goals.{else-k-gt0-via-then-k-gt0+else-wide-c, else-k-gt0-via-else-k-gt0, else-k-gt1-via-then-k-gt1+then-wide-c-2+else-wide-c-3, else-k-gt1-via-then-k-gt1+else-wide-c-2, else-k-gt1-via-else-k-gt1}
 
 pub returns-then-wide-c : goal.returns-then-wide-c
-returns-then-wide-c c = spelling_not_second c.args.c c.args.b.now c.args.j c.args.k c.if-k-eq0.false c.requires.1 c.requires.0 c.if-c-lt128.false c.wide-first.result c.wide.result c.wide-first.ensures.0 c.if-first-c-2.false c.wide.ensures.0 c.if-k-eq1.false c.if-wide-c.true
+returns-then-wide-c c = spelled_low _ _ _ _ c.requires.1 c.if-c-lt128.true c.if-k-gt0.true (sym c.wide.ensures.0 ∙ c.if-wide-c.true)
+
+pub returns-then-c-lt128 : goal.returns-then-c-lt128
+returns-then-c-lt128 c =
+    not_spelled_low _ _ _ _ c.requires.1 c.if-c-lt128.true
+    (λ some e.
+    elim c.else-k-gt0.branch [
+      | else-k-gt0-via-then-k-gt0+else-wide-c w ↦ w.if-wide-c.false (w.wide.ensures.0 ∙ e)
+      | else-k-gt0-via-else-k-gt0 w ↦ omega arith
+    ])
+
+pub returns-then-wide-c-3 : goal.returns-then-wide-c-3
+returns-then-wide-c-3 c =
+    spelled_high _ _ _ _ c.requires.1 c.if-c-lt128.false c.requires.0 c.if-k-gt1.true (sym c.wide-then-k-gt1.ensures.0 ∙ c.if-wide-c-2.true) (sym c.wide-then-wide-c-2.ensures.0 ∙ c.if-wide-c-3.true)
 
 pub returns : goal.returns
-returns c = spelling_high c.args.c c.args.b.now c.args.j c.args.k c.if-k-eq0.false c.requires.1 c.requires.0 c.if-c-lt128.false c.wide-first.result c.wide.result c.wide-first.ensures.0 c.if-first-c-2.false c.wide.ensures.0 c.if-k-eq1.false c.if-wide-c.false
+returns c =
+    not_spelled_high _ _ _ _ c.requires.1 c.if-c-lt128.false c.requires.0
+    (λ two e f.
+    elim c.else-k-gt1.branch [
+      | else-k-gt1-via-then-k-gt1+then-wide-c-2+else-wide-c-3 w ↦ w.if-wide-c-3.false (w.wide-then-wide-c-2.ensures.0 ∙ f)
+      | else-k-gt1-via-then-k-gt1+else-wide-c-2 w ↦ w.if-wide-c-2.false (w.wide-then-k-gt1.ensures.0 ∙ e)
+      | else-k-gt1-via-else-k-gt1 w ↦ omega arith
+    ])
