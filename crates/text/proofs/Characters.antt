@@ -16,9 +16,7 @@ use Rattle.term_spec.proofs.Tests.{both_true}
 use Rattle.term_spec.proofs.Text.{decode_first, between, pending}
 use Rattle.text.specs.Shown.{shown}
 use Rattle.text.specs.Characters.{text_from, onward, Within, due, byte_in, Completes, CharacterAt, Ascii}
-use Rattle.text.specs.declared.Checked.TheVariants.{Text, Bad}
-use Rattle.text.specs.declared.Character.{Character}
-use Rattle.text.specs.declared.Character.TheVariants.{Ends, Fails}
+use Rattle.std.proofs.Common.{Some, None, Result, Ok, Err}
 use Rattle.text.proofs.Ascii.{ascii_rest}
 
 -- a character that is put down leaves the rest as it is found
@@ -32,7 +30,7 @@ module _ (s : List ℕ) where
   byte_at at h = drop-cons s at 0 h ∙ ap (λ (k : ℕ). get_or s at 0 ∷ drop k s) (sym (add-one at))
 
   -- the bytes due: all had, cut off, in their range or not
-  pub completes_none : (lead at : ℕ) → at ≤ length s → Completes s lead at [] (Ends at)
+  pub completes_none : (lead at : ℕ) → at ≤ length s → Completes s lead at [] (Ok at)
   unfolding onward text_from Within
   completes_none lead at h = record {
     text_is = λ room v. put_down v _ ∙ ap shown (between room lead 0 at v 0 (drop at s));
@@ -40,24 +38,24 @@ module _ (s : List ℕ) where
   }
 
   module _ (lead at : ℕ) (r : Range) (rs : List Range) where
-    pub completes_cut : length s ≤ at → Completes s lead at (r ∷ rs) (Fails lead)
+    pub completes_cut : length s ≤ at → Completes s lead at (r ∷ rs) (Err lead)
     unfolding onward Within decode emit shown
     completes_cut h = record { text_is = λ room v. rw (drop_of_length-le s h, decode, emit, shown); inside = tt }
 
-    pub completes_bad : at < length s → holds r (get_or s at 0) ≡ false → Completes s lead at (r ∷ rs) (Fails at)
+    pub completes_bad : at < length s → holds r (get_or s at 0) ≡ false → Completes s lead at (r ∷ rs) (Err at)
     unfolding onward Within decode emit shown
     completes_bad h e = record { text_is = λ room v. rw (byte_at at h, e, decode, emit, shown); inside = tt }
 
-    pub completes_more : (c : Character) → at < length s → holds r (get_or s at 0) ≡ true → Completes s lead (at + 1) rs c → Completes s lead at (r ∷ rs) c
+    pub completes_more : (c : Result ℕ ℕ) → at < length s → holds r (get_or s at 0) ≡ true → Completes s lead (at + 1) rs c → Completes s lead at (r ∷ rs) c
     unfolding decode Within
     completes_more c h e m = record {
       text_is = λ room v. ap shown (pending v r rs _) ∙ rw (byte_at at h, e, decode) (m.text_is room _);
       inside = further c m.inside;
     }
       where
-        further : (c : Character) → Within s (at + 1) c → Within s at c
-        further (Ends k) w = (omega arith, w.1)
-        further (Fails k) w = tt
+        further : (c : Result ℕ ℕ) → Within s (at + 1) c → Within s at c
+        further (Ok k) w = (omega arith, w.1)
+        further (Err k) w = tt
 
   -- whether the byte due is there and in its range, and what becomes of the character then
   module _ (at : ℕ) (r : Range) where
@@ -74,19 +72,19 @@ module _ (s : List ℕ) where
     byte_inside e = ltb-true at (length s) (both_true _ _ e).0
 
     module _ (lead : ℕ) (rs : List Range) where
-      pub completes_broken : byte_in s at r ≡ false → at < length s → Completes s lead at (r ∷ rs) (Fails at)
+      pub completes_broken : byte_in s at r ≡ false → at < length s → Completes s lead at (r ∷ rs) (Err at)
       completes_broken e h = completes_bad lead at r rs h (byte_there h ∙ e)
 
-      pub completes_in : (c : Character) → byte_in s at r ≡ true → Completes s lead (at + 1) rs c → Completes s lead at (r ∷ rs) c
+      pub completes_in : (c : Result ℕ ℕ) → byte_in s at r ≡ true → Completes s lead (at + 1) rs c → Completes s lead at (r ∷ rs) c
       completes_in c e = completes_more lead at r rs c (byte_inside e) (byte_there (byte_inside e) ∙ e)
 
   -- a first byte that is in a line, or in none
   module _ (at : ℕ) (h : at < length s) where
-    pub character_by : (rs : List Range) (c : Character) → some rs ≡ due (first (get_or s at 0) lines) → Completes s at (at + 1) rs c → CharacterAt s at c
+    pub character_by : (rs : List Range) (c : Result ℕ ℕ) → Some rs ≡ due (first (get_or s at 0) lines) → Completes s at (at + 1) rs c → CharacterAt s at c
     unfolding text_from due
     character_by rs c told m = go (first (get_or s at 0) lines) refl told
       where
-        go : (o : Option Begun) → first (get_or s at 0) lines ≡ o → some rs ≡ due o → CharacterAt s at c
+        go : (o : Option Begun) → first (get_or s at 0) lines ≡ o → Some rs ≡ due o → CharacterAt s at c
         go (some (begun v qs)) e f =
             let is : rs ≡ qs = cc in
             let e' : first (get_or s at 0) lines ≡ some (begun v rs) = cc in
@@ -96,11 +94,11 @@ module _ (s : List ℕ) where
             }
         go none e f = let no_way : ◌≡◌ {A = ℕ} 0 1 = cc in absurd (omega arith)
 
-    pub character_none : none ≡ due (first (get_or s at 0) lines) → CharacterAt s at (Fails at)
+    pub character_none : None ≡ due (first (get_or s at 0) lines) → CharacterAt s at (Err at)
     unfolding text_from onward Within decode shown due
     character_none told = go (first (get_or s at 0) lines) refl told
       where
-        go : (o : Option Begun) → first (get_or s at 0) lines ≡ o → none ≡ due o → CharacterAt s at (Fails at)
+        go : (o : Option Begun) → first (get_or s at 0) lines ≡ o → None ≡ due o → CharacterAt s at (Err at)
         go none e f = record { text_is = λ room. rw (byte_at at h, e, decode, shown); inside = tt }
         go (some (begun v qs)) e f = let no_way : ◌≡◌ {A = ℕ} 0 1 = cc in absurd (omega arith)
 
@@ -114,13 +112,13 @@ module _ (b : ℕ) where
   unfolding first
   past_line r rs ls left told e = left ∙ rw (sym told ∙ e, first)
 
-  pub in_line : (r : Range) (rs : List Range) (ls : List Line) {t : Bool} → Left b (line r rs ∷ ls) → t ≡ holds r b → t ≡ true → some rs ≡ due (first b lines)
+  pub in_line : (r : Range) (rs : List Range) (ls : List Line) {t : Bool} → Left b (line r rs ∷ ls) → t ≡ holds r b → t ≡ true → Some rs ≡ due (first b lines)
   unfolding first due
   in_line r rs ls left told e =
       let is : first b lines ≡ some (begun (b - marker rs) rs) = left ∙ rw (sym told ∙ e, first) in
       sym (ap due is)
 
-  pub no_line : Left b [] → none ≡ due (first b lines)
+  pub no_line : Left b [] → None ≡ due (first b lines)
   unfolding first due
   no_line left = sym (ap due left)
 
@@ -138,11 +136,11 @@ module _ (s : List ℕ) where
   counted_none = refl
 
   module _ (count at : ℕ) (so_far : Counted s count at) where
-    pub counted_all : length s ≤ at → Text ≡ shown (check utf_8 s)
+    pub counted_all : length s ≤ at → Ok tt ≡ shown (check utf_8 s)
     unfolding text_from decode shown
     counted_all h = sym (so_far ∙ rw (drop_of_length-le s h, decode, shown))
 
-    pub counted_full : at < length s → count ≡ 255 → Bad at ≡ shown (check utf_8 s)
+    pub counted_full : at < length s → count ≡ 255 → Err at ≡ shown (check utf_8 s)
     unfolding text_from decode shown
     counted_full h e =
         let none_left : 255 - count ≡ 0 = omega arith in
@@ -152,18 +150,18 @@ module _ (s : List ℕ) where
       room : 255 - count ≡ suc (254 - count)
       room = omega arith
 
-      pub counted_bad : (place : ℕ) → CharacterAt s at (Fails place) → Bad place ≡ shown (check utf_8 s)
+      pub counted_bad : (place : ℕ) → CharacterAt s at (Err place) → Err place ≡ shown (check utf_8 s)
       unfolding onward
       counted_bad place c = sym (so_far ∙ rw (room, c.text_is (254 - count)))
 
-      pub counted_more : (next : ℕ) → CharacterAt s at (Ends next) → Counted s (count + 1) next
+      pub counted_more : (next : ℕ) → CharacterAt s at (Ok next) → Counted s (count + 1) next
       unfolding onward
       counted_more next c =
           let less : 255 - (count + 1) ≡ 254 - count = omega arith in
           so_far ∙ rw (room, c.text_is (254 - count), less)
 
   -- an ASCII byte is a character, and n of them are n
-  ascii_character : (at : ℕ) → at < length s → get_or s at 0 < 0x80 → CharacterAt s at (Ends (at + 1))
+  ascii_character : (at : ℕ) → at < length s → get_or s at 0 < 0x80 → CharacterAt s at (Ok (at + 1))
   unfolding lines
   ascii_character at h low =
       character_by s at h [] _ (in_line (get_or s at 0) (0x00 to 0x7F) [] _ refl refl (holds_low _ low)) (completes_none s at (at + 1) (omega arith))
@@ -181,6 +179,6 @@ module _ (s : List ℕ) where
   pub counted_start : (n : ℕ) → n ≤ 255 → Ascii s 0 n → Counted s n n
   counted_start n few a = rw (zero-add n) at (counted_ascii n 0 0 counted_none (omega arith) a)
 
-  pub ends_inside : (at next : ℕ) → CharacterAt s at (Ends next) → (at < next) × (next ≤ length s)
+  pub ends_inside : (at next : ℕ) → CharacterAt s at (Ok next) → (at < next) × (next ≤ length s)
   unfolding Within
   ends_inside at next c = (omega (arith, c.inside), c.inside.1)

@@ -1,31 +1,17 @@
 // Texts: whether bytes are a text in UTF-8 or Latin-1, and Latin-1 as UTF-8.
 #![tactic(auto)]
 
-ghost use Rattle.std.specs.Prelude.{◌≡◌, true, false, List, [], ◌∷◌, ◌+◌, ◌*◌, ◌≤◌, ◌<◌, length, take, drop};
+ghost use Rattle.std.specs.Prelude.{◌≡◌, true, false, List, [], ◌∷◌, ◌+◌, ◌*◌, ◌≤◌, ◌<◌, length, take, drop, Err, IfErr};
 ghost use Rattle.std.proofs.lemmas.List.Edits.{sets};
 ghost use Rattle.term_spec.specs.Text.{holds, lines, first, utf_8, latin_1, coding_of, check, encode, encodes};
 ghost use Rattle.term_spec.specs.Text as texts;
-ghost use Rattle.text.specs.Shown.{shown, is_valid, fault_in};
+ghost use Rattle.text.specs.Shown.{shown, is_valid};
 ghost use Rattle.text.specs.Characters.{range, after, due, byte_in, Completes, CharacterAt, Ascii};
 
 use term_spec::sizes;
 
 // The highest bits of 8 bytes: an ASCII character has none.
 const HIGHEST_BITS: u64 = 0x8080808080808080;
-
-// A text, or the offset at which it fails.
-#[derive(Drop)]
-pub enum Checked {
-    Text,
-    Bad(usize),
-}
-
-// The offset past a character, or the offset at which the text fails.
-#[derive(Drop)]
-enum Character {
-    Ends(usize),
-    Fails(usize),
-}
 
 // The bytes from the first number to the second, both within.
 #[derive(Drop)]
@@ -41,7 +27,6 @@ enum Rule {
     Two(Range),
     Three(Range, Range),
     Four(Range, Range, Range),
-    None,
 }
 
 // Whether `b` is in the range.
@@ -54,47 +39,47 @@ fn within(b: u8, r: Range) -> bool
     b <= r.1
 }
 
-// RFC 3629, section 4, rule by rule: UTF8-char = UTF8-1 / UTF8-2 / UTF8-3 / UTF8-4
-fn rule_of(b: u8) -> Rule
+// The rule that `b` begins a character by, if any. RFC 3629, section 4, rule by rule: UTF8-char = UTF8-1 / UTF8-2 / UTF8-3 / UTF8-4
+fn rule_of(b: u8) -> Option<Rule>
     ensures { after result ≡ due (first b lines) }
 {
     // UTF8-1 = %x00-7F
     if within(b, Range(0x00, 0x7F)) {
-        return Rule::One;
+        return Some(Rule::One);
     }
     // UTF8-2 = %xC2-DF UTF8-tail
     if within(b, Range(0xC2, 0xDF)) {
-        return Rule::Two(UTF8_TAIL);
+        return Some(Rule::Two(UTF8_TAIL));
     }
     // UTF8-3 = %xE0 %xA0-BF UTF8-tail
     if within(b, Range(0xE0, 0xE0)) {
-        return Rule::Three(Range(0xA0, 0xBF), UTF8_TAIL);
+        return Some(Rule::Three(Range(0xA0, 0xBF), UTF8_TAIL));
     }
     // UTF8-3 / %xE1-EC 2( UTF8-tail )
     if within(b, Range(0xE1, 0xEC)) {
-        return Rule::Three(UTF8_TAIL, UTF8_TAIL);
+        return Some(Rule::Three(UTF8_TAIL, UTF8_TAIL));
     }
     // UTF8-3 / %xED %x80-9F UTF8-tail
     if within(b, Range(0xED, 0xED)) {
-        return Rule::Three(Range(0x80, 0x9F), UTF8_TAIL);
+        return Some(Rule::Three(Range(0x80, 0x9F), UTF8_TAIL));
     }
     // UTF8-3 / %xEE-EF 2( UTF8-tail )
     if within(b, Range(0xEE, 0xEF)) {
-        return Rule::Three(UTF8_TAIL, UTF8_TAIL);
+        return Some(Rule::Three(UTF8_TAIL, UTF8_TAIL));
     }
     // UTF8-4 = %xF0 %x90-BF 2( UTF8-tail )
     if within(b, Range(0xF0, 0xF0)) {
-        return Rule::Four(Range(0x90, 0xBF), UTF8_TAIL, UTF8_TAIL);
+        return Some(Rule::Four(Range(0x90, 0xBF), UTF8_TAIL, UTF8_TAIL));
     }
     // UTF8-4 / %xF1-F3 3( UTF8-tail )
     if within(b, Range(0xF1, 0xF3)) {
-        return Rule::Four(UTF8_TAIL, UTF8_TAIL, UTF8_TAIL);
+        return Some(Rule::Four(UTF8_TAIL, UTF8_TAIL, UTF8_TAIL));
     }
     // UTF8-4 / %xF4 %x80-8F 2( UTF8-tail )
     if within(b, Range(0xF4, 0xF4)) {
-        return Rule::Four(Range(0x80, 0x8F), UTF8_TAIL, UTF8_TAIL);
+        return Some(Rule::Four(Range(0x80, 0x8F), UTF8_TAIL, UTF8_TAIL));
     }
-    Rule::None
+    None
 }
 
 // Whether there is a byte at `at`, in the range.
@@ -107,18 +92,18 @@ fn byte_in(s: &[u8], at: usize, r: Range) -> bool
     within(s[at], r)
 }
 
-// The character that begins at `lead` and has no good byte at `at`: one that the text's end cuts off fails at its first byte.
-fn broken(s: &[u8], lead: usize, at: usize) -> Character
+// Where the character at `lead` that has no good byte at `at` fails: one that the text's end cuts off fails at its first byte.
+fn broken(s: &[u8], lead: usize, at: usize) -> Result<usize, usize>
     ensures { (r : texts.Range) (rs : List texts.Range) → byte_in s.now at r ≡ false → Completes s.now lead at (r ∷ rs) result }
 {
     if s.len() <= at {
-        return Character::Fails(lead);
+        return Err(lead);
     }
-    Character::Fails(at)
+    Err(at)
 }
 
-// The character of two bytes at `lead`, the second in the range.
-fn two_bytes(s: &[u8], lead: usize, a: Range) -> Character
+// The offset past the character of two bytes at `lead`, the second in the range, or the offset at which it fails.
+fn two_bytes(s: &[u8], lead: usize, a: Range) -> Result<usize, usize>
     requires { lead < length s.now }
     ensures { Completes s.now lead (lead + 1) (range a ∷ []) result }
 {
@@ -126,11 +111,11 @@ fn two_bytes(s: &[u8], lead: usize, a: Range) -> Character
     if !byte_in(s, second, a) {
         return broken(s, lead, second);
     }
-    Character::Ends(second + 1)
+    Ok(second + 1)
 }
 
-// The character of three bytes at `lead`, those after the first in the ranges.
-fn three_bytes(s: &[u8], lead: usize, a: Range, b: Range) -> Character
+// The offset past the character of three bytes at `lead`, those after the first in the ranges, or the offset at which it fails.
+fn three_bytes(s: &[u8], lead: usize, a: Range, b: Range) -> Result<usize, usize>
     requires { lead < length s.now }
     ensures { Completes s.now lead (lead + 1) (range a ∷ range b ∷ []) result }
 {
@@ -142,11 +127,11 @@ fn three_bytes(s: &[u8], lead: usize, a: Range, b: Range) -> Character
     if !byte_in(s, third, b) {
         return broken(s, lead, third);
     }
-    Character::Ends(third + 1)
+    Ok(third + 1)
 }
 
-// The character of four bytes at `lead`, those after the first in the ranges.
-fn four_bytes(s: &[u8], lead: usize, a: Range, b: Range, c: Range) -> Character
+// The offset past the character of four bytes at `lead`, those after the first in the ranges, or the offset at which it fails.
+fn four_bytes(s: &[u8], lead: usize, a: Range, b: Range, c: Range) -> Result<usize, usize>
     requires { lead < length s.now }
     ensures { Completes s.now lead (lead + 1) (range a ∷ range b ∷ range c ∷ []) result }
 {
@@ -162,20 +147,20 @@ fn four_bytes(s: &[u8], lead: usize, a: Range, b: Range, c: Range) -> Character
     if !byte_in(s, fourth, c) {
         return broken(s, lead, fourth);
     }
-    Character::Ends(fourth + 1)
+    Ok(fourth + 1)
 }
 
-// The character at `at`.
-fn character_at(s: &[u8], at: usize) -> Character
+// The offset past the character at `at`, or the offset at which it fails.
+fn character_at(s: &[u8], at: usize) -> Result<usize, usize>
     requires { at < length s.now }
     ensures { CharacterAt s.now at result }
 {
     match rule_of(s[at]) {
-        Rule::One => Character::Ends(at + 1),
-        Rule::Two(a) => two_bytes(s, at, a),
-        Rule::Three(a, b) => three_bytes(s, at, a, b),
-        Rule::Four(a, b, c) => four_bytes(s, at, a, b, c),
-        Rule::None => Character::Fails(at),
+        Some(Rule::One) => Ok(at + 1),
+        Some(Rule::Two(a)) => two_bytes(s, at, a),
+        Some(Rule::Three(a, b)) => three_bytes(s, at, a, b),
+        Some(Rule::Four(a, b, c)) => four_bytes(s, at, a, b, c),
+        None => Err(at),
     }
 }
 
@@ -210,65 +195,44 @@ fn ascii_start(s: &[u8]) -> usize
     n
 }
 
-// The offset at which `s` fails as a text in UTF-8 of at most 255 characters; its length where it is one.
-fn utf8_fault(s: &[u8]) -> usize
-    ensures { result ≡ fault_in s.now (check utf_8 s.now) }
+// Whether `s` is a text of at most 255 characters in UTF-8, or the offset at which it fails.
+fn check_utf8(s: &[u8]) -> Result<(), usize>
+    ensures { result ≡ shown (check utf_8 s.now) }
 {
     let mut at = ascii_start(s);
     let mut count = at;
     while at < s.len() {
         if count == sizes::CHARACTERS_MOST {
-            return at;
+            return Err(at);
         }
-        match character_at(s, at) {
-            Character::Ends(next) => {
-                at = next;
-            }
-            Character::Fails(place) => {
-                return place;
-            }
-        }
+        at = character_at(s, at)?;
         count += 1;
     }
-    s.len()
+    Ok(())
 }
 
-// The offset at which `s` fails as a text in Latin-1 of at most 255 characters; its length where it is one.
-fn latin1_fault(s: &[u8]) -> usize
-    ensures { result ≡ fault_in s.now (check latin_1 s.now) }
+// Whether `s` is a text of at most 255 characters in Latin-1, or the offset at which it fails.
+fn check_latin1(s: &[u8]) -> Result<(), usize>
+    ensures { result ≡ shown (check latin_1 s.now) }
 {
     if sizes::CHARACTERS_MOST < s.len() {
-        return sizes::CHARACTERS_MOST;
+        return Err(sizes::CHARACTERS_MOST);
     }
-    s.len()
-}
-
-// The offset at which `s` fails as a text in UTF-8 or else in Latin-1; its length where it is one.
-fn fault(s: &[u8], utf8: bool) -> usize
-    ensures { result ≡ fault_in s.now (check (coding_of utf8) s.now) }
-{
-    if utf8 {
-        return utf8_fault(s);
-    }
-    latin1_fault(s)
+    Ok(())
 }
 
 // Whether `s` is a text of at most 255 characters, in UTF-8 or else in Latin-1, or the offset at which it fails.
-pub fn check_text(s: &[u8], utf8: bool) -> Checked
-    ensures { result ≡ shown (check (coding_of utf8) s.now) }
+pub fn check_text(s: &[u8], utf8: bool) -> Result<(), usize>
+    ensures { (result ≡ shown (check (coding_of utf8) s.now)) × IfErr result (λ at. at < length s.now) }
 {
-    let at = fault(s, utf8);
-    if at < s.len() {
-        return Checked::Bad(at);
-    }
-    Checked::Text
+    if utf8 { check_utf8(s) } else { check_latin1(s) }
 }
 
 // Whether `s` is a text of at most 255 characters in UTF-8.
 pub fn is_utf8(s: &[u8]) -> bool
     ensures { result ≡ is_valid (check utf_8 s.now) }
 {
-    utf8_fault(s) == s.len()
+    check_utf8(s).is_ok()
 }
 
 // The number of bytes that a Latin-1 character has in UTF-8.

@@ -1,6 +1,8 @@
 -- `is_utf8` meets its contract.
-use Rattle.text.proofs.Valid.{fault_tested}
+use mathlib.Core.Path.{◌∙◌, ap}
+use Rattle.std.proofs.Common.{is_ok}
+use Rattle.text.proofs.Valid.{shown_tested}
 use Rattle.text.proofs.is_utf8.Goals as goal
 
 pub returns : goal.returns
-returns c = fault_tested _ _ _ c.utf8_fault.ensures
+returns c = c.is_ok.ensures.value ∙ ap is_ok c.check_utf8.ensures ∙ shown_tested _
