@@ -27,9 +27,11 @@ use Rattle.already_canonical.proofs.Stands.{one, number_there, copied_length, co
 -- ---- where a node ends
 
 module _ (m : List ℕ) (at : ℕ) where
-  pub node_82 : {r : ℕ} → Tagged m at 82 2 r → at + 2 ≡ atom_end m at
+  pub node_82 : {r : ℕ} → Tagged m at 82 2 r → at + r ≡ atom_end m at
   unfolding text_width
-  node_82 t = let h = t.inside in atom_ends m at 0 (at + 2) (omega arith) (ap text_width t.tag_is) (end_listed m at)
+  node_82 {r} t =
+      let h : at + 2 ≤ length m = t.inside in
+      ap (λ (n : ℕ). at + n) t.all ∙ atom_ends m at 0 (at + 2) (omega arith) (ap text_width t.tag_is) (end_listed m at)
 
   pub node_119 : {r : ℕ} → BytesOnly m → Bodied m at 119 1 r → (at + r ≡ atom_end m at) × (r < 258)
   unfolding text_width

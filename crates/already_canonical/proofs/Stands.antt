@@ -2,7 +2,7 @@
 use mathlib.Core.Path.{◌≡◌, refl, sym, ◌∙◌, ap, ap₂}
 use mathlib.Core.Bool.{Bool, true, false, cond}
 use mathlib.Core.List.{List, [], ◌∷◌, ◌++◌, append-nil}
-use Prim.Native.Nat.{ℕ, zero, suc, ◌+◌, ◌-◌, ◌≤◌, ◌<◌, ◌/◌}
+use Prim.Native.Nat.{ℕ, ◌+◌, ◌-◌, ◌≤◌, ◌<◌, ◌/◌}
 use native.Mathlib.Omega.{arith}
 use lib.Dec.{ltb}
 use lib.ListN.{length, get_or, take, drop, length-append}
@@ -26,10 +26,6 @@ use Rattle.row_fields.proofs.There.{text_there, bytes_there, tag_text, tag_109}
 use Rattle.already_canonical.specs.Stands.{Tagged, Counted, Bodied, Stands}
 use Rattle.canonical_fields.proofs.Leads.{number_stands, positive_97, positive_98, negative_98, atom_119, tuple_104, list_106, list_over, signed_above, signed_below, sound_text, sound_bytes}
 use Rattle.canonical_fields.proofs.There.{byte_there, there, integer_there, tag_97}
-
-pub positive : (n : ℕ) → (n ≡ 0 → ⊥) → 0 < n
-positive zero h = absurd (h refl)
-positive (suc n) h = omega arith
 
 -- a tag and a number after it, and bytes after these
 module _ (m : List ℕ) (tag at w : ℕ) (b : BytesOnly m) (e : get_or m at 0 ≡ tag) where
@@ -79,7 +75,7 @@ module _ (m places lengths : List ℕ) (at parts : ℕ) (b : BytesOnly m) where
         no_end = ap (λ (d : Content). after (label_of m (listed_in places) kind d) parts) e ∙ q;
       }
 
-  pub stands_97 : get_or m at 0 ≡ 97 → at + 2 ≤ length m → Stands m places lengths 1 at parts 2
+  stands_97 : get_or m at 0 ≡ 97 → at + 2 ≤ length m → Stands m places lengths 1 at parts 2
   unfolding label_of before after
   stands_97 e h =
       let v : ℕ = value m 1 (at + 1) in
@@ -97,7 +93,7 @@ module _ (m places lengths : List ℕ) (at parts : ℕ) (b : BytesOnly m) where
       let g : 5 ≤ length m - at = omega arith in
       integer_there m places lengths 1 at (omega arith) 98 refl e ∙ simp (le-ltb (length m - at) 5 g)
 
-  pub stands_98 : (v : ℕ) → get_or m at 0 ≡ 98 → at + 5 ≤ length m → v ≡ value m 4 (at + 1) → 256 ≤ v → v < 4294967296 → Stands m places lengths 1 at parts 5
+  stands_98 : (v : ℕ) → get_or m at 0 ≡ 98 → at + 5 ≤ length m → v ≡ value m 4 (at + 1) → 256 ≤ v → v < 4294967296 → Stands m places lengths 1 at parts 5
   stands_98 v e h f low high =
       let s = signed_bytes v low high m places parts in
       by_content 1 5 (signed_whole v) (signed_there e h ∙ ap signed_whole (sym f)) h (omega arith)
@@ -185,6 +181,12 @@ module _ (m places lengths : List ℕ) (at parts : ℕ) (b : BytesOnly m) where
 
   -- by what was found at the tag
   module _ {r : ℕ} where
+    pub tagged_97 : Tagged m at 97 2 r → Stands m places lengths 1 at parts r
+    tagged_97 t = rw t.all (stands_97 t.tag_is t.inside)
+
+    pub tagged_98 : (v : ℕ) → Tagged m at 98 5 r → v ≡ value m 4 (at + 1) → 256 ≤ v → v < 4294967296 → Stands m places lengths 1 at parts r
+    tagged_98 v t f low high = rw t.all (stands_98 v t.tag_is t.inside f low high)
+
     pub tagged_70 : Tagged m at 70 9 r → Stands m places lengths 2 at parts r
     tagged_70 t = rw t.all (stands_70 t.tag_is t.inside)
 
