@@ -3,9 +3,10 @@ use native.Mathlib.Omega.{arith}
 use Rattle.characters.proofs.Characters.{character_by, no_character}
 use Rattle.characters.proofs.character_at.Goals as goal
 
-pub returns-then-c-lt-NO_CHARACTER : goal.returns-then-c-lt-NO_CHARACTER
-returns-then-c-lt-NO_CHARACTER c = (character_by c.args.msg.now c.args.places.now c.args.lengths.now c.args.word _ _ _ c.kind_in-kind.ensures.0 c.offset_in.ensures.0 (c.plain_character-c.ensures.0 c.if-c-lt-NO_CHARACTER.true _ _), c.plain_character-c.ensures.1)
+pub returns-in-Some : goal.returns-in-Some
+returns-in-Some c = let args = c.args in
+    character_by args.msg.now args.places.now args.lengths.now args.word _ _ c.kind_in-kind.ensures.0 c.offset_in.ensures.0 (c.in-Some.ensures args.places.now args.lengths.now)
 
-pub returns-then-not-is_integer : goal.returns-then-not-is_integer
-returns-then-not-is_integer c = let other = c.is_integer.ensures c.if-not-is_integer.true in
-    (character_by c.args.msg.now c.args.places.now c.args.lengths.now c.args.word _ _ _ c.kind_in-kind.ensures.0 c.offset_in.ensures.0 (no_character c.args.msg.now c.args.places.now c.args.lengths.now _ _ other.0 other.1), omega arith)
+pub returns-in_default-kind : goal.returns-in_default-kind
+returns-in_default-kind c = let args = c.args in
+    character_by args.msg.now args.places.now args.lengths.now args.word _ _ c.kind_in-kind.ensures.0 c.offset_in.ensures.0 (no_character args.msg.now args.places.now args.lengths.now _ _ (λ e. grind arith) (λ e. grind arith))
