@@ -6,6 +6,7 @@ use native.Mathlib.Omega.{arith}
 use lib.ListN.{length, get_or, take, drop}
 use lib.Seq.{sets}
 use borrow.Author.Tests.{le-ltb}
+use Rattle.std.proofs.Common.{Some, None}
 use Rattle.term_spec.specs.Numbers.{in_bytes}
 use Rattle.term_spec.specs.Rows.{kind_in, offset_in, parts_in}
 use Rattle.octets.proofs.Numbers.{big_one}
@@ -31,7 +32,7 @@ module _ (m : List ℕ) (at : ℕ) where
   unfolding text_width
   node_82 {r} t =
       let h : at + 2 ≤ length m = t.inside in
-      ap (λ (n : ℕ). at + n) t.all ∙ atom_ends m at 0 (at + 2) (omega arith) (ap text_width t.tag_is) (end_listed m at)
+      ap (λ (n : ℕ). at + n) t.all ∙ atom_ends m at None (at + 2) (omega arith) (ap text_width t.tag_is) (end_listed m at)
 
   pub node_119 : {r : ℕ} → BytesOnly m → Bodied m at 119 1 r → (at + r ≡ atom_end m at) × (r < 258)
   unfolding text_width
@@ -41,7 +42,7 @@ module _ (m : List ℕ) (at : ℕ) where
       let h : at + r ≤ length m = t.inside in
       let o : v ≡ get_or m (at + 1) 0 = big_one m (at + 1) (omega arith) in
       let n : at + r ≡ at + 1 + 1 + v = omega arith in
-      (n ∙ atom_ends m at 1 (at + 1 + 1 + v) (omega arith) (ap text_width t.body_tag) (end_there m at 1 v refl (omega arith) (omega arith)), omega (arith, b (at + 1)))
+      (n ∙ atom_ends m at (Some 1) (at + 1 + 1 + v) (omega arith) (ap text_width t.body_tag) (end_there m at 1 v refl (omega arith)), omega (arith, b (at + 1)))
 
 -- ---- the fields around it
 

@@ -120,7 +120,7 @@ module _ (m places lengths : List ℕ) (at parts : ℕ) (b : BytesOnly m) where
       = there m places lengths 3 at (omega arith)
       ∙ sym (kind_3 m places lengths at 3 refl)
       ∙ ap (atom_found m places lengths at) e
-      ∙ sym (text_there m at 1 v false (sym f) (omega arith) ∙ tag_text m at places lengths 119 1 false refl (omega arith) refl) in
+      ∙ sym (text_there m at 1 v false (sym f) (omega arith) ∙ tag_text m at places lengths 119 1 false refl refl) in
       let spelt = (sound_text m places (content_of m places lengths 3 at) false false start v c s).1 refl in
       let k : v ≡ length bs = sym (length_part m start v (omega arith)) in
       let n : 1 + (1 + v) ≡ 2 + v = omega arith in

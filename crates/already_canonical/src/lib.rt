@@ -44,10 +44,7 @@ fn bodied(msg: &[u8], at: usize, tag: u8, w: usize) -> Option<usize>
     ensures { IfSome result (λ r. Bodied msg.now at tag w r) }
 {
     tagged(msg, at, tag, 1)?;
-    let end = octets::past_counted(msg, at, w, 0);
-    if end == 0 {
-        return None;
-    }
+    let end = octets::past_counted(msg, at, w, 0)?;
     Some(end - at)
 }
 

@@ -6,8 +6,9 @@ use Prim.Native.Nat.{ℕ, ◌+◌, ◌*◌, ◌-◌}
 use lib.Dec.{eqb, leb, ltb}
 use lib.ListN.{length, get_or}
 use borrow.Author.Tests.{eqb-true}
+use Rattle.std.proofs.Common.{Option, Some, None}
 use Rattle.octets.specs.Parts.{counted_end}
-use Rattle.row_fields.specs.Found.{value, text_width, atom_end, byte_found, signed_whole, signed_found, integer_of, stripped_found, big_found, integer_found, float_found, text_found, place_found, listed_found, atom_found, bytes_found, bits_of, bits_found, binary_found, pid_found, port_found, words_found, word_found, counted_found, pids_found, ports_found, references_found, kind_found, content_of}
+use Rattle.row_fields.specs.Found.{value, if_counted, text_width, atom_end, byte_found, signed_whole, signed_found, integer_of, stripped_found, big_found, integer_found, float_found, text_found, place_found, listed_found, atom_found, bytes_found, bits_of, bits_found, binary_found, pid_found, port_found, words_found, word_found, counted_found, pids_found, ports_found, references_found, kind_found, content_of}
 use Rattle.row_fields.specs.declared.Content.{Content}
 use Rattle.row_fields.specs.declared.Content.TheVariants.{Nothing, Whole, Big, Float, Text, Bytes, Bits, Pid, Port, Reference}
 
@@ -22,6 +23,11 @@ module _ (P : Content → Type 0) (nothing : P Nothing) where
       go : (z : Bool) → (z ≡ true → k ≡ i) → P (cond z c d)
       go true h = p (h refl)
       go false h = q
+
+  where_counted : (o : Option ℕ) {c : Content} → P c → P (if_counted o c)
+  unfolding if_counted
+  where_counted None p = nothing
+  where_counted (Some end) p = p
 
   module _ (whole : (negative : Bool) (n : ℕ) → P (Whole negative n)) (big : (negative : Bool) (start n : ℕ) → P (Big negative start n)) (m : List ℕ) where
     pub byte_each : (at : ℕ) → P (byte_found m at)
@@ -42,7 +48,7 @@ module _ (P : Content → Type 0) (nothing : P Nothing) where
 
     big_each : (w at : ℕ) → P (big_found m w at)
     unfolding big_found
-    big_each w at = either (eqb (counted_end m at w 1) 0) nothing (stripped_each _ _ _)
+    big_each w at = where_counted (counted_end m at w 1) (stripped_each _ _ _)
 
     pub integer_each : (at tag : ℕ) → P (integer_found m at tag)
     unfolding integer_found
@@ -59,11 +65,15 @@ module _ (P : Content → Type 0) (nothing : P Nothing) where
 
     text_each : (w : ℕ) (latin1 : Bool) (at : ℕ) → P (text_found m w latin1 at)
     unfolding text_found
-    text_each w latin1 at = either (eqb (counted_end m at w 0) 0) nothing (text _ _ _ _)
+    text_each w latin1 at = where_counted (counted_end m at w 0) (text _ _ _ _)
 
     pub atom_each : (at tag : ℕ) → P (atom_found m places lengths at tag)
     unfolding atom_found listed_found
-    atom_each at tag = either (eqb (text_width tag) 0) (either (ltb (length m - at) 2) nothing (place_each _)) (text_each _ _ _)
+    atom_each at tag = by_width (text_width tag)
+      where
+        by_width : (width : Option ℕ) → P (elim width [ Some w ↦ text_found m w (ltb tag 118) at | None ↦ listed_found m places lengths at ])
+        by_width (Some w) = text_each _ _ _
+        by_width None = either (ltb (length m - at) 2) nothing (place_each _)
 
   module _ (bytes : (start n : ℕ) → P (Bytes start n)) (bits : (bits start n : ℕ) → P (Bits bits start n)) (m : List ℕ) where
     bits_each : (b start n : ℕ) → P (bits_of b start n)
@@ -73,7 +83,7 @@ module _ (P : Content → Type 0) (nothing : P Nothing) where
     pub binary_each : (at tag : ℕ) → P (binary_found m at tag)
     unfolding binary_found bits_found bytes_found
     binary_each at tag =
-        either (eqb tag 77) (either (eqb (counted_end m at 4 1) 0) nothing (bits_each _ _ _)) (either (eqb (counted_end m at 4 0) 0) nothing (bytes _ _))
+        either (eqb tag 77) (where_counted (counted_end m at 4 1) (bits_each _ _ _)) (where_counted (counted_end m at 4 0) (bytes _ _))
 
   pub pids_each : ((id serial creation : ℕ) → P (Pid id serial creation)) → (m : List ℕ) (at tag : ℕ) → P (pids_found m at tag)
   unfolding pids_found pid_found
