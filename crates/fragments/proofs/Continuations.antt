@@ -6,17 +6,16 @@ use native.Mathlib.Omega.{arith}
 use lib.ListN.{length, take, drop, length-drop}
 use lib.Seq.{sets}
 use borrow.Author.Tests.{eq-eqb, ne_eqb, le-leb, lt-leb}
+use Rattle.std.specs.Prelude.{Ok, Err}
 use Rattle.term_spec.specs.Text.{Coding}
 use Rattle.term_spec.specs.Answer.{Answer, good, refused, at_offset, after}
 use Rattle.term_spec.specs.AtomList.{AtomList}
 use Rattle.term_spec.specs.Message.{result_of}
 use Rattle.packet_spec.specs.declared.Pending.{Pending}
-use Rattle.packet_spec.specs.declared.Taken.{Taken}
-use Rattle.packet_spec.specs.declared.PacketAnswer.TheVariants as packets
 use Rattle.packet_spec.specs.Memory.{Cache, Memory, memory_of, held}
 use Rattle.packet_spec.specs.Packet.{continuing, Packet, continuation, payload_after, rest}
 use Rattle.packet_spec.specs.Calls.{told, left_by, told_after, record_after}
-use Rattle.packet_spec.specs.Answers.{outcome_case}
+use Rattle.packet_spec.specs.Answers.{refusal_of, Taken, outcome_case}
 use Rattle.fragments.specs.Code.{after_fragment, Takes}
 use Rattle.fragments.proofs.Taking.{whole_part, refused_takes, good_takes}
 
@@ -28,17 +27,17 @@ module _ (agreed : Coding) (c : Cache) (plain_list pending_list : AtomList) (r :
   abbrev judged_as : Answer Packet
   judged_as = result_of (rest agreed (held c) r (continuing q f) (at_offset s 18 0))
 
-  pub more_none : r.due ≡ 0 → Takes lent judged_as (packets.Refused (record { number = 25; place = 0 })) lent
+  pub more_none : r.due ≡ 0 → Takes lent judged_as (Err (refusal_of 25 0)) lent
   unfolding rest
   more_none e = refused_takes lent lent judged_as 25 0 (rw (eq-eqb r.due 0 e)) refl
 
   module _ (some : r.due ≡ 0 → ⊥) where
-    pub more_other : (q ≡ r.sequence → ⊥) → Takes lent judged_as (packets.Refused (record { number = 25; place = 0 })) lent
+    pub more_other : (q ≡ r.sequence → ⊥) → Takes lent judged_as (Err (refusal_of 25 0)) lent
     unfolding rest
     more_other e = refused_takes lent lent judged_as 25 0 (rw (ne_eqb r.due 0 some, ne_eqb q r.sequence e)) refl
 
     module _ (same : q ≡ r.sequence) where
-      pub more_wrong : (f ≡ r.due → ⊥) → Takes lent judged_as (packets.Refused (record { number = 24; place = 0 })) lent
+      pub more_wrong : (f ≡ r.due → ⊥) → Takes lent judged_as (Err (refusal_of 24 0)) lent
       unfolding rest
       more_wrong e = refused_takes lent lent judged_as 24 0 (rw (ne_eqb r.due 0 some, eq-eqb q r.sequence same, ne_eqb f r.due e)) refl
 
@@ -58,7 +57,7 @@ module _ (agreed : Coding) (c : Cache) (plain_list pending_list : AtomList) (r :
         unfolding payload_after
         payload_there l = more_payload ∙ rw (le-leb (r.gathered + length (drop 18 s)) 65536 l)
 
-        pub more_long : 65536 - r.gathered < length s - 18 → r.gathered ≤ 65536 → Takes lent judged_as (packets.Refused (record { number = 12; place = 0 })) lent
+        pub more_long : 65536 - r.gathered < length s - 18 → r.gathered ≤ 65536 → Takes lent judged_as (Err (refusal_of 12 0)) lent
         more_long l g = refused_takes lent lent judged_as 12 0 (ap result_of (payload_long (omega (arith, left)))) refl
 
         pub more_good : (gather' : List ℕ) (taken_as : Taken) → length s - 18 ≤ 65536 - r.gathered → r.gathered ≤ 65536
@@ -68,7 +67,7 @@ module _ (agreed : Coding) (c : Cache) (plain_list pending_list : AtomList) (r :
         more_good gather' taken_as l g e t =
             good_takes lent (memory_of c plain_list pending_list taken_as.pending gather') judged_as (continuation q f (drop 18 s)) _
             (ap result_of (payload_there (omega (arith, left))))
-            (ap (λ (x : Taken). x.answer) t ∙ ap (λ (n : ℕ). outcome_case (told_after f (r.gathered + n))) (sym left))
+            (ap (λ (x : Taken). x.answer) t ∙ ap (λ (n : ℕ). Ok (outcome_case (told_after f (r.gathered + n)))) (sym left))
             (ap₂ (λ (x : Pending) (y : List ℕ). memory_of c plain_list pending_list x y)
             (ap (λ (x : Taken). x.pending) t ∙ ap (λ (n : ℕ). record_after q f (r.gathered + n)) (sym left))
             (e ∙ ap (sets gather r.gathered) (whole_part (drop 18 s) (length s - 18) (sym left))))

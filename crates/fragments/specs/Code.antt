@@ -1,26 +1,19 @@
 -- What the code of fragments answers and leaves, in terms of the definitions of packets.
 -- About the code alone, proved against the definitions of packet_spec: nothing here has to be believed.
-use Rattle.std.specs.Prelude.{◌≡◌, List, ℕ}
+use Rattle.std.specs.Prelude.{◌≡◌, List, ℕ, Ok}
 use Rattle.term_spec.specs.Text.{Coding}
 use Rattle.term_spec.specs.Answer.{Answer, at_offset}
 use Rattle.term_spec.specs.AtomList.{AtomList}
 use Rattle.term_spec.specs.Message.{result_of}
 use Rattle.packet_spec.specs.declared.Pending.{Pending}
-use Rattle.packet_spec.specs.declared.Taken.{Taken}
-use Rattle.packet_spec.specs.declared.PacketAnswer.{PacketAnswer}
-use Rattle.packet_spec.specs.declared.PacketAnswer.TheVariants as packets
 use Rattle.packet_spec.specs.Memory.{Cache, Memory, memory_of, held}
 use Rattle.packet_spec.specs.Packet.{continuing, Packet, rest}
 use Rattle.packet_spec.specs.Calls.{told_after, record_after, taken, left_after}
-use Rattle.packet_spec.specs.Answers.{outcome_case, packet_answer}
+use Rattle.packet_spec.specs.Answers.{PacketAnswer, Taken, outcome_case, packet_answer}
 
 -- what a fragment answers and leaves in the record
 unfoldable pub after_fragment : ℕ → ℕ → ℕ → Taken
-after_fragment sequence fragment gathered = record { answer = outcome_case (told_after fragment gathered); pending = record_after sequence fragment gathered }
-
--- a refused packet: its number, and the record as it was
-abbrev pub refusal : ℕ → Pending → Taken
-refusal number r = record { answer = packets.Refused (record { number = number; place = 0 }); pending = r }
+after_fragment sequence fragment gathered = record { answer = Ok (outcome_case (told_after fragment gathered)); pending = record_after sequence fragment gathered }
 
 -- a packet judged so: what the call answers, and all memory after it
 pub record Takes (m : Memory) (o : Answer Packet) (answer : PacketAnswer) (m' : Memory) : Type 0 where

@@ -2,23 +2,10 @@
 #![tactic(auto)]
 
 ghost use Rattle.std.specs.Prelude.{◌≡◌, ◌≤◌, ◌<◌, length};
-ghost use Rattle.fragments.specs.Code.{after_fragment, refusal, TakesContinuation};
+ghost use Rattle.fragments.specs.Code.{after_fragment, TakesContinuation};
 
-use packet_spec::{PacketAnswer, Pending, Taken};
-use term_spec::{Refusal, refusals};
-
-// A refused packet: its number, and the record as it was.
-pub fn refused(number: u8, pending: Pending) -> Taken
-    ensures { result ≡ refusal number pending }
-{
-    Taken {
-        answer: PacketAnswer::Refused(Refusal {
-            number: number,
-            place: 0,
-        }),
-        pending: pending,
-    }
-}
+use packet_spec::{NONE_PENDING, PacketOutcome, Pending, Taken};
+use term_spec::refusals;
 
 // What a fragment with this id answers with so many bytes gathered, and the record after it.
 pub fn after_fragment(sequence: u64, fragment: u64, gathered: u64) -> Taken
@@ -27,24 +14,17 @@ pub fn after_fragment(sequence: u64, fragment: u64, gathered: u64) -> Taken
 {
     if fragment == 1 {
         return Taken {
-            answer: PacketAnswer::Complete { gathered: gathered },
-            pending: Pending {
-                sequence: 0,
-                due: 0,
-                gathered: 0,
-            },
+            answer: Ok(PacketOutcome::Complete { gathered }),
+            pending: NONE_PENDING,
         };
     }
     let due = fragment - 1;
     Taken {
-        answer: PacketAnswer::Pending {
-            due: due,
-            gathered: gathered,
-        },
+        answer: Ok(PacketOutcome::Pending { due, gathered }),
         pending: Pending {
-            sequence: sequence,
-            due: due,
-            gathered: gathered,
+            sequence,
+            due,
+            gathered,
         },
     }
 }
@@ -60,20 +40,17 @@ pub fn take_continuation(
     requires { (18 ≤ length packet.now) × (length gather.old ≡ 65536) × (0 < fragment) × (pending.gathered ≤ 65536) }
     ensures { TakesContinuation packet.now sequence fragment pending gather.old result gather.new }
 {
-    if pending.due == 0 {
-        return refused(refusals::SEQUENCE, pending);
-    }
-    if sequence != pending.sequence {
-        return refused(refusals::SEQUENCE, pending);
+    if pending.due == 0 || sequence != pending.sequence {
+        return packet_spec::refused(refusals::SEQUENCE, pending);
     }
     if fragment != pending.due {
-        return refused(refusals::FRAGMENT, pending);
+        return packet_spec::refused(refusals::FRAGMENT, pending);
     }
     let from = packet_spec::sizes::FRAGMENT_PREAMBLE;
     let size = packet.len() - from;
     let before = pending.gathered as usize;
     if term_spec::sizes::MESSAGE_MOST - before < size {
-        return refused(refusals::LONG, pending);
+        return packet_spec::refused(refusals::LONG, pending);
     }
     octets::copy(packet, from, gather, before, size);
     let gathered = before + size;

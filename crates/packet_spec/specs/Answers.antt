@@ -31,6 +31,10 @@ Settled = After StateAnswer
 abbrev pub refusal_of : ℕ → ℕ → Refusal
 refusal_of n p = record { number = n; place = p }
 
+-- a refusal at place 0, and the record as it was
+abbrev pub record_stays : {A : Type 0} → ℕ → Pending → After (Result A Refusal)
+record_stays number r = record { answer = Err (refusal_of number 0); pending = r }
+
 -- an accepted packet: plain, pending still, or complete
 unfoldable pub outcome_case : Outcome → PacketOutcome
 outcome_case (payload_at offset size) = packets.Plain offset size

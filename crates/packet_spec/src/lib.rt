@@ -5,6 +5,9 @@
 pub mod sizes;
 pub mod tags;
 
+ghost use Rattle.std.specs.Prelude.{◌≡◌};
+ghost use Rattle.packet_spec.specs.Answers.{record_stays};
+
 use term_spec::Refusal;
 
 // A reference index: it counts along one header.
@@ -64,3 +67,13 @@ pub struct After<A> {
 pub type Taken = After<PacketAnswer>;
 
 pub type Settled = After<StateAnswer>;
+
+// A refusal at place 0, and the record as it was.
+pub fn refused<A>(number: u8, pending: Pending) -> After<Result<A, Refusal>>
+    ensures { result ≡ record_stays number pending }
+{
+    After {
+        answer: Err(Refusal { number, place: 0 }),
+        pending,
+    }
+}

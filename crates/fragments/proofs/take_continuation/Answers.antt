@@ -1,14 +1,16 @@
 -- `take_continuation` meets its contract.
 use Rattle.fragments.proofs.Continuations.{more_none, more_other, more_wrong, more_long, more_good}
 use Rattle.fragments.proofs.take_continuation.Goals as goal
+use Rattle.fragments.proofs.take_continuation.Goals.{then-pending-eq0-via-then-pending-eq0, then-pending-eq0-via-else-pending-eq0+then-sequence-pending}
 
 pub returns-then-pending-eq0 : goal.returns-then-pending-eq0
 returns-then-pending-eq0 c = let a = c.args in
-    rw c.refused.ensures (record { takes_continuation = λ agreed cache plain_list pending_list. more_none agreed cache plain_list pending_list a.pending a.gather.now a.packet.now a.sequence a.fragment c.if-pending-eq0.true })
-
-pub returns-then-sequence-pending : goal.returns-then-sequence-pending
-returns-then-sequence-pending c = let a = c.args in
-    rw c.refused-then-sequence-pending.ensures (record { takes_continuation = λ agreed cache plain_list pending_list. more_other agreed cache plain_list pending_list a.pending a.gather.now a.packet.now a.sequence a.fragment c.if-pending-eq0.false c.if-sequence-pending.true })
+    rw c.refused.ensures (record {
+      takes_continuation = λ agreed cache plain_list pending_list. elim c.then-pending-eq0.branch [
+        | then-pending-eq0-via-then-pending-eq0 w ↦ more_none agreed cache plain_list pending_list a.pending a.gather.now a.packet.now a.sequence a.fragment w.if-pending-eq0.true
+        | then-pending-eq0-via-else-pending-eq0+then-sequence-pending w ↦ more_other agreed cache plain_list pending_list a.pending a.gather.now a.packet.now a.sequence a.fragment w.if-pending-eq0.false w.if-sequence-pending.true
+      ];
+    })
 
 pub returns-then-fragment-pending : goal.returns-then-fragment-pending
 returns-then-fragment-pending c = let a = c.args in
