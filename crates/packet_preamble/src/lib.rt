@@ -4,78 +4,47 @@
 ghost use Rattle.std.specs.Prelude.{◌≤◌, length};
 ghost use Rattle.packet_preamble.specs.Code.{IdsAre, PreambleIs};
 
-use packet_spec::{sizes, tags};
+use packet_spec::{Ids, sizes, tags};
 use term_spec::refusals;
 
-// The ids of a fragment: the number of the refusal, or SequenceId and FragmentId.
-#[derive(Drop)]
-enum Ids {
-    Refused(u8),
-    Read { sequence: u64, fragment: u64 },
-}
-
-// What stands before the header: the number of the refusal, or the packet's kind, with the ids of a fragment.
-#[derive(Drop)]
+// The packet's kind, with the ids of a fragment.
+#[derive(Clone, Copy)]
 pub enum Preamble {
-    Refused(u8),
     Plain,
-    Start { sequence: u64, fragment: u64 },
-    Continuation { sequence: u64, fragment: u64 },
+    Start(Ids),
+    Continuation(Ids),
 }
 
-// The ids that stand after the first two bytes: 2, then 24 for zero.
-fn read_ids(packet: &[u8]) -> Ids
+// The ids that stand after the first two bytes: 2, then 24 for zero; or the number of the refusal.
+fn read_ids(packet: &[u8]) -> Result<Ids, u8>
     requires { 2 ≤ length packet.now }
     ensures { IdsAre packet.now result }
 {
     if packet.len() < sizes::FRAGMENT_PREAMBLE {
-        return Ids::Refused(refusals::CUT);
+        return Err(refusals::CUT);
     }
     let sequence = octets::big8(packet, 2);
     let fragment = octets::big8(packet, 10);
     if fragment == 0 {
-        return Ids::Refused(refusals::FRAGMENT);
+        return Err(refusals::FRAGMENT);
     }
-    Ids::Read {
-        sequence: sequence,
-        fragment: fragment,
-    }
+    Ok(Ids { sequence, fragment })
 }
 
-// The packet's kind: 1, 2, 20, ids with 24 for zero.
-pub fn read_preamble(packet: &[u8]) -> Preamble
+// The packet's kind: 1, 2, 20, ids with 24 for zero; or the number of the refusal.
+pub fn read_preamble(packet: &[u8]) -> Result<Preamble, u8>
     ensures { PreambleIs packet.now result }
 {
-    if packet.len() == 0 {
-        return Preamble::Refused(refusals::NO_VERSION);
-    }
-    if packet[0] != term_spec::tags::VERSION {
-        return Preamble::Refused(refusals::NO_VERSION);
+    if packet.len() == 0 || packet[0] != term_spec::tags::VERSION {
+        return Err(refusals::NO_VERSION);
     }
     if packet.len() == 1 {
-        return Preamble::Refused(refusals::CUT);
+        return Err(refusals::CUT);
     }
-    let tag = packet[1];
-    if tag == tags::DIST_HEADER {
-        return Preamble::Plain;
+    match packet[1] {
+        tags::DIST_HEADER => Ok(Preamble::Plain),
+        tags::DIST_FRAG_HEADER => Ok(Preamble::Start(read_ids(packet)?)),
+        tags::DIST_FRAG_CONT => Ok(Preamble::Continuation(read_ids(packet)?)),
+        _ => Err(refusals::PACKET),
     }
-    if tag == tags::DIST_FRAG_HEADER {
-        return match read_ids(packet) {
-            Ids::Refused(number) => Preamble::Refused(number),
-            Ids::Read { sequence, fragment } => Preamble::Start {
-                sequence: sequence,
-                fragment: fragment,
-            },
-        };
-    }
-    if tag == tags::DIST_FRAG_CONT {
-        return match read_ids(packet) {
-            Ids::Refused(number) => Preamble::Refused(number),
-            Ids::Read { sequence, fragment } => Preamble::Continuation {
-                sequence: sequence,
-                fragment: fragment,
-            },
-        };
-    }
-    Preamble::Refused(refusals::PACKET)
 }

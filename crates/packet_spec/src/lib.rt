@@ -34,6 +34,13 @@ pub const NONE_PENDING: Pending = Pending {
     gathered: 0,
 };
 
+// The ids of a fragment: SequenceId and FragmentId.
+#[derive(Clone, Copy)]
+pub struct Ids {
+    pub sequence: u64,
+    pub fragment: u64,
+}
+
 // What an accepted packet answers. Plain: the payload's offset and length in the packet. Pending: the id now due, the bytes gathered.
 // Complete: the bytes gathered.
 #[derive(Clone, Copy)]

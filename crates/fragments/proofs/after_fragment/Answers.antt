@@ -4,8 +4,8 @@ use Rattle.fragments.proofs.after_fragment.Goals as goal
 
 pub returns-then-fragment-eq1 : goal.returns-then-fragment-eq1
 returns-then-fragment-eq1 c = let a = c.args in
-    fragment_last a.sequence a.fragment a.gathered c.if-fragment-eq1.true
+    fragment_last a.ids.sequence a.ids.fragment a.gathered c.if-fragment-eq1.true
 
 pub returns : goal.returns
 returns c = let a = c.args in
-    fragment_more a.sequence a.fragment a.gathered c.if-fragment-eq1.false
+    fragment_more a.ids.sequence a.ids.fragment a.gathered c.if-fragment-eq1.false
