@@ -117,9 +117,9 @@ module _ (m places lengths : List ℕ) (kind at parts : ℕ) (b : BytesOnly m) w
       (ap₂ (λ (x y : List ℕ). x ++ y) (number_stands m 4 end b (omega arith)) (words_stand m (end + 4) n b (omega arith))
       ∙ sym (part_add m end 4 (4 * n))))
 
--- the number of words by an equation
-pub same_words : (m places lengths : List ℕ) (kind at parts h end v n : ℕ) → n ≡ v → Around m places lengths kind at parts h end (4 + 4 * v) → Around m places lengths kind at parts h end (4 + 4 * n)
-same_words m places lengths kind at parts h end v n e a = rw e a
+-- the bytes after the node by an equation
+pub same_tail : (m places lengths : List ℕ) (kind at parts h end j k : ℕ) → k ≡ j → Around m places lengths kind at parts h end j → Around m places lengths kind at parts h end k
+same_tail m places lengths kind at parts h end j k e a = rw e a
 
 -- ---- by the word
 

@@ -5,12 +5,12 @@ use mathlib.Core.List.{List, [], ◌∷◌}
 use Prim.Native.Nat.{ℕ, suc, ◌+◌, ◌≤◌, ◌<◌}
 use native.Mathlib.Omega.{arith}
 use lib.Dec.{leb}
-use lib.ListN.{length, get_or}
+use lib.ListN.{length, get_or, set}
+use Rattle.std.proofs.Common.{Option, Some, None, is_some, IfSome}
 use Rattle.term_spec.specs.Numbers.{in_bytes}
 use Rattle.term_spec.specs.Term.{list}
 use Rattle.term_spec.proofs.Numbers.{length_in_bytes}
 use Rattle.term_spec.specs.Rows.{kind_in, parts_in, offset_in}
-use Rattle.octets.proofs.Numbers.{bytes_one}
 use Rattle.row_fields.specs.Meaning.{bare, label_of}
 use Rattle.row_fields.specs.declared.Content.{Content}
 use Rattle.row_fields.specs.declared.Content.TheVariants.{Nothing}
@@ -23,6 +23,11 @@ use lib.Seq.{sets}
 use Rattle.row_fields.specs.Found.{kind_found, content_of}
 use Rattle.canonical_fields.proofs.Leads.{list_106, list_108, list_over, list_closed, bare_over, says}
 use Rattle.canonical_fields.proofs.Each.{byte_each, integer_each, float_each, atom_each, binary_each, content_each}
+
+-- what is known of a value that is there
+pub there_is : {P : ℕ → Type 0} (o : Option ℕ) → true ≡ is_some o → IfSome o P → (n : ℕ) × P n
+there_is None e p = absurd (cc)
+there_is (Some n) e p = (n, p)
 
 -- ---- a row's word
 
@@ -104,8 +109,8 @@ module _ (m places lengths : List ℕ) (w kind n : ℕ) (e : kind ≡ kind_in w)
 pub same_room : {bs cs : List ℕ} (at room : ℕ) → bs ≡ cs → at + length cs ≤ room → at + length bs ≤ room
 same_room at room e h = rw e h
 
-pub byte_put : {O P : List ℕ} {at b : ℕ} {bs : List ℕ} → b < 256 → b ∷ [] ≡ bs → P ≡ sets O at (in_bytes 1 b) → Put O at bs (at + 1) P
-byte_put {O} {P} {at} {b} h e p = put_same e (record { past = refl; stored = p ∙ ap (sets O at) (bytes_one b h) })
+pub byte_put : (O : List ℕ) (at b : ℕ) → Put O at (b ∷ []) (at + 1) (set O at b)
+byte_put O at b = record { past = refl; stored = refl }
 
 module _ (n : ℕ) where
   pub list_length_0 : n ≡ 0 → 1 ≡ length (before list n) + length (after list n)
@@ -117,12 +122,10 @@ module _ (n : ℕ) where
       let b : length (after list n) ≡ 1 = sym (ap length (list_closed n h)) in
       omega arith
 
-  pub list_put : {O P Q : List ℕ} {at : ℕ} → (n ≡ 0 → ⊥) → P ≡ sets O at (in_bytes 1 108) → Q ≡ sets P (at + 1) (in_bytes 4 n) → Put O at (before list n) (at + 5) Q
-  list_put {O} {P} {Q} {at} h p q =
+  pub list_put : {O Q : List ℕ} {at : ℕ} → (n ≡ 0 → ⊥) → Q ≡ sets (set O at 108) (at + 1) (in_bytes 4 n) → Put O at (before list n) (at + 5) Q
+  list_put {O} {Q} {at} h q =
       let l : length (in_bytes 4 n) ≡ 4 = length_in_bytes 4 n in
-      let first : Put O at (108 ∷ []) (at + 1) P = byte_put {b = 108} (omega arith) refl p in
-      let next : Put P (at + 1) (in_bytes 4 n) (at + 5) Q = record { past = omega arith; stored = q } in
-      put_same (list_108 n h) (put_then first next)
+      put_same (list_108 n h) (put_then (byte_put O at 108) (record { past = omega arith; stored = q }))
 
   pub list_room : (at room : ℕ) → (n ≡ 0 → ⊥) → at + length (before list n) ≤ room → at + 5 ≤ room
   list_room at room h k = let a : length (before list n) ≡ 5 = sym (ap length (list_108 n h)) ∙ ap suc (length_in_bytes 4 n) in omega arith

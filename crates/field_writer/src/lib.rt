@@ -1,17 +1,37 @@
 // A term's own bytes, before and after its parts, measured and written: copied where they stand in canonical form, else by their layouts.
 #![tactic(auto)]
 
-ghost use Rattle.std.specs.Prelude.{◌≡◌, false, ◌++◌, ◌+◌, ◌≤◌, ◌<◌, length};
+ghost use Rattle.std.specs.Prelude.{◌≡◌, ◌++◌, ◌+◌, ◌*◌, ◌≤◌, ◌<◌, length};
 ghost use Rattle.term_spec.specs.Term.{list};
+ghost use Rattle.octets.specs.Parts.{value};
 ghost use Rattle.layout.specs.Layout.{Put};
 ghost use Rattle.canonical_fields.specs.Shape.{before, after};
 ghost use Rattle.canonical_fields.specs.Sound.{before_in, after_in, SoundWord};
 
 use term_spec::{kinds, tags};
 
-const NIL: usize = tags::NIL_EXT as usize;
+// How many bytes an empty list has, and the end of any other list.
+const NIL_LENGTH: usize = 1;
 
-const LIST: usize = tags::LIST_EXT as usize;
+// How many bytes a list has before its elements: its tag and their number.
+const LIST_HEAD: usize = 5;
+
+// How many bytes a pid with tag 88 has before its node, and after it.
+const PID_HEAD: usize = 1;
+
+const PID_TAIL: usize = 12;
+
+// How many bytes a reference with tag 90 has before its node.
+const REFERENCE_HEAD: usize = 3;
+
+// How many it has after its node, by its tag's offset.
+#[inline]
+fn reference_tail(msg: &[u8], at: usize) -> usize
+    requires { at + 3 ≤ length msg.now }
+    ensures { (result ≡ 4 + 4 * value msg.now 2 (at + 1)) × (result ≤ 262144) }
+{
+    4 + 4 * octets::big2(msg, at + 1)
+}
 
 // How many bytes stand before and after the parts of the term whose row this is, by its content.
 fn found_length(msg: &[u8], places: &[u8], lengths: &[u16], word: u64) -> usize
@@ -39,9 +59,10 @@ fn list_length(n: usize) -> usize
     ensures { (result ≡ length (before list n) + length (after list n)) × (result ≤ 6) }
 {
     if n == 0 {
-        return 1;
+        NIL_LENGTH
+    } else {
+        LIST_HEAD + NIL_LENGTH
     }
-    6
 }
 
 // Writes those before them from `at` on; the offset past them.
@@ -50,12 +71,12 @@ fn put_list_start(n: usize, out: &mut [u8], at: usize) -> usize
     ensures { Put out.old at (before list n) result out.new }
 {
     if n == 0 {
-        octets::put1(out, at, NIL);
-        return at + 1;
+        out[at] = tags::NIL_EXT;
+        return at + NIL_LENGTH;
     }
-    octets::put1(out, at, LIST);
+    out[at] = tags::LIST_EXT;
     octets::put4(out, at + 1, n);
-    at + 5
+    at + LIST_HEAD
 }
 
 // Writes those after them from `at` on; the offset past them.
@@ -66,8 +87,8 @@ fn put_list_end(n: usize, out: &mut [u8], at: usize) -> usize
     if n == 0 {
         return at;
     }
-    octets::put1(out, at, NIL);
-    at + 1
+    out[at] = tags::NIL_EXT;
+    at + NIL_LENGTH
 }
 
 // How many bytes stand before and after the parts of the term whose row this is.
@@ -75,8 +96,7 @@ pub fn own_length(msg: &[u8], places: &[u8], lengths: &[u16], word: u64) -> usiz
     requires { SoundWord msg.now places.now lengths.now word }
     ensures { (result ≡ length (before_in msg.now places.now lengths.now word) + length (after_in msg.now places.now lengths.now word)) × (result ≤ 262192) }
 {
-    let n = already_canonical::as_it_stands(msg, word);
-    if 0 < n {
+    if let Some(n) = already_canonical::as_it_stands(msg, word) {
         return n;
     }
     let kind = row::kind_in(word);
@@ -84,11 +104,11 @@ pub fn own_length(msg: &[u8], places: &[u8], lengths: &[u16], word: u64) -> usiz
         return list_length(row::parts_in(word));
     }
     let tag = row::offset_in(word);
-    if 0 < already_canonical::pid_node(msg, kind, tag) {
-        return 13;
+    if already_canonical::pid_node(msg, kind, tag).is_some() {
+        return PID_HEAD + PID_TAIL;
     }
-    if 0 < already_canonical::reference_node(msg, kind, tag) {
-        return 7 + 4 * octets::big2(msg, tag + 1);
+    if already_canonical::reference_node(msg, kind, tag).is_some() {
+        return REFERENCE_HEAD + reference_tail(msg, tag);
     }
     found_length(msg, places, lengths, word)
 }
@@ -122,8 +142,7 @@ pub fn put_before(
     requires { SoundWord msg.now places.now lengths.now word × (at + length (before_in msg.now places.now lengths.now word) ≤ length out.old) }
     ensures { Put out.old at (before_in msg.now places.now lengths.now word) result out.new }
 {
-    let n = already_canonical::as_it_stands(msg, word);
-    if 0 < n {
+    if let Some(n) = already_canonical::as_it_stands(msg, word) {
         octets::copy(msg, row::offset_in(word), out, at, n);
         return at + n;
     }
@@ -132,13 +151,13 @@ pub fn put_before(
         return put_list_start(row::parts_in(word), out, at);
     }
     let tag = row::offset_in(word);
-    if 0 < already_canonical::pid_node(msg, kind, tag) {
-        octets::copy(msg, tag, out, at, 1);
-        return at + 1;
+    if already_canonical::pid_node(msg, kind, tag).is_some() {
+        octets::copy(msg, tag, out, at, PID_HEAD);
+        return at + PID_HEAD;
     }
-    if 0 < already_canonical::reference_node(msg, kind, tag) {
-        octets::copy(msg, tag, out, at, 3);
-        return at + 3;
+    if already_canonical::reference_node(msg, kind, tag).is_some() {
+        octets::copy(msg, tag, out, at, REFERENCE_HEAD);
+        return at + REFERENCE_HEAD;
     }
     put_lead(msg, places, lengths, word, out, at)
 }
@@ -160,19 +179,6 @@ fn put_trail(
     layout::put_layout(msg, places, last, out, at)
 }
 
-// Whether a term of this kind may have bytes after its parts.
-fn has_trail(kind: usize) -> bool
-    ensures { result ≡ false → (kind ≡ 5 → ⊥) × (kind ≡ 10 → ⊥) × (kind ≡ 11 → ⊥) × (kind ≡ 12 → ⊥) }
-{
-    match kind {
-        kinds::LIST => true,
-        kinds::PID => true,
-        kinds::PORT => true,
-        kinds::REFERENCE => true,
-        _ => false,
-    }
-}
-
 // Writes the bytes after its parts from `at` on; the offset past them.
 pub fn put_after(
     msg: &[u8],
@@ -189,19 +195,17 @@ pub fn put_after(
     if kind == kinds::LIST {
         return put_list_end(row::parts_in(word), out, at);
     }
-    if !has_trail(kind) {
+    if !matches!(kind, kinds::PID | kinds::PORT | kinds::REFERENCE) {
         return at;
     }
     let tag = row::offset_in(word);
-    let pid = already_canonical::pid_node(msg, kind, tag);
-    if 0 < pid {
-        octets::copy(msg, pid, out, at, 12);
-        return at + 12;
+    if let Some(end) = already_canonical::pid_node(msg, kind, tag) {
+        octets::copy(msg, end, out, at, PID_TAIL);
+        return at + PID_TAIL;
     }
-    let reference = already_canonical::reference_node(msg, kind, tag);
-    if 0 < reference {
-        let n = 4 + 4 * octets::big2(msg, tag + 1);
-        octets::copy(msg, reference, out, at, n);
+    if let Some(end) = already_canonical::reference_node(msg, kind, tag) {
+        let n = reference_tail(msg, tag);
+        octets::copy(msg, end, out, at, n);
         return at + n;
     }
     put_trail(msg, places, lengths, word, out, at)
@@ -219,8 +223,7 @@ pub fn put_leaf(
     requires { SoundWord msg.now places.now lengths.now word × (at + length (before_in msg.now places.now lengths.now word ++ after_in msg.now places.now lengths.now word) ≤ length out.old) }
     ensures { Put out.old at (before_in msg.now places.now lengths.now word ++ after_in msg.now places.now lengths.now word) result out.new }
 {
-    let n = already_canonical::as_it_stands(msg, word);
-    if 0 < n {
+    if let Some(n) = already_canonical::as_it_stands(msg, word) {
         octets::copy(msg, row::offset_in(word), out, at, n);
         return at + n;
     }

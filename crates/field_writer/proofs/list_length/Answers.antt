@@ -6,5 +6,5 @@ use Rattle.field_writer.proofs.list_length.Goals as goal
 pub returns-then-n-eq0 : goal.returns-then-n-eq0
 returns-then-n-eq0 c = (list_length_0 _ c.if-n-eq0.true, omega arith)
 
-pub returns : goal.returns
-returns c = (list_length_more _ c.if-n-eq0.false, omega arith)
+pub returns-else-n-eq0 : goal.returns-else-n-eq0
+returns-else-n-eq0 c = (list_length_more _ c.if-n-eq0.false, omega arith)

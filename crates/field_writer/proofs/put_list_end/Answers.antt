@@ -8,8 +8,8 @@ use Rattle.field_writer.proofs.put_list_end.Goals as goal
 pub returns-then-n-eq0 : goal.returns-then-n-eq0
 returns-then-n-eq0 c = put_same (list_over _ c.if-n-eq0.true) (put_none _ _)
 
-pub put1-requires : goal.put1-requires
-put1-requires c = (list_end_room _ _ _ c.if-n-eq0.false c.requires, omega arith)
+pub bounds-out-at : goal.bounds-out-at
+bounds-out-at c = let r = list_end_room _ _ _ c.if-n-eq0.false c.requires in omega arith
 
 pub returns : goal.returns
-returns c = byte_put (omega arith) (list_closed _ c.if-n-eq0.false) c.put1.ensures
+returns c = put_same (list_closed _ c.if-n-eq0.false) (byte_put _ _ _)
