@@ -5,7 +5,7 @@ use Prim.Native.Nat.{ℕ}
 use contract.Lifetimes.{Lfts}
 use Rattle.term_spec.specs.Numbers.{Under}
 use Rattle.term_spec.specs.AtomList.{lent_list}
-use Rattle.packet_spec.specs.declared.Taken.{Taken}
+use Rattle.packet_spec.specs.Answers.{Taken}
 use Rattle.packet_spec.specs.Memory.{Memory}
 use Rattle.packet_spec.specs.Promises.{PacketCall, LocateWordCall, WordCall}
 use Rattle.packet_spec.specs.Runs.{Call, AllBytes}

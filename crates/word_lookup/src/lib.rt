@@ -4,21 +4,10 @@
 ghost use Rattle.std.specs.Prelude.{◌≡◌};
 ghost use Rattle.term_spec.specs.AtomList.{lent_list};
 ghost use Rattle.packet_spec.specs.Promises.{LocateWordCall, WordCall};
-ghost use Rattle.word_lookup.specs.Code.{no_word};
 
 use connection::Connection;
-use packet_spec::{ReferenceIndex, WordAnswer};
+use packet_spec::{ReferenceIndex, WordAnswer, WordAt};
 use term_spec::{Refusal, refusals, sizes};
-
-// A refused look-up: its place is 0.
-fn no_word(number: u8) -> WordAnswer
-    ensures { result ≡ no_word number }
-{
-    WordAnswer::Refused(Refusal {
-        number: number,
-        place: 0,
-    })
-}
 
 // Where the word of reference `index` stands in this list's places: 13, 14 for an unknown flag, 6, 14.
 pub fn locate_word(
@@ -31,22 +20,34 @@ pub fn locate_word(
     ensures { LocateWordCall connection.flags (lent_list n places.now lengths.now) index.0 result }
 {
     if !atom_list::list_fits(places, lengths) {
-        return no_word(refusals::SIZE);
+        return Err(Refusal {
+            number: refusals::SIZE,
+            place: 0,
+        });
     }
     if !connection::flags_known(connection.flags) {
-        return no_word(refusals::STATE);
+        return Err(Refusal {
+            number: refusals::STATE,
+            place: 0,
+        });
     }
     let i = index.0;
     if octets::wide(n) <= i {
-        return no_word(refusals::INDEX);
+        return Err(Refusal {
+            number: refusals::INDEX,
+            place: 0,
+        });
     }
     if !atom_list::place_holds_text(places, lengths, i) {
-        return no_word(refusals::STATE);
+        return Err(Refusal {
+            number: refusals::STATE,
+            place: 0,
+        });
     }
-    WordAnswer::Word {
+    Ok(WordAt {
         start: sizes::PLACE_BYTES * i,
         length: octets::wide16(lengths[i]),
-    }
+    })
 }
 
 // The word itself, a part of the list's places; empty where refused.
@@ -60,10 +61,7 @@ pub fn word<'a>(
     ensures { WordCall connection.flags (lent_list n places.now lengths.now) index.0 result.now }
 {
     match locate_word(connection, n, places, lengths, index) {
-        WordAnswer::Word { start, length } => {
-            let end = start + length;
-            &places[start..end]
-        }
-        WordAnswer::Refused(refusal) => &places[0..0],
+        Ok(WordAt { start, length }) => &places[start..start + length],
+        Err(_) => &[],
     }
 }

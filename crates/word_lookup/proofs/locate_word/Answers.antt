@@ -9,15 +9,15 @@ use Rattle.word_lookup.proofs.locate_word.Goals as goal
 
 pub returns-then-not-list_fits : goal.returns-then-not-list_fits
 returns-then-not-list_fits c = let a = c.args in
-    rw c.no_word.ensures (not_sized _ _ _ (refuted (c.list_fits.ensures a.n) (ap not c.if-not-list_fits.true)))
+    not_sized _ _ _ (refuted (c.list_fits.ensures a.n) (ap not c.if-not-list_fits.true))
 
 pub returns-then-not-flags_known : goal.returns-then-not-flags_known
 returns-then-not-flags_known c = let a = c.args in
-    rw c.no_word-then-not-flags_known.ensures (not_known _ _ _ (confirmed (c.list_fits.ensures a.n) (ap not c.if-not-list_fits.false)) (refuted c.flags_known.ensures (ap not c.if-not-flags_known.true)))
+    not_known _ _ _ (confirmed (c.list_fits.ensures a.n) (ap not c.if-not-list_fits.false)) (refuted c.flags_known.ensures (ap not c.if-not-flags_known.true))
 
 pub returns-then-wide-i : goal.returns-then-wide-i
 returns-then-wide-i c = let a = c.args in
-    rw c.no_word-then-wide-i.ensures (not_below _ _ _ (confirmed (c.list_fits.ensures a.n) (ap not c.if-not-list_fits.false)) (confirmed c.flags_known.ensures (ap not c.if-not-flags_known.false)) (omega arith))
+    not_below _ _ _ (confirmed (c.list_fits.ensures a.n) (ap not c.if-not-list_fits.false)) (confirmed c.flags_known.ensures (ap not c.if-not-flags_known.false)) (omega arith)
 
 pub place_holds_text-requires : goal.place_holds_text-requires
 place_holds_text-requires c = let a = c.args in
@@ -25,8 +25,8 @@ place_holds_text-requires c = let a = c.args in
 
 pub returns-then-not-place_holds_text : goal.returns-then-not-place_holds_text
 returns-then-not-place_holds_text c = let a = c.args in
-    rw c.no_word-then-not-place_holds_text.ensures (not_text _ _ _ (confirmed (c.list_fits.ensures a.n) (ap not c.if-not-list_fits.false)) (confirmed c.flags_known.ensures (ap not c.if-not-flags_known.false)) (omega arith)
-    (refuted (c.place_holds_text.ensures a.n) (ap not c.if-not-place_holds_text.true)))
+    not_text _ _ _ (confirmed (c.list_fits.ensures a.n) (ap not c.if-not-list_fits.false)) (confirmed c.flags_known.ensures (ap not c.if-not-flags_known.false)) (omega arith)
+    (refuted (c.place_holds_text.ensures a.n) (ap not c.if-not-place_holds_text.true))
 
 pub bounds-lengths-i : goal.bounds-lengths-i
 bounds-lengths-i c = let a = c.args in
