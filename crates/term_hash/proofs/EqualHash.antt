@@ -306,4 +306,4 @@ module _
       → term_hash m places lengths T round first a ≡ term_hash m places lengths T' round first b
   unfolding term_hash
   equal_hash t u o o' a b p q e round first =
-      ap (λ (x : ℕ). round_hash x round) (seed_as (pass_hash m places lengths T first a) (equal_pass t u o o' a b p q e first) round)
+      ap (λ (x : ℕ). round_hash x round) (seed_as (equal_pass t u o o' a b p q e first) round)

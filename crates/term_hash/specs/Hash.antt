@@ -1,6 +1,6 @@
 -- Hashes of terms over the words of their rows, with the tests of the code in their order: one row after the other, but the pairs of a map as a sum.
 -- About the code alone, proved against the definitions of term_spec: nothing here has to be believed.
-use Rattle.std.specs.Prelude.{◌≡◌, cond, List, ℕ, zero, suc, ◌+◌, ◌*◌, ◌/◌, ◌%◌, eqb, leb, ltb, get_or}
+use Rattle.std.specs.Prelude.{cond, List, ℕ, zero, suc, ◌+◌, ◌*◌, ◌/◌, ◌%◌, eqb, leb, ltb, get_or}
 use Rattle.term_spec.specs.Rows.{kind_in, offset_in, parts_in, size_in}
 use Rattle.row_fields.specs.Found.{content_of}
 use Rattle.row_fields.specs.Meaning.{term_kind}
@@ -60,14 +60,6 @@ hash_term m places lengths T factor levels first n row =
 -- the hash that a pass gives the term at a row, as a key of the map whose first key is at the row `first`
 unfoldable pub pass_hash : List ℕ → List ℕ → List ℕ → List ℕ → ℕ → ℕ → ℕ → ℕ
 pass_hash m places lengths T first row pass = hash_term m places lengths T (factor_of pass) (levels_of pass) first (hashed_rows (size_in (get_or T row 0))) row
-
--- the pass whose hash a round adds to what the round before went by; 4 where it adds none
-pub data Adds (round : ℕ) : ℕ → Type 0 where
-  first_pass : round ≡ 0 → Adds round 0
-  second_pass : round ≡ 1 → Adds round 1
-  third_pass : round ≡ 4 → Adds round 2
-  fourth_pass : round ≡ 5 → Adds round 3
-  no_pass : (round ≡ 0 → ⊥) → (round ≡ 1 → ⊥) → (round ≡ 4 → ⊥) → (round ≡ 5 → ⊥) → Adds round 4
 
 -- what a round goes by, over the hashes of all passes: the first, then the first two, from round 4 on the third, then the last two
 unfoldable pub seed_of : (ℕ → ℕ) → ℕ → ℕ

@@ -2,25 +2,23 @@
 #![tactic(auto)]
 
 ghost use Rattle.std.specs.Prelude.{◌≡◌, ◌+◌, ◌*◌, ◌-◌, ◌<◌};
-ghost use Rattle.term_hash.specs.Hash.{hash_row, added, hash_rows, hash_pairs, factor_of, levels_of, hashed_rows, pass_hash, Adds, seed_of, round_hash};
+ghost use Rattle.term_hash.specs.Hash.{hash_row, added, hash_rows, hash_pairs, factor_of, levels_of, hashed_rows, pass_hash, seed_of, round_hash};
 
 use row::{kind_in, offset_in, parts_in, size_in};
 use row_compare::{hash_content, mix};
 use row_fields::content_at;
 use term_rows::{pair_size, row_at, term_kind, unordered_rows};
-
-// A key and its value.
-const PAIR_PARTS: usize = 2;
+use term_spec::sizes;
 
 // In so many passes the maps in a key count down to EARLY_LEVELS alone, so that keys in keys are not hashed again at every level.
 const EARLY_PASSES: usize = 2;
 
 const EARLY_LEVELS: usize = 4;
 
-// Rounds before it go by the early passes, the others by two more.
+// Rounds before LATE_ROUND go by the early passes, the others by two more, the second from LAST_ROUND on.
 const LATE_ROUND: usize = 4;
 
-const NO_PASS: usize = 4;
+const LAST_ROUND: usize = LATE_ROUND + 1;
 
 // More levels than any term of a table has rows. Calls nest no deeper than the terms do.
 const LEVELS: usize = 16384;
@@ -41,6 +39,7 @@ const FACTOR: u64 = 3266489908;
 const FACTOR_STEP: u64 = 2135587862;
 
 // A hash after what a row says of its term.
+#[tactic(auto, using(crate::proofs::Steps::kind_small), unfolding(crate::specs::Hash::hash_row))]
 fn hash_row(factor: u64, msg: &[u8], places: &[u8], lengths: &[u16], h: u64, w: u64) -> u64
     requires { (factor < 4294967296) × (h < 4294967296) }
     ensures { (result ≡ hash_row factor msg.now places.now lengths.now h w) × (result < 4294967296) }
@@ -52,6 +51,7 @@ fn hash_row(factor: u64, msg: &[u8], places: &[u8], lengths: &[u16], h: u64, w: 
 }
 
 // A hash to which x is added, in any order.
+#[tactic(auto, using(crate::proofs::Steps::square_below), unfolding(crate::specs::Hash::added))]
 fn add(h: u64, x: u64) -> u64
     requires { (h < 4294967296) × (x < 4294967296) }
     ensures { (result ≡ added h x) × (result < 4294967296) }
@@ -77,26 +77,18 @@ fn hash_rows(
 {
     let mut sum = h;
     let mut i = 0usize;
+    // A while and no for: the rows of a map are stepped over at once.
     while i < n {
         let w = row_at(table, row + i);
         sum = hash_row(factor, msg, places, lengths, sum, w);
         let unordered = unordered_rows(w);
-        if unordered == 0 {
-            i += 1;
-            continue;
+        if unordered != 0 {
+            let pairs = parts_in(w) / sizes::PAIR_PARTS;
+            let next = row + i + 1;
+            sum = hash_pairs(
+                factor, msg, places, lengths, table, levels, sum, pairs, next,
+            );
         }
-        let pairs = parts_in(w) / PAIR_PARTS;
-        sum = hash_pairs(
-            factor,
-            msg,
-            places,
-            lengths,
-            table,
-            levels,
-            sum,
-            pairs,
-            row + i + 1,
-        );
         i += 1 + unordered;
     }
     sum
@@ -123,49 +115,50 @@ fn hash_pairs(
     }
     let mut sum = h;
     let mut at = row;
-    let mut left = n;
-    while 0 < left {
+    for _ in 0..n {
         let size = pair_size(table, at);
         let own = hash_rows(factor, msg, places, lengths, table, levels - 1, 0, size, at);
         sum = add(sum, own);
         at += size;
-        left -= 1;
     }
     sum
 }
 
 // A factor for each pass, and for each round.
+#[tactic(auto, unfolding(crate::specs::Hash::factor_of))]
 fn factor_of(i: usize) -> u64
     requires { i < 65536 }
     ensures { (result ≡ factor_of i) × (result < 4294967296) }
 {
     if i == 0 {
-        return FIRST_FACTOR;
+        FIRST_FACTOR
+    } else {
+        (FACTOR + i as u64 * FACTOR_STEP) % HASH_SIZE
     }
-    (FACTOR + i as u64 * FACTOR_STEP) % HASH_SIZE
 }
 
 // How many levels of maps count in a pass.
+#[tactic(auto, unfolding(crate::specs::Hash::levels_of))]
 fn levels_of(pass: usize) -> usize
     ensures { (result ≡ levels_of pass) × (result < 16385) }
 {
     if pass < EARLY_PASSES {
-        return EARLY_LEVELS;
+        EARLY_LEVELS
+    } else {
+        LEVELS
     }
-    LEVELS
 }
 
 // How many rows of a term of n rows count in its hash.
+#[tactic(auto, unfolding(crate::specs::Hash::hashed_rows))]
 fn hashed_rows(n: usize) -> usize
     ensures { (result ≡ hashed_rows n) × (result < 2049) }
 {
-    if n <= MOST_ROWS {
-        return n;
-    }
-    1
+    if n <= MOST_ROWS { n } else { 1 }
 }
 
 // The hash that a pass gives the term at a row, as a key of the map whose first key is at the row `first`.
+#[tactic(auto, unfolding(crate::specs::Hash::pass_hash, crate::specs::Hash::hash_term))]
 fn pass_hash(
     msg: &[u8],
     places: &[u8],
@@ -182,35 +175,17 @@ fn pass_hash(
     let start = mix(factor, 0, first as u64);
     let w = row_at(table, row);
     let n = hashed_rows(size_in(w));
-    if n < 2 {
-        let one = hash_row(factor, msg, places, lengths, start, w);
-        return mix(factor, one, n as u64);
-    }
-    let levels = levels_of(pass);
-    let all = hash_rows(factor, msg, places, lengths, table, levels, start, n, row);
-    mix(factor, all, n as u64)
-}
-
-// The pass whose hash a round adds, NO_PASS where it adds none.
-fn pass_of(round: usize) -> usize
-    ensures { Adds round result × (result < 5) }
-{
-    if round == 0 {
-        return 0;
-    }
-    if round == 1 {
-        return 1;
-    }
-    if round == LATE_ROUND {
-        return 2;
-    }
-    if round == LATE_ROUND + 1 {
-        return 3;
-    }
-    NO_PASS
+    let sum = if n < 2 {
+        hash_row(factor, msg, places, lengths, start, w)
+    } else {
+        let levels = levels_of(pass);
+        hash_rows(factor, msg, places, lengths, table, levels, start, n, row)
+    };
+    mix(factor, sum, n as u64)
 }
 
 // What a round goes by, of the term at a row as a key of the map whose first key is at the row `first`; `seed` is what the round before went by.
+#[tactic(auto, using(crate::proofs::Steps::hash_below), unfolding(crate::specs::Hash::seed_of))]
 pub fn next_seed(
     msg: &[u8],
     places: &[u8],
@@ -224,18 +199,17 @@ pub fn next_seed(
     requires { (row < 3458764513820540928) × (0 < round → seed ≡ seed_of (pass_hash msg.now places.now lengths.now table.now first row) (round - 1)) }
     ensures { result ≡ seed_of (pass_hash msg.now places.now lengths.now table.now first row) round }
 {
-    let pass = pass_of(round);
-    if pass == NO_PASS {
-        return seed;
+    match round {
+        0 => pass_hash(msg, places, lengths, table, 0, first, row),
+        1 => seed * HASH_SIZE + pass_hash(msg, places, lengths, table, 1, first, row),
+        LATE_ROUND => pass_hash(msg, places, lengths, table, 2, first, row),
+        LAST_ROUND => seed * HASH_SIZE + pass_hash(msg, places, lengths, table, 3, first, row),
+        _ => seed,
     }
-    let hash = pass_hash(msg, places, lengths, table, pass, first, row);
-    if pass % 2 == 0 {
-        return hash;
-    }
-    seed * HASH_SIZE + hash
 }
 
 // The hash of a round by its seed.
+#[tactic(auto, unfolding(crate::specs::Hash::round_hash))]
 pub fn round_hash(seed: u64, round: usize) -> usize
     requires { round < 65536 }
     ensures { (result ≡ round_hash seed round) × (result < 65536) }
