@@ -6,4 +6,4 @@ use Rattle.octets.proofs.big1.Goals as goal
 
 pub returns : goal.returns
 returns c = let a = c.args in
-    (c.wide.ensures.0 ∙ sym (big_one a.s.now a.at (omega arith)), omega arith)
+    (c.from.ensures ∙ sym (big_one a.s.now a.at (omega arith)), omega arith)

@@ -1,25 +1,8 @@
--- `clear_bytes` meets its contract. The loop has cleared the bytes from `from` up to i.
-use native.Mathlib.Omega.{arith}
-use Rattle.octets.proofs.Cleared.{cleared_none, cleared_more, cleared_end}
+-- `clear_bytes` meets its contract.
+use Rattle.octets.specs.Cleared.{cleared}
+use Rattle.octets.proofs.Stores.{mid_filled}
 use Rattle.octets.proofs.clear_bytes.Goals as goal
 
-pub loop-i-init : goal.loop-i-init
-loop-i-init c = cleared_none _ _
-
-pub bounds-d-i : goal.bounds-d-i
-bounds-d-i c = omega arith
-
-pub overflow_add-i : goal.overflow_add-i
-overflow_add-i c = omega arith
-
-pub loop-i-smaller : goal.loop-i-smaller
-loop-i-smaller c = omega arith
-
-pub loop-i-preserved : goal.loop-i-preserved
-loop-i-preserved c = cleared_more _ _ _ _ c.loop-i.invariant
-
-pub shape_of-d : goal.shape_of-d
-shape_of-d c = c.loop-i.invariant.long
-
 pub returns : goal.returns
-returns c = cleared_end _ _ _ _ c.loop-i.invariant (omega arith)
+unfolding cleared
+returns c = mid_filled _ _ _ _ 0 c.min-start.ensures (c.fill.ensures.after (λ y e. e))

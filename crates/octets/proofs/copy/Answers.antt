@@ -1,48 +1,17 @@
--- `copy` meets its contract. The loop has stored the first i bytes of the part.
-use mathlib.Core.Path.{◌≡◌, refl, ap, ◌∙◌}
+-- `copy` meets its contract.
+use mathlib.Core.Path.{◌≡◌, ap, ◌∙◌}
 use mathlib.Core.List.{List}
-use Prim.Native.Nat.{ℕ, ◌+◌}
+use Prim.Native.Nat.{ℕ, ◌+◌, ◌-◌}
 use native.Mathlib.Omega.{arith}
-use lib.ListN.{get_or, set, take, drop, length-set}
-use lib.Seq.{sets}
-use Rattle.octets.proofs.Stores.{copied_more}
+use lib.ListN.{take, drop}
+use borrow.Rule.Slice.PartMut.{put_mid}
+use Rattle.octets.proofs.Stores.{mid_sets}
+use Rattle.octets.proofs.Parts.{length_part}
 use Rattle.octets.proofs.copy.Goals as goal
-
-pub loop-i-init : goal.loop-i-init
-loop-i-init c = (omega arith, refl, refl)
-
-pub overflow_add-dst : goal.overflow_add-dst
-overflow_add-dst c = omega arith
-
-pub bounds-src-a : goal.bounds-src-a
-bounds-src-a c = omega arith
-
-pub overflow_add-dst-in-loop-i : goal.overflow_add-dst-in-loop-i
-overflow_add-dst-in-loop-i c = omega arith
-
-pub bounds-dst-b : goal.bounds-dst-b
-bounds-dst-b c = omega arith
-
-pub overflow_add-i : goal.overflow_add-i
-overflow_add-i c = omega arith
-
-pub loop-i-smaller : goal.loop-i-smaller
-loop-i-smaller c = omega arith
-
-pub loop-i-preserved : goal.loop-i-preserved
-loop-i-preserved c = let a = c.args in
-    let l = c.loop-i in (
-      omega arith,
-      ap (λ (x : List ℕ). set x (a.b + l.i) (get_or a.src.now (a.a + l.i) 0)) l.invariant.1
-          ∙ copied_more a.dst.now a.b a.src.now a.a l.i 0 (omega arith),
-      simp length-set l.invariant.2,
-    )
-
-pub shape_of-dst : goal.shape_of-dst
-shape_of-dst c = c.loop-i.invariant.2
 
 pub returns : goal.returns
 returns c = let a = c.args in
-    let l = c.loop-i in
-    let e : l.i ≡ a.n = omega arith in
-    l.invariant.1 ∙ ap (λ (n : ℕ). sets a.dst.now a.b (take n (drop a.a a.src.now))) e
+    let m : a.a + a.n - a.a ≡ a.n = omega arith in
+    let e = c.copy_from_slice.ensures.after ∙ ap (λ (k : ℕ). take k (drop a.a a.src.now)) m in
+    let long = length_part a.src.now a.a a.n (omega arith) in
+    ap (λ (l : List ℕ). put_mid a.b (a.b + a.n - a.b) a.dst.now l) e ∙ mid_sets a.dst.now (take a.n (drop a.a a.src.now)) a.b (a.b + a.n - a.b) (omega arith) (omega arith)
