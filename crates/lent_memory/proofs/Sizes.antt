@@ -1,5 +1,5 @@
 -- Sizes of lent memory, one test after the other.
-use mathlib.Core.Path.{◌≡◌}
+use mathlib.Core.Path.{◌≡◌, sym, ◌∙◌}
 use mathlib.Core.Bool.{Bool, true, false, not}
 use mathlib.Core.List.{List}
 use Prim.Native.Nat.{ℕ}
@@ -7,12 +7,12 @@ use lib.Dec.{eqb}
 use lib.ListN.{length}
 use borrow.Author.Tests.{eq-eqb, ne_eqb}
 use Rattle.term_spec.specs.AtomList.{of_size}
-use Rattle.term_spec.proofs.Tests.{sizes_of, refuted, confirmed}
+use Rattle.term_spec.proofs.Tests.{sizes_of, confirmed}
 use Rattle.packet_spec.specs.Memory.{Memory, cache_of, cache_of_size, CacheSized, memory_of_size}
 use Rattle.packet_spec.proofs.Cache.{sized}
 use Rattle.packet_spec.proofs.SizesKept.{all_sized}
 
-pub cache_not : (cache lengths : List ℕ) → (length cache ≡ 65536 → ⊥) → false ≡ cache_of_size (cache_of cache lengths)
+pub cache_not : (cache lengths : List ℕ) → (length cache ≡ 65536 → ⊥) → eqb (length cache) 65536 ≡ cache_of_size (cache_of cache lengths)
 unfolding cache_of_size
 cache_not cache lengths e = rw (ne_eqb (length cache) 65536 e)
 
@@ -26,23 +26,23 @@ cache_lent cache lengths told met = sized (cache_of cache lengths) (confirmed to
 
 -- one test after the other: the cache, the list for a plain packet, the list for the pending sequence, the gather buffer
 module _ (m : Memory) {a : Bool} (told : a ≡ cache_of_size m.cache) where
-  pub cache_fails : not a ≡ true → false ≡ memory_of_size m
+  pub cache_fails : a ≡ false → false ≡ memory_of_size m
   unfolding memory_of_size
-  cache_fails failed = rw (refuted told failed)
+  cache_fails failed = rw (sym told ∙ failed)
 
-  module _ (met : not a ≡ false) {b : Bool} (told_plain : b ≡ of_size m.plain_list) where
-    pub plain_fails : not b ≡ true → false ≡ memory_of_size m
+  module _ (met : a ≡ true) {b : Bool} (told_plain : b ≡ of_size m.plain_list) where
+    pub plain_fails : b ≡ false → false ≡ memory_of_size m
     unfolding memory_of_size
-    plain_fails failed = rw (confirmed told met, refuted told_plain failed)
+    plain_fails failed = rw (sym told ∙ met, sym told_plain ∙ failed)
 
-    module _ (met_plain : not b ≡ false) {p : Bool} (told_pending : p ≡ of_size m.pending_list) where
-      pub pending_fails : not p ≡ true → false ≡ memory_of_size m
+    module _ (met_plain : b ≡ true) {p : Bool} (told_pending : p ≡ of_size m.pending_list) where
+      pub pending_fails : p ≡ false → false ≡ memory_of_size m
       unfolding memory_of_size
-      pending_fails failed = rw (confirmed told met, confirmed told_plain met_plain, refuted told_pending failed)
+      pending_fails failed = rw (sym told ∙ met, sym told_plain ∙ met_plain, sym told_pending ∙ failed)
 
-      pub gather_if : not p ≡ false → eqb (length m.gather) 65536 ≡ memory_of_size m
+      pub gather_if : p ≡ true → eqb (length m.gather) 65536 ≡ memory_of_size m
       unfolding memory_of_size
-      gather_if met_pending = rw (confirmed told met, confirmed told_plain met_plain, confirmed told_pending met_pending)
+      gather_if met_pending = rw (sym told ∙ met, sym told_plain ∙ met_plain, sym told_pending ∙ met_pending)
 
 -- the lengths of all lent memory
 pub record Lengths (m : Memory) : Type 0 where

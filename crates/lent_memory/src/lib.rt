@@ -11,10 +11,7 @@ use packet_spec::sizes;
 pub fn cache_fits(cache: &[u8], cache_lengths: &[u16]) -> bool
     ensures { result ≡ cache_of_size (cache_of cache.now cache_lengths.now) }
 {
-    if cache.len() != sizes::CACHE_BYTES {
-        return false;
-    }
-    cache_lengths.len() == sizes::CACHE_PLACES
+    cache.len() == sizes::CACHE_BYTES && cache_lengths.len() == sizes::CACHE_PLACES
 }
 
 // Whether all lent memory is of its stated size.
@@ -30,14 +27,8 @@ pub fn memory_fits(
     ensures { MemoryFits result cache.now cache_lengths.now plain_places.now plain_lengths.now
         pending_places.now pending_lengths.now gather.now }
 {
-    if !cache_fits(cache, cache_lengths) {
-        return false;
-    }
-    if !atom_list::list_fits(plain_places, plain_lengths) {
-        return false;
-    }
-    if !atom_list::list_fits(pending_places, pending_lengths) {
-        return false;
-    }
-    gather.len() == sizes::GATHER_BYTES
+    cache_fits(cache, cache_lengths)
+        && atom_list::list_fits(plain_places, plain_lengths)
+        && atom_list::list_fits(pending_places, pending_lengths)
+        && gather.len() == sizes::GATHER_BYTES
 }

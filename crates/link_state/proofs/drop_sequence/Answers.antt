@@ -14,4 +14,4 @@ pub returns-then-pending-eq0 : goal.returns-then-pending-eq0
 returns-then-pending-eq0 c = rw c.refused-then-pending-eq0.ensures (drop_none _ c.args.pending c.flags_known.ensures (ap not c.if-not-flags_known.false) c.if-pending.false c.if-pending-eq0.true)
 
 pub returns : goal.returns
-returns c = rw c.zeroed.ensures (drop_done _ c.args.pending c.flags_known.ensures (ap not c.if-not-flags_known.false) c.if-pending.false c.if-pending-eq0.false)
+returns c = drop_done _ c.args.pending c.flags_known.ensures (ap not c.if-not-flags_known.false) c.if-pending.false c.if-pending-eq0.false
