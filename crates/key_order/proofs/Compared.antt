@@ -2,7 +2,7 @@
 use mathlib.Core.Path.{◌≡◌, refl, sym, ap, ap₂, ◌∙◌}
 use mathlib.Core.Bool.{Bool}
 use mathlib.Core.List.{List, ◌++◌}
-use Prim.Native.Nat.{ℕ, ◌+◌, ◌-◌, ◌≤◌, ◌<◌}
+use Prim.Native.Nat.{ℕ, ◌+◌, ◌-◌, ◌≤◌}
 use native.Mathlib.Omega.{arith}
 use lib.ListN.{length, get_or, take, drop, length-append}
 use Rattle.term_spec.specs.Order.{not_greater, compare_lists}
@@ -91,13 +91,12 @@ module _ {m places lengths T R : List ℕ} {a b : ℕ} where
 
   -- ---- where they stand
 
-  module _ {n k : ℕ} (l : 0 < n) (j : 0 < k)
-      (p : (places lengths : List ℕ) (t : Located) → TermInTable m places lengths T a t → 0 < n → FormStands m T a n t)
-      (q : (places lengths : List ℕ) (t : Located) → TermInTable m places lengths T b t → 0 < k → FormStands m T b k t)
+  module _ {n k : ℕ} (p : (places lengths : List ℕ) (t : Located) → TermInTable m places lengths T a t → FormStands m T a n t)
+      (q : (places lengths : List ℕ) (t : Located) → TermInTable m places lengths T b t → FormStands m T b k t)
       (x y : ℕ) (e : x ≡ offset_in (get_or T a 0)) (f : y ≡ offset_in (get_or T b 0)) where
     pub forms_there : {room : ℕ} → TwoFit m places lengths T R a b room → (x + n ≤ length m) × (y + k ≤ length m)
     forms_there g =
-        (rw e (p places lengths g.first g.first_ready.held l).form_there, rw f (q places lengths g.second g.second_ready.held j).form_there)
+        (rw e (p places lengths g.first g.first_ready.held).form_there, rw f (q places lengths g.second g.second_ready.held).form_there)
 
     pub compared_standing : (O : List ℕ) (r : Bool) → r ≡ not_greater (compare_lists (stretch m x n) (stretch m y k)) → Compared m places lengths T R a b O r O
     compared_standing O r h =
@@ -105,7 +104,7 @@ module _ {m places lengths T R : List ℕ} {a b : ℕ} where
           told = λ t u v w.
               h
               ∙ ap₂ (λ (s z : List ℕ). not_greater (compare_lists s z))
-              (ap (λ (i : ℕ). stretch m i n) e ∙ sym (p places lengths t v.held l).form_is)
-              (ap (λ (i : ℕ). stretch m i k) f ∙ sym (q places lengths u w.held j).form_is);
+              (ap (λ (i : ℕ). stretch m i n) e ∙ sym (p places lengths t v.held).form_is)
+              (ap (λ (i : ℕ). stretch m i k) f ∙ sym (q places lengths u w.held).form_is);
           past_both = λ total g. refl;
         }

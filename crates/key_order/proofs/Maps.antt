@@ -4,8 +4,8 @@ use mathlib.Core.Bool.{Bool, true}
 use mathlib.Core.List.{List}
 use Prim.Native.Nat.{ℕ, ◌+◌, ◌*◌, ◌/◌, ◌≤◌, ◌<◌}
 use native.Mathlib.Omega.{arith}
-use lib.ListN.{length, get_or, set}
-use lib.Seq.{get_or-set_same, get_or-set_other}
+use lib.ListN.{length, get_or, set, take}
+use lib.Seq.{length-take-le, get_or-set_same, get_or-set_other}
 use Rattle.term_spec.specs.Tree.{count, sizes}
 use Rattle.term_spec.specs.Rows.{parts_in, whole_in}
 use Rattle.term_spec.proofs.Rows.{count_le_sizes}
@@ -37,18 +37,20 @@ module _ {m places lengths T : List ℕ} {row n : ℕ} (w : HasOrder (get_or T r
         let b : count g.ready.parts ≤ 2 * rows = g.enough_rows in
         omega arith
 
-    pub map_slots : (more : ℕ) → more ≡ rows → SlotsFit T (row + 1) (n / 2) slots more
-    map_slots more x =
-        let b = map_rows in
+    -- so many rows of keys are kept
+    pub keys_kept : (S : List ℕ) → length S ≡ rows → length (take (n / 2) S) ≡ n / 2
+    keys_kept S e = let b = map_rows in length-take-le (n / 2) S (omega arith)
+
+    pub map_slots : (keys : ℕ) → keys ≡ n / 2 → SlotsFit T (row + 1) keys slots
+    map_slots keys x =
         record {
           message = m;
           places = places;
           lengths = lengths;
           slot_pairs = g.ready.parts;
           slot_held = held_parts g.ready.node_held;
-          slot_count = halves w n f g.ready.node_held;
+          slot_count = rw x (halves w n f g.ready.node_held);
           slots_there = g.enough_slots;
-          rows_there = omega arith;
         }
 
     pub first_there : row + 1 < slots
@@ -75,12 +77,12 @@ module _ {m places lengths T : List ℕ} {row n : ℕ} (w : HasOrder (get_or T r
           }
 
       -- the slots list them
-      pub slots_ordered : {R' : List ℕ} → SlotsFilled T (row + 1) (n / 2) S R R' → MapOrdered m places lengths T R row R' O P
-      slots_ordered {R'} v =
+      pub slots_ordered : {R' : List ℕ} → length (take (n / 2) S) ≡ n / 2 → SlotsFilled T (row + 1) (take (n / 2) S) R R' → MapOrdered m places lengths T R row R' O P
+      slots_ordered {R'} k v =
           record {
             pairs_in_order = λ l ts h o x c.
                 let y = s.sorted_rows ts (held_parts h) o (halves w n f h) in
-                let z = v.in_slots ts (held_parts h) (halves w n f h) in
+                let z = v.in_slots ts (held_parts h) (rw k (halves w n f h)) in
                 let in_slots : Listed (row + 1) ts (slots_at R' (row + 1) ts) y.in_turn = rw z y.listed in
                 let b = first_slot R' ts (held_parts h) (omega arith) in_slots in
                 record { sorted = y.in_turn; as_they_stand = λ k. absurd (omega arith); listed = λ _. in_slots; same_pairs = y.same_pairs; rises = y.rises };

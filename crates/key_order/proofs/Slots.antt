@@ -6,6 +6,7 @@ use Prim.Native.Nat.{ℕ, suc, ◌+◌, ◌*◌, ◌≤◌, ◌<◌}
 use native.Mathlib.Omega.{arith}
 use native.Mathlib.Numerals.{add-one}
 use lib.ListN.{length, get_or, set, take, length-set}
+use Rattle.std.proofs.lemmas.List.{take_all}
 use lib.Seq.{take-suc, get_or-set_same, get_or-set_other}
 use Rattle.term_spec.specs.Tree.{node, empty, ◌▹◌, ◌▹▹◌, count, size, sizes, EachNode, EachNodes}
 use Rattle.term_spec.specs.Term.{Label}
@@ -98,26 +99,26 @@ pub record FilledSoFar (S : List ℕ) (row : ℕ) (R : List ℕ) (ts : Terms) (i
   pub slots_are : slots_at R row done ≡ take i S
 
 -- the slots at the first i keys are filled, the next key is at `key`
-pub record Filling (T S : List ℕ) (row n : ℕ) (R R' : List ℕ) (key i : ℕ) : Type 0 where
-  pub few : i ≤ n
+pub record Filling (T S : List ℕ) (row : ℕ) (R R' : List ℕ) (key i : ℕ) : Type 0 where
+  pub few : i ≤ length S
   pub long : length R' ≡ length R
-  pub so_far : {m places lengths : List ℕ} (ts : Terms) → RunInTable m places lengths T row ts → count ts ≡ 2 * n → FilledSoFar S row R' ts i key
+  pub so_far : {m places lengths : List ℕ} (ts : Terms) → RunInTable m places lengths T row ts → count ts ≡ 2 * length S → FilledSoFar S row R' ts i key
   pub others : (j : ℕ) → (whole_in (get_or T j 0) ≡ whole_in (get_or T row 0) → ⊥) → get_or R' j 0 ≡ get_or R j 0
 
-pub filling_start : (T S : List ℕ) (row n : ℕ) (R : List ℕ) → Filling T S row n R R row 0
+pub filling_start : (T S : List ℕ) (row : ℕ) (R : List ℕ) → Filling T S row R R row 0
 unfolding slots_at
-filling_start T S row n R =
+filling_start T S row R =
     record { few = omega arith; long = refl; so_far = λ ts h c. record { done = empty; rest = ts; walk = none_walked; slots_are = refl }; others = λ j e. refl }
 
-module _ {T S : List ℕ} {row n : ℕ} {R R' : List ℕ} {key i : ℕ} (f : Filling T S row n R R' key i) where
-  pub filled : {slots rows : ℕ} (g : SlotsFit T row n slots rows) → FilledSoFar S row R' g.slot_pairs i key
+module _ {T S : List ℕ} {row : ℕ} {R R' : List ℕ} {key i : ℕ} (f : Filling T S row R R' key i) where
+  pub filled : {slots : ℕ} (g : SlotsFit T row (length S) slots) → FilledSoFar S row R' g.slot_pairs i key
   filled g = f.so_far g.slot_pairs g.slot_held g.slot_count
 
-  pub filling_pair : {slots rows : ℕ} (g : SlotsFit T row n slots rows) → i < n
+  pub filling_pair : {slots : ℕ} (g : SlotsFit T row (length S) slots) → i < length S
       → PairHere g.message g.places g.lengths T row g.slot_pairs (filled g).done i key (filled g).rest
-  filling_pair g l = pair_here n (filled g).rest (filled g).walk g.slot_held g.slot_count l
+  filling_pair g l = pair_here (length S) (filled g).rest (filled g).walk g.slot_held g.slot_count l
 
-  pub slot_there : {slots rows : ℕ} → SlotsFit T row n slots rows → i < n → key < slots
+  pub slot_there : {slots : ℕ} → SlotsFit T row (length S) slots → i < length S → key < slots
   slot_there {slots} g l =
       let h = filling_pair g l in
       let s = size_positive h.its_key in
@@ -125,16 +126,16 @@ module _ {T S : List ℕ} {row n : ℕ} {R R' : List ℕ} {key i : ℕ} (f : Fil
       let b : row + sizes g.slot_pairs ≤ slots = g.slots_there in
       omega arith
 
-  pub filling_next : {slots rows s t : ℕ} → SlotsFit T row n slots rows → i < n → n ≤ length S → key < length R' → s ≡ size_in (get_or T key 0) → t ≡ size_in (get_or T (key + s) 0)
-      → Filling T S row n R (set R' key (get_or S i 0)) (key + s + t) (i + 1)
-  filling_next {s = s} {t = t} g l b d p q =
+  pub filling_next : {slots s t : ℕ} → SlotsFit T row (length S) slots → i < length S → key < length R' → s ≡ size_in (get_or T key 0) → t ≡ size_in (get_or T (key + s) 0)
+      → Filling T S row R (set R' key (get_or S i 0)) (key + s + t) (i + 1)
+  filling_next {s = s} {t = t} g l d p q =
       let x : ℕ = get_or S i 0 in
       record {
         few = omega arith;
         long = length-set R' key x ∙ f.long;
         so_far = λ ts h c.
             let a = f.so_far ts h c in
-            let y = pair_here n a.rest a.walk h c l in
+            let y = pair_here (length S) a.rest a.walk h c l in
             let e : key + s + t ≡ key + size y.its_key + size y.its_value = value_step y s t p q in
             let before : row + sizes a.done ≡ key = walk_past a.walk in
             record {
@@ -151,15 +152,14 @@ module _ {T S : List ℕ} {row n : ℕ} {R R' : List ℕ} {key i : ℕ} (f : Fil
             get_or-set_other R' key j x 0 (λ z. e (ap (λ (k : ℕ). whole_in (get_or T k 0)) z ∙ one_whole g.slot_held y.pair)) ∙ f.others j e;
       }
 
-  pub filling_end : n ≤ i → SlotsFilled T row n S R R'
+  pub filling_end : length S ≤ i → SlotsFilled T row S R R'
   filling_end l =
-      let few : i ≤ n = f.few in
-      let e : i ≡ n = omega arith in
+      let few : i ≤ length S = f.few in
       record {
         in_slots = λ ts h c.
             let a = f.so_far ts h c in
             let k = walk_count a.walk in
             let all : a.done ≡ ts = walk_all a.walk (omega arith) in
-            sym (ap (λ (us : Terms). slots_at R' row us) all) ∙ a.slots_are ∙ ap (λ (z : ℕ). take z S) e;
+            sym (ap (λ (us : Terms). slots_at R' row us) all) ∙ a.slots_are ∙ take_all i S l;
         other_slots = f.others;
       }

@@ -24,8 +24,9 @@ pub record Sorted (row : ℕ) (ts done : Terms) (rs : List ℕ) (told : Bool) : 
 
 -- ---- the slots at the keys of a map, from the row of its first key on
 
-module _ (T : List ℕ) (row n : ℕ) where
-  pub record SlotsFit (slots rows : ℕ) : Type 0 where
+module _ (T : List ℕ) (row : ℕ) where
+  -- n keys, and a slot at each
+  pub record SlotsFit (n slots : ℕ) : Type 0 where
     pub message : List ℕ
     pub places : List ℕ
     pub lengths : List ℕ
@@ -33,11 +34,10 @@ module _ (T : List ℕ) (row n : ℕ) where
     pub slot_held : RunInTable message places lengths T row slot_pairs
     pub slot_count : count slot_pairs ≡ 2 * n
     pub slots_there : row + sizes slot_pairs ≤ slots
-    pub rows_there : n ≤ rows
 
   -- the slots at its keys have these rows in turn, and all others stay
   pub record SlotsFilled (S R R' : List ℕ) : Type 0 where
-    pub in_slots : {message places lengths : List ℕ} (ts : Terms) → RunInTable message places lengths T row ts → count ts ≡ 2 * n → slots_at R' row ts ≡ take n S
+    pub in_slots : {message places lengths : List ℕ} (ts : Terms) → RunInTable message places lengths T row ts → count ts ≡ 2 * length S → slots_at R' row ts ≡ S
     pub other_slots : (i : ℕ) → (whole_in (get_or T i 0) ≡ whole_in (get_or T row 0) → ⊥) → get_or R' i 0 ≡ get_or R i 0
 
 -- so many slots, and room for so many keys, are enough for terms of so many rows

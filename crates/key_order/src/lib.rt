@@ -1,7 +1,7 @@
 // The order in which the pairs of maps are written: slots, one for each row, filled so that the keys' canonical forms rise in byte order.
 #![tactic(auto)]
 
-ghost use Rattle.std.specs.Prelude.{◌≡◌, List, ◌∷◌, ℕ, ◌-◌, ◌≤◌, ◌<◌, length, get_or};
+ghost use Rattle.std.specs.Prelude.{◌≡◌, List, ◌∷◌, ℕ, ◌-◌, ◌≤◌, ◌<◌, length, get_or, IfSome};
 ghost use Rattle.std.proofs.lemmas.List.Edits.{sets};
 ghost use Rattle.octets.specs.Parts.{stretch};
 ghost use Rattle.term_spec.specs.Reading.{Located};
@@ -9,17 +9,16 @@ ghost use Rattle.term_writer.specs.InTable.{TermInTable};
 ghost use Rattle.term_writer.specs.PairOrder.{HasOrder};
 ghost use Rattle.key_order.specs.Code.{SlotsFit, SlotsFilled, FormStands, TwoFit, Compared, KeysFit, PlaceFound, PairsFit, KeysSorted, MapFits, MapOrdered, RunFits, SlotsFor, AllInOrder};
 
-// The parts of a pair: a key and its value.
-const PAIR_PARTS: usize = 2;
+use term_spec::sizes;
 
-// How many bytes of the message from its tag on are the canonical form of the term at the row; 0 where they may not be.
-fn form_stands(msg: &[u8], table: &[u64], row: usize) -> usize
+// How many bytes of the message from its tag on are the canonical form of the term at the row; none where they may not be.
+fn form_stands(msg: &[u8], table: &[u64], row: usize) -> Option<usize>
     requires { row < length table.now }
-    ensures { (places lengths : List ℕ) (t : Located) → TermInTable msg.now places lengths table.now row t → 0 < result → FormStands msg.now table.now row result t }
+    ensures { (places lengths : List ℕ) (t : Located) → TermInTable msg.now places lengths table.now row t → IfSome result (λ n. FormStands msg.now table.now row n t) }
 {
     let word = table[row];
     if row::parts_in(word) != 0 {
-        return 0;
+        return None;
     }
     already_canonical::as_it_stands(msg, word)
 }
@@ -57,21 +56,18 @@ fn key_before(
     requires { TwoFit msg.now places.now lengths.now table.now order.now a b (length out.old) }
     ensures { Compared msg.now places.now lengths.now table.now order.now a b out.old result out.new }
 {
-    let n = form_stands(msg, table, a);
-    if n == 0 {
-        return written_before(msg, places, lengths, table, order, out, a, b);
+    if let Some(n) = form_stands(msg, table, a) {
+        if let Some(k) = form_stands(msg, table, b) {
+            return octets::bytes_before(
+                msg,
+                row::offset_in(table[a]),
+                n,
+                row::offset_in(table[b]),
+                k,
+            );
+        }
     }
-    let k = form_stands(msg, table, b);
-    if k == 0 {
-        return written_before(msg, places, lengths, table, order, out, a, b);
-    }
-    octets::bytes_before(
-        msg,
-        row::offset_in(table[a]),
-        n,
-        row::offset_in(table[b]),
-        k,
-    )
+    written_before(msg, places, lengths, table, order, out, a, b)
 }
 
 // Where the key goes among the n keys whose rows `run` lists in rising order, found by halving.
@@ -91,6 +87,7 @@ fn place_by_halves(
 {
     let mut low = 0;
     let mut high = n;
+    // A search by hand: partition_point asks that its test leave what it captures as it was, and key_before writes into out.
     while low < high {
         let middle = low + (high - low) / 2;
         let other = octets::wide16(run[middle]);
@@ -133,11 +130,7 @@ fn put_at(run: &mut [u16], n: usize, at: usize, key: usize)
     requires { (at ≤ n) × (n < length run.old) × (key < 65536) }
     ensures { run.new ≡ sets run.old at (key ∷ stretch run.old at (n - at)) }
 {
-    let mut i = n;
-    while at < i {
-        run[i] = run[i - 1];
-        i -= 1;
-    }
+    run.copy_within(at..n, at + 1);
     run[at] = key as u16;
 }
 
@@ -158,32 +151,28 @@ fn sort_keys(
 {
     let mut rising = true;
     let mut key = row;
-    let mut i = 0;
-    while i < n {
+    for i in 0..n {
         let at = find_place(msg, places, lengths, table, order, out, run, i, key);
         put_at(run, i, at, key);
         let value = key + row::size_in(table[key]);
         key = value + row::size_in(table[value]);
-        i += 1;
-        if at + 1 < i {
+        if at < i {
             rising = false;
         }
     }
     rising
 }
 
-// Copies the first n rows in `run` into the slots at the keys of a map, its first at `row`, in turn.
-fn fill_slots(table: &[u64], order: &mut [u16], run: &[u16], row: usize, n: usize)
-    requires { SlotsFit table.now row n (length order.old) (length run.now) }
-    ensures { SlotsFilled table.now row n run.now order.old order.new }
+// Copies the rows in `run` into the slots at the keys of a map, its first at `row`, in turn.
+fn fill_slots(table: &[u64], order: &mut [u16], run: &[u16], row: usize)
+    requires { SlotsFit table.now row (length run.now) (length order.old) }
+    ensures { SlotsFilled table.now row run.now order.old order.new }
 {
     let mut key = row;
-    let mut i = 0;
-    while i < n {
-        order[key] = run[i];
+    for slot in run {
+        order[key] = *slot;
         let value = key + row::size_in(table[key]);
         key = value + row::size_in(table[value]);
-        i += 1;
     }
 }
 
@@ -201,12 +190,12 @@ fn order_map(
     requires { MapFits msg.now places.now lengths.now table.now order.old row (length out.old) (length order.old) (length run.old) × HasOrder (get_or table.now row 0) }
     ensures { MapOrdered msg.now places.now lengths.now table.now order.old row order.new out.old out.new }
 {
-    let n = row::parts_in(table[row]) / PAIR_PARTS;
+    let n = row::parts_in(table[row]) / sizes::PAIR_PARTS;
     if sort_keys(msg, places, lengths, table, order, run, out, row + 1, n) {
         order[row + 1] = 0;
         return;
     }
-    fill_slots(table, order, run, row + 1, n);
+    fill_slots(table, order, &run[..n], row + 1);
 }
 
 // Orders the pairs of each map in the terms whose rows fill the first `rows` of the table: from the last row to the first, so that the maps in a map come before it.
@@ -223,9 +212,7 @@ pub fn order_keys(
     requires { RunFits msg.now places.now lengths.now table.now rows (length out.old) × SlotsFor rows (length order.old) (length run.old) }
     ensures { AllInOrder msg.now places.now lengths.now table.now rows order.new out.old out.new }
 {
-    let mut row = rows;
-    while 0 < row {
-        row -= 1;
+    for row in (0..rows).rev() {
         if term_writer::has_order(table[row]) {
             order_map(msg, places, lengths, table, order, run, out, row);
         }

@@ -1,17 +1,16 @@
 -- Lists of integers 0 to 255: whether a run is one, and its characters written.
-use mathlib.Core.Path.{◌≡◌, refl, sym, ◌∙◌, ap, ap₂}
-use mathlib.Core.Bool.{Bool, true, false, cond}
+use mathlib.Core.Path.{◌≡◌, refl, sym, ◌∙◌, ap}
+use mathlib.Core.Bool.{Bool, true, false}
 use mathlib.Core.List.{List, [], ◌∷◌}
 use mathlib.Core.Option.{Option, none, some}
+use Rattle.std.specs.Prelude as std
 use Prim.Native.Nat.{ℕ, zero, suc, ◌+◌, ◌-◌, ◌≤◌, ◌<◌}
 use native.Mathlib.Omega.{arith}
-use lib.Dec.{eqb, ltb}
-use lib.IntN.{pos, negsuc}
-use lib.ListN.{length, get_or}
+use lib.Dec.{eqb}
+use lib.ListN.{length, get_or, set}
 use lib.Seq.{sets}
-use borrow.Author.Tests.{ltb-true, eqb-true, eq-eqb, ne_eqb}
+use borrow.Author.Tests.{eqb-true, eq-eqb, ne_eqb}
 use Rattle.term_spec.specs.Tree.{Forest, node, ◌▹◌, count, sizes}
-use Rattle.term_spec.specs.Numbers.{in_bytes}
 use Rattle.term_spec.specs.Term.{Label, integer, float, atom, tuple, list, improper_list, binary, bitstring, map, pid, port, reference, export}
 use Rattle.term_spec.specs.Reading.{Offset, Located}
 use Rattle.term_spec.specs.Message.{Terms, all_as_read}
@@ -20,11 +19,11 @@ use Rattle.term_spec.specs.Canonical.{small, put, all_small}
 use Rattle.term_spec.specs.Valid.{Fits}
 use Rattle.term_spec.proofs.Rows.{count_relabels}
 use Rattle.term_spec.proofs.RoundTrip.{small_count}
-use Rattle.octets.proofs.Numbers.{bytes_one}
+use Rattle.term_spec.proofs.Tests.{never}
 use Rattle.layout.specs.Layout.{Put}
 use Rattle.canonical_fields.specs.Shape.{some_small}
 use Rattle.canonical_fields.specs.Sound.{label_in, SoundWord}
-use Rattle.characters.specs.Code.{character_code}
+use Rattle.characters.specs.Code.{CharacterOf}
 use Rattle.term_writer.specs.InTable.{TermInTable, RunInTable, as_string, is_some}
 use Rattle.term_writer.specs.Code.{string_term, SomeTerm, SomeRun, SomeSmall, SmallTold}
 use Rattle.term_writer.proofs.InTable.{run_first, run_others, held_parts, held_writable, held_below, held_kind, held_count, held_label, held_sound, kind_list, tag_kind}
@@ -47,47 +46,18 @@ small_leaf flags (port i c) ts x e f = let no_way : ◌≡◌ {A = ℕ} 0 1 = cc
 small_leaf flags (reference c ws) ts x e f = let no_way : ◌≡◌ {A = ℕ} 0 1 = cc in absurd (omega arith)
 small_leaf flags export ts x e f = let no_way : ◌≡◌ {A = ℕ} 0 1 = cc in absurd (omega arith)
 
-small_below : (l : Label) (x : ℕ) → small l ≡ some x → x < 256
-unfolding small
-small_below (integer (pos n)) x e = go (ltb n 256) refl e
-  where
-    go : (z : Bool) → ltb n 256 ≡ z → cond z (some n) none ≡ some x → x < 256
-    go true l e = let same : n ≡ x = cc in rw (← same) (ltb-true n 256 l)
-    go false l e = let no_way : ◌≡◌ {A = ℕ} 0 1 = cc in absurd (omega arith)
-small_below (integer (negsuc n)) x e = let no_way : ◌≡◌ {A = ℕ} 0 1 = cc in absurd (omega arith)
-small_below (float b) x e = let no_way : ◌≡◌ {A = ℕ} 0 1 = cc in absurd (omega arith)
-small_below (atom cs) x e = let no_way : ◌≡◌ {A = ℕ} 0 1 = cc in absurd (omega arith)
-small_below tuple x e = let no_way : ◌≡◌ {A = ℕ} 0 1 = cc in absurd (omega arith)
-small_below list x e = let no_way : ◌≡◌ {A = ℕ} 0 1 = cc in absurd (omega arith)
-small_below improper_list x e = let no_way : ◌≡◌ {A = ℕ} 0 1 = cc in absurd (omega arith)
-small_below (binary bs) x e = let no_way : ◌≡◌ {A = ℕ} 0 1 = cc in absurd (omega arith)
-small_below (bitstring n bs) x e = let no_way : ◌≡◌ {A = ℕ} 0 1 = cc in absurd (omega arith)
-small_below map x e = let no_way : ◌≡◌ {A = ℕ} 0 1 = cc in absurd (omega arith)
-small_below (pid i s c) x e = let no_way : ◌≡◌ {A = ℕ} 0 1 = cc in absurd (omega arith)
-small_below (port i c) x e = let no_way : ◌≡◌ {A = ℕ} 0 1 = cc in absurd (omega arith)
-small_below (reference c ws) x e = let no_way : ◌≡◌ {A = ℕ} 0 1 = cc in absurd (omega arith)
-small_below export x e = let no_way : ◌≡◌ {A = ℕ} 0 1 = cc in absurd (omega arith)
-
 no_forest : (ts : Terms) → all_as_read ts ≡ Forest.empty → ts ≡ Forest.empty
 no_forest Forest.empty e = refl
 no_forest (t ▹ ts) e = let no_way : ◌≡◌ {A = ℕ} 0 1 = cc in absurd (omega arith)
 
--- 256 is the code of no character alone
-code_none : (l : Label) → character_code (small l) ≡ 256 → small l ≡ none
-unfolding character_code
-code_none l e = go (small l) refl e
-  where
-    go : (o : Option ℕ) → small l ≡ o → character_code o ≡ 256 → o ≡ none
-    go none f e = refl
-    go (some x) f e = let b : x < 256 = small_below l x f in absurd (omega arith)
+-- a label whose character is answered, or none
+pub character_none : (l : Label) (r : std.Option ℕ) → CharacterOf l r → std.is_some r ≡ false → small l ≡ none
+character_none l std.None m e = m
+character_none l (std.Some x) m e = cc
 
-code_some : (l : Label) (c : ℕ) → c ≡ character_code (small l) → (c ≡ 256 → ⊥) → small l ≡ some c
-unfolding character_code
-code_some l c e n = go (small l) e
-  where
-    go : (o : Option ℕ) → c ≡ character_code o → o ≡ some c
-    go none e = absurd (n e)
-    go (some x) e = ap (λ (k : ℕ). some k) (sym e)
+pub character_some : (l : Label) (r : std.Option ℕ) → CharacterOf l r → std.is_some r ≡ true → (x : ℕ) × (small l ≡ some x)
+character_some l std.None m e = never e
+character_some l (std.Some x) m e = (x, m)
 
 module _ (m places lengths T : List ℕ) where
   -- a run of which there is more
@@ -148,8 +118,8 @@ module _ {m places lengths T : List ℕ} where
       → ((ts : Terms) → RunInTable m places lengths T row ts → count ts ≡ n → SmallLeft m places lengths T row n ts i) → SomeRun m places lengths T (row + i) (n - i)
   small_rest r inv = let s = inv r.terms r.held r.counted in record { terms = s.rest; held = s.rest_held; counted = s.rest_count }
 
-  code_held : {row : ℕ} {ts : Terms} (f : Front m places lengths T row ts) → character_code (small (label_in m places lengths (get_or T row 0))) ≡ character_code (small f.label.0)
-  code_held f = ap (λ (l : Label). character_code (small l)) (held_label f.held)
+  character_held : {row : ℕ} {ts : Terms} (f : Front m places lengths T row ts) → small (label_in m places lengths (get_or T row 0)) ≡ small f.label.0
+  character_held f = ap small (held_label f.held)
 
   -- a small integer has one row
   next_held : (row i : ℕ) {ts : Terms} (f : Front m places lengths T (row + i) ts) (x : ℕ) → small f.label.0 ≡ some x → RunInTable m places lengths T (row + (i + 1)) f.others
@@ -167,12 +137,12 @@ module _ {m places lengths T : List ℕ} where
       record { rest = ts; rest_held = rw (← e) h; rest_count = omega arith; same = refl }
 
   pub small_step : {row n i : ℕ} {ts : Terms} (c : ℕ) → SmallLeft m places lengths T row n ts i → i < n
-      → c ≡ character_code (small (label_in m places lengths (get_or T (row + i) 0))) → (c ≡ 256 → ⊥) → SmallLeft m places lengths T row n ts (i + 1)
+      → small (label_in m places lengths (get_or T (row + i) 0)) ≡ some c → SmallLeft m places lengths T row n ts (i + 1)
   unfolding all_small
-  small_step {row} {n} {i} {ts} c s l e other =
+  small_step {row} {n} {i} {ts} c s l e =
       let k : count s.rest ≡ n - i = s.rest_count in
       let f = front (row + i) s.rest s.rest_held (omega arith) in
-      let is : small f.label.0 ≡ some c = code_some f.label.0 c (e ∙ code_held f) other in
+      let is : small f.label.0 ≡ some c = sym (character_held f) ∙ e in
       let j : count s.rest ≡ suc (count f.others) = ap count f.is in
       record {
         rest = f.others;
@@ -184,13 +154,13 @@ module _ {m places lengths T : List ℕ} where
             ∙ put_some (all_small (all_as_read f.others)) c;
       }
 
-  pub small_stop : {row n i : ℕ} {ts : Terms} (c : ℕ) → SmallLeft m places lengths T row n ts i → i < n
-      → c ≡ character_code (small (label_in m places lengths (get_or T (row + i) 0))) → c ≡ 256 → false ≡ is_some (all_small (all_as_read ts))
+  pub small_stop : {row n i : ℕ} {ts : Terms} → SmallLeft m places lengths T row n ts i → i < n
+      → small (label_in m places lengths (get_or T (row + i) 0)) ≡ none → false ≡ is_some (all_small (all_as_read ts))
   unfolding all_small is_some
-  small_stop {row} {n} {i} {ts} c s l e is =
+  small_stop {row} {n} {i} {ts} s l e =
       let k : count s.rest ≡ n - i = s.rest_count in
       let f = front (row + i) s.rest s.rest_held (omega arith) in
-      let nothing : small f.label.0 ≡ none = code_none f.label.0 (sym (e ∙ code_held f) ∙ is) in
+      let nothing : small f.label.0 ≡ none = sym (character_held f) ∙ e in
       sym (s.same
       ∙ ap (λ (us : Terms). is_some (all_small (all_as_read us))) f.is
       ∙ ap (λ (o : Option ℕ). is_some (put o (all_small (all_as_read f.others)))) nothing)
@@ -229,8 +199,7 @@ module _ {m places lengths T : List ℕ} where
     pub characters_rest : SomeRun m places lengths T (row + i) (n - i)
     characters_rest = let s = characters_here in record { terms = s.rest; held = s.rest_held; counted = s.rest_count }
 
-  module _ {row n at i : ℕ} {cs O out : List ℕ} (c : ℕ) (s : CharactersLeft m places lengths T row n at cs O out i) (l : i < n)
-      (e : c ≡ character_code (small (label_in m places lengths (get_or T (row + i) 0)))) where
+  module _ {row n at i : ℕ} {cs O out : List ℕ} (s : CharactersLeft m places lengths T row n at cs O out i) (l : i < n) where
     some_left : 0 < count s.rest
     some_left = let k : count s.rest ≡ n - i = s.rest_count in omega arith
 
@@ -241,27 +210,32 @@ module _ {m places lengths T : List ℕ} where
     unfolding all_small
     parted = put_inverse _ _ s.left (sym (ap (λ (us : Terms). all_small (all_as_read us)) at_front.is) ∙ s.are)
 
-    code_is : c ≡ parted.first
-    unfolding character_code
-    code_is = e ∙ code_held at_front ∙ ap character_code parted.first_is
+    small_here : small (label_in m places lengths (get_or T (row + i) 0)) ≡ some parted.first
+    small_here = character_held at_front ∙ parted.first_is
 
-    pub character_small : c < 256
-    character_small = rw code_is (small_below at_front.label.0 parted.first parted.first_is)
+    character_is : (r : std.Option ℕ) → CharacterOf (label_in m places lengths (get_or T (row + i) 0)) r → r ≡ std.Some parted.first
+    character_is std.None m = let e = small_here in cc
+    character_is (std.Some x) m = let e = small_here in cc
 
-    pub characters_step : {next : List ℕ} → next ≡ sets out (at + i) (in_bytes 1 c) → CharactersLeft m places lengths T row n at cs O next (i + 1)
-    characters_step {next} w =
+    pub character_there : (r : std.Option ℕ) → CharacterOf (label_in m places lengths (get_or T (row + i) 0)) r → (x : ℕ) × (r ≡ std.Some x)
+    character_there r m = (parted.first, character_is r m)
+
+    pub characters_step : {c : ℕ} (r : std.Option ℕ) → CharacterOf (label_in m places lengths (get_or T (row + i) 0)) r → r ≡ std.Some c
+        → CharactersLeft m places lengths T row n at cs O (set out (at + i) c) (i + 1)
+    characters_step {c} r m w =
         let k : count s.rest ≡ n - i = s.rest_count in
         let j : count s.rest ≡ suc (count at_front.others) = ap count at_front.is in
         let f : at + (i + 1) ≡ suc (at + i) = omega arith in
-        let b : sets out (at + i) (c ∷ []) ≡ next = sym (w ∙ ap (λ (x : List ℕ). sets out (at + i) x) (bytes_one c character_small)) in
+        let a = character_is r m in
+        let is : c ≡ parted.first = cc in
         record {
           rest = at_front.others;
           rest_held = next_held row i at_front parted.first parted.first_is;
           rest_count = omega arith;
           left = parted.others;
           are = parted.others_are;
-          stored = ap₂ (λ (x : List ℕ) (y : ℕ). sets x y parted.others) (sym b) f
-              ∙ ap (λ (x : ℕ). sets out (at + i) (x ∷ parted.others)) code_is
+          stored = ap (λ (y : ℕ). sets (set out (at + i) c) y parted.others) f
+              ∙ ap (λ (x : ℕ). sets out (at + i) (x ∷ parted.others)) is
               ∙ ap (λ (x : List ℕ). sets out (at + i) x) (sym parted.joined)
               ∙ s.stored;
         }

@@ -5,7 +5,7 @@ use mathlib.Core.List.{List, [], ◌∷◌, ◌++◌}
 use mathlib.Core.Option.{none, some}
 use Prim.Native.Nat.{ℕ, suc, ◌+◌, ◌*◌, ◌≤◌, ◌<◌}
 use native.Mathlib.Omega.{arith}
-use lib.ListN.{length, get_or, length-append}
+use lib.ListN.{length, get_or, set, length-append}
 use lib.Seq.{sets}
 use Rattle.term_spec.specs.Tree.{Forest, node, ◌▹◌, count, size, sizes}
 use Rattle.term_spec.specs.Numbers.{in_bytes}
@@ -22,7 +22,6 @@ use Rattle.term_spec.proofs.Pairs.{count_arranged}
 use Rattle.term_spec.proofs.Arranged.{valid_arranged}
 use Rattle.term_spec.proofs.Lengths.{parts_count, list_small}
 use Rattle.term_spec.proofs.RoundTrip.{small_count}
-use Rattle.octets.proofs.Numbers.{bytes_one}
 use Rattle.octets.proofs.Stores.{sets_at}
 use Rattle.layout.specs.Layout.{Put}
 use Rattle.layout.proofs.Puts.{put_then, put_same, put_length}
@@ -39,11 +38,11 @@ use Rattle.term_writer.proofs.Strings.{front, run_front, as_list, as_inverse, sm
 -- ---- a string
 
 -- its head, then its characters
-pub string_put : (n at : ℕ) (cs : List ℕ) {O P Q R : List ℕ} {r : ℕ} → P ≡ sets O at (in_bytes 1 107) → Q ≡ sets P (at + 1) (in_bytes 2 n) → Put Q (at + 3) cs r R
+pub string_put : (n at : ℕ) (cs : List ℕ) {O P Q R : List ℕ} {r : ℕ} → P ≡ set O at 107 → Q ≡ sets P (at + 1) (in_bytes 2 n) → Put Q (at + 3) cs r R
     → Put O at (107 ∷ (in_bytes 2 n ++ cs)) r R
 string_put n at cs {O} {P} {Q} {R} {r} p q w =
     let f : length (in_bytes 2 n) ≡ 2 = length_in_bytes 2 n in
-    let first : Put O at (107 ∷ []) (at + 1) P = record { past = refl; stored = p ∙ ap (λ (x : List ℕ). sets O at x) (bytes_one 107 (omega arith)) } in
+    let first : Put O at (107 ∷ []) (at + 1) P = record { past = refl; stored = p } in
     let second : Put P (at + 1) (in_bytes 2 n) (at + 3) Q = record { past = omega arith; stored = q } in
     put_then first (put_then second w)
 

@@ -8,8 +8,6 @@ ghost use Rattle.term_writer.specs.Code.{canonicals, SomeTerm, SomeRun, SomeSmal
 
 use term_spec::{kinds, sizes, tags};
 
-const STRING: usize = tags::STRING_EXT as usize;
-
 // A map with so many parts has two pairs: fewer need no order.
 const ORDERED_PARTS: usize = 4;
 
@@ -43,8 +41,7 @@ fn all_small(
     ensures { SmallTold msg.now places.now lengths.now table.now row n result }
 {
     for i in 0..n {
-        let c = characters::character_at(msg, places, lengths, table[row + i]);
-        if c == characters::NO_CHARACTER {
+        if characters::character_at(msg, places, lengths, table[row + i]).is_none() {
             return false;
         }
     }
@@ -79,7 +76,7 @@ fn put_characters(
 {
     for i in 0..n {
         let c = characters::character_at(msg, places, lengths, table[row + i]);
-        octets::put1(out, at + i, c);
+        out[at + i] = c.unwrap();
     }
     at + n
 }
@@ -98,7 +95,7 @@ fn put_string(
     requires { SomeSmall msg.now places.now lengths.now table.now row n × (at + (n + 3) ≤ length out.old) × (n < 65536) }
     ensures { StringPut msg.now places.now lengths.now table.now row n out.old at result out.new }
 {
-    octets::put1(out, at, STRING);
+    out[at] = tags::STRING_EXT;
     octets::put2(out, at + 1, n);
     put_characters(msg, places, lengths, table, row, n, out, at + 3)
 }

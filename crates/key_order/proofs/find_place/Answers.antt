@@ -1,5 +1,5 @@
 -- `find_place` meets its contract.
-use mathlib.Core.Path.{refl, ◌∙◌}
+use mathlib.Core.Path.{refl}
 use native.Mathlib.Omega.{arith}
 use Rattle.key_order.proofs.Places.{fit_at, no_keys, all_but_last, goes_last, goes_before}
 use Rattle.key_order.proofs.find_place.Goals as goal
@@ -7,29 +7,14 @@ use Rattle.key_order.proofs.find_place.Goals as goal
 pub returns-then-n-eq0 : goal.returns-then-n-eq0
 returns-then-n-eq0 c = no_keys c.if-n-eq0.true
 
-pub overflow_sub-n : goal.overflow_sub-n
-overflow_sub-n c = omega arith
-
-pub offset_bounds-run-n : goal.offset_bounds-run-n
-offset_bounds-run-n c = omega arith
-
-pub bounds-run-n : goal.bounds-run-n
-bounds-run-n c = omega (arith, c.requires.all_there)
-
 pub key_before-requires : goal.key_before-requires
 key_before-requires c = fit_at _ _ c.requires (omega arith) c.wide16-last.ensures refl
 
 pub returns-then-key_before : goal.returns-then-key_before
 returns-then-key_before c = goes_last c.if-n-eq0.false c.wide16-last.ensures c.key_before.ensures c.if-key_before.true
 
-pub overflow_sub-n-2 : goal.overflow_sub-n-2
-overflow_sub-n-2 c = omega arith
-
 pub place_by_halves-requires : goal.place_by_halves-requires
 place_by_halves-requires c = all_but_last c.requires c.key_before.auto.out
-
-pub shape_of-out : goal.shape_of-out
-shape_of-out c = c.place_by_halves.auto.out ∙ c.key_before.auto.out
 
 pub returns : goal.returns
 returns c = goes_before c.if-n-eq0.false c.wide16-last.ensures c.key_before.ensures c.if-key_before.false c.place_by_halves.ensures

@@ -9,9 +9,6 @@ use Rattle.key_order.proofs.order_keys.Goals as goal
 pub loop-row-init : goal.loop-row-init
 loop-row-init c = ordering_start _ _ _ _ _ _ _ _
 
-pub overflow_sub-row : goal.overflow_sub-row
-overflow_sub-row c = omega arith
-
 pub offset_bounds-table-row : goal.offset_bounds-table-row
 offset_bounds-table-row c = let f = row_fits c.loop-row.invariant c.loop-row-test.true c.requires.0 c.requires.1 in omega (arith, f.ready.node_held.few)
 
@@ -21,14 +18,8 @@ bounds-table-row c = held_below (row_fits c.loop-row.invariant c.loop-row-test.t
 pub order_map-requires : goal.order_map-requires
 order_map-requires c = (row_fits c.loop-row.invariant c.loop-row-test.true c.requires.0 c.requires.1, c.has_order.ensures.0 c.if-has_order.true)
 
-pub loop-row-smaller-then-has_order : goal.loop-row-smaller-then-has_order
-loop-row-smaller-then-has_order c = omega arith
-
 pub loop-row-preserved-then-has_order : goal.loop-row-preserved-then-has_order
 loop-row-preserved-then-has_order c = let k = c.order_map.auto in ordering_next c.loop-row.invariant c.loop-row-test.true c.order_map.ensures k.order k.run k.out
-
-pub loop-row-smaller : goal.loop-row-smaller
-loop-row-smaller c = omega arith
 
 pub loop-row-preserved : goal.loop-row-preserved
 loop-row-preserved c = ordering_next c.loop-row.invariant c.loop-row-test.true (no_order (c.has_order.ensures.1 c.if-has_order.false)) refl refl refl

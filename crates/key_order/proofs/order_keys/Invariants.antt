@@ -3,6 +3,3 @@ use Rattle.key_order.proofs.order_keys.Given as goal
 
 abbrev pub invariant-loop-row : goal.invariant-loop-row
 invariant-loop-row l = Ordering l.msg l.places l.lengths l.table l.rows l.initial.order l.initial.run l.initial.out l.order l.run l.out l.row
-
-abbrev pub decreases-loop-row : goal.decreases-loop-row
-decreases-loop-row l = l.row

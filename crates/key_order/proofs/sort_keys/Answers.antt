@@ -1,9 +1,11 @@
 -- `sort_keys` meets its contract. The keys passed are in order; the measure is the number of keys left.
+use mathlib.Core.Path.{sym, ◌∙◌}
 use native.Mathlib.Omega.{arith}
 use Rattle.term_spec.proofs.Tests.{never}
 use Rattle.key_order.proofs.Walk.{key_step, value_few}
 use Rattle.key_order.proofs.Sorted.{sorting_start, sorting_pair, keys_fit, sorting_next, sorting_end}
 use Rattle.key_order.proofs.sort_keys.Goals as goal
+use Rattle.key_order.proofs.sort_keys.Goals.{then-at-i, else-at-i}
 
 pub loop-i-init : goal.loop-i-init
 loop-i-init c = sorting_start _ _ _ _ _ _ _ _ _
@@ -32,23 +34,8 @@ bounds-table-value c = (key_step (sorting_pair c.loop-i.invariant c.loop-i-test.
 pub overflow_add-key : goal.overflow_add-key
 overflow_add-key c = let b = value_few (sorting_pair c.loop-i.invariant c.loop-i-test.true c.requires.0) _ _ c.size_in.ensures.0 c.size_in-in-loop-i.ensures.0 in omega arith
 
-pub overflow_add-i : goal.overflow_add-i
-overflow_add-i c = omega arith
-
-pub overflow_add-at : goal.overflow_add-at
-overflow_add-at c = omega (arith, c.find_place-at.ensures.inside)
-
-pub loop-i-smaller-then-at-i : goal.loop-i-smaller-then-at-i
-loop-i-smaller-then-at-i c = omega arith
-
-pub loop-i-preserved-then-at-i : goal.loop-i-preserved-then-at-i
-loop-i-preserved-then-at-i c = sorting_next c.loop-i.invariant c.loop-i-test.true c.requires.1 c.find_place-at.ensures c.put_at.ensures (λ e. never e) c.find_place-at.auto.out c.size_in.ensures.0 c.size_in-in-loop-i.ensures.0
-
-pub loop-i-smaller : goal.loop-i-smaller
-loop-i-smaller c = omega arith
-
 pub loop-i-preserved : goal.loop-i-preserved
-loop-i-preserved c = sorting_next c.loop-i.invariant c.loop-i-test.true c.requires.1 c.find_place-at.ensures c.put_at.ensures (λ e. (e, omega arith)) c.find_place-at.auto.out c.size_in.ensures.0 c.size_in-in-loop-i.ensures.0
+loop-i-preserved c = sorting_next c.loop-i.invariant c.loop-i-test.true c.requires.1 c.find_place-at.ensures c.put_at.ensures (λ e. elim c.if-at-i.branch [ then-at-i w ↦ never (sym w.rising-is ∙ e) | else-at-i w ↦ (sym w.rising-is ∙ e, w.if-at-i.false) ]) c.find_place-at.auto.out c.size_in.ensures.0 c.size_in-in-loop-i.ensures.0
 
 pub shape_of-run : goal.shape_of-run
 shape_of-run c = c.loop-i.invariant.run_long

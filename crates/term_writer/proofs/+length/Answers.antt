@@ -29,9 +29,6 @@ length_run-loop-preserved t c = (omega arith, λ ts h e. length_step _ _ (c.loop
 pub length_run-returns : goal.length_run-returns
 length_run-returns t c = λ ts h e. length_end (c.loop.invariant.1 ts h e) (omega arith)
 
-pub length_term-offset_bounds-table-row : goal.length_term-offset_bounds-table-row
-length_term-offset_bounds-table-row t c = omega (arith, c.requires.held.few)
-
 pub length_term-bounds-table-row : goal.length_term-bounds-table-row
 length_term-bounds-table-row t c = term_below c.requires
 
@@ -41,20 +38,11 @@ length_term-own_length-requires t c = term_sound c.requires
 pub length_term-returns-then-n-eq0 : goal.length_term-returns-then-n-eq0
 length_term-returns-then-n-eq0 t c = λ t h. leaf_length c.parts_in-n.ensures.0 c.if-n-eq0.true _ c.own_length.ensures.0 c.own_length.ensures.1 t h
 
-pub length_term-is_string-requires : goal.length_term-is_string-requires
-length_term-is_string-requires t c = c.requires
-
-pub length_term-overflow_add-result : goal.length_term-overflow_add-result
-length_term-overflow_add-result t c = omega arith
-
 pub length_term-returns-then-is_string : goal.length_term-returns-then-is_string
 length_term-returns-then-is_string t c = λ t h. string_length _ c.parts_in-n.ensures.0 t h (sym (c.is_string.ensures t h) ∙ c.if-is_string.true)
 
 pub length_term-own_length-own-requires : goal.length_term-own_length-own-requires
 length_term-own_length-own-requires t c = term_sound c.requires
-
-pub length_term-overflow_add-row : goal.length_term-overflow_add-row
-length_term-overflow_add-row t c = omega (arith, c.requires.held.few)
 
 pub length_term-length_run-inner-requires : goal.length_term-length_run-inner-requires
 length_term-length_run-inner-requires t c = let a = c.requires in let b = term_below a in (omega arith, parts_run _ c.parts_in-n.ensures.0 a)

@@ -48,29 +48,14 @@ write_pairs-loop-preserved t c = let here = c.loop in
 pub write_pairs-returns : goal.write_pairs-returns
 write_pairs-returns t c = λ ts h o p e. pairs_end (c.loop.invariant ts h o p e) (omega arith)
 
-pub write_parts-offset_bounds-table-row : goal.write_parts-offset_bounds-table-row
-write_parts-offset_bounds-table-row t c = omega (arith, c.requires.fit_node.few)
-
 pub write_parts-bounds-table-row : goal.write_parts-bounds-table-row
 write_parts-bounds-table-row t c = term_below (parts_some c.requires)
-
-pub write_parts-overflow_add-row : goal.write_parts-overflow_add-row
-write_parts-overflow_add-row t c = omega (arith, c.requires.fit_node.few)
-
-pub write_parts-overflow_add-row-then-is_some : goal.write_parts-overflow_add-row-then-is_some
-write_parts-overflow_add-row-then-is_some t c = omega (arith, c.requires.fit_node.few)
 
 pub write_parts-write_pairs-requires : goal.write_parts-write_pairs-requires
 write_parts-write_pairs-requires t c = let a = c.requires in let b = term_below (parts_some a) in (omega arith, pairs_room _ c.parts_in-n.ensures.0 (c.has_order.ensures.0 c.if-has_order.true) (slot_some _ c.slot_at.ensures (sym c.is_some.ensures ∙ c.if-is_some.true)) a)
 
-pub write_parts-shape_of-out-then-is_some : goal.write_parts-shape_of-out-then-is_some
-write_parts-shape_of-out-then-is_some t c = c.write_pairs.auto.out
-
 pub write_parts-returns-then-is_some : goal.write_parts-returns-then-is_some
 write_parts-returns-then-is_some t c = pairs_put _ c.parts_in-n.ensures.0 (c.has_order.ensures.0 c.if-has_order.true) (slot_some _ c.slot_at.ensures (sym c.is_some.ensures ∙ c.if-is_some.true)) c.write_pairs.ensures
-
-pub write_parts-overflow_add-row-2 : goal.write_parts-overflow_add-row-2
-write_parts-overflow_add-row-2 t c = omega (arith, c.requires.fit_node.few)
 
 pub write_parts-write_run-requires : goal.write_parts-write_run-requires
 write_parts-write_run-requires t c = let a = c.requires in let b = term_below (parts_some a) in let o = c.has_order.ensures in (
@@ -80,9 +65,6 @@ write_parts-write_run-requires t c = let a = c.requires in let b = term_below (p
     | write_parts-else-has_order-via-else-has_order w ↦ inr (o.1 w.if-has_order.false)
   ]) a,
 )
-
-pub write_parts-shape_of-out : goal.write_parts-shape_of-out
-write_parts-shape_of-out t c = c.write_run.auto.out
 
 pub write_parts-returns : goal.write_parts-returns
 write_parts-returns t c = let o = c.has_order.ensures in run_put _ c.parts_in-n.ensures.0 (elim c.else-has_order.branch [
@@ -114,17 +96,11 @@ write_run-loop-preserved t c = let here = c.loop in (
 pub write_run-returns : goal.write_run-returns
 write_run-returns t c = λ ts h o e. put_end canonical canonicals canonicals_none canonicals_more (c.loop.invariant.1 ts h o e) (omega arith)
 
-pub write_term-offset_bounds-table-row : goal.write_term-offset_bounds-table-row
-write_term-offset_bounds-table-row t c = omega (arith, c.requires.fit_held.few)
-
 pub write_term-bounds-table-row : goal.write_term-bounds-table-row
 write_term-bounds-table-row t c = term_below (fits_some c.requires)
 
 pub write_term-put_leaf-requires : goal.write_term-put_leaf-requires
 write_term-put_leaf-requires t c = let a = c.requires in (term_sound (fits_some a), leaf_room c.parts_in-n.ensures.0 c.if-n-eq0.true a)
-
-pub write_term-shape_of-out-then-n-eq0 : goal.write_term-shape_of-out-then-n-eq0
-write_term-shape_of-out-then-n-eq0 t c = c.put_leaf.auto.out
 
 pub write_term-returns-then-n-eq0 : goal.write_term-returns-then-n-eq0
 write_term-returns-then-n-eq0 t c = λ t h o. leaf_put c.parts_in-n.ensures.0 c.if-n-eq0.true c.put_leaf.ensures t h
@@ -132,14 +108,8 @@ write_term-returns-then-n-eq0 t c = λ t h o. leaf_put c.parts_in-n.ensures.0 c.
 pub write_term-is_string-requires : goal.write_term-is_string-requires
 write_term-is_string-requires t c = fits_some c.requires
 
-pub write_term-overflow_add-row : goal.write_term-overflow_add-row
-write_term-overflow_add-row t c = omega (arith, c.requires.fit_held.few)
-
 pub write_term-put_string-requires : goal.write_term-put_string-requires
 write_term-put_string-requires t c = string_needs c.parts_in-n.ensures.0 c.requires c.is_string.ensures c.if-is_string.true
-
-pub write_term-shape_of-out-then-is_string : goal.write_term-shape_of-out-then-is_string
-write_term-shape_of-out-then-is_string t c = c.put_string.auto.out
 
 pub write_term-returns-then-is_string : goal.write_term-returns-then-is_string
 write_term-returns-then-is_string t c = λ t h o. string_written c.parts_in-n.ensures.0 c.put_string.ensures t h (sym (c.is_string.ensures t h) ∙ c.if-is_string.true)
@@ -152,9 +122,6 @@ write_term-write_parts-end-requires t c = (omega arith, parts_room c.requires c.
 
 pub write_term-put_after-requires : goal.write_term-put_after-requires
 write_term-put_after-requires t c = let a = c.requires in (term_sound (fits_some a), after_room a c.is_string.ensures c.if-is_string.false c.put_before-first.ensures c.write_parts-end.ensures)
-
-pub write_term-shape_of-out : goal.write_term-shape_of-out
-write_term-shape_of-out t c = c.put_after.auto.out ∙ c.write_parts-end.auto.out ∙ c.put_before-first.auto.out
 
 pub write_term-returns : goal.write_term-returns
 write_term-returns t c = λ t h o. parts_put _ c.put_before-first.ensures c.write_parts-end.ensures c.put_after.ensures t h o (sym (c.is_string.ensures t h) ∙ c.if-is_string.false)

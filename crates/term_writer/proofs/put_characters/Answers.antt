@@ -1,6 +1,8 @@
 -- `put_characters` meets its contract. What is left to store comes to all characters, by `characters_step`.
-use Rattle.term_writer.proofs.Strings.{characters_start, characters_step, characters_end, character_small, characters_here, characters_rest, run_below, run_sound}
+use Rattle.term_writer.proofs.Strings.{characters_start, characters_step, characters_end, character_there, characters_here, characters_rest, run_below, run_sound}
 use native.Mathlib.Omega.{arith}
+use mathlib.Core.Path.{ap}
+use Rattle.std.specs.Prelude.{is_some}
 use Rattle.term_writer.proofs.put_characters.Goals as goal
 
 pub loop-i-init : goal.loop-i-init
@@ -18,12 +20,11 @@ bounds-table-row c = run_below (characters_rest c.requires.0 c.loop-i.invariant)
 pub character_at-c-requires : goal.character_at-c-requires
 character_at-c-requires c = run_sound (characters_rest c.requires.0 c.loop-i.invariant) (omega arith)
 
-pub put1-requires : goal.put1-requires
-put1-requires c = (omega arith, character_small _ (characters_here c.requires.0 c.loop-i.invariant) c.loop-i-test.true c.character_at-c.ensures.0)
+pub unwrap-requires : goal.unwrap-requires
+unwrap-requires c = let a = character_there (characters_here c.requires.0 c.loop-i.invariant) c.loop-i-test.true _ c.character_at-c.ensures in ap is_some a.1
 
 pub loop-i-preserved : goal.loop-i-preserved
-loop-i-preserved c = let here = c.loop-i in
-    λ ts cs h e f. characters_step _ (here.invariant ts cs h e f) c.loop-i-test.true c.character_at-c.ensures.0 c.put1.ensures
+loop-i-preserved c = λ ts cs h e f. characters_step (c.loop-i.invariant ts cs h e f) c.loop-i-test.true _ c.character_at-c.ensures c.unwrap.ensures
 
 pub returns : goal.returns
 returns c = λ ts cs h e f. characters_end ts (c.loop-i.invariant ts cs h e f) c.loop-i-test.false e f
