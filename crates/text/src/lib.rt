@@ -1,7 +1,7 @@
 // Texts: whether bytes are a text in UTF-8 or Latin-1, and Latin-1 as UTF-8.
 #![tactic(auto)]
 
-ghost use Rattle.std.specs.Prelude.{◌≡◌, true, false, List, [], ◌∷◌, ◌+◌, ◌*◌, ◌≤◌, ◌<◌, length, take, drop, Err, IfErr};
+ghost use Rattle.std.specs.Prelude.{◌≡◌, true, false, List, [], ◌∷◌, ◌+◌, ◌*◌, ◌≤◌, ◌<◌, length, take, drop, Err, IfErr, MatchResult};
 ghost use Rattle.std.proofs.lemmas.List.Edits.{sets};
 ghost use Rattle.term_spec.specs.Text.{holds, lines, first, utf_8, latin_1, coding_of, check, encode, encodes};
 ghost use Rattle.term_spec.specs.Text as texts;
@@ -14,14 +14,14 @@ use term_spec::sizes;
 const HIGHEST_BITS: u64 = 0x8080808080808080;
 
 // The bytes from the first number to the second, both within.
-#[derive(Drop)]
+#[derive(Clone, Copy)]
 struct Range(u8, u8);
 
 // UTF8-tail = %x80-BF
 const UTF8_TAIL: Range = Range(0x80, 0xBF);
 
 // The rule that a character's first byte is in, UTF8-1 to UTF8-4, with the ranges of the bytes after it.
-#[derive(Drop)]
+#[derive(Clone, Copy)]
 enum Rule {
     One,
     Two(Range),
@@ -33,121 +33,48 @@ enum Rule {
 fn within(b: u8, r: Range) -> bool
     ensures { result ≡ holds (range r) b }
 {
-    if b < r.0 {
-        return false;
-    }
-    b <= r.1
+    r.0 <= b && b <= r.1
 }
 
 // The rule that `b` begins a character by, if any. RFC 3629, section 4, rule by rule: UTF8-char = UTF8-1 / UTF8-2 / UTF8-3 / UTF8-4
 fn rule_of(b: u8) -> Option<Rule>
     ensures { after result ≡ due (first b lines) }
 {
-    // UTF8-1 = %x00-7F
-    if within(b, Range(0x00, 0x7F)) {
-        return Some(Rule::One);
+    match b {
+        // UTF8-1 = %x00-7F
+        0x00..=0x7F => Some(Rule::One),
+        // UTF8-2 = %xC2-DF UTF8-tail
+        0xC2..=0xDF => Some(Rule::Two(UTF8_TAIL)),
+        // UTF8-3 = %xE0 %xA0-BF UTF8-tail
+        0xE0 => Some(Rule::Three(Range(0xA0, 0xBF), UTF8_TAIL)),
+        // UTF8-3 / %xE1-EC 2( UTF8-tail )
+        0xE1..=0xEC => Some(Rule::Three(UTF8_TAIL, UTF8_TAIL)),
+        // UTF8-3 / %xED %x80-9F UTF8-tail
+        0xED => Some(Rule::Three(Range(0x80, 0x9F), UTF8_TAIL)),
+        // UTF8-3 / %xEE-EF 2( UTF8-tail )
+        0xEE..=0xEF => Some(Rule::Three(UTF8_TAIL, UTF8_TAIL)),
+        // UTF8-4 = %xF0 %x90-BF 2( UTF8-tail )
+        0xF0 => Some(Rule::Four(Range(0x90, 0xBF), UTF8_TAIL, UTF8_TAIL)),
+        // UTF8-4 / %xF1-F3 3( UTF8-tail )
+        0xF1..=0xF3 => Some(Rule::Four(UTF8_TAIL, UTF8_TAIL, UTF8_TAIL)),
+        // UTF8-4 / %xF4 %x80-8F 2( UTF8-tail )
+        0xF4 => Some(Rule::Four(Range(0x80, 0x8F), UTF8_TAIL, UTF8_TAIL)),
+        _ => None,
     }
-    // UTF8-2 = %xC2-DF UTF8-tail
-    if within(b, Range(0xC2, 0xDF)) {
-        return Some(Rule::Two(UTF8_TAIL));
-    }
-    // UTF8-3 = %xE0 %xA0-BF UTF8-tail
-    if within(b, Range(0xE0, 0xE0)) {
-        return Some(Rule::Three(Range(0xA0, 0xBF), UTF8_TAIL));
-    }
-    // UTF8-3 / %xE1-EC 2( UTF8-tail )
-    if within(b, Range(0xE1, 0xEC)) {
-        return Some(Rule::Three(UTF8_TAIL, UTF8_TAIL));
-    }
-    // UTF8-3 / %xED %x80-9F UTF8-tail
-    if within(b, Range(0xED, 0xED)) {
-        return Some(Rule::Three(Range(0x80, 0x9F), UTF8_TAIL));
-    }
-    // UTF8-3 / %xEE-EF 2( UTF8-tail )
-    if within(b, Range(0xEE, 0xEF)) {
-        return Some(Rule::Three(UTF8_TAIL, UTF8_TAIL));
-    }
-    // UTF8-4 = %xF0 %x90-BF 2( UTF8-tail )
-    if within(b, Range(0xF0, 0xF0)) {
-        return Some(Rule::Four(Range(0x90, 0xBF), UTF8_TAIL, UTF8_TAIL));
-    }
-    // UTF8-4 / %xF1-F3 3( UTF8-tail )
-    if within(b, Range(0xF1, 0xF3)) {
-        return Some(Rule::Four(UTF8_TAIL, UTF8_TAIL, UTF8_TAIL));
-    }
-    // UTF8-4 / %xF4 %x80-8F 2( UTF8-tail )
-    if within(b, Range(0xF4, 0xF4)) {
-        return Some(Rule::Four(Range(0x80, 0x8F), UTF8_TAIL, UTF8_TAIL));
-    }
-    None
 }
 
-// Whether there is a byte at `at`, in the range.
-fn byte_in(s: &[u8], at: usize, r: Range) -> bool
-    ensures { result ≡ byte_in s.now at (range r) }
-{
-    if s.len() <= at {
-        return false;
-    }
-    within(s[at], r)
-}
-
-// Where the character at `lead` that has no good byte at `at` fails: one that the text's end cuts off fails at its first byte.
-fn broken(s: &[u8], lead: usize, at: usize) -> Result<usize, usize>
-    ensures { (r : texts.Range) (rs : List texts.Range) → byte_in s.now at r ≡ false → Completes s.now lead at (r ∷ rs) result }
+// The offset past the byte at `at`, due in the range, of the character at `lead`, or the offset at which the text fails: a character that the text's end cuts off fails at its first byte.
+fn continued(s: &[u8], lead: usize, at: usize, r: Range) -> Result<usize, usize>
+    ensures { MatchResult result (λ next. (next ≡ at + 1) × (byte_in s.now at (range r) ≡ true)) (λ k. (rs : List texts.Range) → Completes s.now lead at (range r ∷ rs) (Err k)) }
 {
     if s.len() <= at {
         return Err(lead);
     }
-    Err(at)
-}
-
-// The offset past the character of two bytes at `lead`, the second in the range, or the offset at which it fails.
-fn two_bytes(s: &[u8], lead: usize, a: Range) -> Result<usize, usize>
-    requires { lead < length s.now }
-    ensures { Completes s.now lead (lead + 1) (range a ∷ []) result }
-{
-    let second = lead + 1;
-    if !byte_in(s, second, a) {
-        return broken(s, lead, second);
+    if within(s[at], r) {
+        Ok(at + 1)
+    } else {
+        Err(at)
     }
-    Ok(second + 1)
-}
-
-// The offset past the character of three bytes at `lead`, those after the first in the ranges, or the offset at which it fails.
-fn three_bytes(s: &[u8], lead: usize, a: Range, b: Range) -> Result<usize, usize>
-    requires { lead < length s.now }
-    ensures { Completes s.now lead (lead + 1) (range a ∷ range b ∷ []) result }
-{
-    let second = lead + 1;
-    if !byte_in(s, second, a) {
-        return broken(s, lead, second);
-    }
-    let third = second + 1;
-    if !byte_in(s, third, b) {
-        return broken(s, lead, third);
-    }
-    Ok(third + 1)
-}
-
-// The offset past the character of four bytes at `lead`, those after the first in the ranges, or the offset at which it fails.
-fn four_bytes(s: &[u8], lead: usize, a: Range, b: Range, c: Range) -> Result<usize, usize>
-    requires { lead < length s.now }
-    ensures { Completes s.now lead (lead + 1) (range a ∷ range b ∷ range c ∷ []) result }
-{
-    let second = lead + 1;
-    if !byte_in(s, second, a) {
-        return broken(s, lead, second);
-    }
-    let third = second + 1;
-    if !byte_in(s, third, b) {
-        return broken(s, lead, third);
-    }
-    let fourth = third + 1;
-    if !byte_in(s, fourth, c) {
-        return broken(s, lead, fourth);
-    }
-    Ok(fourth + 1)
 }
 
 // The offset past the character at `at`, or the offset at which it fails.
@@ -157,9 +84,16 @@ fn character_at(s: &[u8], at: usize) -> Result<usize, usize>
 {
     match rule_of(s[at]) {
         Some(Rule::One) => Ok(at + 1),
-        Some(Rule::Two(a)) => two_bytes(s, at, a),
-        Some(Rule::Three(a, b)) => three_bytes(s, at, a, b),
-        Some(Rule::Four(a, b, c)) => four_bytes(s, at, a, b, c),
+        Some(Rule::Two(a)) => continued(s, at, at + 1, a),
+        Some(Rule::Three(a, b)) => {
+            let third = continued(s, at, at + 1, a)?;
+            continued(s, at, third, b)
+        }
+        Some(Rule::Four(a, b, c)) => {
+            let third = continued(s, at, at + 1, a)?;
+            let fourth = continued(s, at, third, b)?;
+            continued(s, at, fourth, c)
+        }
         None => Err(at),
     }
 }

@@ -4,10 +4,10 @@ use Rattle.term_spec.specs.Text.{holds}
 use Rattle.text.specs.Characters.{range}
 use Rattle.text.proofs.within.Goals as goal
 
-pub returns-then-b-r : goal.returns-then-b-r
+pub returns-then-r-b : goal.returns-then-r-b
 unfolding holds range
-returns-then-b-r c = rw (lt-leb _ _ c.if-b-r.true)
+returns-then-r-b c = rw (le-leb _ _ c.if-r-b.true)
 
-pub returns : goal.returns
+pub returns-else-r-b : goal.returns-else-r-b
 unfolding holds range
-returns c = rw (le-leb _ _ c.if-b-r.false)
+returns-else-r-b c = rw (lt-leb _ _ c.if-r-b.false)
