@@ -98,16 +98,14 @@ fn character_at(s: &[u8], at: usize) -> Result<usize, usize>
     }
 }
 
-// Whether the 8 bytes from `at` on are ASCII characters. They are one number, the first byte the lowest, which is loaded at once.
-fn ascii8(s: &[u8], at: usize) -> bool
-    requires { at + 8 ≤ length s.now }
-    ensures { result ≡ true → Ascii s.now at 8 }
+// Whether 8 bytes are ASCII characters. They are one number, the first byte the lowest, which is loaded at once.
+fn ascii8(s: &[u8]) -> bool
+    requires { length s.now ≡ 8 }
+    ensures { result ≡ true → Ascii s.now 0 8 }
 {
-    let mut word: u64 = 0;
-    let mut left = 8;
-    while 0 < left {
-        left -= 1;
-        word = word * 256 + s[at + left] as u64;
+    let mut word = 0u64;
+    for b in s.iter().rev() {
+        word = word * 256 + u64::from(*b);
     }
     word & HIGHEST_BITS == 0
 }
@@ -117,11 +115,8 @@ fn ascii_start(s: &[u8]) -> usize
     ensures { (result ≤ 255) × Ascii s.now 0 result }
 {
     let mut n = 0;
-    while 8 <= s.len() - n {
-        if sizes::CHARACTERS_MOST - n < 8 {
-            return n;
-        }
-        if !ascii8(s, n) {
+    for eight in s.chunks_exact(8).take(sizes::CHARACTERS_MOST / 8) {
+        if !ascii8(eight) {
             return n;
         }
         n += 8;
@@ -173,10 +168,7 @@ pub fn is_utf8(s: &[u8]) -> bool
 fn width(b: u8) -> usize
     ensures { (result ≡ length (encode b)) × (result ≤ 2) }
 {
-    if b < 0x80 {
-        return 1;
-    }
-    2
+    if b < 0x80 { 1 } else { 2 }
 }
 
 // The number of bytes that the n Latin-1 characters from `at` on have in UTF-8.
@@ -185,10 +177,8 @@ pub fn utf8_length(s: &[u8], at: usize, n: usize) -> usize
     ensures { (result ≡ length (encodes (take n (drop at s.now)))) × (result ≤ 2 * n) }
 {
     let mut count = 0;
-    let mut i = 0;
-    while i < n {
-        count += width(s[at + i]);
-        i += 1;
+    for b in &s[at..at + n] {
+        count += width(*b);
     }
     count
 }
@@ -213,10 +203,8 @@ pub fn put_latin1(src: &[u8], a: usize, n: usize, dst: &mut [u8], b: usize) -> u
     ensures { (result ≡ length (encodes (take n (drop a src.now)))) × (dst.new ≡ sets dst.old b (encodes (take n (drop a src.now)))) }
 {
     let mut end = b;
-    let mut i = 0;
-    while i < n {
-        end = put_character(src[a + i], dst, end);
-        i += 1;
+    for c in &src[a..a + n] {
+        end = put_character(*c, dst, end);
     }
     end - b
 }

@@ -1,42 +1,23 @@
 -- `ascii8` meets its contract. The loop's invariant: the number is of the bytes gone over, from the last on.
-use Prim.Native.Nat.{◌+◌, ◌-◌}
+use mathlib.Core.Path.{ap, ◌∙◌}
 use native.Mathlib.Omega.{arith}
 use borrow.Author.Tests.{eqb-true}
-use Rattle.text.proofs.Ascii.{word_none, word_fits, word_more, word_whole}
+use Rattle.text.proofs.Ascii.{over_none, over_word, over_fits, over_more, over_all}
 use Rattle.text.proofs.ascii8.Goals as goal
 
-pub loop-left-init : goal.loop-left-init
-loop-left-init c = (omega arith, word_none _ _ c.requires)
-
-pub overflow_sub-left : goal.overflow_sub-left
-overflow_sub-left c = c.loop-left-test.true
+pub loop-b-init : goal.loop-b-init
+loop-b-init c = over_none _ _ c.requires (ap (λ r. r.iter.rest.now) c.into_iter-b-iterator.ensures.into_iter_gives ∙ ap (λ r. r.rest.now) c.rev-b-items.ensures.source ∙ c.iter.ensures.rest)
 
 pub overflow_mul-word : goal.overflow_mul-word
-overflow_mul-word c = let l = c.loop-left in omega (arith, word_fits _ c.args.at l.left _ c.loop-left-test.true l.invariant.0 l.invariant.1)
+overflow_mul-word c = omega (arith, over_fits _ _ c.requires _ c.loop-b.invariant _ _ c.in-Some.ensures.steps)
 
 pub overflow_add-word : goal.overflow_add-word
-overflow_add-word c = omega (arith, c.loop-left.invariant.0)
+overflow_add-word c =
+    let next = over_more _ _ c.requires _ c.loop-b.invariant _ _ (λ i. omega (arith, c.type_inv.s i)) c.in-Some.ensures.steps in
+    omega (arith, over_word _ _ c.requires _ next)
 
-pub bounds-s-at : goal.bounds-s-at
-bounds-s-at c = omega (arith, c.loop-left.invariant.0)
-
-pub overflow_cast-word : goal.overflow_cast-word
-overflow_cast-word c = omega (arith, c.type_inv.s (c.args.at + (c.loop-left.left - 1)))
-
-pub overflow_add-word-in-loop-left : goal.overflow_add-word-in-loop-left
-overflow_add-word-in-loop-left c = let l = c.loop-left in
-    let a = c.args in
-    omega (arith, word_fits _ a.at l.left _ c.loop-left-test.true l.invariant.0 l.invariant.1, c.type_inv.s (a.at + (l.left - 1)))
-
-pub loop-left-smaller : goal.loop-left-smaller
-loop-left-smaller c = omega (arith, c.loop-left-test.true)
-
-pub loop-left-preserved : goal.loop-left-preserved
-loop-left-preserved c = let l = c.loop-left in
-    let a = c.args in (
-      omega (arith, l.invariant.0),
-      word_more _ a.at l.left _ c.loop-left-test.true l.invariant.0 l.invariant.1 c.requires (omega (arith, c.type_inv.s (a.at + (l.left - 1)))),
-    )
+pub loop-b-preserved : goal.loop-b-preserved
+loop-b-preserved c = rw c.from.ensures (over_more _ _ c.requires _ c.loop-b.invariant _ _ (λ i. omega (arith, c.type_inv.s i)) c.in-Some.ensures.steps)
 
 pub returns : goal.returns
-returns c = λ e. word_whole _ _ c.loop-left.left _ c.loop-left-test.false c.loop-left.invariant.1 (eqb-true _ _ e)
+returns c = λ e. over_all _ _ c.requires _ c.loop-b.invariant c.in-None.ensures.steps.0 (eqb-true _ _ e)

@@ -1,9 +1,5 @@
-use Prim.Native.Nat.{◌+◌, ◌-◌, ◌≤◌}
-use Rattle.text.proofs.Ascii.{Word}
+use Rattle.text.proofs.Ascii.{Over}
 use Rattle.text.proofs.ascii8.Given as goal
 
-abbrev pub invariant-loop-left : goal.invariant-loop-left
-invariant-loop-left l = (l.left ≤ 8) × Word l.s (l.at + l.left) (8 - l.left) l.word
-
-abbrev pub decreases-loop-left : goal.decreases-loop-left
-decreases-loop-left l = l.left
+abbrev pub invariant-loop-b : goal.invariant-loop-b
+invariant-loop-b l = Over l.s l.b-iterator.iter.rest.now l.word

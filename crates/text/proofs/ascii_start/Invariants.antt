@@ -1,9 +1,7 @@
-use Prim.Native.Nat.{◌-◌, ◌≤◌}
-use Rattle.text.specs.Characters.{Ascii}
+use mathlib.Core.Path.{◌≡◌}
+use Prim.Native.Nat.{◌+◌, ◌*◌, ◌≤◌}
+use Rattle.text.proofs.Ascii.{Begins}
 use Rattle.text.proofs.ascii_start.Given as goal
 
-abbrev pub invariant-loop-n : goal.invariant-loop-n
-invariant-loop-n l = (l.n ≤ 255) × Ascii l.s 0 l.n
-
-abbrev pub decreases-loop-n : goal.decreases-loop-n
-decreases-loop-n l = 255 - l.n
+abbrev pub invariant-loop-eight : goal.invariant-loop-eight
+invariant-loop-eight l = (l.n + 8 * l.eight-iterator.n ≤ 255) × (l.eight-iterator.iter.size ≡ 8) × Begins l.s l.eight-iterator.iter.rest.now l.n

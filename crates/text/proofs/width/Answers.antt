@@ -6,5 +6,5 @@ use Rattle.text.proofs.width.Goals as goal
 pub returns-then-b-lt128 : goal.returns-then-b-lt128
 returns-then-b-lt128 c = omega (arith, length_low c.args.b c.if-b-lt128.true)
 
-pub returns : goal.returns
-returns c = omega (arith, length_high c.args.b (omega arith) (omega arith))
+pub returns-else-b-lt128 : goal.returns-else-b-lt128
+returns-else-b-lt128 c = omega (arith, length_high c.args.b (omega arith) (omega arith))
