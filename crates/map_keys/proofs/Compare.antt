@@ -4,6 +4,7 @@ use mathlib.Core.Logic.{◌⊎◌, inl, inr}
 use mathlib.Core.Bool.{Bool, true, false, ◌||◌, or-false, cond}
 use mathlib.Core.List.{List, [], ◌∷◌}
 use mathlib.Core.Option.{Option, some}
+use Rattle.std.specs.Prelude as rust
 use Prim.Native.Nat.{ℕ, zero, suc, ◌+◌, ◌-◌, ◌/◌, ◌≤◌, ◌<◌}
 use native.Mathlib.Omega.{arith}
 use lib.Dec.{eqb, ltb}
@@ -26,7 +27,7 @@ use Rattle.term_spec.proofs.Words.{SmallRow, node_here, node_packed, row_of}
 use Rattle.term_spec.proofs.Tests.{never, by_less}
 use Rattle.term_rows.specs.Rows.{unordered_rows, pair_size}
 use Rattle.term_rows.proofs.Known.{agree_same, and_then, own, KnownTree, KnownRows, first_known, others_known, node_known, parts_known, left_known, right_known, tree_below, tree_size, later_known, pair_sizes, meanings_count, meanings_join, pair_joined, valids_left, valids_right, PartsAlike, mean_same, of_maps, same_labels, same_parts, same_counts, Sort, sort_of, in_turn, in_no_order}
-use Rattle.map_keys.specs.Compare.{same_rows, same_from, pair_among, pair_around, pairs_among, leads, at_key, pair_marked, pairs_marked, maps_from, same_maps, same_terms, among_steps, among_from}
+use Rattle.map_keys.specs.Compare.{same_rows, same_from, pair_among, pair_around, pairs_among, leads, at_key, pair_named, pair_marked, pairs_marked, maps_from, same_maps, same_terms, among_steps, among_from}
 use Rattle.row_compare.proofs.Alike.{Agree, through, self_agrees}
 use Rattle.map_keys.proofs.Marks.{leads_from, leads_later, key_parts}
 use Rattle.map_keys.proofs.Pairs.{In, AllIn, Distinct, distinct, one_value, distinct_left, distinct_right, in_left, in_right, in_either, ordered_in, in_ordered}
@@ -105,7 +106,7 @@ module _
     (row_agrees : (r q : Row) → Known r → Known q → Agree (alike (word r) (word q)) (own r ≡ own q))
     (map_agrees : (r : Row) → Known r → Agree (eqb (kind_at r.label r.place) 9) (r.label ≡ map))
     (T : List ℕ)
-    (hint : (ℕ → ℕ → Bool) → ℕ → ℕ → ℕ) where
+    (hint : (ℕ → ℕ → Bool) → ℕ → ℕ → rust.Option ℕ) where
   -- the rows that two nodes start with
   node_agrees : {whole whole' : Option ℕ} {a b : ℕ} {l m : Label × Offset} {ts us : Terms} → KnownTree Known T whole a (node l ts) → KnownTree Known T whole' b (node m us)
       → Agree (alike (get_or T a 0) (get_or T b 0)) ((l.0 ≡ m.0) × (count ts ≡ count us))
@@ -346,34 +347,37 @@ module _
           one_of = inl (refl, refl);
         }))
 
-    module _ (d : ℕ) (terms : ℕ → ℕ → Bool) (finds : Finds d terms) (near : ℕ → ℕ → ℕ) (n : ℕ) (us : Terms) (e : count us ≡ n + n) (w : Valids flags (all_as_read us))
+    module _ (d : ℕ) (terms : ℕ → ℕ → Bool) (finds : Finds d terms) (near : ℕ → ℕ → rust.Option ℕ) (n : ℕ) (us : Terms) (e : count us ≡ n + n) (w : Valids flags (all_as_read us))
         (c : Distinct (meanings us)) (whole' : Option ℕ) (b : ℕ) (r : KnownRows Known T whole' b us) where
       -- whatever the hint is
       marked : (x y : Located) → depth x ≤ d → depth y ≤ d → Valid flags (as_read x) → Valid flags (as_read y) → (whole : Option ℕ) (k : ℕ) → KnownTree Known T whole k x
           → KnownTree Known T whole (k + size x) y → Agree (pair_marked T terms near n k b (b + sizes us)) (In (meaning x) (meaning y) (meanings us))
-      unfolding pair_marked
-      marked x y h g v v' o k p q = go (at_key T b (b + sizes us) (near b k)) refl (terms k (near b k)) refl
+      unfolding pair_marked pair_named
+      marked x y h g v v' o k p q = go (near b k)
         where
           in_turn : Agree (pair_among T terms n k b) (In (meaning x) (meaning y) (meanings us))
           in_turn = pair_found d terms finds n x y us e h g v v' w c o whole' k b p q r
 
-          by_value : PairAt us whole' (near b k) → terms k (near b k) ≡ true
-              → Agree (terms (k + size_in (get_or T k 0)) (near b k + size_in (get_or T (near b k) 0))) (In (meaning x) (meaning y) (meanings us))
-          by_value i s =
-              let f : meaning x ≡ meaning i.key = (finds x i.key h v i.key_valid o whole' k (near b k) p i.key_known).sure s in
+          by_value : (at : ℕ) → PairAt us whole' at → terms k at ≡ true → Agree (terms (k + size_in (get_or T k 0)) (at + size_in (get_or T at 0))) (In (meaning x) (meaning y) (meanings us))
+          by_value at i s =
+              let f : meaning x ≡ meaning i.key = (finds x i.key h v i.key_valid o whole' k at p i.key_known).sure s in
               let here : In (meaning x) (meaning i.value) (meanings us) = rw f i.one_of in
               rw (tree_size small x p, tree_size small i.key i.key_known)
               (through
               (λ t. rw t here)
               (λ t. one_value (meanings us) (meaning x) (meaning y) (meaning i.value) c t here)
-              (finds y i.value g v' i.value_valid o whole' (k + size x) (near b k + size i.key) q i.value_known))
+              (finds y i.value g v' i.value_valid o whole' (k + size x) (at + size i.key) q i.value_known))
 
-          go : (s : Bool) → at_key T b (b + sizes us) (near b k) ≡ s → (t : Bool) → terms k (near b k) ≡ t
-              → Agree (cond s (cond t (terms (k + size_in (get_or T k 0)) (near b k + size_in (get_or T (near b k) 0))) (pair_among T terms n k b)) (pair_among T terms n k b))
+          by_key : (at : ℕ) (s : Bool) → at_key T b (b + sizes us) at ≡ s → (t : Bool) → terms k at ≡ t
+              → Agree (cond s (cond t (terms (k + size_in (get_or T k 0)) (at + size_in (get_or T at 0))) (pair_among T terms n k b)) (pair_among T terms n k b))
               (In (meaning x) (meaning y) (meanings us))
-          go true s true t = let z = key_parts T b (b + sizes us) (near b k) s in by_value (pair_at n us e w whole' b (near b k) r z.1 z.0) t
-          go true s false t = in_turn
-          go false s t f = in_turn
+          by_key at true s true t = let z = key_parts T b (b + sizes us) at s in by_value at (pair_at n us e w whole' b at r z.1 z.0) t
+          by_key at true s false t = in_turn
+          by_key at false s t f = in_turn
+
+          go : (named : rust.Option ℕ) → Agree (pair_named T terms n k b (b + sizes us) named) (In (meaning x) (meaning y) (meanings us))
+          go rust.None = in_turn
+          go (rust.Some at) = by_key at (at_key T b (b + sizes us) at) refl (terms k at) refl
 
       all_marked : (m : ℕ) (ts : Terms) → count ts ≡ m + m → deepest ts ≤ d → Valids flags (all_as_read ts) → (whole : Option ℕ) (a : ℕ) → KnownRows Known T whole a ts
           → Agree (pairs_marked T terms near n m a b (b + sizes us)) (AllIn (meanings ts) (meanings us))
@@ -391,7 +395,7 @@ module _
     -- ---- maps, by levels
 
     map_step : (d : ℕ) (l m : Label × Offset) (ts us : Terms) → l.0 ≡ map → m.0 ≡ map → count ts ≡ count us → suc (deepest ts) ≤ suc d → Valid flags (as_read (node l ts)) → Valid flags (as_read (node m us))
-        → (whole whole' : Option ℕ) (a b : ℕ) → KnownTree Known T whole a (node l ts) → KnownTree Known T whole' b (node m us) → (terms : ℕ → ℕ → Bool) → Finds d terms → (near : ℕ → ℕ → ℕ)
+        → (whole whole' : Option ℕ) (a b : ℕ) → KnownTree Known T whole a (node l ts) → KnownTree Known T whole' b (node m us) → (terms : ℕ → ℕ → Bool) → Finds d terms → (near : ℕ → ℕ → rust.Option ℕ)
         → Agree (maps_from T terms near a b) (in_order pair_before (meanings ts) ≡ in_order pair_before (meanings us))
     unfolding maps_from
     map_step d l m ts us e f n h v w o o' a b p q terms finds near =

@@ -5,9 +5,10 @@ use mathlib.Core.List.{List}
 use Prim.Native.Nat.{ℕ, zero, suc, ◌+◌, ◌-◌, ◌≤◌, ◌<◌}
 use native.Mathlib.Omega.{arith}
 use lib.Dec.{eqb, leb, ltb}
-use lib.ListN.{length, get_or, set, replicate}
+use lib.ListN.{length, get_or, set}
 use lib.Seq.{get_or-set_same, get_or-set_other}
-use borrow.Author.Tests.{le-leb, lt-leb, lt-ltb, le-ltb, eq-eqb, ne_eqb, eqb-true, eqb-false, leb-false}
+use borrow.Author.Count.{below_more}
+use borrow.Author.Tests.{le-leb, lt-leb, le-ltb, eq-eqb, ne_eqb, eqb-false, leb-false}
 use Rattle.term_spec.proofs.Tests.{never, by_less}
 use Rattle.term_rows.specs.Rows.{pair_size}
 use Rattle.map_keys.specs.Compare.{leads_steps, leads, at_key}
@@ -86,28 +87,14 @@ module _ (T : List ℕ) where
 
   -- ---- marks
 
-  zero_mark : (n i : ℕ) → ◌≡◌ {A = ℕ} (get_or (replicate n 0) i 0) 0
-  zero_mark zero zero = refl
-  zero_mark zero (suc i) = refl
-  zero_mark (suc n) zero = refl
-  zero_mark (suc n) (suc i) = zero_mark n i
-
-  -- before any is stored
-  pub no_marks : (b n : ℕ) → Marks T b (replicate n 0)
-  no_marks b n = record { reached = λ i e. absurd (e (zero_mark n i)) }
+  -- one more is stored
+  pub mark_more : (b at i : ℕ) (M : List ℕ) → i < length M → Reached T b at → ((k : ℕ) → k < i → Reached T b (get_or M k 0)) → (k : ℕ) → k < i + 1 → Reached T b (get_or (set M i at) k 0)
+  mark_more b at i M l r f =
+      below_more (λ (k : ℕ). Reached T b (get_or (set M i at) k 0)) i
+      (λ k h. let other : k ≡ i → ⊥ = omega arith in rw (get_or-set_other M i k at 0 other) (f k h))
+      (rw (get_or-set_same M i at 0 l) r)
 
   module _ {b : ℕ} {M : List ℕ} (h : Marks T b M) where
-    pub mark_set : (i at : ℕ) → i < length M → Reached T b at → Marks T b (set M i at)
-    mark_set i at l r = record { reached = λ j e. go j e (eqb i j) refl }
-      where
-        go : (j : ℕ) → (get_or (set M i at) j 0 ≡ 0 → ⊥) → (t : Bool) → eqb i j ≡ t → Reached T b (get_or (set M i at) j 0)
-        go j e true f =
-            let g : i ≡ j = eqb-true i j f in
-            rw (← g, get_or-set_same M i at 0 l) r
-        go j e false f =
-            let g : get_or (set M i at) j 0 ≡ get_or M j 0 = get_or-set_other M i j at 0 (λ z. eqb-false i j f (sym z)) in
-            rw g (h.reached j (λ z. e (g ∙ z)))
-
     mark_reached : {at : ℕ} → MarkOf M b at → Reached T b at
     mark_reached no_mark = here
     mark_reached (a_mark i e) = h.reached i e
@@ -119,14 +106,6 @@ module _ (T : List ℕ) where
     key_led end at row r l g m k e = e ∙ rw (le-ltb row b l, lt-leb end row g) (sym (leads_reached (mark_reached m) row k))
 
   module _ (b end row : ℕ) where
-    pub key_before : row < b → false ≡ at_key T b end row
-    unfolding at_key
-    key_before l = rw (lt-ltb row b l)
-
-    pub key_past : b ≤ row → end ≤ row → false ≡ at_key T b end row
-    unfolding at_key
-    key_past l g = rw (le-ltb row b l, le-leb end row g)
-
     pub key_parts : at_key T b end row ≡ true → (row < end) × (leads T b row ≡ true)
     unfolding at_key
     key_parts e = go (ltb row b) (leb end row) refl e
@@ -138,5 +117,5 @@ module _ (T : List ℕ) where
 
 -- ---- mark_before
 
-pub mark_here : (M : List ℕ) (b i m : ℕ) → m ≡ get_or M i 0 → (m ≡ 0 → ⊥) → MarkOf M b m
-mark_here M b i m e f = rw e (a_mark i (λ z. f (e ∙ z)))
+pub mark_here : (M : List ℕ) (b i m : ℕ) → m ≡ get_or M i 0 → i < length M → MarkOf M b m
+mark_here M b i m e l = rw e (a_mark i l)

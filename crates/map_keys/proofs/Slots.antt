@@ -2,17 +2,18 @@
 use mathlib.Core.Path.{◌≡◌, refl, sym, ◌∙◌, ap, subst}
 use mathlib.Core.Bool.{Bool, true, false, cond}
 use mathlib.Core.List.{List}
+use Rattle.std.specs.Prelude.{Option, Some, None, MatchOption, is_some}
 use Prim.Native.Nat.{ℕ, ◌+◌, ◌*◌, ◌-◌, ◌/◌, ◌%◌, ◌≤◌, ◌<◌}
-use native.Mathlib.Nat.{mul_comm, add-mul, mul_assoc, mul-le-mul, mul-le-mul_right, mul-add-div, div-add-mod, mod-lt, mod-eq_of_lt, mod_self, mod-add-mod}
+use native.Mathlib.Nat.{mul_comm, add-mul, mul_assoc, mul-le-mul, mul-le-mul_right, mul-add-div, div-add-mod, mod-lt, mod-eq_of_lt, mod-add-mod}
 use native.Mathlib.Omega.{arith}
 use lib.Dec.{eqb}
 use lib.ListN.{length, get_or, set, length-set}
 use lib.Seq.{get_or-set_same, get_or-set_other}
-use borrow.Author.Count.{below_none, below_more}
-use borrow.Author.Tests.{eqb-true, eqb-false, eq-eqb, ne_eqb}
+use borrow.Author.Count.{below_more}
+use borrow.Author.Tests.{eqb-true, eqb-false, eq-eqb}
 use Rattle.term_spec.specs.Rows.{whole_in}
-use Rattle.term_spec.proofs.Tests.{by_less}
-use Rattle.term_hash.specs.Hash.{pass_hash, seed_of, round_hash, term_hash}
+use Rattle.term_spec.proofs.Tests.{never, by_less}
+use Rattle.term_hash.specs.Hash.{round_hash, term_hash}
 use Rattle.map_keys.specs.Path.{place, next_place, slot}
 use Rattle.map_keys.specs.Found.{same_key}
 use Rattle.map_keys.specs.KeySet.{Contains, FirstEmpty, Keeps, key_hashes, key_seed, Seeded, same_terms_raw, Absent}
@@ -33,14 +34,6 @@ pub pointed_small : (h n : ℕ) → h < 65536 → 0 < n → (n / 65536 * h + n %
 pointed_small h n l p =
     let e : h * n ≤ 65535 * n = mul-le-mul_right n (omega arith) in
     (omega (arith, pointed_is h n), mul-le-mul {n₂ = 65535} {m₂ = 65535} (omega arith) (omega arith))
-
--- ---- the slot after a slot
-
-pub wraps : (i n : ℕ) → i + 1 ≡ n → 0 ≡ (i + 1) % n
-wraps i n e = rw e (sym (mod_self n))
-
-pub goes_on : (i n : ℕ) → i < n → (i + 1 ≡ n → ⊥) → i + 1 ≡ (i + 1) % n
-goes_on i n l e = sym (mod-eq_of_lt (omega arith))
 
 -- ---- the places of a path
 
@@ -72,15 +65,6 @@ module _ (hs : ℕ → ℕ) where
   unfolding place
   place_as f n d = ap (λ (h : ℕ). (h * n / 65536 + d % 2) % n) (f (d / 2))
 
-module _ (seed n d i r : ℕ) where
-  pub start_place : (h : ℕ) → d % 2 ≡ 0 → h ≡ round_hash seed (d / 2) → r ≡ h * n / 65536 → r ≡ next_place seed n d i
-  unfolding next_place
-  start_place h z e f = rw (eq-eqb (d % 2) 0 z, ← e) f
-
-  pub on_place : (d % 2 ≡ 0 → ⊥) → r ≡ (i + 1) % n → r ≡ next_place seed n d i
-  unfolding next_place
-  on_place z f = rw (ne_eqb (d % 2) 0 z) f
-
 module _ (m places lengths T : List ℕ) (first key n d : ℕ) where
   -- the slot before is inside
   pub slot_inside : (i : ℕ) → (0 < d → i ≡ place (key_hashes m places lengths T first key) n (d - 1)) → 0 < n → 0 < d → i < n
@@ -100,20 +84,6 @@ pub no_seed : (m places lengths T : List ℕ) (first key seed : ℕ) → Seeded 
 no_seed m places lengths T first key seed l = absurd (omega arith)
 
 module _ (m places lengths T : List ℕ) (first key d seed : ℕ) where
-  module _ (last : Seeded m places lengths T first key d seed) where
-    -- a round starts
-    pub round_before : d % 2 ≡ 0 → 0 < d / 2 → seed ≡ seed_of (pass_hash m places lengths T first key) (d / 2 - 1)
-    unfolding key_seed
-    round_before z l = let e : (d - 1) / 2 ≡ d / 2 - 1 = omega arith in rw e at (last (omega arith))
-
-    -- or goes on
-    pub round_goes_on : (d % 2 ≡ 0 → ⊥) → seed ≡ key_seed m places lengths T first key (d / 2)
-    round_goes_on z = let e : (d - 1) / 2 ≡ d / 2 = omega arith in rw e at (last (omega arith))
-
-  pub seed_is : seed ≡ seed_of (pass_hash m places lengths T first key) (d / 2) → seed ≡ key_seed m places lengths T first key (d / 2)
-  unfolding key_seed
-  seed_is e = e
-
   -- the next step
   pub next_seeded : seed ≡ key_seed m places lengths T first key (d / 2) → Seeded m places lengths T first key (d + 1) seed
   next_seeded e l = let k : d + 1 - 1 ≡ d = omega arith in rw k e
@@ -169,9 +139,6 @@ pub record Walked (P : ℕ → Type 0) (L : List ℕ) (hs : ℕ → ℕ) (n i d 
   pub passed : (e : ℕ) → e < d → P (slot L hs e)
 
 module _ (P : ℕ → Type 0) (L : List ℕ) (hs : ℕ → ℕ) where
-  pub walk_start : Walked P L hs (length L) 0 0
-  walk_start = record { all = refl; last = λ l. absurd (omega arith); passed = below_none (λ (e : ℕ). P (slot L hs e)) }
-
   module _ {n i d : ℕ} (p : Walked P L hs n i d) (j : ℕ) (e : j ≡ place hs n d) where
     slot_here : slot L hs d ≡ get_or L j 0
     slot_here = rw (e, p.all)
@@ -197,26 +164,35 @@ module _ (m places lengths T : List ℕ) (first key : ℕ) (L : List ℕ) where
   abbrev pub Other : ℕ → Type 0
   Other x = (x ≡ 0 → ⊥) × (whole_in (get_or T (x - 1) 0) ≡ first → same_terms_raw m places lengths T L key (x - 1) ≡ false)
 
-  module _ {n i d : ℕ} (p : Walked Other L (key_hashes m places lengths T first key) n i d) (j x : ℕ) (l : d < 256)
-      (e : j ≡ place (key_hashes m places lengths T first key) n d) (f : x ≡ get_or L j 0) where
-    pub free_found : x ≡ 0 → Absent m places lengths T first key L j
+  module _ {n i d : ℕ} (p : Walked Other L (key_hashes m places lengths T first key) n i d) (j : ℕ) (l : d < 256) (e : j ≡ place (key_hashes m places lengths T first key) n d) where
+    pub free_found : get_or L j 0 ≡ 0 → Absent m places lengths T first key L j
     free_found z =
         let hs : ℕ → ℕ = key_hashes m places lengths T first key in
         record {
-          free = record { step = d; on_path = l; place_is = e ∙ ap (λ (k : ℕ). place hs k d) p.all; is_empty = sym f ∙ z; passed = λ e k. (p.passed e k).0 };
+          free = record { step = d; on_path = l; place_is = e ∙ ap (λ (k : ℕ). place hs k d) p.all; is_empty = z; passed = λ e k. (p.passed e k).0 };
           others = λ e k. (p.passed e k).1;
         }
 
-    pub free_later : (s : Bool) → (x ≡ 0 → ⊥) → s ≡ same_key T (same_terms_raw m places lengths T L) first key (x - 1) → s ≡ false
+    pub free_later : (row : ℕ) (s : Bool) → row + 1 ≡ get_or L j 0 → s ≡ same_key T (same_terms_raw m places lengths T L) first key row → s ≡ false
         → Walked Other L (key_hashes m places lengths T first key) n j (d + 1)
-    free_later s o g z =
+    free_later row s f g z =
+        let here : row + 1 - 1 ≡ row = omega arith in
         walk_next Other L (key_hashes m places lengths T first key) p j e l
-        (subst Other f (o, λ w. sym (part_compared T (same_terms_raw m places lengths T L) first key (x - 1) w) ∙ sym g ∙ z))
+        (subst Other f (λ o. omega arith, rw here (λ w. sym (part_compared T (same_terms_raw m places lengths T L) first key row w) ∙ sym g ∙ z)))
 
 -- ---- insert
 
 abbrev pub Occupied : ℕ → Type 0
 Occupied x = x ≡ 0 → ⊥
+
+-- what a slot x is read as
+pub none_empty : (x : ℕ) (r : Option ℕ) → MatchOption r (x ≡ 0) (λ row. row + 1 ≡ x) → is_some r ≡ false → x ≡ 0
+none_empty x None m e = m
+none_empty x (Some row) m e = never (sym e)
+
+pub some_occupied : (x : ℕ) (r : Option ℕ) → MatchOption r (x ≡ 0) (λ row. row + 1 ≡ x) → is_some r ≡ true → Occupied x
+some_occupied x None m e = never e
+some_occupied x (Some row) m e = λ z. omega arith
 
 -- in the first empty slot
 module _ (L : List ℕ) (hs : ℕ → ℕ) (k : ℕ) {i : ℕ} (f : FirstEmpty L hs i) (inside : i < length L) where
@@ -248,8 +224,3 @@ module _ (L S : List ℕ) (hs : ℕ → ℕ) (k : ℕ) {n i d : ℕ} (e : S ≡ 
       let f : FirstEmpty S hs j = record { step = d; on_path = l; place_is = g ∙ ap (λ (k : ℕ). place hs k d) p.all; is_empty = z; passed = p.passed } in
       let inside : j < length S = omega (arith, p.all) in
       (subst (λ (l : List ℕ). Keeps l (set S j (k + 1))) e (keeps_set S hs k f inside), contains_set S hs k f inside)
-
-  -- no slot of the path is empty
-  pub insert_full : 256 ≤ d → Keeps L S × Contains S hs k
-  insert_full l =
-      (subst (λ (l : List ℕ). Keeps l S) e (keeps_refl S), record { stands = λ e b z. absurd (p.passed e (omega arith) z) })

@@ -2,13 +2,14 @@
 use mathlib.Core.Path.{◌≡◌, refl, sym, ap, ◌∙◌}
 use mathlib.Core.Bool.{Bool, true, false}
 use mathlib.Core.List.{List}
+use Rattle.std.specs.Prelude.{Option}
 use Prim.Native.Nat.{ℕ, zero, suc, ◌+◌, ◌-◌, ◌/◌, ◌≤◌, ◌<◌}
 use native.Mathlib.Omega.{arith}
 use lib.ListN.{length, get_or}
 use borrow.Author.Tests.{le-leb, lt-leb, lt-ltb, le-ltb, eq-eqb, ne_eqb}
 use Rattle.term_spec.specs.Rows.{parts_in, size_in}
 use Rattle.term_rows.specs.Rows.{unordered_rows, pair_size}
-use Rattle.map_keys.specs.Compare.{same_rows, same_from, pair_among, pair_around, pairs_among, at_key, pair_marked, pairs_marked, maps_from, same_maps, same_terms, among_steps, among_from}
+use Rattle.map_keys.specs.Compare.{same_rows, pair_among, pair_around, pairs_among, pair_marked, pairs_marked, maps_from, same_maps, same_terms, among_steps, among_from}
 use Rattle.map_keys.proofs.Compare.{among_ended}
 
 -- ---- rows one by one
@@ -29,13 +30,6 @@ module _ (alike : ℕ → ℕ → Bool) (T : List ℕ) (maps : ℕ → ℕ → B
       let g : b + suc s ≡ b + 1 + s = omega arith in
       rw (e, f, g) (stepped n s (a + 1) (b + 1))
 
-  pub rows_start : (n a b : ℕ) → same_rows alike T maps (n - 0) 0 (a + 0) (b + 0) ≡ same_rows alike T maps n 0 a b
-  rows_start n a b =
-      let e : n - 0 ≡ n = omega arith in
-      let x : a + 0 ≡ a = omega arith in
-      let y : b + 0 ≡ b = omega arith in
-      rw (e, x, y)
-
   module _ (n a b i : ℕ) (r : Bool) (h : same_rows alike T maps (n - i) 0 (a + i) (b + i) ≡ r) where
     pub rows_ended : n ≤ i → true ≡ r
     unfolding same_rows
@@ -47,12 +41,12 @@ module _ (alike : ℕ → ℕ → Bool) (T : List ℕ) (maps : ℕ → ℕ → B
       rows_differ f = let e : n - i ≡ suc (n - (i + 1)) = omega arith in rw (e, ← p, ← q, ← d, f) at h
 
       module _ (f : t ≡ true) (u : ℕ) (k : u ≡ unordered_rows v) where
-        pub rows_next : u ≡ 0 → same_rows alike T maps (n - (i + 1)) 0 (a + (i + 1)) (b + (i + 1)) ≡ r
+        pub rows_next : u ≡ 0 → same_rows alike T maps (n - (i + (1 + u))) 0 (a + (i + (1 + u))) (b + (i + (1 + u))) ≡ r
         unfolding same_rows
         rows_next z =
-            let e : n - i ≡ suc (n - (i + 1)) = omega arith in
-            let x : a + (i + 1) ≡ a + i + 1 = omega arith in
-            let y : b + (i + 1) ≡ b + i + 1 = omega arith in
+            let e : n - i ≡ suc (n - (i + (1 + u))) = omega arith in
+            let x : a + (i + (1 + u)) ≡ a + i + 1 = omega arith in
+            let y : b + (i + (1 + u)) ≡ b + i + 1 = omega arith in
             rw (x, y) (rw (e, ← p, ← q, ← d, f, ← k, eq-eqb u 0 z) at h)
 
         module _ (z : u ≡ 0 → ⊥) (s : Bool) (g : s ≡ maps (a + i) (b + i)) where
@@ -71,30 +65,9 @@ module _ (alike : ℕ → ℕ → Bool) (T : List ℕ) (maps : ℕ → ℕ → B
               let y : b + (i + (1 + u)) ≡ b + i + 1 + u = omega arith in
               rw (e, x, y) (sym (stepped (n - (i + 1)) u (a + i + 1) (b + i + 1)) ∙ after_map c)
 
--- ---- two terms
-
-module _ (alike : ℕ → ℕ → Bool) (T : List ℕ) (maps : ℕ → ℕ → Bool) (a b : ℕ) where
-  pub past_first : length T ≤ a → false ≡ same_from alike T maps a b
-  unfolding same_from
-  past_first h = rw (le-leb (length T) a h)
-
-  module _ (h : a < length T) where
-    pub past_second : length T ≤ b → false ≡ same_from alike T maps a b
-    unfolding same_from
-    past_second k = rw (lt-leb (length T) a h, le-leb (length T) b k)
-
-    module _ (k : b < length T) (m n : ℕ) (e : m ≡ size_in (get_or T a 0)) (f : n ≡ size_in (get_or T b 0)) where
-      pub sizes_differ : (m ≡ n → ⊥) → false ≡ same_from alike T maps a b
-      unfolding same_from
-      sizes_differ d = rw (lt-leb (length T) a h, lt-leb (length T) b k, ← e, ← f, ne_eqb m n d)
-
-      pub sizes_same : (r : Bool) → m ≡ n → r ≡ same_rows alike T maps m 0 a b → r ≡ same_from alike T maps a b
-      unfolding same_from
-      sizes_same r d g = g ∙ rw (lt-leb (length T) a h, lt-leb (length T) b k, ← e, ← f, eq-eqb m n d)
-
 -- ---- two maps
 
-module _ (T : List ℕ) (terms : ℕ → ℕ → Bool) (hint : ℕ → ℕ → ℕ) (a b v w m n : ℕ) (p : v ≡ get_or T a 0) (q : w ≡ get_or T b 0) (e : m ≡ size_in v) (f : n ≡ size_in w) where
+module _ (T : List ℕ) (terms : ℕ → ℕ → Bool) (hint : ℕ → ℕ → Option ℕ) (a b v w m n : ℕ) (p : v ≡ get_or T a 0) (q : w ≡ get_or T b 0) (e : m ≡ size_in v) (f : n ≡ size_in w) where
   other_sizes : (m ≡ n → ⊥) → false ≡ maps_from T terms hint a b
   unfolding maps_from
   other_sizes g = rw (← p, ← q, ← e, ← f, ne_eqb m n g)
@@ -108,7 +81,7 @@ module _ (T : List ℕ) (terms : ℕ → ℕ → Bool) (hint : ℕ → ℕ → �
     unfolding maps_from
     many_pairs l i = i ∙ rw (← p, ← q, ← e, ← f, eq-eqb m n g, ← h, le-ltb (c / 2) 32 l)
 
-module _ (alike : ℕ → ℕ → Bool) (T : List ℕ) (hint : (ℕ → ℕ → Bool) → ℕ → ℕ → ℕ) (d a b : ℕ) where
+module _ (alike : ℕ → ℕ → Bool) (T : List ℕ) (hint : (ℕ → ℕ → Bool) → ℕ → ℕ → Option ℕ) (d a b : ℕ) where
   pub no_level : d ≡ 0 → false ≡ same_maps alike T hint d a b
   unfolding same_maps
   no_level e = rw e
@@ -137,9 +110,6 @@ module _ (alike : ℕ → ℕ → Bool) (T : List ℕ) (hint : (ℕ → ℕ → 
 -- ---- pairs one by one
 
 module _ (T : List ℕ) (terms : ℕ → ℕ → Bool) where
-  pub pair_start : (n k at : ℕ) → pair_among T terms (n - 0) k at ≡ pair_among T terms n k at
-  pair_start n k at = let e : n - 0 ≡ n = omega arith in rw e
-
   module _ (n k i x : ℕ) (r : Bool) (h : pair_among T terms (n - i) k x ≡ r) where
     pub pair_none : n ≤ i → false ≡ r
     unfolding pair_among
@@ -153,18 +123,6 @@ module _ (T : List ℕ) (terms : ℕ → ℕ → Bool) where
       pub pair_next : s ≡ false → (z : ℕ) → z ≡ pair_size T x → pair_among T terms (n - (i + 1)) k (x + z) ≡ r
       unfolding pair_among
       pair_next f z g = let e : n - i ≡ suc (n - (i + 1)) = omega arith in rw (e, ← p, f, ← g) at h
-
-  module _ (n m k at b : ℕ) (s : Bool) (p : s ≡ pair_among T terms n k at) where
-    pub around_first : s ≡ true → true ≡ pair_around T terms n m k at b
-    unfolding pair_around
-    around_first e = rw (← p, e)
-
-    pub around_second : s ≡ false → (t : Bool) → t ≡ pair_among T terms m k b → t ≡ pair_around T terms n m k at b
-    unfolding pair_around
-    around_second e t q = rw (← p, e) q
-
-  pub pairs_start : (n a b : ℕ) → pairs_among T terms (n - 0) 0 a b b ≡ pairs_among T terms n 0 a b b
-  pairs_start n a b = let e : n - 0 ≡ n = omega arith in rw e
 
   module _ (n b i x y : ℕ) (r : Bool) (h : pairs_among T terms (n - i) i x y b ≡ r) where
     pub pairs_ended : n ≤ i → true ≡ r
@@ -185,20 +143,7 @@ module _ (T : List ℕ) (terms : ℕ → ℕ → Bool) where
 
 -- ---- pairs by a hint
 
-module _ (T : List ℕ) (terms : ℕ → ℕ → Bool) (hint : ℕ → ℕ → ℕ) where
-  module _ (n k b end x : ℕ) (p : x ≡ hint b k) (s : Bool) (q : s ≡ at_key T b end x) where
-    pub no_key_there : s ≡ false → (t : Bool) → t ≡ pair_among T terms n k b → t ≡ pair_marked T terms hint n k b end
-    unfolding pair_marked
-    no_key_there e t f = rw (← p, ← q, e) f
-
-    pub key_there : s ≡ true → terms k x ≡ true → (v w y z : ℕ) → v ≡ get_or T k 0 → y ≡ size_in v → w ≡ get_or T x 0 → z ≡ size_in w → (t : Bool) → t ≡ terms (k + y) (x + z)
-        → t ≡ pair_marked T terms hint n k b end
-    unfolding pair_marked
-    key_there e f v w y z a c g h t i = i ∙ rw (c, a, h, g) (rw (← p, ← q, e, f))
-
-  pub marked_start : (n a b end : ℕ) → pairs_marked T terms hint n (n - 0) a b end ≡ pairs_marked T terms hint n n a b end
-  marked_start n a b end = let e : n - 0 ≡ n = omega arith in rw e
-
+module _ (T : List ℕ) (terms : ℕ → ℕ → Bool) (hint : ℕ → ℕ → Option ℕ) where
   module _ (n b end i x : ℕ) (r : Bool) (h : pairs_marked T terms hint n (n - i) x b end ≡ r) where
     pub marked_ended : n ≤ i → true ≡ r
     unfolding pairs_marked

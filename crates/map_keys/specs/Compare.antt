@@ -1,6 +1,6 @@
 -- Terms compared by their rows, whatever the order of maps' pairs: said of the table's words alone, with the tests of the code in their order.
 -- About the code alone, proved against the definitions of term_spec: nothing here has to be believed.
-use Rattle.std.specs.Prelude.{Bool, true, false, cond, List, ℕ, zero, suc, ◌+◌, ◌-◌, ◌/◌, eqb, leb, ltb, length, get_or}
+use Rattle.std.specs.Prelude.{Bool, true, false, cond, Option, Some, None, List, ℕ, zero, suc, ◌+◌, ◌-◌, ◌/◌, eqb, leb, ltb, length, get_or}
 use Rattle.term_spec.specs.Rows.{parts_in, size_in}
 use Rattle.term_rows.specs.Rows.{unordered_rows, pair_size}
 
@@ -67,14 +67,19 @@ module _ (T : List ℕ) where
   unfoldable pub at_key : ℕ → ℕ → ℕ → Bool
   at_key b end row = cond (ltb row b) false (cond (leb end row) false (leads b row))
 
+-- the pair from k on is one of the n from b on, which end before the row `end`. Where a row is named that is one of their keys and has the key, its value decides
+unfoldable pub pair_named : List ℕ → (ℕ → ℕ → Bool) → ℕ → ℕ → ℕ → ℕ → Option ℕ → Bool
+pair_named T terms n k b end None = pair_among T terms n k b
+pair_named T terms n k b end (Some x) =
+    cond (at_key T b end x)
+    (cond (terms k x) (terms (k + size_in (get_or T k 0)) (x + size_in (get_or T x 0))) (pair_among T terms n k b))
+    (pair_among T terms n k b)
+
 -- over a comparison of the terms at two rows and a hint: from the rows of a map's first key and of a key that is looked for, a row
-module _ (T : List ℕ) (terms : ℕ → ℕ → Bool) (hint : ℕ → ℕ → ℕ) where
-  -- the pair from k on is one of the n from b on, which end before the row `end`. Where the hint is a row of their keys and has the key, its value decides
+module _ (T : List ℕ) (terms : ℕ → ℕ → Bool) (hint : ℕ → ℕ → Option ℕ) where
+  -- the same by the hint
   unfoldable pub pair_marked : ℕ → ℕ → ℕ → ℕ → Bool
-  pair_marked n k b end =
-      cond (at_key T b end (hint b k))
-      (cond (terms k (hint b k)) (terms (k + size_in (get_or T k 0)) (hint b k + size_in (get_or T (hint b k) 0))) (pair_among T terms n k b))
-      (pair_among T terms n k b)
+  pair_marked n k b end = pair_named T terms n k b end (hint b k)
 
   -- each of the m pairs from a on is one of those
   unfoldable pub pairs_marked : ℕ → ℕ → ℕ → ℕ → ℕ → Bool
@@ -91,7 +96,7 @@ module _ (T : List ℕ) (terms : ℕ → ℕ → Bool) (hint : ℕ → ℕ → �
       false
 
 -- over a hint that may compare terms
-module _ (alike : ℕ → ℕ → Bool) (T : List ℕ) (hint : (ℕ → ℕ → Bool) → ℕ → ℕ → ℕ) where
+module _ (alike : ℕ → ℕ → Bool) (T : List ℕ) (hint : (ℕ → ℕ → Bool) → ℕ → ℕ → Option ℕ) where
   -- the maps with pairs at a and b, in at most so many levels of maps
   unfoldable pub same_maps : ℕ → ℕ → ℕ → Bool
   same_maps zero a b = false

@@ -1,6 +1,6 @@
 -- The hash set of keys: each is inserted in the first empty slot of its path. A slot is 0 (empty) or the row of a key plus 1.
 -- About the code alone, proved against the definitions of term_spec: nothing here has to be believed.
-use Rattle.std.specs.Prelude.{◌≡◌, Bool, true, false, List, ℕ, zero, suc, ◌+◌, ◌-◌, ◌/◌, ◌<◌, length, get_or}
+use Rattle.std.specs.Prelude.{◌≡◌, Bool, true, false, Option, List, ℕ, zero, suc, ◌+◌, ◌-◌, ◌/◌, ◌<◌, length, get_or}
 use Rattle.term_spec.specs.Rows.{whole_in}
 use Rattle.term_rows.specs.Rows.{same_row, pair_size}
 use Rattle.term_hash.specs.Hash.{pass_hash, seed_of, term_hash}
@@ -41,7 +41,7 @@ module _ (m places lengths : List ℕ) where
   -- ---- comparisons whose hint is what the slots name, in at most so many levels
 
   -- a key of the map whose first key is at the row `first`, equal to the key at the row `key`
-  unfoldable pub key_found : List ℕ → List ℕ → (ℕ → ℕ → Bool) → ℕ → ℕ → ℕ
+  unfoldable pub key_found : List ℕ → List ℕ → (ℕ → ℕ → Bool) → ℕ → ℕ → Option ℕ
   key_found T L terms first key = found_key T L terms first key (key_hashes T first key)
 
   abbrev pub maps_at : List ℕ → List ℕ → ℕ → ℕ → ℕ → Bool

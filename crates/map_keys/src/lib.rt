@@ -1,7 +1,7 @@
 // Terms compared by their rows, whatever their encoding, and the hash set of a map's keys.
 #![tactic(auto)]
 
-ghost use Rattle.std.specs.Prelude.{◌≡◌, ◌+◌, ◌*◌, ◌-◌, ◌/◌, ◌%◌, ◌≤◌, ◌<◌, length};
+ghost use Rattle.std.specs.Prelude.{◌≡◌, ◌+◌, ◌*◌, ◌-◌, ◌/◌, ◌%◌, ◌≤◌, ◌<◌, length, take, IfSome, MatchOption};
 ghost use Rattle.term_rows.specs.Rows.{same_row};
 ghost use Rattle.map_keys.specs.Path.{next_place};
 ghost use Rattle.map_keys.specs.Compare.{same_rows, pair_among, pair_around, pairs_among, leads, at_key, pair_marked, pairs_marked};
@@ -9,13 +9,10 @@ ghost use Rattle.map_keys.specs.Found.{same_key};
 ghost use Rattle.map_keys.specs.Marks.{Reached, Marks, MarkOf};
 ghost use Rattle.map_keys.specs.KeySet.{Contains, Keeps, key_hashes, key_seed, Seeded, key_found, maps_at, terms_at, among_rows, Absent, ContainsOrInsert};
 
-use octets::wide16;
 use row::{parts_in, size_in, whole_in};
 use term_hash::{next_seed, round_hash};
 use term_rows::{pair_size, row_at, same_row, unordered_rows};
-
-// A key and its value.
-const PAIR_PARTS: usize = 2;
+use term_spec::sizes;
 
 // More levels than any term of a table has rows. Calls nest no deeper than the terms do.
 const LEVELS: usize = 16384;
@@ -52,6 +49,7 @@ fn same_rows(
     ensures { result ≡ same_rows (same_row msg.now places.now lengths.now) table.now (maps_at msg.now places.now lengths.now table.now slots.now levels) n 0 a b }
 {
     let mut i = 0usize;
+    // A while and no for: the rows of a map are stepped over at once.
     while i < n {
         let v = row_at(table, a + i);
         let w = row_at(table, b + i);
@@ -59,11 +57,7 @@ fn same_rows(
             return false;
         }
         let unordered = unordered_rows(v);
-        if unordered == 0 {
-            i += 1;
-            continue;
-        }
-        if !same_maps(msg, places, lengths, table, slots, levels, a + i, b + i) {
+        if unordered != 0 && !same_maps(msg, places, lengths, table, slots, levels, a + i, b + i) {
             return false;
         }
         i += 1 + unordered;
@@ -73,6 +67,7 @@ fn same_rows(
 
 // Whether the terms whose rows start at a and b mean the same, maps being at most `levels` deep in them.
 #[cycle(compare)]
+#[tactic(auto, unfolding(crate::specs::Compare::same_from))]
 fn same_terms(
     msg: &[u8],
     places: &[u8],
@@ -85,17 +80,11 @@ fn same_terms(
 ) -> bool
     ensures { result ≡ terms_at msg.now places.now lengths.now table.now slots.now levels a b }
 {
-    if table.len() <= a {
+    let (Some(v), Some(w)) = (table.get(a), table.get(b)) else {
         return false;
-    }
-    if table.len() <= b {
-        return false;
-    }
-    let n = size_in(table[a]);
-    if n != size_in(table[b]) {
-        return false;
-    }
-    same_rows(msg, places, lengths, table, slots, levels, n, a, b)
+    };
+    let n = size_in(*v);
+    n == size_in(*w) && same_rows(msg, places, lengths, table, slots, levels, n, a, b)
 }
 
 // Whether the maps at a and b, of the same number of pairs, have the same pairs.
@@ -113,22 +102,20 @@ fn same_maps(
     requires { (a < 2305843009213710336) × (b < 2305843009213710336) }
     ensures { result ≡ maps_at msg.now places.now lengths.now table.now slots.now levels a b }
 {
-    if levels == 0 {
-        return false;
-    }
     let v = row_at(table, a);
-    if size_in(v) != size_in(row_at(table, b)) {
+    let size = size_in(v);
+    if levels == 0 || size != size_in(row_at(table, b)) {
         return false;
     }
-    let n = parts_in(v) / PAIR_PARTS;
+    let n = parts_in(v) / sizes::PAIR_PARTS;
     let deep = levels - 1;
     let x = a + 1;
     let y = b + 1;
     if n < MANY_PAIRS {
-        return pairs_among(msg, places, lengths, table, slots, deep, n, x, y);
+        pairs_among(msg, places, lengths, table, slots, deep, n, x, y)
+    } else {
+        many_among(msg, places, lengths, table, slots, deep, n, x, y, b + size)
     }
-    let end = b + size_in(v);
-    many_among(msg, places, lengths, table, slots, deep, n, x, y, end)
 }
 
 // Whether each of the n pairs from a on is one of the n from b on. A pair is looked for from the place on that it has itself, and then from b on.
@@ -147,10 +134,9 @@ fn pairs_among(
     requires { (a + 32768 * n < 4611686018427387904) × (b + 32768 * n < 4611686018427387904) }
     ensures { result ≡ pairs_among table.now (terms_at msg.now places.now lengths.now table.now slots.now levels) n 0 a b b }
 {
-    let mut i = 0usize;
     let mut x = a;
     let mut y = b;
-    while i < n {
+    for i in 0..n {
         if !pair_around(
             msg,
             places,
@@ -168,13 +154,13 @@ fn pairs_among(
         }
         x += pair_size(table, x);
         y += pair_size(table, y);
-        i += 1;
     }
     true
 }
 
 // Whether the pair from k on is one of the n from `at` on, or of the m before those, which start at b.
 #[cycle(compare)]
+#[tactic(auto, unfolding(crate::specs::Compare::pair_around))]
 fn pair_around(
     msg: &[u8],
     places: &[u8],
@@ -191,10 +177,8 @@ fn pair_around(
     requires { (k < 4611686018427387904) × (at + 32768 * n < 4611686018427387904) × (b + 32768 * m < 4611686018427387904) }
     ensures { result ≡ pair_around table.now (terms_at msg.now places.now lengths.now table.now slots.now levels) n m k at b }
 {
-    if pair_among(msg, places, lengths, table, slots, levels, n, k, at) {
-        return true;
-    }
-    pair_among(msg, places, lengths, table, slots, levels, m, k, b)
+    pair_among(msg, places, lengths, table, slots, levels, n, k, at)
+        || pair_among(msg, places, lengths, table, slots, levels, m, k, b)
 }
 
 // Whether of the n pairs from `at` on the first with the key at k has the value after that key.
@@ -213,26 +197,26 @@ fn pair_among(
     requires { (k < 4611686018427387904) × (at + 32768 * n < 4611686018427387904) }
     ensures { result ≡ pair_among table.now (terms_at msg.now places.now lengths.now table.now slots.now levels) n k at }
 {
-    let mut i = 0usize;
     let mut x = at;
-    while i < n {
+    for _ in 0..n {
         if same_terms(msg, places, lengths, table, slots, levels, k, x) {
             let v = k + size_in(row_at(table, k));
             let w = x + size_in(row_at(table, x));
             return same_terms(msg, places, lengths, table, slots, levels, v, w);
         }
         x += pair_size(table, x);
-        i += 1;
     }
     false
 }
 
 // Whether steps over pairs from the row `from` on lead to the row.
+#[tactic(auto, using(crate::proofs::Marks::led_end, crate::proofs::Marks::led_stuck, crate::proofs::Marks::led_on))]
 fn leads_to(table: &[u64], from: usize, row: usize) -> bool
     requires { row < 65536 }
     ensures { result ≡ leads table.now from row }
 {
     let mut at = from;
+    // A while and no for: each step is as long as the pair there.
     while at < row {
         let step = pair_size(table, at);
         if step == 0 {
@@ -244,74 +228,64 @@ fn leads_to(table: &[u64], from: usize, row: usize) -> bool
 }
 
 // The row after n pairs.
+#[tactic(auto, using(crate::proofs::Marks::reached_next))]
 fn pairs_after(table: &[u64], n: usize, from: usize) -> usize
     requires { from + 32768 * n < 4611686018427387904 }
     ensures { Reached table.now from result × (result ≤ from + 32768 * n) }
 {
-    let mut i = 0usize;
     let mut at = from;
-    while i < n {
+    for _ in 0..n {
         at += pair_size(table, at);
-        i += 1;
     }
     at
 }
 
-// Marks keys of the n pairs from the row b on, at even distances.
-fn mark_keys(table: &[u64], n: usize, b: usize, marks: &mut [u16])
-    requires { (n < 4096) × (b < 4611686018427387904) × Marks table.now b marks.old }
-    ensures { Marks table.now b marks.new }
+// Marks keys of the n pairs from the row b on, at even distances, and says how many are marked.
+fn mark_keys(table: &[u64], n: usize, b: usize, marks: &mut [u16]) -> usize
+    requires { (n < 4096) × (b < 4611686018427387904) }
+    ensures { (result ≤ length marks.new) × Marks table.now b (take result marks.new) }
 {
     let step = n / MARKS + 1;
     let mut at = b;
-    let mut i = 0usize;
-    while i < marks.len() {
-        if 65535 < at {
-            return;
-        }
-        marks[i] = at as u16;
+    for i in 0..marks.len() {
+        let Ok(row) = u16::try_from(at) else {
+            return i;
+        };
+        marks[i] = row;
         at = pairs_after(table, step, at);
-        i += 1;
     }
+    marks.len()
 }
 
-// The last mark that is not past the row, b where there is none. A mark that is 0 ends the list.
+// The last mark that is not past the row, or b, the first key's row.
+#[tactic(auto, using(crate::proofs::Marks::mark_here))]
 fn mark_before(marks: &[u16], b: usize, row: usize) -> usize
     requires { b ≤ row }
     ensures { MarkOf marks.now b result × (result ≤ row) }
 {
     let mut found = b;
-    let mut i = 0usize;
-    while i < marks.len() {
-        let mark = wide16(marks[i]);
-        if mark == 0 {
-            return found;
-        }
+    for mark in marks {
+        let mark = usize::from(*mark);
         if row < mark {
             return found;
         }
         found = mark;
-        i += 1;
     }
     found
 }
 
 // Whether the row is that of a key of the pairs from the row b on, before the row `end`.
+#[tactic(auto, using(crate::proofs::Marks::key_led), unfolding(crate::specs::Compare::at_key))]
 fn at_key(table: &[u64], marks: &[u16], b: usize, end: usize, row: usize) -> bool
     requires { (row < 65536) × Marks table.now b marks.now }
     ensures { result ≡ at_key table.now b end row }
 {
-    if row < b {
-        return false;
-    }
-    if end <= row {
-        return false;
-    }
-    leads_to(table, mark_before(marks, b, row), row)
+    b <= row && row < end && leads_to(table, mark_before(marks, b, row), row)
 }
 
 // Whether the row is that of a key of the map whose first key is at the row `first`, and means the same as that at the row `key`.
 #[cycle(compare)]
+#[tactic(auto, unfolding(crate::specs::Found::same_key))]
 fn same_key(
     msg: &[u8],
     places: &[u8],
@@ -325,13 +299,18 @@ fn same_key(
 ) -> bool
     ensures { result ≡ same_key table.now (terms_at msg.now places.now lengths.now table.now slots.now levels) first key row }
 {
-    if whole_in(row_at(table, row)) != first {
-        return false;
-    }
-    same_terms(msg, places, lengths, table, slots, levels, key, row)
+    whole_in(row_at(table, row)) == first
+        && same_terms(msg, places, lengths, table, slots, levels, key, row)
 }
 
-// The row of such a key as the slots name it, 0 where they name none: a hint, for nothing is known of the slots.
+// The row of the key in a slot: its row + 1 stands there, and 0 where there is none.
+fn key_in(slot: u16) -> Option<usize>
+    ensures { MatchOption result (slot ≡ 0) (λ row. row + 1 ≡ slot) }
+{
+    usize::from(slot).checked_sub(1)
+}
+
+// The row of such a key as the slots name it: a hint, for nothing is known of the slots.
 #[cycle(compare)]
 fn found_key(
     msg: &[u8],
@@ -342,35 +321,31 @@ fn found_key(
     levels: usize,
     first: usize,
     key: usize,
-) -> usize
+) -> Option<usize>
     requires { key < 3458764513820540928 }
-    ensures { (result ≡ key_found msg.now places.now lengths.now table.now slots.now (terms_at msg.now places.now lengths.now table.now slots.now levels) first key) × (result < 65536) }
+    ensures found { result ≡ key_found msg.now places.now lengths.now table.now slots.now (terms_at msg.now places.now lengths.now table.now slots.now levels) first key }
+    ensures small { IfSome result (λ row. row < 65536) }
 {
     let n = slots.len();
     if n == 0 {
-        return 0;
+        return None;
     }
     let mut seed = 0u64;
     let mut i = 0usize;
-    let mut d = 0usize;
-    while d < PATH {
+    for d in 0..PATH {
         seed = path_seed(msg, places, lengths, table, first, key, d, seed);
         i = path_slot(n, seed, d, i);
-        let named = wide16(slots[i]);
-        if named == 0 {
-            return 0;
-        }
-        let row = named - 1;
+        let row = key_in(slots[i])?;
         if same_key(msg, places, lengths, table, slots, levels, first, key, row) {
-            return row;
+            return Some(row);
         }
-        d += 1;
     }
-    0
+    None
 }
 
 // Whether the pair from k on is one of the n from b on, which end before the row `end`: where the hint is the row of a key of theirs, its value decides.
 #[cycle(compare)]
+#[tactic(auto, using(crate::proofs::Found::found_same), unfolding(crate::specs::Compare::pair_marked, crate::specs::Compare::pair_named))]
 fn pair_marked(
     msg: &[u8],
     places: &[u8],
@@ -384,16 +359,17 @@ fn pair_marked(
     b: usize,
     end: usize,
 ) -> bool
-    requires { (k < 3458764513820540928) × (b + 32768 * n < 4611686018427387904) × (0 < b) × Marks table.now b marks.now }
+    requires { (k < 3458764513820540928) × (b + 32768 * n < 4611686018427387904) × Marks table.now b marks.now }
     ensures { result ≡ pair_marked table.now (terms_at msg.now places.now lengths.now table.now slots.now levels) (key_found msg.now places.now lengths.now table.now slots.now (terms_at msg.now places.now lengths.now table.now slots.now levels)) n k b end }
 {
-    let x = found_key(msg, places, lengths, table, slots, levels, b, k);
-    if !at_key(table, marks, b, end, x) {
-        return pair_among(msg, places, lengths, table, slots, levels, n, k, b);
+    match found_key(msg, places, lengths, table, slots, levels, b, k) {
+        Some(x) if at_key(table, marks, b, end, x) => {
+            let value = k + size_in(row_at(table, k));
+            let found = x + size_in(row_at(table, x));
+            same_terms(msg, places, lengths, table, slots, levels, value, found)
+        }
+        _ => pair_among(msg, places, lengths, table, slots, levels, n, k, b),
     }
-    let value = k + size_in(row_at(table, k));
-    let found = x + size_in(row_at(table, x));
-    same_terms(msg, places, lengths, table, slots, levels, value, found)
 }
 
 // Whether each of the n pairs from a on is one of the n from b on, which end before the row `end` and of whose keys some are marked.
@@ -411,19 +387,17 @@ fn pairs_marked(
     b: usize,
     end: usize,
 ) -> bool
-    requires { (a + 32768 * n < 3458764513820540928) × (b + 32768 * n < 4611686018427387904) × (0 < b) × Marks table.now b marks.now }
+    requires { (a + 32768 * n < 3458764513820540928) × (b + 32768 * n < 4611686018427387904) × Marks table.now b marks.now }
     ensures { result ≡ pairs_marked table.now (terms_at msg.now places.now lengths.now table.now slots.now levels) (key_found msg.now places.now lengths.now table.now slots.now (terms_at msg.now places.now lengths.now table.now slots.now levels)) n n a b end }
 {
-    let mut i = 0usize;
     let mut x = a;
-    while i < n {
+    for _ in 0..n {
         if !pair_marked(
             msg, places, lengths, table, slots, marks, levels, n, x, b, end,
         ) {
             return false;
         }
         x += pair_size(table, x);
-        i += 1;
     }
     true
 }
@@ -442,13 +416,14 @@ fn many_among(
     b: usize,
     end: usize,
 ) -> bool
-    requires { (n < 4096) × (a + 32768 * n < 3458764513820540928) × (b + 32768 * n < 4611686018427387904) × (0 < b) }
+    requires { (n < 4096) × (a + 32768 * n < 3458764513820540928) × (b + 32768 * n < 4611686018427387904) }
     ensures { result ≡ pairs_marked table.now (terms_at msg.now places.now lengths.now table.now slots.now levels) (key_found msg.now places.now lengths.now table.now slots.now (terms_at msg.now places.now lengths.now table.now slots.now levels)) n n a b end }
 {
     let mut marks = [0u16; MARKS];
-    mark_keys(table, n, b, &mut marks);
+    let count = mark_keys(table, n, b, &mut marks);
+    let marks = &marks[..count];
     pairs_marked(
-        msg, places, lengths, table, slots, &marks, levels, n, a, b, end,
+        msg, places, lengths, table, slots, marks, levels, n, a, b, end,
     )
 }
 
@@ -468,6 +443,7 @@ fn key_among(
         return false;
     }
     let mut at = first;
+    // A while and no for: each step is as long as the pair there.
     while at < key {
         if same_terms(msg, places, lengths, table, slots, LEVELS, key, at) {
             return true;
@@ -482,6 +458,7 @@ fn key_among(
 }
 
 // The slot to which a hash points, of n.
+#[tactic(auto, using(crate::proofs::Slots::pointed_is, crate::proofs::Slots::pointed_small))]
 fn hashed_slot(hash: usize, n: usize) -> usize
     requires { (hash < 65536) × (0 < n) }
     ensures { (result ≡ hash * n / 65536) × (result < n) }
@@ -494,13 +471,11 @@ fn next_slot(i: usize, n: usize) -> usize
     requires { i < n }
     ensures { (result ≡ (i + 1) % n) × (result < n) }
 {
-    if i + 1 == n {
-        return 0;
-    }
-    i + 1
+    if i + 1 == n { 0 } else { i + 1 }
 }
 
 // What the round of step d of a key's path goes by; `seed` is what that of the step before went by.
+#[tactic(auto, unfolding(crate::specs::KeySet::key_seed))]
 fn path_seed(
     msg: &[u8],
     places: &[u8],
@@ -515,23 +490,26 @@ fn path_seed(
     ensures { result ≡ key_seed msg.now places.now lengths.now table.now first key (d / 2) }
 {
     if d % WINDOW == 0 {
-        return next_seed(msg, places, lengths, table, first, key, d / WINDOW, seed);
+        next_seed(msg, places, lengths, table, first, key, d / WINDOW, seed)
+    } else {
+        seed
     }
-    seed
 }
 
 // The slot at step d of a path, of n; i is the one at the step before. Each round starts at a slot of its own.
+#[tactic(auto, unfolding(crate::specs::Path::next_place))]
 fn path_slot(n: usize, seed: u64, d: usize, i: usize) -> usize
     requires { (0 < n) × (d < 256) × (0 < d → i < n) }
     ensures { (result ≡ next_place seed n d i) × (result < n) }
 {
     if d % WINDOW == 0 {
-        return hashed_slot(round_hash(seed, d / WINDOW), n);
+        hashed_slot(round_hash(seed, d / WINDOW), n)
+    } else {
+        next_slot(i, n)
     }
-    next_slot(i, n)
 }
 
-// The first empty slot of a key's path; the number of slots where there is none, or where a row before it means the same as the key.
+// The first empty slot of a key's path, if there is one and no row before it means the same as the key.
 fn free_slot(
     msg: &[u8],
     places: &[u8],
@@ -540,37 +518,24 @@ fn free_slot(
     slots: &[u16],
     first: usize,
     key: usize,
-) -> usize
+) -> Option<usize>
     requires { (0 < length slots.now) × (key < 65535) }
-    ensures { result < length slots.now → Absent msg.now places.now lengths.now table.now first key slots.now result }
+    ensures { IfSome result (λ i. (i < length slots.now) × Absent msg.now places.now lengths.now table.now first key slots.now i) }
 {
     let n = slots.len();
     let mut seed = 0u64;
     let mut i = 0usize;
-    let mut d = 0usize;
-    while d < PATH {
+    for d in 0..PATH {
         seed = path_seed(msg, places, lengths, table, first, key, d, seed);
         i = path_slot(n, seed, d, i);
-        let entry = wide16(slots[i]);
-        if entry == 0 {
-            return i;
+        let Some(row) = key_in(slots[i]) else {
+            return Some(i);
+        };
+        if same_key(msg, places, lengths, table, slots, LEVELS, first, key, row) {
+            return None;
         }
-        if same_key(
-            msg,
-            places,
-            lengths,
-            table,
-            slots,
-            LEVELS,
-            first,
-            key,
-            entry - 1,
-        ) {
-            return n;
-        }
-        d += 1;
     }
-    n
+    None
 }
 
 // Inserts the key's row in the first empty slot of its path, if there is one.
@@ -589,15 +554,13 @@ fn insert(
     let n = slots.len();
     let mut seed = 0u64;
     let mut i = 0usize;
-    let mut d = 0usize;
-    while d < PATH {
+    for d in 0..PATH {
         seed = path_seed(msg, places, lengths, table, first, key, d, seed);
         i = path_slot(n, seed, d, i);
-        if slots[i] == 0 {
+        if key_in(slots[i]).is_none() {
             slots[i] = (key + 1) as u16;
             return;
         }
-        d += 1;
     }
 }
 
@@ -614,8 +577,7 @@ pub fn contains_or_insert(
     requires { (0 < length slots.old) × (key < 65535) }
     ensures { ContainsOrInsert msg.now places.now lengths.now table.now first key slots.old result slots.new }
 {
-    let i = free_slot(msg, places, lengths, table, slots, first, key);
-    if i < slots.len() {
+    if let Some(i) = free_slot(msg, places, lengths, table, slots, first, key) {
         slots[i] = (key + 1) as u16;
         return false;
     }

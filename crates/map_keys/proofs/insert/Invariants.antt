@@ -1,11 +1,7 @@
 use mathlib.Core.Path.{◌≡◌}
-use Prim.Native.Nat.{◌-◌}
 use Rattle.map_keys.specs.KeySet.{key_hashes, Seeded}
 use Rattle.map_keys.proofs.Slots.{Occupied, Walked}
 use Rattle.map_keys.proofs.insert.Given as goal
 
 abbrev pub invariant-loop-d : goal.invariant-loop-d
 invariant-loop-d l = (l.slots ≡ l.initial.slots) × Walked Occupied l.slots (key_hashes l.msg l.places l.lengths l.table l.first l.key) l.n l.i l.d × Seeded l.msg l.places l.lengths l.table l.first l.key l.d l.seed
-
-abbrev pub decreases-loop-d : goal.decreases-loop-d
-decreases-loop-d l = 256 - l.d

@@ -1,5 +1,4 @@
 -- `key_among` meets its contract. From the row reached the walk finds what it finds from the first; the measure is the rows below the key.
-use native.Mathlib.Omega.{arith}
 use Rattle.map_keys.proofs.Steps.{no_such_row, among_start, among_found, among_stuck, among_later, among_none}
 use Rattle.map_keys.proofs.key_among.Goals as goal
 
@@ -12,17 +11,8 @@ loop-at-init c = (c.if-table-key.false, among_start _ _ _ _ c.if-table-key.false
 pub returns-then-same_terms : goal.returns-then-same_terms
 returns-then-same_terms c = among_found _ _ _ _ _ c.loop-at.invariant.1 c.loop-at-test.true _ c.same_terms.ensures c.if-same_terms.true
 
-pub pair_size-step-requires : goal.pair_size-step-requires
-pair_size-step-requires c = omega arith
-
 pub returns-then-step-eq0 : goal.returns-then-step-eq0
 returns-then-step-eq0 c = among_stuck _ _ _ _ _ c.loop-at.invariant.1 c.loop-at-test.true _ c.same_terms.ensures c.if-same_terms.false _ c.pair_size-step.ensures.0 c.if-step-eq0.true
-
-pub overflow_add-at : goal.overflow_add-at
-overflow_add-at c = omega arith
-
-pub loop-at-smaller : goal.loop-at-smaller
-loop-at-smaller c = omega arith
 
 pub loop-at-preserved : goal.loop-at-preserved
 loop-at-preserved c = (c.loop-at.invariant.0, among_later _ _ _ _ _ c.loop-at.invariant.1 c.loop-at-test.true _ c.same_terms.ensures c.if-same_terms.false _ c.pair_size-step.ensures.0 c.if-step-eq0.false)
