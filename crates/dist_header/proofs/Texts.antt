@@ -7,22 +7,21 @@ use native.Mathlib.Omega.{arith}
 use lib.ListN.{length, get_or, take, drop}
 use lib.Seq.{take-take}
 use borrow.Author.Tests.{eq-eqb, ne_eqb, le-leb, lt-leb}
+use Rattle.std.specs.Prelude.{Result, Ok, Err, ⊤}
 use Rattle.term_spec.specs.Text.{Coding, utf_8, coding_of, valid, check, encodes}
 use Rattle.term_spec.proofs.Text.{utf8_spelt, latin1_is}
 use Rattle.octets.proofs.Parts.{length_part}
 use Rattle.text.specs.Shown.{shown, is_valid}
-use Rattle.text.specs.declared.Checked.{Checked}
 use Rattle.text.proofs.Valid.{coding_utf8, coding_latin1, found, failed}
 use Rattle.packet_spec.specs.Memory.{cache_of, text_if, held_as, held}
 use Rattle.dist_header.specs.Code.{held_case, TextFits}
-use Rattle.dist_header.specs.declared.PlaceText.TheVariants as texts
 
 -- a part of a slice, by its length
 pub part : (s : List ℕ) (from size : ℕ) → take (from + size - from) (drop from s) ≡ take size (drop from s)
 part s from size = let e : from + size - from ≡ size = omega arith in ap (λ (n : ℕ). take n (drop from s)) e
 
 -- what the code answers for such a part
-pub text_part : (coding : Coding) (s : List ℕ) (from size : ℕ) (c : Checked) → c ≡ shown (check coding (take (from + size - from) (drop from s))) → c ≡ shown (check coding (take size (drop from s)))
+pub text_part : (coding : Coding) (s : List ℕ) (from size : ℕ) (c : Result ⊤ ℕ) → c ≡ shown (check coding (take (from + size - from) (drop from s))) → c ≡ shown (check coding (take size (drop from s)))
 text_part coding s from size c e = e ∙ ap (λ (bs : List ℕ). shown (check coding bs)) (part s from size)
 
 module _ (utf8 : Bool) (s : List ℕ) (from size : ℕ) where
@@ -60,11 +59,11 @@ module _ (places lengths : List ℕ) (p n : ℕ) (h : p < length lengths) (is : 
   unfolding held
   held_is = ap (λ (k : ℕ). held_as k (take 32 (drop (32 * p) places))) (get_or_any lengths p 65535 0 h ∙ sym is)
 
-  pub held_nothing : n ≡ 65535 → texts.Empty ≡ held_case (held (cache_of places lengths) p)
+  pub held_nothing : n ≡ 65535 → Err 21 ≡ held_case (held (cache_of places lengths) p)
   unfolding held_as held_case
   held_nothing e = rw (held_is, held_as, eq-eqb n 65535 e)
 
-  pub held_long : (n ≡ 65535 → ⊥) → 32 < n → texts.Bad ≡ held_case (held (cache_of places lengths) p)
+  pub held_long : (n ≡ 65535 → ⊥) → 32 < n → Err 14 ≡ held_case (held (cache_of places lengths) p)
   unfolding held_as held_case
   held_long e l = rw (held_is, held_as, ne_eqb n 65535 e, lt-leb n 32 l)
 
@@ -76,10 +75,10 @@ module _ (places lengths : List ℕ) (p n : ℕ) (h : p < length lengths) (is : 
     valid_is : b ≡ is_valid (check utf_8 (take n (drop (32 * p) places)))
     valid_is = is_b ∙ ap (λ (bs : List ℕ). is_valid (check utf_8 bs)) (part places (32 * p) n)
 
-    pub held_good : b ≡ true → texts.Text ≡ held_case (held (cache_of places lengths) p)
+    pub held_good : b ≡ true → Ok tt ≡ held_case (held (cache_of places lengths) p)
     unfolding held_case text_if
     held_good t = let f = found _ (sym valid_is ∙ t) in rw (held_text, f.1)
 
-    pub held_bad : b ≡ false → texts.Bad ≡ held_case (held (cache_of places lengths) p)
+    pub held_bad : b ≡ false → Err 14 ≡ held_case (held (cache_of places lengths) p)
     unfolding held_case text_if
     held_bad t = let f = failed _ (sym valid_is ∙ t) in rw (held_text, f.1)

@@ -3,68 +3,68 @@ use mathlib.Core.Path.{◌≡◌, refl, sym, ◌∙◌, ap}
 use mathlib.Core.List.{List, [], ◌∷◌, ◌++◌, append_assoc, append-nil}
 use Prim.Native.Nat.{ℕ, suc, ◌+◌, ◌-◌, ◌≤◌, ◌<◌}
 use native.Mathlib.Omega.{arith}
-use lib.ListN.{length, replicate}
+use lib.ListN.{length, drop, replicate}
+use Rattle.std.specs.Prelude.{Some, None, Result, Ok, Err}
 use Rattle.term_spec.specs.Text.{Coding}
 use Rattle.term_spec.specs.Answer.{Answer, good, refused, Position, at_offset, after}
 use Rattle.packet_spec.specs.declared.Place.{Place}
 use Rattle.packet_spec.specs.Memory.{Held}
 use Rattle.packet_spec.specs.Header.{Reference, half, reference, references}
-use Rattle.dist_header.specs.Code.{flags_of, HeaderAt, HeaderStarts, reference_from, Spells, NamingIs, Went, JudgedAs, GoesOn, JudgesNew, JudgesCached, ReferenceIs, Ends, HeaderIs}
+use Rattle.term_spec.specs.declared.Refusal.{Refusal}
+use Rattle.packet_spec.specs.Answers.{refusal_of}
+use Rattle.dist_header.specs.declared.HeaderStart.{HeaderStart}
+use Rattle.dist_header.specs.declared.Naming.{Naming}
+use Rattle.dist_header.specs.declared.Naming.TheVariants.{Unnamed}
+use Rattle.dist_header.proofs.Standing.{flags_half}
+use Rattle.dist_header.specs.Code.{references_from, flags_of, HeaderAt, HeaderStarts, reference_from, Spells, NamingIs, Went, JudgedAs, GoesOn, JudgesNew, JudgesCached, ReferenceIs, Ends, HeaderIs}
 use Rattle.dist_header.proofs.PlaceNaming.{naming_none}
-use Rattle.dist_header.specs.declared.HeaderStart.TheVariants as starts
 use Rattle.dist_header.specs.declared.Spelled.TheVariants as spelled
-use Rattle.dist_header.specs.declared.ReferenceAnswer.{ReferenceAnswer}
-use Rattle.dist_header.specs.declared.ReferenceAnswer.TheVariants as answers
-use Rattle.dist_header.specs.declared.References.TheVariants as ends
-use Rattle.dist_header.specs.declared.HeaderAnswer.TheVariants as headers
 
 -- ---- one reference, read and judged
 
-went_from : {o o' : Answer (Reference × Position)} {t : Position} {naming : List ℕ} {earlier : List Reference} → o' ≡ o → Went o t naming earlier → Went o' t naming earlier
+went_from : {o o' : Answer (Reference × Position)} {t : Position} {naming : List Naming} {earlier : List Reference} → o' ≡ o → Went o t naming earlier → Went o' t naming earlier
 went_from e w = record { reference = w.reference; is = e ∙ w.is; naming_is = w.naming_is }
 
 -- what is judged so, and what comes to the same
-judged_from : (j j' : List Reference → ℕ → Answer (Reference × Position)) (s naming naming' : List ℕ) (r : ReferenceAnswer)
-    → ((earlier : List Reference) (i : ℕ) → j' earlier i ≡ j earlier i) → JudgedAs j s naming naming' r → JudgedAs j' s naming naming' r
+judged_from : (j j' : List Reference → Answer (Reference × Position)) (s : List ℕ) (naming naming' : List Naming) (r : Result ℕ Refusal)
+    → ((earlier : List Reference) → j' earlier ≡ j earlier) → JudgedAs j s naming naming' r → JudgedAs j' s naming naming' r
 unfolding JudgedAs
-judged_from j j' s naming naming' (answers.Refused k) e w = λ earlier i m. e earlier i ∙ w earlier i m
-judged_from j j' s naming naming' (answers.BadText k) e w = λ earlier i m. e earlier i ∙ w earlier i m
-judged_from j j' s naming naming' (answers.Next a) e w = λ earlier i m. went_from (e earlier i) (w earlier i m)
+judged_from j j' s naming naming' (Err f) e w = λ earlier m. e earlier ∙ w earlier m
+judged_from j j' s naming naming' (Ok a) e w = λ earlier m. went_from (e earlier) (w earlier m)
 
-wider : (least most least' most' : ℕ) (r : ReferenceAnswer) → least' ≤ least → most ≤ most' → GoesOn least most r → GoesOn least' most' r
+wider : (least most least' most' : ℕ) (r : Result ℕ Refusal) → least' ≤ least → most ≤ most' → GoesOn least most r → GoesOn least' most' r
 unfolding GoesOn
-wider least most least' most' (answers.Refused k) l m g = tt
-wider least most least' most' (answers.BadText k) l m g = tt
-wider least most least' most' (answers.Next a) l m g = (omega arith, omega arith)
+wider least most least' most' (Err f) l m g = tt
+wider least most least' most' (Ok a) l m g = (omega arith, omega arith)
 
-module _ (agreed : Coding) (holding : ℕ → Held) (s : List ℕ) (h width at : ℕ) (naming naming' : List ℕ) where
-  pub answer_cut : Spells s h width at spelled.Cut → ReferenceIs agreed holding s h width at naming naming' (answers.Refused 2)
+module _ (agreed : Coding) (holding : ℕ → Held) (s : List ℕ) (h width at i : ℕ) (naming naming' : List Naming) where
+  pub answer_cut : Spells s h width at None → ReferenceIs agreed holding s h width at i naming naming' (Err (refusal_of 2 i))
   unfolding Spells JudgedAs GoesOn
-  answer_cut e = record { judged = λ earlier i m. e agreed holding earlier i; ends = tt }
+  answer_cut e = record { judged = λ earlier m. e agreed holding earlier i; ends = tt }
 
-  pub answer_new : (p : Place) (from size : ℕ) (r : ReferenceAnswer) → Spells s h width at (spelled.New p from size)
-      → JudgesNew agreed s p.0 from size naming naming' r → ReferenceIs agreed holding s h width at naming naming' r
+  pub answer_new : (p : Place) (from size : ℕ) (r : Result ℕ Refusal) → Spells s h width at (Some (spelled.New p from size))
+      → JudgesNew agreed s p.0 from size i naming naming' r → ReferenceIs agreed holding s h width at i naming naming' r
   unfolding Spells
   answer_new p from size r e j = record {
-    judged = judged_from _ _ s naming naming' r (λ earlier i. e.0 agreed holding earlier i) (j.judged holding);
+    judged = judged_from _ _ s naming naming' r (λ earlier. e.0 agreed holding earlier i) (j.judged holding);
     ends = wider (from + size) (from + size) (at + 1) (length s) r (omega (arith, e.2)) e.3 j.ends;
   }
 
-  pub answer_cached : (p : Place) (r : ReferenceAnswer) → Spells s h width at (spelled.Cached p)
-      → JudgesCached holding p.0 (at + 1) naming naming' r → ReferenceIs agreed holding s h width at naming naming' r
+  pub answer_cached : (p : Place) (r : Result ℕ Refusal) → Spells s h width at (Some (spelled.Cached p))
+      → JudgesCached holding p.0 (at + 1) i naming naming' r → ReferenceIs agreed holding s h width at i naming naming' r
   unfolding Spells
   answer_cached p r e j = record {
-    judged = judged_from _ _ s naming naming' r (λ earlier i. e.0 agreed holding earlier i) (j.judged agreed s);
+    judged = judged_from _ _ s naming naming' r (λ earlier. e.0 agreed holding earlier i) (j.judged agreed s);
     ends = wider (at + 1) (at + 1) (at + 1) (length s) r (omega arith) (omega (arith, e.2)) j.ends;
   }
 
 -- what is known of a reference that stands there
-pub new_inside : (s : List ℕ) (h width at : ℕ) (p : Place) (from size : ℕ) → Spells s h width at (spelled.New p from size)
+pub new_inside : (s : List ℕ) (h width at : ℕ) (p : Place) (from size : ℕ) → Spells s h width at (Some (spelled.New p from size))
     → (p.0 < 2048) × (at < from) × (from + size ≤ length s) × (size < 65536)
 unfolding Spells
 new_inside s h width at p from size e = (e.1, e.2, e.3, e.4)
 
-pub cached_inside : (s : List ℕ) (h width at : ℕ) (p : Place) → Spells s h width at (spelled.Cached p) → (p.0 < 2048) × (at < length s)
+pub cached_inside : (s : List ℕ) (h width at : ℕ) (p : Place) → Spells s h width at (Some (spelled.Cached p)) → (p.0 < 2048) × (at < length s)
 unfolding Spells
 cached_inside s h width at p e = (e.1, e.2)
 
@@ -133,7 +133,7 @@ module _ (agreed : Coding) (holding : ℕ → Held) (s : List ℕ) (flags : List
         go (good x) f = record { reference = x.0; end = x.1; is = f }
         go (refused k p) f =
             let g : whole ≡ refused k p = along_refused k p less f in
-            let no_way : ◌≡◌ {A = ℕ} 0 1 = cc in absurd (omega arith)
+            absurd cc
 
     pub along_all : i ≡ n → whole ≡ good (done, at_offset s next 0)
     unfolding prepended references
@@ -145,65 +145,71 @@ module _ (agreed : Coding) (holding : ℕ → Held) (s : List ℕ) (flags : List
         none_left : (n i : ℕ) → i ≡ n → n - i ≡ 0
         none_left n i e = omega arith
 
-  -- where the check of the references stands
-  pub record Checking (whole : Answer (List Reference × Position)) (n i next : ℕ) (naming : List ℕ) : Type 0 where
+-- The check of the references of the header at `at`
+module _ (agreed : Coding) (holding : ℕ → Held) (s : List ℕ) (at : ℕ) (start : HeaderStart) where
+  -- it stands before reference i at offset `next`
+  pub record Checking (i next : ℕ) (naming : List Naming) : Type 0 where
     pub earlier : List Reference
     pub done : List Reference
     pub naming_is : NamingIs naming earlier
-    pub along : Along whole n i next earlier done
+    pub along : Along agreed holding s (flags_of s at start.n) start.width (references_from agreed holding s at start) start.n i next earlier done
+    pub inside : next ≤ length s
 
-  pub checking_none : (n first : ℕ) → Checking (references agreed holding flags width [] 0 n (at_offset s first 0)) n 0 first (replicate 2048 0)
-  checking_none n first = record { earlier = []; done = []; naming_is = naming_none; along = along_none n first }
+  pub checking_none : HeaderAt s at start → Checking 0 start.first (replicate 2048 Unnamed)
+  checking_none stands =
+      record {
+        earlier = [];
+        done = [];
+        naming_is = naming_none;
+        along = along_none agreed holding s (flags_of s at start.n) start.width start.n start.first;
+        inside = stands.first_inside;
+      }
 
-  module _ (whole : Answer (List Reference × Position)) (n i next : ℕ) (naming : List ℕ) (c : Checking whole n i next naming) where
-    pub checking_refused : (k : ℕ) (naming' : List ℕ) → i < n → ReferenceIs agreed holding s (half flags i) width next naming naming' (answers.Refused k)
-        → Ends whole s (ends.Refused (record { number = k; place = i }))
-    unfolding JudgedAs Ends
-    checking_refused k naming' less e = along_refused whole n i next c.earlier c.done c.along k i less (e.judged c.earlier i c.naming_is)
+  module _ (i next : ℕ) (naming naming' : List Naming) (c : Checking i next naming) where
+    -- reference i, judged with the half that the code finds
+    module _ (h : ℕ) (half_is : h ≡ half (drop (at + 1) s) i) (less : i < start.n) where
+      its_half : h ≡ half (flags_of s at start.n) i
+      its_half = half_is ∙ flags_half s at start.n i (omega arith) (omega arith)
 
-    pub checking_bad : (k : ℕ) (naming' : List ℕ) → i < n → ReferenceIs agreed holding s (half flags i) width next naming naming' (answers.BadText k)
-        → Ends whole s (ends.Refused (record { number = 5; place = k }))
-    unfolding JudgedAs Ends
-    checking_bad k naming' less e = along_refused whole n i next c.earlier c.done c.along 5 k less (e.judged c.earlier i c.naming_is)
+      pub checking_refused : (f : Refusal) → ReferenceIs agreed holding s h start.width next i naming naming' (Err f) → Ends (references_from agreed holding s at start) s (Err f)
+      unfolding JudgedAs Ends
+      checking_refused f e =
+          along_refused agreed holding s (flags_of s at start.n) start.width _ start.n i next c.earlier c.done c.along f.number f.place less
+          (ap (λ (h : ℕ). reference agreed holding start.width c.earlier i h (at_offset s next 0)) (sym its_half) ∙ e.judged c.earlier c.naming_is)
 
-    pub checking_more : (a : ℕ) (naming' : List ℕ) → i < n → ReferenceIs agreed holding s (half flags i) width next naming naming' (answers.Next a) → Checking whole n (i + 1) a naming'
-    unfolding JudgedAs
-    checking_more a naming' less e =
-        let w : Went (reference agreed holding width c.earlier i (half flags i) (at_offset s next 0)) (at_offset s a 0) naming' c.earlier = e.judged c.earlier i c.naming_is in
-        record {
-          earlier = w.reference ∷ c.earlier;
-          done = c.done ++ (w.reference ∷ []);
-          naming_is = w.naming_is;
-          along = along_more whole n i next c.earlier c.done c.along w.reference a less w.is;
-        }
+      pub checking_more : (a : ℕ) → ReferenceIs agreed holding s h start.width next i naming naming' (Ok a) → Checking (i + 1) a naming'
+      unfolding JudgedAs GoesOn
+      checking_more a e =
+          let w : Went (reference agreed holding start.width c.earlier i h (at_offset s next 0)) (at_offset s a 0) naming' c.earlier = e.judged c.earlier c.naming_is in
+          record {
+            earlier = w.reference ∷ c.earlier;
+            done = c.done ++ (w.reference ∷ []);
+            naming_is = w.naming_is;
+            along = along_more agreed holding s (flags_of s at start.n) start.width _ start.n i next c.earlier c.done c.along w.reference a less
+                (ap (λ (h : ℕ). reference agreed holding start.width c.earlier i h (at_offset s next 0)) (sym its_half) ∙ w.is);
+            inside = e.ends.1;
+          }
 
-    pub checking_all : i ≡ n → next ≤ length s → Ends whole s (ends.End next)
+    pub checking_all : i ≡ start.n → Ends (references_from agreed holding s at start) s (Ok next)
     unfolding Ends
-    checking_all e l = (record { references = c.done; is = along_all whole n i next c.earlier c.done c.along e }, l)
-
-pub next_inside : (agreed : Coding) (holding : ℕ → Held) (s : List ℕ) (h width at : ℕ) (naming naming' : List ℕ) (a : ℕ)
-    → ReferenceIs agreed holding s h width at naming naming' (answers.Next a) → (at < a) × (a ≤ length s)
-unfolding GoesOn
-next_inside agreed holding s h width at naming naming' a e = (omega (arith, e.ends.0), e.ends.1)
+    checking_all e =
+        (record { references = c.done; is = along_all agreed holding s (flags_of s at start.n) start.width _ start.n i next c.earlier c.done c.along e }, c.inside)
 
 -- ---- the whole header
 
-pub header_cut : (agreed : Coding) (holding : ℕ → Held) (s : List ℕ) (at : ℕ) → HeaderStarts s at starts.Cut
-    → HeaderIs agreed holding s at (headers.Refused (record { number = 2; place = 0 }))
+pub header_cut : (agreed : Coding) (holding : ℕ → Held) (s : List ℕ) (at : ℕ) → HeaderStarts s at None → HeaderIs agreed holding s at (Err (refusal_of 2 0))
 unfolding HeaderStarts HeaderIs
 header_cut agreed holding s at e = e agreed holding
 
-module _ (agreed : Coding) (holding : ℕ → Held) (s : List ℕ) (at n width first : ℕ) (o : HeaderStarts s at (starts.Header n width first)) where
-  pub start_inside : HeaderAt s at n width first
+module _ (agreed : Coding) (holding : ℕ → Held) (s : List ℕ) (at : ℕ) (start : HeaderStart) (o : HeaderStarts s at (Some start)) where
+  pub start_inside : HeaderAt s at start
   unfolding HeaderStarts
   start_inside = o.1
 
-  pub header_refused : (number place : ℕ) → Ends (references agreed holding (flags_of s at n) width [] 0 n (at_offset s first 0)) s (ends.Refused (record { number = number; place = place }))
-      → HeaderIs agreed holding s at (headers.Refused (record { number = number; place = place }))
+  pub header_refused : (f : Refusal) → Ends (references_from agreed holding s at start) s (Err f) → HeaderIs agreed holding s at (Err f)
   unfolding HeaderStarts HeaderIs Ends
-  header_refused number place e = o.0 agreed holding ∙ e
+  header_refused f e = o.0 agreed holding ∙ e
 
-  pub header_good : (a : ℕ) → Ends (references agreed holding (flags_of s at n) width [] 0 n (at_offset s first 0)) s (ends.End a)
-      → HeaderIs agreed holding s at (headers.Header n width first a)
+  pub header_good : (a : ℕ) → Ends (references_from agreed holding s at start) s (Ok a) → HeaderIs agreed holding s at (Ok (record { start = start; payload = a }))
   unfolding HeaderStarts HeaderIs Ends
   header_good a e = (o, record { references = e.0.references; is = o.0 agreed holding ∙ e.0.is }, e.1)

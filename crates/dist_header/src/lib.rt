@@ -3,35 +3,46 @@
 
 ghost use Rattle.std.specs.Prelude.{◌≡◌, List, ℕ, ◌+◌, ◌/◌, ◌≤◌, ◌<◌, length, take, drop};
 ghost use Rattle.term_spec.specs.Text.{coding_of, check, valid, encodes};
-ghost use Rattle.packet_spec.specs.Memory.{cache_of, CacheSized, held};
+ghost use Rattle.packet_spec.specs.Memory.{CacheSized, held};
 ghost use Rattle.packet_spec.specs.Header.{half};
-ghost use Rattle.dist_header.specs.Code.{HeaderAt, references_from, HeaderStarts, ReferenceAt, Spells, TextFits, PutsText, held_case, JudgesNew, JudgesCached, ReferenceIs, Ends, HeaderIs};
+ghost use Rattle.dist_header.specs.Code.{lent_cache, HeaderAt, references_from, HeaderStarts, ReferenceAt, Spells, TextFits, PutsText, held_case, JudgesNew, JudgesCached, ReferenceIs, Ends, HeaderIs};
 
 use packet_spec::{Place, ReferenceIndex};
 use term_spec::{Refusal, refusals, sizes};
 
 // How the references before name a place: none does, one does, one fills it new.
-const UNNAMED: u8 = 0;
+#[derive(Clone, Copy, PartialEq, Eq)]
+enum Naming {
+    Unnamed,
+    Named,
+    Filled,
+}
 
-const NAMED: u8 = 1;
-
-const FILLED: u8 = 2;
+// The cache as it is read: its places, and their lengths.
+#[derive(Clone, Copy)]
+pub struct Cache<'a> {
+    pub places: &'a [u8],
+    pub lengths: &'a [u16],
+}
 
 // What stands before the references: their number, the width of lengths, the offset of the first.
-#[derive(Drop)]
-enum HeaderStart {
-    Cut,
-    Header {
-        n: usize,
-        width: usize,
-        first: usize,
-    },
+#[derive(Clone, Copy)]
+pub struct HeaderStart {
+    pub n: usize,
+    pub width: usize,
+    pub first: usize,
+}
+
+// A header that may be taken: what stands before its references, and the offset of the payload.
+#[derive(Clone, Copy)]
+pub struct Header {
+    pub start: HeaderStart,
+    pub payload: usize,
 }
 
 // A reference as it stands in a header: new, with the offset and the length of its text, or cached.
 #[derive(Drop)]
 pub enum Spelled {
-    Cut,
     New {
         place: Place,
         from: usize,
@@ -39,41 +50,6 @@ pub enum Spelled {
     },
     Cached {
         place: Place,
-    },
-}
-
-// What a place of the cache holds: nothing, bytes or a length that are no text's, or a text.
-#[derive(Drop)]
-enum PlaceText {
-    Empty,
-    Bad,
-    Text,
-}
-
-// A reference judged: the number of its refusal, the offset at which its text fails, or the offset past it.
-#[derive(Drop)]
-enum ReferenceAnswer {
-    Refused(u8),
-    BadText(usize),
-    Next(usize),
-}
-
-// The references of a header: the refusal, or the offset past the last.
-#[derive(Drop)]
-enum References {
-    Refused(Refusal),
-    End(usize),
-}
-
-// A header judged: the refusal, or where its references and its payload stand.
-#[derive(Drop)]
-pub enum HeaderAnswer {
-    Refused(Refusal),
-    Header {
-        n: usize,
-        width: usize,
-        first: usize,
-        payload: usize,
     },
 }
 
@@ -90,59 +66,55 @@ pub fn half_of(packet: &[u8], at: usize, i: ReferenceIndex) -> usize
     flags / 16
 }
 
-// The count, the flags and the width of lengths of the header at `at`.
-fn header_start(packet: &[u8], at: usize) -> HeaderStart
+// The count, the flags and the width of lengths of the header at `at`; none where it is cut off.
+fn header_start(packet: &[u8], at: usize) -> Option<HeaderStart>
     requires { at ≤ length packet.now }
     ensures { HeaderStarts packet.now at result }
 {
     if packet.len() <= at {
-        return HeaderStart::Cut;
+        return None;
     }
     let n = octets::wide(packet[at]);
     if n == 0 {
-        return HeaderStart::Header {
+        return Some(HeaderStart {
             n: 0,
             width: 1,
             first: at + 1,
-        };
+        });
     }
     let flags = n / 2 + 1;
     if packet.len() - at - 1 < flags {
-        return HeaderStart::Cut;
+        return None;
     }
     let spare = half_of(packet, at, ReferenceIndex(n));
-    HeaderStart::Header {
-        n: n,
+    Some(HeaderStart {
+        n,
         width: 1 + spare % 2,
         first: at + 1 + flags,
-    }
+    })
 }
 
-// The reference at `at`, with its half and the width of lengths: its place is 256 times the segment plus the internal index.
-pub fn read_reference(packet: &[u8], half: usize, width: usize, at: usize) -> Spelled
+// The reference at `at`, with its half and the width of lengths; none where it is cut off. Its place is 256 times the segment plus the internal index.
+pub fn read_reference(packet: &[u8], half: usize, width: usize, at: usize) -> Option<Spelled>
     requires { ReferenceAt packet.now half width at }
     ensures { Spells packet.now half width at result }
 {
     if packet.len() <= at {
-        return Spelled::Cut;
+        return None;
     }
     let place = Place(256 * (half % 8) + octets::wide(packet[at]));
     if half < 8 {
-        return Spelled::Cached { place: place };
+        return Some(Spelled::Cached { place });
     }
     if packet.len() - at - 1 < width {
-        return Spelled::Cut;
+        return None;
     }
     let size = octets::number(packet, at + 1, width) as usize;
     let from = at + 1 + width;
     if packet.len() - from < size {
-        return Spelled::Cut;
+        return None;
     }
-    Spelled::New {
-        place: place,
-        from: from,
-        size: size,
-    }
+    Some(Spelled::New { place, from, size })
 }
 
 // The length as UTF-8 of the text, in the coding agreed, from `from` on.
@@ -175,177 +147,155 @@ pub fn put_text(
     text::put_latin1(packet, from, size, dst, at)
 }
 
-// What a place of the cache holds.
-fn held_at(cache: &[u8], cache_lengths: &[u16], place: Place) -> PlaceText
-    requires { (place.0 < 2048) × CacheSized (cache_of cache.now cache_lengths.now) }
-    ensures { result ≡ held_case (held (cache_of cache.now cache_lengths.now) place.0) }
+// Whether a place of the cache holds a text: 21 where it is empty, 14 where its bytes or its length are no text's.
+fn check_place(cache: &Cache, place: Place) -> Result<(), u8>
+    requires { (place.0 < 2048) × CacheSized (lent_cache cache.now) }
+    ensures { result ≡ held_case (held (lent_cache cache.now) place.0) }
 {
     let k = place.0;
-    let size = octets::wide16(cache_lengths[k]);
+    let size = octets::wide16(cache.lengths[k]);
     if size == packet_spec::sizes::CACHE_EMPTY as usize {
-        return PlaceText::Empty;
+        return Err(refusals::EMPTY_PLACE);
     }
     if sizes::PLACE_BYTES < size {
-        return PlaceText::Bad;
+        return Err(refusals::STATE);
     }
     let from = sizes::PLACE_BYTES * k;
-    let end = from + size;
-    if text::is_utf8(&cache[from..end]) {
-        return PlaceText::Text;
+    if text::is_utf8(&cache.places[from..from + size]) {
+        Ok(())
+    } else {
+        Err(refusals::STATE)
     }
-    PlaceText::Bad
 }
 
-// Judges a new reference: 22, 5, 23. `naming` says how earlier references name each place.
+// Judges new reference i: 22, 5, 23. `naming` says how earlier references name each place.
 fn judge_new(
     utf8: bool,
     packet: &[u8],
+    i: ReferenceIndex,
     place: Place,
     from: usize,
     size: usize,
-    naming: &mut [u8],
-) -> ReferenceAnswer
+    naming: &mut [Naming],
+) -> Result<usize, Refusal>
     requires { (place.0 < 2048) × (from + size ≤ length packet.now) × (size < 65536) × (length naming.old ≡ 2048) }
-    ensures { JudgesNew (coding_of utf8) packet.now place.0 from size naming.old naming.new result }
+    ensures { JudgesNew (coding_of utf8) packet.now place.0 from size i.0 naming.old naming.new result }
 {
     let k = place.0;
-    if naming[k] != UNNAMED {
-        return ReferenceAnswer::Refused(refusals::NAMED_AGAIN);
+    if naming[k] != Naming::Unnamed {
+        return Err(Refusal {
+            number: refusals::NAMED_AGAIN,
+            place: i.0,
+        });
     }
     let end = from + size;
-    if let text::Checked::Bad(bad) = text::check_text(&packet[from..end], utf8) {
-        return ReferenceAnswer::BadText(from + bad);
+    if let Err(bad) = text::check_text(&packet[from..end], utf8) {
+        return Err(Refusal {
+            number: refusals::TEXT,
+            place: from + bad,
+        });
     }
     if sizes::PLACE_BYTES < stored_length(utf8, packet, from, size) {
-        return ReferenceAnswer::Refused(refusals::LONG_TEXT);
+        return Err(Refusal {
+            number: refusals::LONG_TEXT,
+            place: i.0,
+        });
     }
-    naming[k] = FILLED;
-    ReferenceAnswer::Next(end)
+    naming[k] = Naming::Filled;
+    Ok(end)
 }
 
-// Judges a cached reference that ends at `end`: 22, 21, 14.
+// Judges cached reference i, which ends at `end`: 22, 21, 14.
 fn judge_cached(
-    cache: &[u8],
-    cache_lengths: &[u16],
+    cache: &Cache,
+    i: ReferenceIndex,
     place: Place,
     end: usize,
-    naming: &mut [u8],
-) -> ReferenceAnswer
-    requires { (place.0 < 2048) × CacheSized (cache_of cache.now cache_lengths.now) × (length naming.old ≡ 2048) }
-    ensures { JudgesCached (held (cache_of cache.now cache_lengths.now)) place.0 end naming.old naming.new result }
+    naming: &mut [Naming],
+) -> Result<usize, Refusal>
+    requires { (place.0 < 2048) × CacheSized (lent_cache cache.now) × (length naming.old ≡ 2048) }
+    ensures { JudgesCached (held (lent_cache cache.now)) place.0 end i.0 naming.old naming.new result }
 {
     let k = place.0;
-    if naming[k] == FILLED {
-        return ReferenceAnswer::Refused(refusals::NAMED_AGAIN);
+    if naming[k] == Naming::Filled {
+        return Err(Refusal {
+            number: refusals::NAMED_AGAIN,
+            place: i.0,
+        });
     }
-    match held_at(cache, cache_lengths, place) {
-        PlaceText::Empty => ReferenceAnswer::Refused(refusals::EMPTY_PLACE),
-        PlaceText::Bad => ReferenceAnswer::Refused(refusals::STATE),
-        PlaceText::Text => {
-            naming[k] = NAMED;
-            ReferenceAnswer::Next(end)
-        }
+    if let Err(number) = check_place(cache, place) {
+        return Err(Refusal { number, place: i.0 });
     }
+    naming[k] = Naming::Named;
+    Ok(end)
 }
 
-// Reads and judges the reference at `at`, with its half and the width of lengths.
+// Reads and judges reference i at `at`, with its half and the width of lengths.
 fn judge_reference(
     utf8: bool,
     packet: &[u8],
+    i: ReferenceIndex,
     half: usize,
     width: usize,
     at: usize,
-    cache: &[u8],
-    cache_lengths: &[u16],
-    naming: &mut [u8],
-) -> ReferenceAnswer
-    requires { ReferenceAt packet.now half width at × CacheSized (cache_of cache.now cache_lengths.now) × (length naming.old ≡ 2048) }
-    ensures { ReferenceIs (coding_of utf8) (held (cache_of cache.now cache_lengths.now)) packet.now half width at naming.old naming.new result }
+    cache: &Cache,
+    naming: &mut [Naming],
+) -> Result<usize, Refusal>
+    requires { ReferenceAt packet.now half width at × CacheSized (lent_cache cache.now) × (length naming.old ≡ 2048) }
+    ensures { ReferenceIs (coding_of utf8) (held (lent_cache cache.now)) packet.now half width at i.0 naming.old naming.new result }
 {
     match read_reference(packet, half, width, at) {
-        Spelled::Cut => ReferenceAnswer::Refused(refusals::CUT),
-        Spelled::New { place, from, size } => judge_new(utf8, packet, place, from, size, naming),
-        Spelled::Cached { place } => judge_cached(cache, cache_lengths, place, at + 1, naming),
+        None => Err(Refusal {
+            number: refusals::CUT,
+            place: i.0,
+        }),
+        Some(Spelled::New { place, from, size }) => judge_new(
+            utf8, packet, i, place, from, size, naming,
+        ),
+        Some(Spelled::Cached { place }) => judge_cached(cache, i, place, at + 1, naming),
     }
 }
 
-// The references of a header, refused.
-fn refused(number: u8, place: usize) -> References
-    ensures { result ≡ References.Refused (record { number = number; place = place }) }
-{
-    References::Refused(Refusal { number, place })
-}
-
-// Reads and judges the n references of the header at `at`, the first at `first`, each in turn.
+// Reads and judges the references of the header at `at`, each in turn; the offset past the last.
 fn check_references(
     utf8: bool,
     packet: &[u8],
     at: usize,
-    n: usize,
-    width: usize,
-    first: usize,
-    cache: &[u8],
-    cache_lengths: &[u16],
-) -> References
-    requires { HeaderAt packet.now at n width first × CacheSized (cache_of cache.now cache_lengths.now) }
-    ensures { Ends (references_from (coding_of utf8) (held (cache_of cache.now cache_lengths.now)) packet.now at n width first) packet.now result }
+    start: HeaderStart,
+    cache: &Cache,
+) -> Result<usize, Refusal>
+    requires { HeaderAt packet.now at start × CacheSized (lent_cache cache.now) }
+    ensures { Ends (references_from (coding_of utf8) (held (lent_cache cache.now)) packet.now at start) packet.now result }
 {
-    let mut naming = [UNNAMED; packet_spec::sizes::CACHE_PLACES];
-    let mut next = first;
-    let mut i = 0;
-    while i < n {
+    let mut naming = [Naming::Unnamed; packet_spec::sizes::CACHE_PLACES];
+    let mut next = start.first;
+    for i in 0..start.n {
         let half = half_of(packet, at, ReferenceIndex(i));
-        match judge_reference(
+        next = judge_reference(
             utf8,
             packet,
+            ReferenceIndex(i),
             half,
-            width,
+            start.width,
             next,
             cache,
-            cache_lengths,
             &mut naming,
-        ) {
-            ReferenceAnswer::Refused(number) => {
-                return refused(number, i);
-            }
-            ReferenceAnswer::BadText(place) => {
-                return refused(refusals::TEXT, place);
-            }
-            ReferenceAnswer::Next(offset) => {
-                next = offset;
-            }
-        }
-        i += 1;
+        )?;
     }
-    References::End(next)
+    Ok(next)
 }
 
 // Judges the header at `at`: 2 on the count and flags, then each reference in turn.
-pub fn check_header(
-    utf8: bool,
-    packet: &[u8],
-    at: usize,
-    cache: &[u8],
-    cache_lengths: &[u16],
-) -> HeaderAnswer
-    requires { (at ≤ length packet.now) × CacheSized (cache_of cache.now cache_lengths.now) }
-    ensures { HeaderIs (coding_of utf8) (held (cache_of cache.now cache_lengths.now)) packet.now at result }
+pub fn check_header(utf8: bool, packet: &[u8], at: usize, cache: &Cache) -> Result<Header, Refusal>
+    requires { (at ≤ length packet.now) × CacheSized (lent_cache cache.now) }
+    ensures { HeaderIs (coding_of utf8) (held (lent_cache cache.now)) packet.now at result }
 {
-    match header_start(packet, at) {
-        HeaderStart::Cut => HeaderAnswer::Refused(Refusal {
+    let Some(start) = header_start(packet, at) else {
+        return Err(Refusal {
             number: refusals::CUT,
             place: 0,
-        }),
-        HeaderStart::Header { n, width, first } => {
-            match check_references(utf8, packet, at, n, width, first, cache, cache_lengths) {
-                References::Refused(refusal) => HeaderAnswer::Refused(refusal),
-                References::End(payload) => HeaderAnswer::Header {
-                    n: n,
-                    width: width,
-                    first: first,
-                    payload: payload,
-                },
-            }
-        }
-    }
+        });
+    };
+    let payload = check_references(utf8, packet, at, start, cache)?;
+    Ok(Header { start, payload })
 }

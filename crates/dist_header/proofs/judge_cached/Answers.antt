@@ -1,18 +1,18 @@
 -- `judge_cached` meets its contract.
 use mathlib.Core.Path.{sym, ◌∙◌}
-use Rattle.packet_spec.specs.Memory.{cache_of, held}
-use Rattle.dist_header.proofs.Judging.{cached_again, cached_empty, cached_false, cached_good}
+use Rattle.packet_spec.specs.Memory.{held}
+use Rattle.dist_header.specs.Code.{lent_cache}
+use Rattle.dist_header.proofs.PlaceNaming.{filled_told, not_filled_told}
+use Rattle.dist_header.proofs.Judging.{cached_again, cached_refused, cached_good}
 use Rattle.dist_header.proofs.judge_cached.Goals as goal
 
-pub returns-then-naming-k-eq-FILLED : goal.returns-then-naming-k-eq-FILLED
-returns-then-naming-k-eq-FILLED c = let a = c.args in cached_again (held (cache_of a.cache.now a.cache_lengths.now)) a.place.0 a.end a.naming.now c.requires.0 c.if-naming-k-eq-FILLED.true
+pub returns-then-eq : goal.returns-then-eq
+returns-then-eq c = let a = c.args in cached_again (held (lent_cache a.cache.now)) a.place.0 a.end a.i.0 a.naming.now c.requires.0 (filled_told _ c.if-eq.ensures)
 
-pub returns-in-Empty : goal.returns-in-Empty
-returns-in-Empty c = let a = c.args in cached_empty (held (cache_of a.cache.now a.cache_lengths.now)) a.place.0 a.end a.naming.now c.requires.0 c.if-naming-k-eq-FILLED.false (sym c.in-Empty.is ∙ c.held_at.ensures)
+pub returns-in-Err : goal.returns-in-Err
+returns-in-Err c = let a = c.args in
+    cached_refused (held (lent_cache a.cache.now)) a.place.0 a.end a.i.0 a.naming.now c.requires.0 (not_filled_told _ c.if-eq.ensures) _ c.in-Err.ensures
 
-pub returns-in-Bad : goal.returns-in-Bad
-returns-in-Bad c = let a = c.args in cached_false (held (cache_of a.cache.now a.cache_lengths.now)) a.place.0 a.end a.naming.now c.requires.0 c.if-naming-k-eq-FILLED.false (sym c.in-Bad.is ∙ c.held_at.ensures)
-
-pub returns-in-Text : goal.returns-in-Text
-returns-in-Text c = let a = c.args in
-    cached_good (held (cache_of a.cache.now a.cache_lengths.now)) a.place.0 a.end a.naming.now c.requires.0 c.if-naming-k-eq-FILLED.false (sym c.in-Text.is ∙ c.held_at.ensures) c.requires.2
+pub returns : goal.returns
+returns c = let a = c.args in
+    cached_good (held (lent_cache a.cache.now)) a.place.0 a.end a.i.0 a.naming.now c.requires.0 (not_filled_told _ c.if-eq.ensures) (sym c.in_default.is ∙ c.check_place.ensures) c.requires.2
