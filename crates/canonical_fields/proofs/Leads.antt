@@ -1,9 +1,10 @@
 -- The layouts that say a term's bytes before and after its parts.
-use mathlib.Core.Path.{◌≡◌, refl, sym, ◌∙◌, ap, ap₂}
+use mathlib.Core.Path.{◌≡◌, refl, sym, ◌∙◌, ap, ap₂, subst}
 use mathlib.Core.Bool.{Bool, true, false, cond}
 use mathlib.Core.List.{List, [], ◌∷◌, ◌++◌, append-nil}
 use Prim.Native.Nat.{ℕ, zero, suc, ◌+◌, ◌*◌, ◌-◌, ◌%◌, ◌^◌, ◌≤◌, ◌<◌}
 use native.Mathlib.Omega.{arith}
+use mir.Val.{bool_byte}
 use lib.Arith.{digits_div, digits_mod}
 use lib.Dec.{eqb, ltb}
 use lib.IntN.{pos, negsuc}
@@ -24,9 +25,6 @@ use Rattle.row_fields.specs.Meaning.{sign, coded, words_at, bare, label_of}
 use Rattle.row_fields.specs.declared.Content.{Content}
 use Rattle.row_fields.specs.declared.Content.TheVariants as fields
 use Rattle.row_fields.specs.declared.Content.TheVariants.{Whole, Big, Text, Bytes, Reference}
-use denote.Enum.Declared.{tag_of}
-use types.Run.{OneOf, miss}
-use Rattle.row_fields.specs.contracts.Content.{the_type}
 use Rattle.row_fields.proofs.Values.{under_part}
 use Rattle.layout.specs.declared.Body.{Body}
 use Rattle.layout.specs.declared.Body.TheVariants.{Empty, Part, Latin1, Digits, Bits}
@@ -57,14 +55,19 @@ unfolding tagged_bytes body_bytes BodyInside
 only_tagged tag w n t e m places = says (ap (λ (x : List ℕ). tag ∷ x) (append-nil (in_bytes w n)) ∙ e) (t m places tt)
 
 -- integers
-pub digits_lays : (n count sign : ℕ) {l : Layout} → l ≡ laid_of 1 110 1 count 1 sign (Digits n) → count ≡ length (digits n) → count ≤ 8
-    → (m places : List ℕ) → Lays m places (big_bytes sign (digits n)) l
+pub sign_byte : (z : Bool) → bool_byte z ≡ sign z
+sign_byte true = refl
+sign_byte false = refl
+
+pub digits_lays : (n count : ℕ) (z : Bool) (s : ℕ) {l : Layout} → l ≡ laid_of 1 110 1 count 1 s (Digits n) → s ≡ sign z → count ≡ length (digits n) → count ≤ 8
+    → (m places : List ℕ) → Lays m places (big_bytes (sign z) (digits n)) l
 unfolding big_bytes body_bytes BodyInside
-digits_lays n count sign e c few m places =
+digits_lays n count z s {l} e f c few m places =
     let k : length (digits n) ≤ 255 = omega arith in
-    lays 1 110 1 count 1 sign (Digits n) e (omega arith) (omega arith) (omega arith) tt
-    (ap₂ (λ (x : List ℕ) (y : ℕ). x ++ (in_bytes 1 y ++ (in_bytes 1 sign ++ digits n))) (bytes_one 110 (omega arith)) c
-    ∙ sym (ap (λ (z : Bool). cond z (110 ∷ (in_bytes 1 (length (digits n)) ++ (in_bytes 1 sign ++ digits n))) (111 ∷ (in_bytes 4 (length (digits n)) ++ (in_bytes 1 sign ++ digits n)))) (le-leb (length (digits n)) 255 k)))
+    subst (λ (t : ℕ). Lays m places (big_bytes t (digits n)) l) f
+    (lays 1 110 1 count 1 s (Digits n) e (omega arith) (omega arith) (omega arith) tt
+    (ap₂ (λ (x : List ℕ) (y : ℕ). x ++ (in_bytes 1 y ++ (in_bytes 1 s ++ digits n))) (bytes_one 110 (omega arith)) c
+    ∙ sym (ap (λ (z : Bool). cond z (110 ∷ (in_bytes 1 (length (digits n)) ++ (in_bytes 1 s ++ digits n))) (111 ∷ (in_bytes 4 (length (digits n)) ++ (in_bytes 1 s ++ digits n)))) (le-leb (length (digits n)) 255 k))))
 
 module _ (n : ℕ) where
   pub positive_97 : n < 256 → 97 ∷ in_bytes 1 n ≡ integer_bytes (pos n)
@@ -96,12 +99,6 @@ module _ (n : ℕ) where
 -- bytes of a part are bytes
 part_under : (m : List ℕ) (start n : ℕ) → BytesOnly m → Under 256 (stretch m start n)
 part_under m start n b = under_part m start n (under_all m (λ i l. b i))
-
-pub sign_true : (z : Bool) → z ≡ true → sign z ≡ 1
-sign_true z e = ap sign e
-
-pub sign_false : (z : Bool) → z ≡ false → sign z ≡ 0
-sign_false z e = ap sign e
 
 -- an integer of more than 8 digits is a bignum
 module _ (m : List ℕ) (start n : ℕ) (h : High m start n) (b : BytesOnly m) where
@@ -315,19 +312,20 @@ unfolding with_sign
 signed_above z n e = rw e
 
 -- nothing stands after the parts of what is neither bare, nor a pid, port or reference
-plain_trail : (m places : List ℕ) (kind n : ℕ) (c : Content) → OneOf (1 ∷ 2 ∷ 3 ∷ 4 ∷ 5 ∷ 6 ∷ []) (tag_of the_type c)
+plain_trail : (m places : List ℕ) (kind n : ℕ) (c : Content)
+    → (c ≡ fields.Nothing → ⊥) → ((id serial creation : ℕ) → c ≡ fields.Pid id serial creation → ⊥) → ((id creation : ℕ) → c ≡ fields.Port id creation → ⊥) → ((creation start words : ℕ) → c ≡ Reference creation start words → ⊥)
     → after (label_of m (listed_in places) kind c) n ≡ []
 unfolding label_of after
-plain_trail m places kind n fields.Nothing o = absurd (miss (1 ∷ 2 ∷ 3 ∷ 4 ∷ 5 ∷ 6 ∷ []) 0 tt o)
-plain_trail m places kind n (Whole negative k) o = refl
-plain_trail m places kind n (Big negative start k) o = refl
-plain_trail m places kind n (fields.Float bits) o = refl
-plain_trail m places kind n (Text latin1 listed start k) o = refl
-plain_trail m places kind n (Bytes start k) o = refl
-plain_trail m places kind n (fields.Bits bits start k) o = refl
-plain_trail m places kind n (fields.Pid id serial creation) o = absurd (miss (1 ∷ 2 ∷ 3 ∷ 4 ∷ 5 ∷ 6 ∷ []) 7 tt o)
-plain_trail m places kind n (fields.Port id creation) o = absurd (miss (1 ∷ 2 ∷ 3 ∷ 4 ∷ 5 ∷ 6 ∷ []) 8 tt o)
-plain_trail m places kind n (Reference creation start k) o = absurd (miss (1 ∷ 2 ∷ 3 ∷ 4 ∷ 5 ∷ 6 ∷ []) 9 tt o)
+plain_trail m places kind n fields.Nothing x y z w = absurd (x refl)
+plain_trail m places kind n (Whole negative k) x y z w = refl
+plain_trail m places kind n (Big negative start k) x y z w = refl
+plain_trail m places kind n (fields.Float bits) x y z w = refl
+plain_trail m places kind n (Text latin1 listed start k) x y z w = refl
+plain_trail m places kind n (Bytes start k) x y z w = refl
+plain_trail m places kind n (fields.Bits bits start k) x y z w = refl
+plain_trail m places kind n (fields.Pid id serial creation) x y z w = absurd (y id serial creation refl)
+plain_trail m places kind n (fields.Port id creation) x y z w = absurd (z id creation refl)
+plain_trail m places kind n (Reference creation start k) x y z w = absurd (w creation start k refl)
 
 module _ (m places : List ℕ) (content : Content) where
   pub sound_whole : (negative : Bool) (n : ℕ) → content ≡ Whole negative n → SoundContent m places content → negative ≡ true → 0 < n
@@ -365,8 +363,9 @@ module _ (m places : List ℕ) (content : Content) where
     pub lead_by : (c : Content) {l : Layout} → content ≡ c → Lays m places (before_of c) l → Lays m places (before_of content) l
     lead_by c e h = says (sym (ap before_of e)) h
 
-    pub no_trail : OneOf (1 ∷ 2 ∷ 3 ∷ 4 ∷ 5 ∷ 6 ∷ []) (tag_of the_type content) → {l : Layout} → Lays m places [] l → Lays m places (after_of content) l
-    no_trail o h = says (sym (plain_trail m places kind n content o)) h
+    pub no_trail : (content ≡ fields.Nothing → ⊥) → ((id serial creation : ℕ) → content ≡ fields.Pid id serial creation → ⊥) → ((id creation : ℕ) → content ≡ fields.Port id creation → ⊥)
+        → ((creation start words : ℕ) → content ≡ Reference creation start words → ⊥) → {l : Layout} → Lays m places [] l → Lays m places (after_of content) l
+    no_trail x y z w h = says (sym (plain_trail m places kind n content x y z w)) h
 
     pub trail_by : (c : Content) {l : Layout} → content ≡ c → Lays m places (after_of c) l → Lays m places (after_of content) l
     trail_by c e h = says (sym (ap after_of e)) h

@@ -9,70 +9,44 @@ ghost use Rattle.term_spec.specs.Term.{tuple, list, binary, bitstring, pid, port
 ghost use Rattle.term_spec.specs.Canonical.{big_bytes, integer_bytes, atom_bytes};
 ghost use Rattle.row_fields.specs.Meaning.{sign, coded, words_at, bare, label_of};
 ghost use Rattle.octets.specs.Parts.{stretch, source};
-ghost use Rattle.layout.specs.Layout.{body_bytes, Inside, BodyInside, Lays};
+ghost use Rattle.layout.specs.Layout.{body_bytes, Inside, BodyInside, Lays, laid_of};
 ghost use Rattle.canonical_fields.specs.Shape.{tagged_bytes, before, after};
 ghost use Rattle.canonical_fields.specs.Sound.{High, BytesOnly, SoundText, SoundContent, listed_in, content_in};
 
-use layout::{Body, Layout};
+use layout::{Body, Layout, NO_NUMBER};
 use row_fields::Content;
 use term_spec::{kinds, tags};
 
-// The tags of the canonical form, as numbers of a layout.
-const SMALL_INTEGER: u64 = tags::SMALL_INTEGER_EXT as u64;
-
-const INTEGER: u64 = tags::INTEGER_EXT as u64;
-
-const SMALL_BIG: u64 = tags::SMALL_BIG_EXT as u64;
-
-const LARGE_BIG: u64 = tags::LARGE_BIG_EXT as u64;
-
-const FLOAT: u64 = tags::NEW_FLOAT_EXT as u64;
-
-const SMALL_ATOM: u64 = tags::SMALL_ATOM_UTF8_EXT as u64;
-
-const ATOM: u64 = tags::ATOM_UTF8_EXT as u64;
-
-const SMALL_TUPLE: u64 = tags::SMALL_TUPLE_EXT as u64;
-
-const LARGE_TUPLE: u64 = tags::LARGE_TUPLE_EXT as u64;
-
-const NIL: u64 = tags::NIL_EXT as u64;
-
-const LIST: u64 = tags::LIST_EXT as u64;
-
-const BINARY: u64 = tags::BINARY_EXT as u64;
-
-const BITSTRING: u64 = tags::BIT_BINARY_EXT as u64;
-
-const MAP: u64 = tags::MAP_EXT as u64;
-
-const PID: u64 = tags::NEW_PID_EXT as u64;
-
-const NEW_PORT: u64 = tags::NEW_PORT_EXT as u64;
-
-const V4_PORT: u64 = tags::V4_PORT_EXT as u64;
-
-const REFERENCE: u64 = tags::NEWER_REFERENCE_EXT as u64;
-
-const EXPORT: u64 = tags::EXPORT_EXT as u64;
-
 // The IDs of ports below this are written with tag 89.
-const NEW_PORT_IDS: u64 = 268435456;
+const NEW_PORT_IDS: u64 = 1 << 28;
+
+// One past the greatest integer that a 98 holds, and the magnitude of the least.
+const INTEGER_END: u64 = 1 << 31;
 
 // The layout of a tag, a number of so many bytes, and a body.
-fn tagged(tag: u64, width: usize, n: u64, body: Body) -> Layout
-    requires { (tag < 256) × (width ≤ 8) }
+#[inline]
+fn tagged(tag: u8, width: usize, n: u64, body: Body) -> Layout
+    requires { width ≤ 8 }
     ensures { (m places : List ℕ) → BodyInside m places body → Lays m places (tagged_bytes tag width n (body_bytes m places body)) result }
 {
-    layout::laid(1, tag, width, n, 0, 0, body)
+    layout::laid((1, u64::from(tag)), (width, n), NO_NUMBER, body)
+}
+
+// The layout of a tag, a number of so many bytes, a number of one byte, and a body.
+#[inline]
+fn tagged_twice(tag: u8, width: usize, n: u64, byte: u64, body: Body) -> Layout
+    ensures { result ≡ laid_of 1 tag width n 1 byte body }
+{
+    layout::laid((1, u64::from(tag)), (width, n), (1, byte), body)
 }
 
 // An integer by its sign and the digits of its magnitude, of which there are at most 8.
-fn digits_lead(sign: u64, n: u64) -> Layout
-    ensures { (m places : List ℕ) → Lays m places (big_bytes sign (digits n)) result }
+fn digits_lead(negative: bool, n: u64) -> Layout
+    ensures { (m places : List ℕ) → Lays m places (big_bytes (sign negative) (digits n)) result }
 {
     let count = layout::count_digits(n) as u64;
-    layout::laid(1, SMALL_BIG, 1, count, 1, sign, Body::Digits { number: n })
+    let digits = Body::Digits { number: n };
+    tagged_twice(tags::SMALL_BIG_EXT, 1, count, u64::from(negative), digits)
 }
 
 // An integer that is not negative.
@@ -80,12 +54,12 @@ fn positive_lead(n: u64) -> Layout
     ensures { (m places : List ℕ) → Lays m places (integer_bytes (pos n)) result }
 {
     if n < 256 {
-        return tagged(SMALL_INTEGER, 1, n, Body::Empty);
+        return tagged(tags::SMALL_INTEGER_EXT, 1, n, Body::Empty);
     }
-    if n < 2147483648 {
-        return tagged(INTEGER, 4, n, Body::Empty);
+    if n < INTEGER_END {
+        return tagged(tags::INTEGER_EXT, 4, n, Body::Empty);
     }
-    digits_lead(0, n)
+    digits_lead(false, n)
 }
 
 // A negative integer.
@@ -93,35 +67,26 @@ fn negative_lead(n: u64) -> Layout
     requires { 0 < n }
     ensures { (m places : List ℕ) → Lays m places (integer_bytes (negsuc (n - 1))) result }
 {
-    if n <= 2147483648 {
-        return tagged(INTEGER, 4, 4294967296 - n, Body::Empty);
+    if n <= INTEGER_END {
+        return tagged(tags::INTEGER_EXT, 4, (1 << 32) - n, Body::Empty);
     }
-    digits_lead(1, n)
+    digits_lead(true, n)
 }
 
 // An integer of more than 8 digits, which stand in the message.
 fn big_lead(negative: bool, start: usize, n: usize) -> Layout
     ensures { (m places : List ℕ) → High m start n → BytesOnly m → Lays m places (integer_bytes (with_sign (sign negative) (little_endian (stretch m start n)))) result }
 {
-    let body = Body::Part {
+    let digits = Body::Part {
         listed: false,
-        start: start,
+        start,
         length: n,
     };
-    let sign = sign_of(negative);
+    let sign = u64::from(negative);
     if n <= 255 {
-        return layout::laid(1, SMALL_BIG, 1, n as u64, 1, sign, body);
+        return tagged_twice(tags::SMALL_BIG_EXT, 1, n as u64, sign, digits);
     }
-    layout::laid(1, LARGE_BIG, 4, n as u64, 1, sign, body)
-}
-
-fn sign_of(negative: bool) -> u64
-    ensures { result ≡ sign negative }
-{
-    if negative {
-        return 1;
-    }
-    0
+    tagged_twice(tags::LARGE_BIG_EXT, 4, n as u64, sign, digits)
 }
 
 // An atom whose text is this body, of n bytes.
@@ -129,9 +94,9 @@ fn text_lead(n: usize, body: Body) -> Layout
     ensures { (m places : List ℕ) → BodyInside m places body → n ≡ length (body_bytes m places body) → Lays m places (atom_bytes (body_bytes m places body)) result }
 {
     if n <= 255 {
-        return tagged(SMALL_ATOM, 1, n as u64, body);
+        return tagged(tags::SMALL_ATOM_UTF8_EXT, 1, n as u64, body);
     }
-    tagged(ATOM, 2, n as u64, body)
+    tagged(tags::ATOM_UTF8_EXT, 2, n as u64, body)
 }
 
 // An atom whose text stands in the message or in the list, in Latin-1 or UTF-8.
@@ -141,56 +106,43 @@ fn text(msg: &[u8], places: &[u8], latin1: bool, listed: bool, start: usize, n: 
 {
     if latin1 {
         let body = Body::Latin1 {
-            listed: listed,
-            start: start,
+            listed,
+            start,
             length: n,
         };
         let spelt = layout::body_length(msg, places, body);
         return text_lead(spelt, body);
     }
-    text_lead(
-        n,
-        Body::Part {
-            listed: listed,
-            start: start,
-            length: n,
-        },
-    )
+    let body = Body::Part {
+        listed,
+        start,
+        length: n,
+    };
+    text_lead(n, body)
 }
 
 // A binary.
 fn bytes_lead(start: usize, n: usize) -> Layout
     ensures { (m places : List ℕ) → Inside m start n → Lays m places (before (binary (stretch m start n)) 0) result }
 {
-    tagged(
-        BINARY,
-        4,
-        n as u64,
-        Body::Part {
-            listed: false,
-            start: start,
-            length: n,
-        },
-    )
+    let body = Body::Part {
+        listed: false,
+        start,
+        length: n,
+    };
+    tagged(tags::BINARY_EXT, 4, n as u64, body)
 }
 
 // A bitstring.
 fn bits_lead(bits: usize, start: usize, n: usize) -> Layout
     ensures { (m places : List ℕ) → Inside m start n → 1 ≤ n → Lays m places (before (bitstring bits (clear_low bits (stretch m start n))) 0) result }
 {
-    layout::laid(
-        1,
-        BITSTRING,
-        4,
-        n as u64,
-        1,
-        bits as u64,
-        Body::Bits {
-            bits: bits,
-            start: start,
-            length: n,
-        },
-    )
+    let body = Body::Bits {
+        bits,
+        start,
+        length: n,
+    };
+    tagged_twice(tags::BIT_BINARY_EXT, 4, n as u64, bits as u64, body)
 }
 
 // A tuple of n elements.
@@ -198,9 +150,9 @@ fn tuple_lead(n: usize) -> Layout
     ensures { (m places : List ℕ) → Lays m places (before tuple n) result }
 {
     if n <= 255 {
-        return tagged(SMALL_TUPLE, 1, n as u64, Body::Empty);
+        return tagged(tags::SMALL_TUPLE_EXT, 1, n as u64, Body::Empty);
     }
-    tagged(LARGE_TUPLE, 4, n as u64, Body::Empty)
+    tagged(tags::LARGE_TUPLE_EXT, 4, n as u64, Body::Empty)
 }
 
 // A list of n elements that is written with them.
@@ -208,9 +160,9 @@ fn list_lead(n: usize) -> Layout
     ensures { (m places : List ℕ) → Lays m places (before list n) result }
 {
     if n == 0 {
-        return tagged(NIL, 0, 0, Body::Empty);
+        return tagged(tags::NIL_EXT, 0, 0, Body::Empty);
     }
-    tagged(LIST, 4, n as u64, Body::Empty)
+    tagged(tags::LIST_EXT, 4, n as u64, Body::Empty)
 }
 
 // A term that has no fields of its own but its number of parts.
@@ -221,20 +173,20 @@ fn bare_lead(kind: usize, n: usize) -> Layout
     match kind {
         kinds::TUPLE => tuple_lead(n),
         kinds::LIST => list_lead(n),
-        kinds::IMPROPER_LIST => tagged(LIST, 4, (n - 1) as u64, Body::Empty),
-        kinds::MAP => tagged(MAP, 4, (n / 2) as u64, Body::Empty),
-        _ => tagged(EXPORT, 0, 0, Body::Empty),
+        kinds::IMPROPER_LIST => tagged(tags::LIST_EXT, 4, (n - 1) as u64, Body::Empty),
+        kinds::MAP => tagged(tags::MAP_EXT, 4, (n / 2) as u64, Body::Empty),
+        _ => tagged(tags::EXPORT_EXT, 0, 0, Body::Empty),
     }
 }
 
 // A port with this ID.
-fn port_lead(id: u64, creation: u64, n: usize) -> Layout
-    ensures { (m places : List ℕ) → Lays m places (before (port id creation) n) result }
+fn port_lead(id: u64) -> Layout
+    ensures { (creation n : ℕ) (m places : List ℕ) → Lays m places (before (port id creation) n) result }
 {
     if id < NEW_PORT_IDS {
-        return tagged(NEW_PORT, 0, 0, Body::Empty);
+        return tagged(tags::NEW_PORT_EXT, 0, 0, Body::Empty);
     }
-    tagged(V4_PORT, 0, 0, Body::Empty)
+    tagged(tags::V4_PORT_EXT, 0, 0, Body::Empty)
 }
 
 // The bytes before the parts of a term of this kind, with this content and n parts.
@@ -249,16 +201,17 @@ pub fn lead(msg: &[u8], places: &[u8], kind: usize, content: Content, n: usize) 
             magnitude,
         } => {
             if negative {
-                return negative_lead(magnitude);
+                negative_lead(magnitude)
+            } else {
+                positive_lead(magnitude)
             }
-            positive_lead(magnitude)
         }
         Content::Big {
             negative,
             start,
             digits,
         } => big_lead(negative, start, digits),
-        Content::Float { bits } => tagged(FLOAT, 8, bits, Body::Empty),
+        Content::Float { bits } => tagged(tags::NEW_FLOAT_EXT, 8, bits, Body::Empty),
         Content::Text {
             latin1,
             listed,
@@ -271,17 +224,11 @@ pub fn lead(msg: &[u8], places: &[u8], kind: usize, content: Content, n: usize) 
             start,
             length,
         } => bits_lead(bits, start, length),
-        Content::Pid {
-            id,
-            serial,
-            creation,
-        } => tagged(PID, 0, 0, Body::Empty),
-        Content::Port { id, creation } => port_lead(id, creation, n),
-        Content::Reference {
-            creation,
-            start,
-            words,
-        } => tagged(REFERENCE, 2, words as u64, Body::Empty),
+        Content::Pid { .. } => tagged(tags::NEW_PID_EXT, 0, 0, Body::Empty),
+        Content::Port { id, .. } => port_lead(id),
+        Content::Reference { words, .. } => {
+            tagged(tags::NEWER_REFERENCE_EXT, 2, words as u64, Body::Empty)
+        }
     }
 }
 
@@ -289,7 +236,7 @@ pub fn lead(msg: &[u8], places: &[u8], kind: usize, content: Content, n: usize) 
 fn no_trail() -> Layout
     ensures { (m places : List ℕ) → Lays m places [] result }
 {
-    layout::laid(0, 0, 0, 0, 0, 0, Body::Empty)
+    layout::laid(NO_NUMBER, NO_NUMBER, NO_NUMBER, Body::Empty)
 }
 
 // The end of a list of n elements that is written with them.
@@ -299,7 +246,7 @@ fn list_trail(n: usize) -> Layout
     if n == 0 {
         return no_trail();
     }
-    tagged(NIL, 0, 0, Body::Empty)
+    tagged(tags::NIL_EXT, 0, 0, Body::Empty)
 }
 
 // The end of a term that has no fields of its own but its number of parts.
@@ -313,40 +260,33 @@ fn bare_trail(kind: usize, n: usize) -> Layout
 }
 
 // The fields of a pid after its node.
-fn pid_trail(id: u64, serial: u64, creation: u64, n: usize) -> Layout
-    ensures { (m places : List ℕ) → Lays m places (after (pid id serial creation) n) result }
+fn pid_trail(id: u64, serial: u64, creation: u64) -> Layout
+    ensures { (n : ℕ) (m places : List ℕ) → Lays m places (after (pid id serial creation) n) result }
 {
-    layout::laid(4, id, 4, serial, 4, creation, Body::Empty)
+    layout::laid((4, id), (4, serial), (4, creation), Body::Empty)
 }
 
 // The fields of a port after its node.
-fn port_trail(id: u64, creation: u64, n: usize) -> Layout
-    ensures { (m places : List ℕ) → Lays m places (after (port id creation) n) result }
+fn port_trail(id: u64, creation: u64) -> Layout
+    ensures { (n : ℕ) (m places : List ℕ) → Lays m places (after (port id creation) n) result }
 {
     if id < NEW_PORT_IDS {
-        return layout::laid(4, id, 4, creation, 0, 0, Body::Empty);
+        return layout::laid((4, id), (4, creation), NO_NUMBER, Body::Empty);
     }
-    layout::laid(8, id, 4, creation, 0, 0, Body::Empty)
+    layout::laid((8, id), (4, creation), NO_NUMBER, Body::Empty)
 }
 
 // The fields of a reference after its node, with so many words from `start` on.
-fn words_trail(creation: u64, start: usize, words: usize, n: usize) -> Layout
+fn words_trail(creation: u64, start: usize, words: usize) -> Layout
     requires { words ≤ 65536 }
-    ensures { (m places : List ℕ) → Inside m start (4 * words) → BytesOnly m → Lays m places (after (reference creation (words_at m start words)) n) result }
+    ensures { (n : ℕ) (m places : List ℕ) → Inside m start (4 * words) → BytesOnly m → Lays m places (after (reference creation (words_at m start words)) n) result }
 {
-    layout::laid(
-        4,
-        creation,
-        0,
-        0,
-        0,
-        0,
-        Body::Part {
-            listed: false,
-            start: start,
-            length: 4 * words,
-        },
-    )
+    let body = Body::Part {
+        listed: false,
+        start,
+        length: 4 * words,
+    };
+    layout::laid((4, creation), NO_NUMBER, NO_NUMBER, body)
 }
 
 // The bytes after the parts of a term of this kind, with this content and n parts.
@@ -360,13 +300,13 @@ pub fn trail(msg: &[u8], places: &[u8], kind: usize, content: Content, n: usize)
             id,
             serial,
             creation,
-        } => pid_trail(id, serial, creation, n),
-        Content::Port { id, creation } => port_trail(id, creation, n),
+        } => pid_trail(id, serial, creation),
+        Content::Port { id, creation } => port_trail(id, creation),
         Content::Reference {
             creation,
             start,
             words,
-        } => words_trail(creation, start, words, n),
+        } => words_trail(creation, start, words),
         _ => no_trail(),
     }
 }

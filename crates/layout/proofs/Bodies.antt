@@ -34,32 +34,32 @@ module _ (m places : List ℕ) where
     unfolding body_bytes
     body_empty e = ap (body_bytes m places) e
 
-    module _ (listed z : Bool) (start n : ℕ) (f : listed ≡ z) where
-      pub body_part : body ≡ Part listed start n → body_bytes m places body ≡ stretch (source m places z) start n
+    module _ (listed : Bool) (start n : ℕ) (s : List ℕ) (f : s ≡ source m places listed) where
+      pub body_part : body ≡ Part listed start n → body_bytes m places body ≡ stretch s start n
       unfolding body_bytes
-      body_part e = ap (body_bytes m places) e ∙ ap (λ (z : Bool). stretch (source m places z) start n) f
+      body_part e = ap (body_bytes m places) e ∙ ap (λ (t : List ℕ). stretch t start n) (sym f)
 
-      pub body_latin1 : body ≡ Latin1 listed start n → body_bytes m places body ≡ encodes (stretch (source m places z) start n)
+      pub body_latin1 : body ≡ Latin1 listed start n → body_bytes m places body ≡ encodes (stretch s start n)
       unfolding body_bytes
-      body_latin1 e = ap (body_bytes m places) e ∙ ap (λ (z : Bool). encodes (stretch (source m places z) start n)) f
+      body_latin1 e = ap (body_bytes m places) e ∙ ap (λ (t : List ℕ). encodes (stretch t start n)) (sym f)
 
-      pub part_inside : body ≡ Part listed start n → BodyInside m places body → Inside (source m places z) start n
+      pub part_inside : body ≡ Part listed start n → BodyInside m places body → Inside s start n
       unfolding BodyInside
-      part_inside e h = rw (e, f) at h
+      part_inside e h = rw (e, ← f) at h
 
-      pub latin1_inside : body ≡ Latin1 listed start n → BodyInside m places body → Inside (source m places z) start n
+      pub latin1_inside : body ≡ Latin1 listed start n → BodyInside m places body → Inside s start n
       unfolding BodyInside
-      latin1_inside e h = rw (e, f) at h
+      latin1_inside e h = rw (e, ← f) at h
 
       pub part_needs : (at k : ℕ) → body ≡ Part listed start n → BodyInside m places body × (at + length (body_bytes m places body) ≤ k)
-          → Inside (source m places z) start n × (at + n ≤ k)
+          → Inside s start n × (at + n ≤ k)
       part_needs at k e h =
-          let i : Inside (source m places z) start n = part_inside e h.0 in
-          let l : length (body_bytes m places body) ≡ n = ap length (body_part e) ∙ length_stretch (source m places z) start n i in
+          let i : Inside s start n = part_inside e h.0 in
+          let l : length (body_bytes m places body) ≡ n = ap length (body_part e) ∙ length_stretch s start n i in
           (i, omega arith)
 
       pub latin1_needs : (at k : ℕ) → body ≡ Latin1 listed start n → BodyInside m places body × (at + length (body_bytes m places body) ≤ k)
-          → Inside (source m places z) start n × (at + length (encodes (stretch (source m places z) start n)) ≤ k)
+          → Inside s start n × (at + length (encodes (stretch s start n)) ≤ k)
       latin1_needs at k e h = (latin1_inside e h.0, rw (body_latin1 e) at h.1)
 
     pub body_digits : (n : ℕ) → body ≡ Digits n → body_bytes m places body ≡ digits n

@@ -1,17 +1,18 @@
 -- Bytes stored one run after the other.
-use mathlib.Core.Path.{◌≡◌, refl, sym, ◌∙◌, ap}
-use mathlib.Core.List.{List, [], ◌∷◌, ◌++◌}
-use Prim.Native.Nat.{ℕ, suc, ◌+◌, ◌-◌, ◌/◌, ◌%◌, ◌^◌, ◌≤◌, ◌<◌}
+use mathlib.Core.Path.{◌≡◌, refl, sym, ◌∙◌, ap, ap₂}
+use mathlib.Core.List.{List, [], ◌∷◌, ◌++◌, append_assoc}
+use Prim.Native.Nat.{ℕ, zero, suc, ◌+◌, ◌-◌, ◌/◌, ◌%◌, ◌^◌, ◌≤◌}
 use native.Mathlib.Omega.{arith}
-use lib.ListN.{length, set, length-append}
-use mathlib.Core.Logic.{◌≢◌}
-use native.Mathlib.Numerals.{add-one}
-use lib.Seq.{sets, length-sets, set_comm}
-use Rattle.term_spec.specs.Numbers.{in_bytes, digits}
+use lib.ListN.{length, take, drop, length-append}
+use borrow.Rule.Slice.PartMut.{put_mid}
+use Rattle.std.proofs.lemmas.List.{drop-drop, take_rest}
+use Rattle.std.proofs.lemmas.List.Edits.{sets-eq}
+use Rattle.std.specs.Int.{bytes_high_first}
+use lib.Seq.{sets, length-sets, drop-append_seam}
+use Rattle.term_spec.specs.Numbers.{in_bytes}
 use Rattle.term_spec.proofs.Numbers.{length_in_bytes}
 use Rattle.octets.proofs.Stores.{sets_at}
 use Rattle.octets.proofs.Numbers.{bytes_halves}
-use Rattle.layout.proofs.Digits.{digits_more}
 use Rattle.layout.specs.Layout.{Put}
 
 module _ {O P Q : List ℕ} {at next end : ℕ} where
@@ -23,32 +24,29 @@ module _ {O P Q : List ℕ} {at next end : ℕ} where
         stored = q.stored ∙ ap (λ (l : List ℕ). sets l next ys) p.stored ∙ sets_at O at xs ys next (sym p.past);
       }
 
--- a run with one element after it, the last element first
-pub sets_last : (l : List ℕ) (i k : ℕ) (a : List ℕ) (x : ℕ) → i + length a ≡ k → sets (set l k x) i a ≡ sets l i (a ++ (x ∷ []))
-sets_last l i k [] x e = let f : k ≡ i = omega arith in ap (λ (j : ℕ). set l j x) f
-sets_last l i k (y ∷ a) x e =
-    let n : k ≢ i = omega arith in
-    ap (λ (m : List ℕ). sets m (suc i) a) (set_comm l k i x y n) ∙ sets_last (set l i y) (suc i) k a x (omega arith)
+-- bytes in the place of a part
+pub put_part : {O xs : List ℕ} {bs : List ℕ} (at k : ℕ) → xs ≡ bs → k ≡ length bs → at + k ≤ length O → Put O at bs (at + k) (put_mid at (at + k - at) O xs)
+put_part {O} {xs} {bs} at k e l h =
+    let n : at + k - at ≡ length bs = omega arith in
+    record {
+      past = omega arith;
+      stored = ap₂ (λ (x : List ℕ) (j : ℕ). put_mid at j O x) e n ∙ ap (λ (r : List ℕ). take at O ++ (bs ++ r)) (drop-drop (length bs) at O) ∙ sym (sets-eq bs O at (omega arith) ∙ append_assoc (take at O) bs (drop (at + length bs) O));
+    }
 
--- the last byte of a number, then those before it
-pub number_last : (O : List ℕ) (at k n : ℕ) → 0 < k → sets (set O (at + (k - 1)) (n % 256)) at (in_bytes (k - 1) (n / 256)) ≡ sets O at (in_bytes k n)
+-- the bytes of a number as the last of its eight
+high_first : (k n : ℕ) → bytes_high_first k n ≡ in_bytes k n
 unfolding in_bytes
-number_last O at k n h =
-    let e : n / 256 ^ 0 % 256 ≡ n % 256 = omega arith in
-    let f : k - 1 + 1 ≡ k = omega arith in
-    sets_last O at (at + (k - 1)) (in_bytes (k - 1) (n / 256)) (n % 256) (ap (λ (j : ℕ). at + j) (length_in_bytes (k - 1) (n / 256)))
-    ∙ ap (λ (x : ℕ). sets O at (in_bytes (k - 1) (n / 256) ++ (x ∷ []))) (sym e)
-    ∙ ap (λ (l : List ℕ). sets O at l) (sym (bytes_halves (k - 1) 1 n))
-    ∙ ap (λ (j : ℕ). sets O at (in_bytes j n)) f
+high_first zero n = refl
+high_first (suc zero) n = let e : n % 256 ≡ n / 256 ^ 0 % 256 = omega arith in ap (λ (b : ℕ). b ∷ []) e
+high_first (suc (suc k)) n = ap (λ (bs : List ℕ). n / 256 ^ suc k % 256 ∷ bs) (high_first (suc k) n)
 
--- the lowest digit, then the others
-pub digit_first : (O : List ℕ) (at n : ℕ) → 0 < n → sets (set O at (n % 256)) (at + 1) (digits (n / 256)) ≡ sets O at (digits n)
-digit_first O at n h =
-    ap (λ (k : ℕ). sets (set O at (n % 256)) k (digits (n / 256))) (add-one at)
-    ∙ ap (λ (ds : List ℕ). sets O at ds) (sym (digits_more n h))
-
-pub one_digit_less : (n : ℕ) → 0 < n → length (digits n) ≡ suc (length (digits (n / 256)))
-one_digit_less n h = ap length (digits_more n h)
+pub number_last : (w n : ℕ) → w ≤ 8 → take (8 - (8 - w)) (drop (8 - w) (bytes_high_first 8 n)) ≡ in_bytes w n
+number_last w n h =
+    let e : 8 ≡ 8 - w + w = omega arith in
+    take_rest (bytes_high_first 8 n) (8 - w)
+    ∙ ap (drop (8 - w)) (high_first 8 n ∙ ap (λ (k : ℕ). in_bytes k n) e ∙ bytes_halves (8 - w) w n)
+    ∙ ap (λ (k : ℕ). drop k (in_bytes (8 - w) (n / 256 ^ w) ++ in_bytes w n)) (sym (length_in_bytes (8 - w) (n / 256 ^ w)))
+    ∙ drop-append_seam (in_bytes (8 - w) (n / 256 ^ w)) (in_bytes w n)
 
 -- nothing stored
 pub put_none : (O : List ℕ) (at : ℕ) → Put O at [] at O

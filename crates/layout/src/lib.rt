@@ -2,11 +2,11 @@
 #![tactic(auto)]
 
 ghost use Rattle.std.specs.Prelude.{◌≡◌, ◌+◌, ◌≤◌, length};
-ghost use Rattle.term_spec.specs.Numbers.{in_bytes, digits};
+ghost use Rattle.term_spec.specs.Numbers.{digits};
 ghost use Rattle.term_spec.specs.Text.{encodes};
 ghost use Rattle.term_spec.specs.Head.{clear_low};
-ghost use Rattle.octets.specs.Parts.{stretch};
-ghost use Rattle.layout.specs.Layout.{body_bytes, layout_bytes, Inside, BodyInside, LayoutInside, Put, laid_of};
+ghost use Rattle.octets.specs.Parts.{stretch, source};
+ghost use Rattle.layout.specs.Layout.{body_bytes, number_bytes, layout_bytes, Inside, BodyInside, LayoutInside, Put, laid_of};
 
 // What follows the numbers: nothing, bytes as they stand, Latin-1 characters in UTF-8, the digits of a number, or bytes of whose last one some bits count.
 #[derive(Clone, Copy)]
@@ -33,14 +33,14 @@ pub enum Body {
 }
 
 // A number in so many bytes, big-endian; none in 0 bytes.
-#[derive(Drop)]
+#[derive(Clone, Copy)]
 pub struct Number {
     pub width: usize,
     pub value: u64,
 }
 
 // Three numbers, then a body.
-#[derive(Drop)]
+#[derive(Clone, Copy)]
 pub struct Layout {
     pub first: Number,
     pub second: Number,
@@ -48,44 +48,55 @@ pub struct Layout {
     pub body: Body,
 }
 
-// The layout of these numbers, each after its width, and this body.
-pub fn laid(v: usize, a: u64, w: usize, b: u64, x: usize, c: u64, body: Body) -> Layout
-    ensures { result ≡ laid_of v a w b x c body }
+// The width and value of no number.
+pub const NO_NUMBER: (usize, u64) = (0, 0);
+
+// The layout of these numbers, each by its width and value, and this body.
+#[inline]
+#[tactic(auto, unfolding(crate::specs::Layout::laid_of))]
+pub fn laid(first: (usize, u64), second: (usize, u64), third: (usize, u64), body: Body) -> Layout
+    ensures { result ≡ laid_of first.0 first.1 second.0 second.1 third.0 third.1 body }
 {
     Layout {
-        first: Number { width: v, value: a },
-        second: Number { width: w, value: b },
-        third: Number { width: x, value: c },
-        body: body,
+        first: Number {
+            width: first.0,
+            value: first.1,
+        },
+        second: Number {
+            width: second.0,
+            value: second.1,
+        },
+        third: Number {
+            width: third.0,
+            value: third.1,
+        },
+        body,
     }
 }
 
-// Writes n in the w bytes from `at` on; the offset past them.
-fn put_number(out: &mut [u8], at: usize, w: usize, n: u64) -> usize
-    requires { at + w ≤ length out.old }
-    ensures { Put out.old at (in_bytes w n) result out.new }
+// The message, or the atom list's places.
+#[inline]
+fn source<'a>(msg: &'a [u8], places: &'a [u8], listed: bool) -> &'a [u8]
+    ensures { result.now ≡ source msg.now places.now listed }
 {
-    let mut left = w;
-    let mut high = n;
-    while 0 < left {
-        left -= 1;
-        out[at + left] = (high % 256) as u8;
-        high /= 256;
-    }
-    at + w
+    if listed { places } else { msg }
+}
+
+// Writes a number from `at` on; the offset past it.
+fn put_number(out: &mut [u8], at: usize, n: Number) -> usize
+    requires { (n.width ≤ 8) × (at + n.width ≤ length out.old) }
+    ensures { Put out.old at (number_bytes n) result out.new }
+{
+    let end = at + n.width;
+    out[at..end].copy_from_slice(&n.value.to_be_bytes()[8 - n.width..]);
+    end
 }
 
 // How many digits n has, the highest not zero.
 pub fn count_digits(n: u64) -> usize
     ensures { (result ≡ length (digits n)) × (result ≤ 8) }
 {
-    let mut count = 0;
-    let mut high = n;
-    while 0 < high {
-        high /= 256;
-        count += 1;
-    }
-    count
+    8 - n.leading_zeros() as usize / 8
 }
 
 // Writes the digits of n, least first, from `at` on; the offset past them.
@@ -93,14 +104,10 @@ fn put_digits(out: &mut [u8], at: usize, n: u64) -> usize
     requires { at + length (digits n) ≤ length out.old }
     ensures { Put out.old at (digits n) result out.new }
 {
-    let mut next = at;
-    let mut high = n;
-    while 0 < high {
-        out[next] = (high % 256) as u8;
-        high /= 256;
-        next += 1;
-    }
-    next
+    let count = count_digits(n);
+    let end = at + count;
+    out[at..end].copy_from_slice(&n.to_le_bytes()[..count]);
+    end
 }
 
 // Writes the n bytes of `s` from `start` on into `out` from `at` on; the offset past them.
@@ -140,27 +147,14 @@ pub fn body_length(msg: &[u8], places: &[u8], body: Body) -> usize
 {
     match body {
         Body::Empty => 0,
-        Body::Part {
-            listed,
-            start,
-            length,
-        } => length,
+        Body::Part { length, .. } => length,
         Body::Latin1 {
             listed,
             start,
             length,
-        } => {
-            if listed {
-                return text::utf8_length(places, start, length);
-            }
-            text::utf8_length(msg, start, length)
-        }
+        } => text::utf8_length(source(msg, places, listed), start, length),
         Body::Digits { number } => count_digits(number),
-        Body::Bits {
-            bits,
-            start,
-            length,
-        } => length,
+        Body::Bits { length, .. } => length,
     }
 }
 
@@ -175,22 +169,12 @@ fn put_body(msg: &[u8], places: &[u8], body: Body, out: &mut [u8], at: usize) ->
             listed,
             start,
             length,
-        } => {
-            if listed {
-                return put_part(places, start, length, out, at);
-            }
-            put_part(msg, start, length, out, at)
-        }
+        } => put_part(source(msg, places, listed), start, length, out, at),
         Body::Latin1 {
             listed,
             start,
             length,
-        } => {
-            if listed {
-                return put_text(places, start, length, out, at);
-            }
-            put_text(msg, start, length, out, at)
-        }
+        } => put_text(source(msg, places, listed), start, length, out, at),
         Body::Digits { number } => put_digits(out, at, number),
         Body::Bits {
             bits,
@@ -205,9 +189,8 @@ pub fn layout_length(msg: &[u8], places: &[u8], layout: Layout) -> usize
     requires { LayoutInside msg.now places.now layout }
     ensures { (result ≡ length (layout_bytes msg.now places.now layout)) × (result ≤ 131096) }
 {
-    let body = layout.body;
-    let length = body_length(msg, places, body);
-    layout.first.width + layout.second.width + layout.third.width + length
+    let numbers = layout.first.width + layout.second.width + layout.third.width;
+    numbers + body_length(msg, places, layout.body)
 }
 
 // Writes a layout from `at` on; the offset past it.
@@ -215,9 +198,8 @@ pub fn put_layout(msg: &[u8], places: &[u8], layout: Layout, out: &mut [u8], at:
     requires { LayoutInside msg.now places.now layout × (at + length (layout_bytes msg.now places.now layout) ≤ length out.old) }
     ensures { Put out.old at (layout_bytes msg.now places.now layout) result out.new }
 {
-    let second = put_number(out, at, layout.first.width, layout.first.value);
-    let third = put_number(out, second, layout.second.width, layout.second.value);
-    let fourth = put_number(out, third, layout.third.width, layout.third.value);
-    let body = layout.body;
-    put_body(msg, places, body, out, fourth)
+    let second = put_number(out, at, layout.first);
+    let third = put_number(out, second, layout.second);
+    let fourth = put_number(out, third, layout.third);
+    put_body(msg, places, layout.body, out, fourth)
 }

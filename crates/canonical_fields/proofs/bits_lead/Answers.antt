@@ -3,4 +3,4 @@ use Rattle.canonical_fields.proofs.Leads.{bits_lay}
 use Rattle.canonical_fields.proofs.bits_lead.Goals as goal
 
 pub returns : goal.returns
-returns c = λ m places i one. bits_lay m places _ _ _ c.laid.ensures i one
+returns c = λ m places i one. bits_lay m places _ _ _ c.tagged_twice.ensures i one

@@ -68,7 +68,7 @@ returns-in-Pid c = let args = c.args in
 pub returns-in-Port : goal.returns-in-Port
 unfolding label_of before
 returns-in-Port c = let args = c.args in
-    lead_by args.msg.now args.places.now args.content args.kind args.n _ c.in-Port.is (c.port_lead.ensures _ _)
+    lead_by args.msg.now args.places.now args.content args.kind args.n _ c.in-Port.is (c.port_lead.ensures c.in-Port.creation args.n _ _)
 
 pub returns-in-Reference : goal.returns-in-Reference
 unfolding label_of before

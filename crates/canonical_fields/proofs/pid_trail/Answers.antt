@@ -7,4 +7,4 @@ use Rattle.canonical_fields.proofs.pid_trail.Goals as goal
 
 pub returns : goal.returns
 unfolding after
-returns c = numbers_lay _ _ _ _ _ _ c.laid.ensures (omega arith) (omega arith) (omega arith) refl
+returns c = λ n. numbers_lay _ _ _ _ _ _ c.laid.ensures (omega arith) (omega arith) (omega arith) refl

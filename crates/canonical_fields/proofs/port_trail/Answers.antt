@@ -10,9 +10,9 @@ use Rattle.canonical_fields.proofs.port_trail.Goals as goal
 pub returns-then-id-lt-NEW_PORT_IDS : goal.returns-then-id-lt-NEW_PORT_IDS
 unfolding in_bytes
 returns-then-id-lt-NEW_PORT_IDS c = let args = c.args in
-    numbers_lay _ _ _ _ _ _ c.laid.ensures (omega arith) (omega arith) (omega arith) (ap (λ (y : List ℕ). in_bytes 4 args.id ++ y) (append-nil (in_bytes 4 args.creation)) ∙ port_four _ _ _ c.if-id-lt-NEW_PORT_IDS.true)
+    λ n. numbers_lay _ _ _ _ _ _ c.laid.ensures (omega arith) (omega arith) (omega arith) (ap (λ (y : List ℕ). in_bytes 4 args.id ++ y) (append-nil (in_bytes 4 args.creation)) ∙ port_four _ _ _ c.if-id-lt-NEW_PORT_IDS.true)
 
 pub returns : goal.returns
 unfolding in_bytes
 returns c = let args = c.args in
-    numbers_lay _ _ _ _ _ _ c.laid-2.ensures (omega arith) (omega arith) (omega arith) (ap (λ (y : List ℕ). in_bytes 8 args.id ++ y) (append-nil (in_bytes 4 args.creation)) ∙ port_eight _ _ _ c.if-id-lt-NEW_PORT_IDS.false)
+    λ n. numbers_lay _ _ _ _ _ _ c.laid-2.ensures (omega arith) (omega arith) (omega arith) (ap (λ (y : List ℕ). in_bytes 8 args.id ++ y) (append-nil (in_bytes 4 args.creation)) ∙ port_eight _ _ _ c.if-id-lt-NEW_PORT_IDS.false)

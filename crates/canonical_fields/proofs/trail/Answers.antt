@@ -2,7 +2,6 @@
 use Rattle.canonical_fields.specs.Shape.{after}
 use Rattle.row_fields.specs.Meaning.{label_of}
 use Rattle.canonical_fields.proofs.Leads.{trail_by, no_trail, sound_words}
-use borrow.Enum.Refused.{opened}
 use native.Mathlib.Omega.{arith}
 use Rattle.canonical_fields.proofs.trail.Goals as goal
 
@@ -18,18 +17,18 @@ returns-in-Nothing c = let args = c.args in
 pub returns-in-Pid : goal.returns-in-Pid
 unfolding label_of after
 returns-in-Pid c = let args = c.args in
-    trail_by args.msg.now args.places.now args.content args.kind args.n _ c.in-Pid.is (c.pid_trail.ensures _ _)
+    trail_by args.msg.now args.places.now args.content args.kind args.n _ c.in-Pid.is (c.pid_trail.ensures args.n _ _)
 
 pub returns-in-Port : goal.returns-in-Port
 unfolding label_of after
 returns-in-Port c = let args = c.args in
-    trail_by args.msg.now args.places.now args.content args.kind args.n _ c.in-Port.is (c.port_trail.ensures _ _)
+    trail_by args.msg.now args.places.now args.content args.kind args.n _ c.in-Port.is (c.port_trail.ensures args.n _ _)
 
 pub returns-in-Reference : goal.returns-in-Reference
 unfolding label_of after
 returns-in-Reference c = let args = c.args in
-    trail_by args.msg.now args.places.now args.content args.kind args.n _ c.in-Reference.is (c.words_trail.ensures _ _ (sound_words args.msg.now args.places.now args.content _ _ _ c.in-Reference.is c.requires) (λ i. omega (arith, c.type_inv.msg i)))
+    trail_by args.msg.now args.places.now args.content args.kind args.n _ c.in-Reference.is (c.words_trail.ensures args.n _ _ (sound_words args.msg.now args.places.now args.content _ _ _ c.in-Reference.is c.requires) (λ i. omega (arith, c.type_inv.msg i)))
 
 pub returns-in_default : goal.returns-in_default
 returns-in_default c = let args = c.args in
-    no_trail args.msg.now args.places.now args.content args.kind args.n (opened c.in_default.in_default-own.keys5) (c.no_trail.ensures _ _)
+    no_trail args.msg.now args.places.now args.content args.kind args.n c.in_default.not-Nothing c.in_default.not-Pid c.in_default.not-Port c.in_default.not-Reference (c.no_trail.ensures _ _)

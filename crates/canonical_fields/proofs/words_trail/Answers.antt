@@ -3,4 +3,4 @@ use Rattle.canonical_fields.proofs.Leads.{words_lay}
 use Rattle.canonical_fields.proofs.words_trail.Goals as goal
 
 pub returns : goal.returns
-returns c = λ m places i b. words_lay m places _ _ _ _ c.laid.ensures i b
+returns c = λ n m places i b. words_lay m places _ _ _ n c.laid.ensures i b

@@ -7,7 +7,7 @@ use Rattle.layout.proofs.put_layout.Goals as goal
 
 pub put_number-second-requires : goal.put_number-second-requires
 put_number-second-requires c = let args = c.args in
-    let e = length_layout args.msg.now args.places.now args.layout in omega arith
+    let e = length_layout args.msg.now args.places.now args.layout in (c.requires.0.narrow_first, omega arith)
 
 pub put_number-third-requires : goal.put_number-third-requires
 put_number-third-requires c = let args = c.args in
@@ -15,7 +15,7 @@ put_number-third-requires c = let args = c.args in
     let a = length_in_bytes args.layout.first.width args.layout.first.value in
     let k = put_length c.put_number-second.ensures in
     let p = c.put_number-second.ensures.past in
-    omega arith
+    (c.requires.0.narrow_second, omega arith)
 
 pub put_number-fourth-requires : goal.put_number-fourth-requires
 put_number-fourth-requires c = let args = c.args in
@@ -26,7 +26,7 @@ put_number-fourth-requires c = let args = c.args in
     let p = c.put_number-second.ensures.past in
     let j = put_length c.put_number-third.ensures in
     let q = c.put_number-third.ensures.past in
-    omega arith
+    (c.requires.0.narrow_third, omega arith)
 
 pub put_body-requires : goal.put_body-requires
 put_body-requires c = let args = c.args in
