@@ -1,18 +1,12 @@
 -- Bytes stored one run after the other.
-use mathlib.Core.Path.{◌≡◌, refl, sym, ◌∙◌, ap, ap₂}
-use mathlib.Core.List.{List, [], ◌∷◌, ◌++◌, append_assoc}
-use Prim.Native.Nat.{ℕ, zero, suc, ◌+◌, ◌-◌, ◌/◌, ◌%◌, ◌^◌, ◌≤◌}
+use mathlib.Core.Path.{◌≡◌, refl, sym, ◌∙◌, ap}
+use mathlib.Core.List.{List, [], ◌++◌}
+use Prim.Native.Nat.{ℕ, ◌+◌, ◌-◌, ◌≤◌}
 use native.Mathlib.Omega.{arith}
-use lib.ListN.{length, take, drop, length-append}
+use lib.ListN.{length, length-append}
 use borrow.Rule.Slice.PartMut.{put_mid}
-use Rattle.std.proofs.lemmas.List.{drop-drop, take_rest}
-use Rattle.std.proofs.lemmas.List.Edits.{sets-eq}
-use Rattle.std.specs.Int.{bytes_high_first}
-use lib.Seq.{sets, length-sets, drop-append_seam}
-use Rattle.term_spec.specs.Numbers.{in_bytes}
-use Rattle.term_spec.proofs.Numbers.{length_in_bytes}
-use Rattle.octets.proofs.Stores.{sets_at}
-use Rattle.octets.proofs.Numbers.{bytes_halves}
+use lib.Seq.{sets, length-sets}
+use Rattle.octets.proofs.Stores.{sets_at, mid_sets}
 use Rattle.layout.specs.Layout.{Put}
 
 module _ {O P Q : List ℕ} {at next end : ℕ} where
@@ -27,26 +21,7 @@ module _ {O P Q : List ℕ} {at next end : ℕ} where
 -- bytes in the place of a part
 pub put_part : {O xs : List ℕ} {bs : List ℕ} (at k : ℕ) → xs ≡ bs → k ≡ length bs → at + k ≤ length O → Put O at bs (at + k) (put_mid at (at + k - at) O xs)
 put_part {O} {xs} {bs} at k e l h =
-    let n : at + k - at ≡ length bs = omega arith in
-    record {
-      past = omega arith;
-      stored = ap₂ (λ (x : List ℕ) (j : ℕ). put_mid at j O x) e n ∙ ap (λ (r : List ℕ). take at O ++ (bs ++ r)) (drop-drop (length bs) at O) ∙ sym (sets-eq bs O at (omega arith) ∙ append_assoc (take at O) bs (drop (at + length bs) O));
-    }
-
--- the bytes of a number as the last of its eight
-high_first : (k n : ℕ) → bytes_high_first k n ≡ in_bytes k n
-unfolding in_bytes
-high_first zero n = refl
-high_first (suc zero) n = let e : n % 256 ≡ n / 256 ^ 0 % 256 = omega arith in ap (λ (b : ℕ). b ∷ []) e
-high_first (suc (suc k)) n = ap (λ (bs : List ℕ). n / 256 ^ suc k % 256 ∷ bs) (high_first (suc k) n)
-
-pub number_last : (w n : ℕ) → w ≤ 8 → take (8 - (8 - w)) (drop (8 - w) (bytes_high_first 8 n)) ≡ in_bytes w n
-number_last w n h =
-    let e : 8 ≡ 8 - w + w = omega arith in
-    take_rest (bytes_high_first 8 n) (8 - w)
-    ∙ ap (drop (8 - w)) (high_first 8 n ∙ ap (λ (k : ℕ). in_bytes k n) e ∙ bytes_halves (8 - w) w n)
-    ∙ ap (λ (k : ℕ). drop k (in_bytes (8 - w) (n / 256 ^ w) ++ in_bytes w n)) (sym (length_in_bytes (8 - w) (n / 256 ^ w)))
-    ∙ drop-append_seam (in_bytes (8 - w) (n / 256 ^ w)) (in_bytes w n)
+    record { past = omega arith; stored = ap (λ (x : List ℕ). put_mid at (at + k - at) O x) e ∙ mid_sets O bs at (at + k - at) (omega arith) (omega arith) }
 
 -- nothing stored
 pub put_none : (O : List ℕ) (at : ℕ) → Put O at [] at O
