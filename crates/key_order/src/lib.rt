@@ -90,7 +90,7 @@ fn place_by_halves(
     // A search by hand: partition_point asks that its test leave what it captures as it was, and key_before writes into out.
     while low < high {
         let middle = low + (high - low) / 2;
-        let other = octets::wide16(run[middle]);
+        let other = usize::from(run[middle]);
         if key_before(msg, places, lengths, table, order, out, other, key) {
             low = middle + 1;
         } else {
@@ -118,7 +118,7 @@ fn find_place(
     if n == 0 {
         return 0;
     }
-    let last = octets::wide16(run[n - 1]);
+    let last = usize::from(run[n - 1]);
     if key_before(msg, places, lengths, table, order, out, last, key) {
         return n;
     }

@@ -4,11 +4,10 @@ use mathlib.Core.Bool.{Bool, true, false}
 use mathlib.Core.List.{List, [], ◌∷◌, ◌++◌}
 use Prim.Native.Nat.{ℕ, suc, ◌+◌, ◌≤◌, ◌<◌}
 use native.Mathlib.Omega.{arith}
-use lib.ListN.{length, take, drop, length-append}
+use lib.ListN.{length, set, take, drop, length-append}
 use lib.Seq.{sets, sets-eq}
 use borrow.Author.Tests.{lt-leb}
 use Rattle.term_spec.specs.Tree.{Forest, ◌▹◌, count, sizes}
-use Rattle.term_spec.specs.Numbers.{in_bytes}
 use Rattle.term_spec.specs.Term.{Label, Term}
 use Rattle.term_spec.specs.Answer.{Answer, good, refused}
 use Rattle.term_spec.specs.Reading.{as_read}
@@ -16,7 +15,7 @@ use Rattle.term_spec.specs.Message.{Terms, all_as_read, meanings}
 use Rattle.term_spec.specs.Canonical.{bytes_of, all_bytes, canonical, canonical_standalone, standalones}
 use Rattle.term_spec.specs.Writing.{Written, written, output_after}
 use Rattle.term_spec.specs.Answers.{write_answer}
-use Rattle.term_spec.specs.declared.WriteAnswer.TheVariants as writes
+use Rattle.std.specs.Prelude.{Ok, Err}
 use Rattle.term_spec.specs.Pairs.{all_arranged}
 use Rattle.term_spec.specs.Meaning.{all_ordered}
 use Rattle.term_spec.specs.Valid.{Valids}
@@ -24,7 +23,6 @@ use Rattle.term_spec.proofs.Rows.{count_le_sizes}
 use Rattle.term_spec.proofs.Canonical.{canonical_ordered}
 use Rattle.term_spec.proofs.Lengths.{length_canonical}
 use Rattle.term_spec.proofs.Demand.{written_good}
-use Rattle.octets.proofs.Numbers.{bytes_one}
 use Rattle.layout.specs.Layout.{Put}
 use Rattle.layout.proofs.Puts.{put_then}
 use Rattle.term_writer.specs.InTable.{RunInTable}
@@ -46,11 +44,11 @@ standalones_more t ts = refl
 
 -- a standalone term is 131 and the term
 module _ {m places lengths T : List ℕ} {row : ℕ} (R : List ℕ) where
-  pub standalone_put : {O P Q : List ℕ} {at r : ℕ} → P ≡ sets O at (in_bytes 1 131) → TermPut m places lengths T row R canonical P (at + 1) r Q
+  pub standalone_put : {O P Q : List ℕ} {at r : ℕ} → P ≡ set O at 131 → TermPut m places lengths T row R canonical P (at + 1) r Q
       → TermPut m places lengths T row R canonical_standalone O at r Q
   unfolding canonical_standalone
   standalone_put {O} {P} {Q} {at} {r} p w t h o =
-      let first : Put O at (131 ∷ []) (at + 1) P = record { past = refl; stored = p ∙ ap (λ (x : List ℕ). sets O at x) (bytes_one 131 (omega arith)) } in
+      let first : Put O at (131 ∷ []) (at + 1) P = record { past = refl; stored = p } in
       put_then first (w t h o)
 
 module _ {m places lengths T R : List ℕ} {row : ℕ} where
@@ -115,7 +113,7 @@ module _ {m places lengths T : List ℕ} where
       omega (arith, s.counted)
 
   pub rows_short : {O : List ℕ} {n rows inner : ℕ} → RunLength m places lengths T 0 n inner → length O < n + inner
-      → RowsWritten m places lengths T n rows O (writes.Refused (record { number = 11; place = 0 })) O
+      → RowsWritten m places lengths T n rows O (Err (record { number = 11; place = 0 })) O
   unfolding write_answer output_after
   rows_short {O} {n} {rows} {inner} w less ts h c z =
       let e = rows_length w ts h c in
@@ -128,14 +126,14 @@ module _ {m places lengths T : List ℕ} where
   rows_fit room w fit s = let e = rows_length w s.terms s.held s.counted in record { some_rows = s; enough = omega arith }
 
   pub rows_put : (O : List ℕ) {P : List ℕ} {n rows inner : ℕ} → RunLength m places lengths T 0 n inner → n + inner ≤ length O
-      → RowsPut m places lengths T n rows O P → RowsWritten m places lengths T n rows O (writes.Written n (n + inner)) P
+      → RowsPut m places lengths T n rows O P → RowsWritten m places lengths T n rows O (Ok (record { terms = n; length = n + inner })) P
   unfolding write_answer output_after
   rows_put O {P} {n} {rows} {inner} w fit p ts h c z =
       let bs : List ℕ = standalones (meanings ts) in
       let g : bs ≡ standalones (all_as_read ts) = rows_meant ts h in
       let e : n + inner ≡ length bs = rows_length w ts h c ∙ ap length (sym g) in
       let x : written (length O) (good ts) ≡ good (record { terms = count ts; bytes = bs }) = written_good ts bs refl (length O) (omega arith) in (
-        ap₂ (λ (a b : ℕ). writes.Written a b) (sym c) e ∙ sym (ap write_answer x),
+        ap₂ (λ (a b : ℕ). Ok (record { terms = a; length = b })) (sym c) e ∙ sym (ap write_answer x),
         p ts h c z (omega (arith, rows_length w ts h c)) ∙ ap (λ (y : List ℕ). sets O 0 y) (sym g) ∙ sets-eq bs O 0 (omega arith) ∙ front_stored O bs ∙ sym (ap (output_after O) x),
       )
 

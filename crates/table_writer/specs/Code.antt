@@ -7,8 +7,7 @@ use Rattle.term_spec.specs.Answer.{good}
 use Rattle.term_spec.specs.Message.{Terms, all_as_read}
 use Rattle.term_spec.specs.Canonical.{standalones}
 use Rattle.term_spec.specs.Writing.{written, output_after}
-use Rattle.term_spec.specs.Answers.{write_answer}
-use Rattle.term_spec.specs.declared.WriteAnswer.{WriteAnswer}
+use Rattle.term_spec.specs.Answers.{WriteAnswer, write_answer}
 use Rattle.term_writer.specs.InTable.{RunInTable}
 
 -- the terms of a table, n of them with so many rows, written in an output

@@ -7,9 +7,7 @@ ghost use Rattle.term_writer.specs.Code.{TermPut, TermFits, RunPut, RunFits};
 ghost use Rattle.key_order.specs.Code.{SlotsFor};
 ghost use Rattle.table_writer.specs.Code.{SomeRows, RowsFit, RowsPut, RowsWritten};
 
-use term_spec::{Refusal, WriteAnswer, refusals, tags};
-
-const VERSION: usize = tags::VERSION as usize;
+use term_spec::{Refusal, TermsWritten, WriteAnswer, refusals, tags};
 
 // Writes the term at `row` as a standalone term from `at` on; the offset past it.
 fn put_standalone(
@@ -25,7 +23,7 @@ fn put_standalone(
     requires { TermFits msg.now places.now lengths.now table.now row order.now canonical_standalone (length out.old) at }
     ensures { TermPut msg.now places.now lengths.now table.now row order.now canonical_standalone out.old at result out.new }
 {
-    octets::put1(out, at, VERSION);
+    out[at] = tags::VERSION;
     term_writer::write_term(msg, places, lengths, table, order, row, out, at + 1)
 }
 
@@ -43,12 +41,10 @@ fn put_standalones(
     ensures { RunPut msg.now places.now lengths.now table.now 0 order.now standalones n out.old 0 result out.new }
 {
     let mut next = 0;
-    let mut left = n;
     let mut end = 0;
-    while 0 < left {
+    for _ in 0..n {
         end = put_standalone(msg, places, lengths, table, order, next, out, end);
         next += row::size_in(table[next]);
-        left -= 1;
     }
     end
 }
@@ -89,14 +85,11 @@ pub fn write_rows(
 {
     let length = n + term_writer::length_run(msg, places, lengths, table, 0, n);
     if out.len() < length {
-        return WriteAnswer::Refused(Refusal {
+        return Err(Refusal {
             number: refusals::OUTPUT,
             place: 0,
         });
     }
     put_ordered(msg, places, lengths, table, order, run, n, rows, out);
-    WriteAnswer::Written {
-        terms: n,
-        length: length,
-    }
+    Ok(TermsWritten { terms: n, length })
 }

@@ -25,7 +25,7 @@ fn slot_at(order: &[u16], row: usize) -> Option<usize>
     order
         .get(row)
         .filter(|slot| **slot != 0)
-        .map(|slot| octets::wide16(*slot))
+        .map(|slot| usize::from(*slot))
 }
 
 // Whether the n terms whose rows begin at `row` are all integers 0 to 255.
@@ -246,7 +246,7 @@ fn write_pairs(
     let mut key = row;
     let mut end = at;
     for _ in 0..n {
-        let slot = octets::wide16(order[key]);
+        let slot = usize::from(order[key]);
         end = write_run(
             msg,
             places,

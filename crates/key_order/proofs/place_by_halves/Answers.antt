@@ -7,13 +7,13 @@ pub loop-low-init : goal.loop-low-init
 loop-low-init c = halving_start
 
 pub key_before-requires : goal.key_before-requires
-key_before-requires c = fit_at _ _ c.requires (omega arith) c.wide16-other.ensures c.loop-low.invariant.long
+key_before-requires c = fit_at _ _ c.requires (omega arith) c.from-other.ensures c.loop-low.invariant.long
 
 pub loop-low-preserved-then-key_before : goal.loop-low-preserved-then-key_before
-loop-low-preserved-then-key_before c = halving_up c.loop-low.invariant c.loop-low-test.true _ (omega arith) (omega arith) c.wide16-other.ensures c.key_before.ensures c.key_before.auto.out c.if-key_before.true
+loop-low-preserved-then-key_before c = halving_up c.loop-low.invariant c.loop-low-test.true _ (omega arith) (omega arith) c.from-other.ensures c.key_before.ensures c.key_before.auto.out c.if-key_before.true
 
 pub loop-low-preserved : goal.loop-low-preserved
-loop-low-preserved c = halving_down c.loop-low.invariant c.loop-low-test.true _ (omega arith) (omega arith) c.wide16-other.ensures c.key_before.ensures c.key_before.auto.out c.if-key_before.false
+loop-low-preserved c = halving_down c.loop-low.invariant c.loop-low-test.true _ (omega arith) (omega arith) c.from-other.ensures c.key_before.ensures c.key_before.auto.out c.if-key_before.false
 
 pub shape_of-out : goal.shape_of-out
 shape_of-out c = c.loop-low.invariant.long

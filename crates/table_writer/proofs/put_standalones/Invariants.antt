@@ -4,13 +4,9 @@ use Rattle.term_writer.specs.PairOrder.{AllOrdered}
 use Rattle.term_spec.specs.Canonical.{standalones}
 use Rattle.term_spec.specs.Message.{Terms}
 use Rattle.term_spec.specs.Tree.{count}
-use lib.ListN.{length}
+use Prim.Native.Nat.{◌-◌}
 use mathlib.Core.Path.{◌≡◌}
 use Rattle.table_writer.proofs.put_standalones.Given as goal
 
-abbrev pub invariant-loop-left : goal.invariant-loop-left
-invariant-loop-left l = (length l.out ≡ length l.initial.out)
-    × ((ts : Terms) → RunInTable l.msg l.places l.lengths l.table 0 ts → AllOrdered l.order 0 0 ts → count ts ≡ l.n → PutLeft l.msg l.places l.lengths l.table l.order standalones l.initial.out 0 ts l.next l.left l.out l.end)
-
-abbrev pub decreases-loop-left : goal.decreases-loop-left
-decreases-loop-left l = l.left
+abbrev pub invariant-loop : goal.invariant-loop
+invariant-loop l = (ts : Terms) → RunInTable l.msg l.places l.lengths l.table 0 ts → AllOrdered l.order 0 0 ts → count ts ≡ l.n → PutLeft l.msg l.places l.lengths l.table l.order standalones l.initial.out 0 ts l.next (l.n - l.counter) l.out l.end

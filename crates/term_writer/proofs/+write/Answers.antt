@@ -21,7 +21,7 @@ pub write_pairs-offset_bounds-order-key : goal.write_pairs-offset_bounds-order-k
 write_pairs-offset_bounds-order-key t c = let b = slot_there c.requires c.loop.invariant (omega arith) _ refl in omega arith
 
 pub write_pairs-write_run-end-requires : goal.write_pairs-write_run-end-requires
-write_pairs-write_run-end-requires t c = let a = c.requires in let f = pair_from a c.loop.invariant (omega arith) _ c.wide16-slot.ensures in (omega arith, pair_fits a c.loop.invariant (omega arith) _ c.wide16-slot.ensures _ c.loop.auto.out)
+write_pairs-write_run-end-requires t c = let a = c.requires in let f = pair_from a c.loop.invariant (omega arith) _ c.from-slot.ensures in (omega arith, pair_fits a c.loop.invariant (omega arith) _ c.from-slot.ensures _ c.loop.auto.out)
 
 pub write_pairs-offset_bounds-table-key : goal.write_pairs-offset_bounds-table-key
 write_pairs-offset_bounds-table-key t c = let g = pairs_here c.requires c.loop.invariant in let b = key_size g (omega arith) _ refl in omega arith
@@ -43,7 +43,7 @@ write_pairs-overflow_add-key t c = let g = pairs_here c.requires c.loop.invarian
 
 pub write_pairs-loop-preserved : goal.write_pairs-loop-preserved
 write_pairs-loop-preserved t c = let here = c.loop in
-    λ ts h o p e. pairs_step (here.invariant ts h o p e) (omega arith) _ c.wide16-slot.ensures h o _ c.size_in.ensures.0 _ c.size_in-in-loop.ensures.0 _ c.write_run-end.ensures (omega arith)
+    λ ts h o p e. pairs_step (here.invariant ts h o p e) (omega arith) _ c.from-slot.ensures h o _ c.size_in.ensures.0 _ c.size_in-in-loop.ensures.0 _ c.write_run-end.ensures (omega arith)
 
 pub write_pairs-returns : goal.write_pairs-returns
 write_pairs-returns t c = λ ts h o p e. pairs_end (c.loop.invariant ts h o p e) (omega arith)
