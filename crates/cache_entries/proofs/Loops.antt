@@ -7,16 +7,15 @@ use lib.ListN.{length, replicate, set, length-append}
 use lib.Seq.{sets}
 use Rattle.term_spec.specs.Text.{Coding}
 use Rattle.term_spec.specs.Answer.{Answer, good, Position, at_offset}
-use Rattle.octets.specs.Cleared.{cleared}
-use Rattle.octets.proofs.Cleared.{cleared_all}
 use Rattle.packet_spec.specs.Memory.{Cache, Held, held}
 use Rattle.packet_spec.specs.Header.{Reference, half}
 use Rattle.packet_spec.specs.Calls.{zeros_to, enter, entered, texts_in_places, lengths_of, list_of}
 use Rattle.packet_spec.proofs.Stores.{length_zeros_to}
 use Rattle.packet_spec.proofs.SizesKept.{length_lengths}
+use Rattle.dist_header.specs.declared.HeaderStart.{HeaderStart}
 use Rattle.dist_header.specs.Code.{flags_of, GoodHeader}
 use Rattle.dist_header.proofs.Walk.{along_more, along_all, Turned, turned}
-use Rattle.dist_header.proofs.Accepted.{HalfWay, start}
+use Rattle.dist_header.proofs.Accepted.{HalfWay, begun}
 use Rattle.cache_entries.specs.Code.{GoodReference, Lists, ListWritten, Enters, CacheWritten}
 use Rattle.cache_entries.proofs.Storing.{stored_next, length_next}
 
@@ -41,70 +40,70 @@ done_is whole d rs u t e f =
     let p : ◌≡◌ {A = List Reference × Position} (d, u) (rs, t) = cc in
     ap (λ (x : List Reference × Position). x.0) p
 
-module _ (agreed : Coding) (holding : ℕ → Held) (s : List ℕ) (at n width first : ℕ) where
-  module _ (good_header : GoodHeader agreed holding s at n width first) (i next : ℕ) (w : HalfWay agreed holding s at n width first i next) (less : i < n) where
-    abbrev next_turn : Turned agreed holding s (flags_of s at n) width _ n i next w.earlier w.done w.along
-    next_turn = turned agreed holding s (flags_of s at n) width _ n i next w.earlier w.done w.along good_header.references good_header.end less good_header.is
+module _ (agreed : Coding) (holding : ℕ → Held) (s : List ℕ) (at : ℕ) (start : HeaderStart) where
+  module _ (good_header : GoodHeader agreed holding s at start) (i next : ℕ) (w : HalfWay agreed holding s at start i next) (less : i < start.n) where
+    abbrev next_turn : Turned agreed holding s (flags_of s at start.n) start.width _ start.n i next w.earlier w.done w.along
+    next_turn = turned agreed holding s (flags_of s at start.n) start.width _ start.n i next w.earlier w.done w.along good_header.references good_header.end less good_header.is
 
     -- reference i is good
-    abbrev pub stands_next : GoodReference agreed holding s (half (flags_of s at n) i) width next
+    abbrev pub stands_next : GoodReference agreed holding s (half (flags_of s at start.n) i) start.width next
     stands_next = record { earlier = w.earlier; i = i; reference = next_turn.reference; end = next_turn.end; is = next_turn.is }
 
-    abbrev onward : (a : ℕ) → next_turn.end ≡ at_offset s a 0 → HalfWay agreed holding s at n width first (i + 1) a
+    abbrev onward : (a : ℕ) → next_turn.end ≡ at_offset s a 0 → HalfWay agreed holding s at start (i + 1) a
     onward a e =
         let c : length w.done ≡ i = w.count in
         record {
           earlier = next_turn.reference ∷ w.earlier;
           done = w.done ++ (next_turn.reference ∷ []);
-          along = along_more agreed holding s (flags_of s at n) width _ n i next w.earlier w.done w.along next_turn.reference a less
+          along = along_more agreed holding s (flags_of s at start.n) start.width _ start.n i next w.earlier w.done w.along next_turn.reference a less
               (next_turn.is ∙ ap (λ (u : Position). good (next_turn.reference, u)) e);
           count = length-append w.done (next_turn.reference ∷ []) ∙ ap (λ (m : ℕ). m + 1) c;
         }
 
 -- ---- a list
 
-module _ (agreed : Coding) (c : Cache) (s : List ℕ) (at n width first : ℕ) where
+module _ (agreed : Coding) (c : Cache) (s : List ℕ) (at : ℕ) (start : HeaderStart) where
   pub record ListWalk (i next : ℕ) (list sizes : List ℕ) : Type 0 where
-    pub way : HalfWay agreed (held c) s at n width first i next
+    pub way : HalfWay agreed (held c) s at start i next
     pub places_are : list ≡ texts_in_places way.done ++ replicate (8160 - 32 * i) 0
     pub long : length (texts_in_places way.done) ≡ 32 * i
     pub lengths_are : sizes ≡ lengths_of way.done ++ replicate (255 - i) 0
 
-  pub list_none : (list sizes list₀ sizes₀ : List ℕ) → length list₀ ≡ 8160 → length sizes₀ ≡ 255 → list ≡ cleared 0 list₀ → sizes ≡ replicate (length sizes₀) 0
-      → ListWalk 0 first list sizes
+  pub list_none : (list sizes list₀ sizes₀ : List ℕ) → length list₀ ≡ 8160 → length sizes₀ ≡ 255 → list ≡ replicate (length list₀) 0 → sizes ≡ replicate (length sizes₀) 0
+      → ListWalk 0 start.first list sizes
   unfolding texts_in_places lengths_of
   list_none list sizes list₀ sizes₀ h k e f =
       record {
-        way = start agreed (held c) s at n width first;
-        places_are = e ∙ cleared_all list₀ ∙ ap (λ (m : ℕ). replicate m 0) h;
+        way = begun agreed (held c) s at start;
+        places_are = e ∙ ap (λ (m : ℕ). replicate m 0) h;
         long = refl;
         lengths_are = f ∙ ap (λ (m : ℕ). replicate m 0) k;
       }
 
-  module _ (good_header : GoodHeader agreed (held c) s at n width first) (i next : ℕ) (list sizes : List ℕ) (w : ListWalk i next list sizes) (less : i < n) where
-    abbrev pub list_stands : GoodReference agreed (held c) s (half (flags_of s at n) i) width next
-    list_stands = stands_next agreed (held c) s at n width first good_header i next w.way less
+  module _ (good_header : GoodHeader agreed (held c) s at start) (i next : ℕ) (list sizes : List ℕ) (w : ListWalk i next list sizes) (less : i < start.n) where
+    abbrev pub list_stands : GoodReference agreed (held c) s (half (flags_of s at start.n) i) start.width next
+    list_stands = stands_next agreed (held c) s at start good_header i next w.way less
 
-    module _ (list' : List ℕ) (size a : ℕ) (put : Lists agreed c s (half (flags_of s at n) i) width next (32 * i) list list' (record { size = size; next = a })) where
+    module _ (list' : List ℕ) (size a : ℕ) (put : Lists agreed c s (half (flags_of s at start.n) i) start.width next (32 * i) list list' (record { size = size; next = a })) where
       pub list_inside : (a ≤ length s) × (size ≤ 32)
       list_inside =
-          let t : GoodReference agreed (held c) s (half (flags_of s at n) i) width next = list_stands in
+          let t : GoodReference agreed (held c) s (half (flags_of s at start.n) i) start.width next = list_stands in
           let k = put.lists t.earlier t.i t.reference t.end t.is in
           (k.1, k.3)
 
       pub list_more : ListWalk (i + 1) a list' (set sizes i size)
       list_more =
-          let t : GoodReference agreed (held c) s (half (flags_of s at n) i) width next = list_stands in
+          let t : GoodReference agreed (held c) s (half (flags_of s at start.n) i) start.width next = list_stands in
           let x : Reference = t.reference in
           let k = put.lists t.earlier t.i x t.end t.is in
-          let few : n < 256 = good_header.stands.few in
+          let few : start.n < 256 = good_header.stands.few in
           let count : length w.way.done ≡ i = w.way.count in
           let lc : length (lengths_of w.way.done) ≡ i = length_lengths w.way.done ∙ count in
           let short : length x.text ≤ 32 = omega (arith, k.2, k.3) in
           let m : 8160 - 32 * i - 32 ≡ 8160 - 32 * (i + 1) = omega arith in
           let p : 255 - i ≡ suc (255 - (i + 1)) = omega arith in
           record {
-            way = onward agreed (held c) s at n width first good_header i next w.way less a k.0;
+            way = onward agreed (held c) s at start good_header i next w.way less a k.0;
             places_are =
                 k.4
                 ∙ ap₂ (λ (l : List ℕ) (j : ℕ). sets l j x.text) w.places_are (sym w.long)
@@ -123,13 +122,13 @@ module _ (agreed : Coding) (c : Cache) (s : List ℕ) (at n width first : ℕ) w
           two : {p q : ℕ} → p ≡ 32 * i → q ≡ 32 → p + q ≡ 32 * (i + 1)
           two e f = omega arith
 
-  pub list_all : (i next : ℕ) (list sizes : List ℕ) → ListWalk i next list sizes → i ≡ n → n < 256 → ListWritten agreed c s at n width first list sizes
+  pub list_all : (i next : ℕ) (list sizes : List ℕ) → ListWalk i next list sizes → i ≡ start.n → start.n < 256 → ListWritten agreed c s at start list sizes
   unfolding list_of zeros_to
   list_all i next list sizes w e few =
       record {
         list_written = λ rs t f.
             let d : w.way.done ≡ rs =
-            done_is _ w.way.done rs (at_offset s next 0) t (along_all agreed (held c) s (flags_of s at n) width _ n i next w.way.earlier w.way.done w.way.along e) f in
+            done_is _ w.way.done rs (at_offset s next 0) t (along_all agreed (held c) s (flags_of s at start.n) start.width _ start.n i next w.way.earlier w.way.done w.way.along e) f in
             let lt : 8160 - 32 * i ≡ 8160 - length (texts_in_places w.way.done) = ap (λ (m : ℕ). 8160 - m) (sym w.long) in
             let ll : 255 - i ≡ 255 - length (lengths_of w.way.done) = ap (λ (m : ℕ). 255 - m) (sym (length_lengths w.way.done ∙ w.way.count)) in (
               w.places_are ∙ ap (λ (m : ℕ). texts_in_places w.way.done ++ replicate m 0) lt ∙ ap (λ (x : List Reference). texts_in_places x ++ replicate (8160 - length (texts_in_places x)) 0) d,
@@ -139,39 +138,39 @@ module _ (agreed : Coding) (c : Cache) (s : List ℕ) (at n width first : ℕ) w
 
 -- ---- the cache
 
-module _ (agreed : Coding) (before : Cache) (s : List ℕ) (at n width first : ℕ) where
+module _ (agreed : Coding) (before : Cache) (s : List ℕ) (at : ℕ) (start : HeaderStart) where
   pub record CacheWalk (i next : ℕ) (now : Cache) : Type 0 where
-    pub way : HalfWay agreed (held before) s at n width first i next
+    pub way : HalfWay agreed (held before) s at start i next
     pub cache_is : now ≡ entered before way.done
 
-  pub cache_none : CacheWalk 0 first before
+  pub cache_none : CacheWalk 0 start.first before
   unfolding entered
-  cache_none = record { way = start agreed (held before) s at n width first; cache_is = refl }
+  cache_none = record { way = begun agreed (held before) s at start; cache_is = refl }
 
-  module _ (good_header : GoodHeader agreed (held before) s at n width first) (i next : ℕ) (now : Cache) (w : CacheWalk i next now) (less : i < n) where
-    pub cache_stands : GoodReference agreed (held before) s (half (flags_of s at n) i) width next
-    cache_stands = stands_next agreed (held before) s at n width first good_header i next w.way less
+  module _ (good_header : GoodHeader agreed (held before) s at start) (i next : ℕ) (now : Cache) (w : CacheWalk i next now) (less : i < start.n) where
+    pub cache_stands : GoodReference agreed (held before) s (half (flags_of s at start.n) i) start.width next
+    cache_stands = stands_next agreed (held before) s at start good_header i next w.way less
 
-    module _ (now' : Cache) (a : ℕ) (put : Enters agreed s (half (flags_of s at n) i) width next now now' a) where
+    module _ (now' : Cache) (a : ℕ) (put : Enters agreed s (half (flags_of s at start.n) i) start.width next now now' a) where
       pub cache_inside : a ≤ length s
       cache_inside =
-          let t : GoodReference agreed (held before) s (half (flags_of s at n) i) width next = stands_next agreed (held before) s at n width first good_header i next w.way less in
+          let t : GoodReference agreed (held before) s (half (flags_of s at start.n) i) start.width next = stands_next agreed (held before) s at start good_header i next w.way less in
           (put.enters (held before) t.earlier t.i t.reference t.end t.is).1
 
       pub cache_more : CacheWalk (i + 1) a now'
       cache_more =
-          let t : GoodReference agreed (held before) s (half (flags_of s at n) i) width next = stands_next agreed (held before) s at n width first good_header i next w.way less in
+          let t : GoodReference agreed (held before) s (half (flags_of s at start.n) i) start.width next = stands_next agreed (held before) s at start good_header i next w.way less in
           let k = put.enters (held before) t.earlier t.i t.reference t.end t.is in
           record {
-            way = onward agreed (held before) s at n width first good_header i next w.way less a k.0;
+            way = onward agreed (held before) s at start good_header i next w.way less a k.0;
             cache_is = k.2 ∙ ap (λ (c : Cache). enter c t.reference) w.cache_is ∙ sym (entered_more w.way.done before t.reference);
           }
 
-  pub cache_all : (i next : ℕ) (now : Cache) → CacheWalk i next now → i ≡ n → CacheWritten agreed s at n width first before now
+  pub cache_all : (i next : ℕ) (now : Cache) → CacheWalk i next now → i ≡ start.n → CacheWritten agreed s at start before now
   cache_all i next now w e =
       record {
         cache_written = λ rs t f.
             w.cache_is
             ∙ ap (entered before) (done_is _ w.way.done rs (at_offset s next 0) t
-            (along_all agreed (held before) s (flags_of s at n) width _ n i next w.way.earlier w.way.done w.way.along e) f);
+            (along_all agreed (held before) s (flags_of s at start.n) start.width _ start.n i next w.way.earlier w.way.done w.way.along e) f);
       }

@@ -8,6 +8,8 @@ use lib.Dec.{eqb, leb}
 use lib.ListN.{length, get_or, take, drop, replicate, set, length-append, length-replicate, replicate-append-replicate}
 use lib.Seq.{sets, sets-eq, length-sets, take_at, drop_at, take-append_seam, drop-append-add, length-take-le, take-take}
 use borrow.Author.Tests.{leb-true}
+use borrow.Rule.Slice.PartMut.{put_mid}
+use Rattle.std.specs.Prelude.{Option, Some, None, IsSome}
 use Rattle.term_spec.specs.Text.{Coding, valid, invalid_at, check, encodes, utf_8}
 use Rattle.term_spec.specs.Answer.{Answer, good, refused, Position, at_offset}
 use Rattle.term_spec.specs.Text as texts
@@ -18,10 +20,11 @@ use Rattle.packet_spec.specs.Calls.{zeros_to, enter}
 use Rattle.packet_spec.proofs.Stores.{length_zeros_to}
 use Rattle.dist_header.specs.Code.{TextFits, PutsText, Spells}
 use Rattle.octets.proofs.Parts.{length_part}
+use Rattle.octets.proofs.Stores.{mid_sets}
 use Rattle.dist_header.proofs.Texts.{get_or_any}
 use Rattle.dist_header.proofs.Good.{GoodNew, GoodCached, good_new, good_cached}
+use Rattle.dist_header.specs.declared.Spelled.{Spelled}
 use Rattle.dist_header.specs.declared.Spelled.TheVariants as spelled
-use Rattle.cache_entries.specs.declared.ListedText.{ListedText}
 use Rattle.cache_entries.specs.Code.{GoodReference, Lists, StoresText, Enters}
 
 -- ---- zeros
@@ -77,6 +80,13 @@ stored_over l t i h k =
     split : (n : ℕ) → n ≤ 32 → ◌≡◌ {A = List ℕ} (replicate 32 0) (replicate n 0 ++ replicate (32 - n) 0)
     split n h = let e : 32 ≡ n + (32 - n) = omega arith in ap (λ (k : ℕ). replicate k 0) e ∙ sym (replicate-append-replicate n (32 - n) 0)
 
+-- 32 bytes of a slice, filled with zeros
+pub zeros_put : (l : List ℕ) (i : ℕ) (r : List ℕ) → i + 32 ≤ length l → r ≡ replicate (length (take (i + 32 - i) (drop i l))) 0 → put_mid i (i + 32 - i) l r ≡ sets l i (replicate 32 0)
+zeros_put l i r h e =
+    let m : i + 32 - i ≡ 32 = omega arith in
+    let z : r ≡ replicate 32 0 = e ∙ ap (λ (k : ℕ). replicate (length (take k (drop i l))) 0) m ∙ ap (λ (k : ℕ). replicate k 0) (length_part l i 32 h) in
+    ap (put_mid i (i + 32 - i) l) z ∙ mid_sets l (replicate 32 0) i (i + 32 - i) (omega arith) (omega arith)
+
 -- ---- what a place holds
 
 as_text : (n : ℕ) (l bs : List ℕ) → held_as n l ≡ text bs → (bs ≡ take n l) × (n ≤ 32)
@@ -84,14 +94,14 @@ unfolding held_as text_if
 as_text n l bs e = go (eqb n 65535) (leb n 32) refl e
   where
     inner : (o : texts.Checked) → text_if (take n l) o ≡ text bs → bs ≡ take n l
-    inner (invalid_at k) f = let no_way : ◌≡◌ {A = ℕ} 0 1 = cc in absurd (omega arith)
+    inner (invalid_at k) f = absurd cc
     inner (valid cs) f = cc
 
     go : (x y : Bool) → leb n 32 ≡ y
         → ◌≡◌ {A = Held} (elim x [ true ↦ nothing | false ↦ elim y [ true ↦ text_if (take n l) (check utf_8 (take n l)) | false ↦ no_text ] ]) (text bs)
         → (bs ≡ take n l) × (n ≤ 32)
-    go true y h f = let no_way : ◌≡◌ {A = ℕ} 0 1 = cc in absurd (omega arith)
-    go false false h f = let no_way : ◌≡◌ {A = ℕ} 0 1 = cc in absurd (omega arith)
+    go true y h f = absurd cc
+    go false false h f = absurd cc
     go false true h f = (inner (check utf_8 (take n l)) f, leb-true n 32 h)
 
 -- the bytes of a place that holds a text
@@ -104,19 +114,16 @@ held_bytes places lengths p n bs h is there e =
     let b : bs ≡ take n (drop (32 * p) places) = k.0 ∙ take-take n 32 (drop (32 * p) places) k.1 in
     (b, k.1, ap length b ∙ length_part places (32 * p) n (omega (arith, k.1)))
 
+-- a good reference is not cut off
+pub good_there : {agreed : Coding} {holding : ℕ → Held} {s : List ℕ} {h width at : ℕ} (o : Option Spelled) → GoodReference agreed holding s h width at → Spells s h width at o → IsSome o
+unfolding Spells
+good_there {agreed} {holding} None st e = let cut : ◌≡◌ {A = Answer (Reference × Position)} (refused 2 st.i) (good (st.reference, st.end)) = sym (e agreed holding st.earlier st.i) ∙ st.is in absurd cc
+good_there (Some x) st e = refl
+
 -- ---- one reference into a list
 
 module _ (agreed : Coding) (c : Cache) (s : List ℕ) (h width at to : ℕ) (before now : List ℕ) where
-  pub lists_cut : (r : ListedText) → Spells s h width at spelled.Cut → Lists agreed c s h width at to before now r
-  unfolding Spells
-  lists_cut r e =
-      record {
-        lists = λ earlier i x t f.
-            let g : ◌≡◌ {A = Answer (Reference × Position)} (refused 2 i) (good (x, t)) = sym (e agreed (held c) earlier i) ∙ f in
-            let no_way : ◌≡◌ {A = ℕ} 0 1 = cc in absurd (omega arith);
-      }
-
-  pub lists_new : (p : Place) (from size stored : ℕ) → Spells s h width at (spelled.New p from size)
+  pub lists_new : (p : Place) (from size stored : ℕ) → Spells s h width at (Some (spelled.New p from size))
       → PutsText agreed (take size (drop from s)) to before now stored
       → Lists agreed c s h width at to before now (record { size = stored; next = from + size })
   unfolding Spells
@@ -131,7 +138,7 @@ module _ (agreed : Coding) (c : Cache) (s : List ℕ) (h width at to : ℕ) (bef
       }
 
 pub lists_cached : (agreed : Coding) (places lengths s : List ℕ) (h width at to : ℕ) (before now : List ℕ) (p : Place) (n : ℕ)
-    → Spells s h width at (spelled.Cached p) → CacheSized (cache_of places lengths) → n ≡ get_or lengths p.0 0
+    → Spells s h width at (Some (spelled.Cached p)) → CacheSized (cache_of places lengths) → n ≡ get_or lengths p.0 0
     → now ≡ sets before to (take n (drop (32 * p.0) places))
     → Lists agreed (cache_of places lengths) s h width at to before now (record { size = n; next = at + 1 })
 unfolding Spells
@@ -151,7 +158,7 @@ lists_cached agreed places lengths s h width at to before now p n e sized is put
 
 -- the text of a good new reference fits where 32 bytes do
 pub stands_new : (agreed : Coding) (holding : ℕ → Held) (s : List ℕ) (h width at : ℕ) (p : Place) (from size to room : ℕ) → GoodReference agreed holding s h width at
-    → Spells s h width at (spelled.New p from size) → to + 32 ≤ room → TextFits agreed s from size to room
+    → Spells s h width at (Some (spelled.New p from size)) → to + 32 ≤ room → TextFits agreed s from size to room
 unfolding Spells
 stands_new agreed holding s h width at p from size to room st e l =
     let g : GoodNew agreed p.0 (take size (drop from s)) (at_offset s (from + size) 0) st.reference st.end =
@@ -161,7 +168,7 @@ stands_new agreed holding s h width at p from size to room st e l =
 
 -- the length of a place that a good cached reference names
 pub stands_cached : (agreed : Coding) (places lengths s : List ℕ) (h width at : ℕ) (p : Place) (n : ℕ) → GoodReference agreed (held (cache_of places lengths)) s h width at
-    → Spells s h width at (spelled.Cached p) → CacheSized (cache_of places lengths) → n ≡ get_or lengths p.0 0 → n ≤ 32
+    → Spells s h width at (Some (spelled.Cached p)) → CacheSized (cache_of places lengths) → n ≡ get_or lengths p.0 0 → n ≤ 32
 unfolding Spells
 stands_cached agreed places lengths s h width at p n st e sized is =
     let g : GoodCached (held (cache_of places lengths)) p.0 (at_offset s (at + 1) 0) st.reference st.end =
@@ -194,16 +201,7 @@ text_entered agreed s from size places lengths between places' p stored small si
     }
 
 module _ (agreed : Coding) (s : List ℕ) (h width at : ℕ) (before now : Cache) where
-  pub enters_cut : (r : ℕ) → Spells s h width at spelled.Cut → Enters agreed s h width at before now r
-  unfolding Spells
-  enters_cut r e =
-      record {
-        enters = λ holding earlier i x t f.
-            let g : ◌≡◌ {A = Answer (Reference × Position)} (refused 2 i) (good (x, t)) = sym (e agreed holding earlier i) ∙ f in
-            let no_way : ◌≡◌ {A = ℕ} 0 1 = cc in absurd (omega arith);
-      }
-
-  pub enters_new : (p : Place) (from size : ℕ) → Spells s h width at (spelled.New p from size) → StoresText agreed s from size p.0 before now
+  pub enters_new : (p : Place) (from size : ℕ) → Spells s h width at (Some (spelled.New p from size)) → StoresText agreed s from size p.0 before now
       → Enters agreed s h width at before now (from + size)
   unfolding Spells
   enters_new p from size e put =
@@ -214,7 +212,7 @@ module _ (agreed : Coding) (s : List ℕ) (h width at : ℕ) (before now : Cache
             (g.ends, e.3, put.stores g.characters g.is_text ∙ ap (enter before) (sym g.is));
       }
 
-pub enters_cached : (agreed : Coding) (s : List ℕ) (h width at : ℕ) (c : Cache) (p : Place) → Spells s h width at (spelled.Cached p) → Enters agreed s h width at c c (at + 1)
+pub enters_cached : (agreed : Coding) (s : List ℕ) (h width at : ℕ) (c : Cache) (p : Place) → Spells s h width at (Some (spelled.Cached p)) → Enters agreed s h width at c c (at + 1)
 unfolding Spells enter
 enters_cached agreed s h width at c p e =
     record {

@@ -7,6 +7,7 @@ use Rattle.term_spec.specs.Answer.{good, Position, at_offset}
 use Rattle.packet_spec.specs.Memory.{Cache, CacheSized, Held, held}
 use Rattle.packet_spec.specs.Header.{Reference}
 use Rattle.packet_spec.specs.Calls.{enter, entered, list_of}
+use Rattle.dist_header.specs.declared.HeaderStart.{HeaderStart}
 use Rattle.dist_header.specs.Code.{references_from, ReferenceAt, reference_from, GoodHeader}
 use Rattle.cache_entries.specs.declared.ListedText.{ListedText}
 
@@ -16,9 +17,9 @@ pub record ListSized (places lengths : List ℕ) : Type 0 where
   pub lengths_are : length lengths ≡ 255
 
 -- a good header, judged with a cache of its stated size
-pub record HeaderIn (agreed : Coding) (c : Cache) (s : List ℕ) (at n width first : ℕ) : Type 0 where
+pub record HeaderIn (agreed : Coding) (c : Cache) (s : List ℕ) (at : ℕ) (start : HeaderStart) : Type 0 where
   pub cache_sized : CacheSized c
-  pub good_header : GoodHeader agreed (held c) s at n width first
+  pub good_header : GoodHeader agreed (held c) s at start
 
 -- a good reference stands at `at`
 pub record GoodReference (agreed : Coding) (holding : ℕ → Held) (s : List ℕ) (h width at : ℕ) : Type 0 where
@@ -49,8 +50,8 @@ pub record Lists (agreed : Coding) (c : Cache) (s : List ℕ) (h width at to : �
       → (t ≡ at_offset s r.next 0) × (r.next ≤ length s) × (r.size ≡ length x.text) × (r.size ≤ 32) × (after ≡ sets before to x.text)
 
 -- the list's places and lengths are those of the references
-pub record ListWritten (agreed : Coding) (c : Cache) (s : List ℕ) (at n width first : ℕ) (places lengths : List ℕ) : Type 0 where
-  pub list_written : (rs : List Reference) (t : Position) → references_from agreed (held c) s at n width first ≡ good (rs, t)
+pub record ListWritten (agreed : Coding) (c : Cache) (s : List ℕ) (at : ℕ) (start : HeaderStart) (places lengths : List ℕ) : Type 0 where
+  pub list_written : (rs : List Reference) (t : Position) → references_from agreed (held c) s at start ≡ good (rs, t)
       → (places ≡ (list_of rs).places) × (lengths ≡ (list_of rs).lengths)
 
 -- the text of the `size` bytes from `from` on is in the place
@@ -63,6 +64,6 @@ pub record Enters (agreed : Coding) (s : List ℕ) (h width at : ℕ) (before af
       → (t ≡ at_offset s r 0) × (r ≤ length s) × (after ≡ enter before x)
 
 -- the references, judged with the cache before, are entered
-pub record CacheWritten (agreed : Coding) (s : List ℕ) (at n width first : ℕ) (before after : Cache) : Type 0 where
-  pub cache_written : (rs : List Reference) (t : Position) → references_from agreed (held before) s at n width first ≡ good (rs, t)
+pub record CacheWritten (agreed : Coding) (s : List ℕ) (at : ℕ) (start : HeaderStart) (before after : Cache) : Type 0 where
+  pub cache_written : (rs : List Reference) (t : Position) → references_from agreed (held before) s at start ≡ good (rs, t)
       → after ≡ entered before rs

@@ -1,26 +1,15 @@
 // What an accepted header leaves: the atom list of its references' texts, and the cache with its new entries.
 #![tactic(auto)]
 
-ghost use Rattle.std.specs.Prelude.{◌≡◌, ◌*◌, ◌<◌, length, replicate};
+ghost use Rattle.std.specs.Prelude.{◌*◌, ◌<◌};
 ghost use Rattle.packet_spec.specs.Memory.{cache_of, CacheSized};
 ghost use Rattle.term_spec.specs.Text.{coding_of};
-ghost use Rattle.dist_header.specs.Code.{TextFits};
+ghost use Rattle.dist_header.specs.Code.{lent_cache, TextFits};
 ghost use Rattle.cache_entries.specs.Code.{ListSized, HeaderIn, Listable, Lists, ListWritten, StoresText, Enterable, Enters, CacheWritten};
 
-use dist_header::Spelled;
+use dist_header::{Cache, HeaderStart, Spelled};
 use packet_spec::{Place, ReferenceIndex};
 use term_spec::sizes;
-
-// Sets every length to `value`.
-pub fn fill_lengths(lengths: &mut [u16], value: u16)
-    ensures { lengths.new ≡ replicate (length lengths.old) value }
-{
-    let mut i = 0;
-    while i < lengths.len() {
-        lengths[i] = value;
-        i += 1;
-    }
-}
 
 // A text put into a list: its length, and the offset past its reference.
 #[derive(Drop)]
@@ -36,25 +25,17 @@ fn list_reference(
     half: usize,
     width: usize,
     at: usize,
-    cache: &[u8],
-    cache_lengths: &[u16],
+    cache: &Cache,
     i: usize,
     list_places: &mut [u8],
 ) -> ListedText
-    requires { Listable (coding_of utf8) (cache_of cache.now cache_lengths.now) packet.now half width at i list_places.old }
-    ensures { Lists (coding_of utf8) (cache_of cache.now cache_lengths.now) packet.now half width at (32 * i) list_places.old list_places.new result }
+    requires { Listable (coding_of utf8) (lent_cache cache.now) packet.now half width at i list_places.old }
+    ensures { Lists (coding_of utf8) (lent_cache cache.now) packet.now half width at (32 * i) list_places.old list_places.new result }
 {
-    match dist_header::read_reference(packet, half, width, at) {
-        Spelled::Cut => ListedText { size: 0, next: at },
+    match dist_header::read_reference(packet, half, width, at).unwrap() {
         Spelled::New { place, from, size } => {
-            let stored = dist_header::put_text(
-                utf8,
-                packet,
-                from,
-                size,
-                list_places,
-                sizes::PLACE_BYTES * i,
-            );
+            let to = sizes::PLACE_BYTES * i;
+            let stored = dist_header::put_text(utf8, packet, from, size, list_places, to);
             ListedText {
                 size: stored,
                 next: from + size,
@@ -62,58 +43,40 @@ fn list_reference(
         }
         Spelled::Cached { place } => {
             let k = place.0;
-            let size = octets::wide16(cache_lengths[k]);
+            let size = octets::wide16(cache.lengths[k]);
             octets::copy(
-                cache,
+                cache.places,
                 sizes::PLACE_BYTES * k,
                 list_places,
                 sizes::PLACE_BYTES * i,
                 size,
             );
-            ListedText {
-                size: size,
-                next: at + 1,
-            }
+            ListedText { size, next: at + 1 }
         }
     }
 }
 
-// Writes the list of the texts of the n references of the header at `at`.
+// Writes the list of the texts of the references of the header at `at`.
 pub fn write_list(
     utf8: bool,
     packet: &[u8],
     at: usize,
-    n: usize,
-    width: usize,
-    first: usize,
-    cache: &[u8],
-    cache_lengths: &[u16],
+    start: HeaderStart,
+    cache: &Cache,
     list_places: &mut [u8],
     list_lengths: &mut [u16],
 )
-    requires { HeaderIn (coding_of utf8) (cache_of cache.now cache_lengths.now) packet.now at n width first × ListSized list_places.old list_lengths.old }
-    ensures { ListWritten (coding_of utf8) (cache_of cache.now cache_lengths.now) packet.now at n width first list_places.new list_lengths.new }
+    requires { HeaderIn (coding_of utf8) (lent_cache cache.now) packet.now at start × ListSized list_places.old list_lengths.old }
+    ensures { ListWritten (coding_of utf8) (lent_cache cache.now) packet.now at start list_places.new list_lengths.new }
 {
-    octets::clear_bytes(list_places, 0);
-    fill_lengths(list_lengths, 0);
-    let mut next = first;
-    let mut i = 0;
-    while i < n {
+    list_places.fill(0);
+    list_lengths.fill(0);
+    let mut next = start.first;
+    for i in 0..start.n {
         let half = dist_header::half_of(packet, at, ReferenceIndex(i));
-        let stored = list_reference(
-            utf8,
-            packet,
-            half,
-            width,
-            next,
-            cache,
-            cache_lengths,
-            i,
-            list_places,
-        );
+        let stored = list_reference(utf8, packet, half, start.width, next, cache, i, list_places);
         list_lengths[i] = stored.size as u16;
         next = stored.next;
-        i += 1;
     }
 }
 
@@ -131,9 +94,9 @@ fn enter_text(
     ensures { StoresText (coding_of utf8) packet.now from size place.0 (cache_of cache.old cache_lengths.old) (cache_of cache.new cache_lengths.new) }
 {
     let k = place.0;
-    let zeros = [0u8; sizes::PLACE_BYTES];
-    octets::copy(&zeros, 0, cache, sizes::PLACE_BYTES * k, sizes::PLACE_BYTES);
-    let stored = dist_header::put_text(utf8, packet, from, size, cache, sizes::PLACE_BYTES * k);
+    let to = sizes::PLACE_BYTES * k;
+    cache[to..to + sizes::PLACE_BYTES].fill(0);
+    let stored = dist_header::put_text(utf8, packet, from, size, cache, to);
     cache_lengths[k] = stored as u16;
 }
 
@@ -150,8 +113,7 @@ fn enter_reference(
     requires { Enterable (coding_of utf8) (cache_of cache.old cache_lengths.old) packet.now half width at }
     ensures { Enters (coding_of utf8) packet.now half width at (cache_of cache.old cache_lengths.old) (cache_of cache.new cache_lengths.new) result }
 {
-    match dist_header::read_reference(packet, half, width, at) {
-        Spelled::Cut => at,
+    match dist_header::read_reference(packet, half, width, at).unwrap() {
         Spelled::New { place, from, size } => {
             enter_text(utf8, packet, place, from, size, cache, cache_lengths);
             from + size
@@ -165,20 +127,16 @@ pub fn write_cache(
     utf8: bool,
     packet: &[u8],
     at: usize,
-    n: usize,
-    width: usize,
-    first: usize,
+    start: HeaderStart,
     cache: &mut [u8],
     cache_lengths: &mut [u16],
 )
-    requires { HeaderIn (coding_of utf8) (cache_of cache.old cache_lengths.old) packet.now at n width first }
-    ensures { CacheWritten (coding_of utf8) packet.now at n width first (cache_of cache.old cache_lengths.old) (cache_of cache.new cache_lengths.new) }
+    requires { HeaderIn (coding_of utf8) (cache_of cache.old cache_lengths.old) packet.now at start }
+    ensures { CacheWritten (coding_of utf8) packet.now at start (cache_of cache.old cache_lengths.old) (cache_of cache.new cache_lengths.new) }
 {
-    let mut next = first;
-    let mut i = 0;
-    while i < n {
+    let mut next = start.first;
+    for i in 0..start.n {
         let half = dist_header::half_of(packet, at, ReferenceIndex(i));
-        next = enter_reference(utf8, packet, half, width, next, cache, cache_lengths);
-        i += 1;
+        next = enter_reference(utf8, packet, half, start.width, next, cache, cache_lengths);
     }
 }

@@ -1,4 +1,4 @@
-use Prim.Native.Nat.{◌-◌, ◌≤◌}
+use Prim.Native.Nat.{◌≤◌}
 use lib.ListN.{length}
 use Rattle.term_spec.specs.Text.{coding_of}
 use Rattle.packet_spec.specs.Memory.{cache_of, CacheSized}
@@ -6,7 +6,4 @@ use Rattle.cache_entries.proofs.Loops.{CacheWalk}
 use Rattle.cache_entries.proofs.write_cache.Given as goal
 
 abbrev pub invariant-loop-i : goal.invariant-loop-i
-invariant-loop-i l = (l.i ≤ l.n) × (l.next ≤ length l.packet) × CacheSized (cache_of l.cache l.cache_lengths) × CacheWalk (coding_of l.utf8) (cache_of l.initial.cache l.initial.cache_lengths) l.packet l.at l.n l.width l.first l.i l.next (cache_of l.cache l.cache_lengths)
-
-abbrev pub decreases-loop-i : goal.decreases-loop-i
-decreases-loop-i l = l.n - l.i
+invariant-loop-i l = (l.next ≤ length l.packet) × CacheSized (cache_of l.cache l.cache_lengths) × CacheWalk (coding_of l.utf8) (cache_of l.initial.cache l.initial.cache_lengths) l.packet l.at l.start l.i l.next (cache_of l.cache l.cache_lengths)
