@@ -13,19 +13,16 @@ use Rattle.octets.proofs.Parts.{part_cons}
 use Rattle.row_fields.specs.Found.{stripped}
 
 module _ (m : List ℕ) (start : ℕ) where
-  stripped_suc : (k : ℕ) → 0 < k → stripped m start k ≡ cond (eqb (get_or m (start + k - 1) 0) 0) (stripped m start (k - 1)) k
+  stripped_suc : (k : ℕ) → 0 < k → stripped m start k ≡ cond (eqb (get_or m (start + (k - 1)) 0) 0) (stripped m start (k - 1)) k
   unfolding stripped
-  stripped_suc (suc k) h =
-      let e : start + suc k - 1 ≡ start + k = omega arith in
-      let f : suc k - 1 ≡ k = omega arith in
-      rw (e, f)
+  stripped_suc (suc k) h = let f : suc k - 1 ≡ k = omega arith in rw f
   stripped_suc zero h = absurd (omega arith)
 
-  pub strip_here : (k : ℕ) → 0 < k → (get_or m (start + k - 1) 0 ≡ 0 → ⊥) → stripped m start k ≡ k
-  strip_here k h f = stripped_suc k h ∙ rw (ne_eqb (get_or m (start + k - 1) 0) 0 f)
+  pub strip_here : (k : ℕ) → 0 < k → (get_or m (start + (k - 1)) 0 ≡ 0 → ⊥) → stripped m start k ≡ k - 1 + 1
+  strip_here k h f = let e : k ≡ k - 1 + 1 = omega arith in stripped_suc k h ∙ rw (ne_eqb (get_or m (start + (k - 1)) 0) 0 f) e
 
-  pub strip_next : (k : ℕ) → 0 < k → get_or m (start + k - 1) 0 ≡ 0 → stripped m start k ≡ stripped m start (k - 1)
-  strip_next k h f = stripped_suc k h ∙ rw (eq-eqb (get_or m (start + k - 1) 0) 0 f)
+  pub strip_next : (k : ℕ) → 0 < k → get_or m (start + (k - 1)) 0 ≡ 0 → stripped m start k ≡ stripped m start (k - 1)
+  strip_next k h f = stripped_suc k h ∙ rw (eq-eqb (get_or m (start + (k - 1)) 0) 0 f)
 
   pub strip_none : (k : ℕ) → k ≡ 0 → stripped m start k ≡ 0
   unfolding stripped

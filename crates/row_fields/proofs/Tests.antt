@@ -4,7 +4,7 @@ use mathlib.Core.Bool.{Bool, true, false, cond}
 use Prim.Native.Nat.{ℕ, ◌+◌, ◌-◌, ◌≤◌, ◌<◌}
 use native.Mathlib.Omega.{arith}
 use lib.Dec.{eqb, leb, ltb}
-use borrow.Author.Tests.{leb-true, leb-false, lt-ltb, le-ltb, lt-leb, le-leb, eq-eqb, ne_eqb}
+use borrow.Author.Tests.{lt-ltb, le-ltb, lt-leb, le-leb, eq-eqb, ne_eqb}
 
 module _ {A : Type 0} {t u : Bool} where
   pub yes_way : {z a : A} (b : A) → t ≡ u → t ≡ true → z ≡ a → z ≡ cond u a b
@@ -35,11 +35,3 @@ module _ {A : Type 0} {x y k n : ℕ} where
 -- k are left after `at`
 pub enough : {A : Type 0} {z b : A} (a : A) (l at k n : ℕ) → k ≡ n → at + k ≤ l → z ≡ b → z ≡ cond (ltb (l - at) n) a b
 enough a l at k n q h f = let g : k ≤ l - at = omega arith in not_below a refl q g f
-
--- n past at, at most a limit
-pub leb_moved : (at n l : ℕ) → at ≤ l → leb n (l - at) ≡ leb (at + n) l
-leb_moved at n l h = go (leb n (l - at)) refl
-  where
-    go : (t : Bool) → leb n (l - at) ≡ t → leb n (l - at) ≡ leb (at + n) l
-    go true e = let k : n ≤ l - at = leb-true n (l - at) e in e ∙ sym (le-leb (at + n) l (omega arith))
-    go false e = let k : l - at < n = leb-false n (l - at) e in e ∙ sym (lt-leb (at + n) l (omega arith))

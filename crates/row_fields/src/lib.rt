@@ -11,6 +11,7 @@ use term_spec::{kinds, sizes, tags};
 #[derive(Clone, Copy)]
 pub enum Content {
     // no fields: a tuple, a list, an improper list, a map, an export; or no such fields there
+    // A variant and no Option<Content>: None would stand for both as well, and each match would write Some(..) in its nine other arms.
     Nothing,
     // an integer of at most 8 digits; zero is not negative
     Whole {
@@ -60,27 +61,15 @@ pub enum Content {
     },
 }
 
-// The bytes from `at` on.
-fn left(s: &[u8], at: usize) -> usize
-    ensures { result ≡ length s.now - at }
-{
-    if s.len() < at {
-        return 0;
-    }
-    s.len() - at
-}
-
 // The number of the n digits from `start` on, up to the highest that is not zero.
 fn strip(msg: &[u8], start: usize, n: usize) -> usize
     requires { start + n ≤ length msg.now }
     ensures { (result ≡ stripped msg.now start n) × (result ≤ n) }
 {
-    let mut k = n;
-    while 0 < k {
-        if msg[start + k - 1] != 0 {
-            return k;
+    for k in (0..n).rev() {
+        if msg[start + k] != 0 {
+            return k + 1;
         }
-        k -= 1;
     }
     0
 }
@@ -90,11 +79,9 @@ fn little(msg: &[u8], start: usize, n: usize) -> u64
     requires { (start + n ≤ length msg.now) × (n ≤ 8) }
     ensures { result ≡ little_endian (take n (drop start msg.now)) }
 {
-    let mut k = n;
     let mut sum = 0u64;
-    while 0 < k {
-        k -= 1;
-        sum = sum * 256 + octets::wide(msg[start + k]) as u64;
+    for k in (0..n).rev() {
+        sum = sum * 256 + u64::from(msg[start + k]);
     }
     sum
 }
@@ -103,13 +90,12 @@ fn little(msg: &[u8], start: usize, n: usize) -> u64
 fn byte(msg: &[u8], at: usize) -> Content
     ensures { result ≡ byte_found msg.now at }
 {
-    if left(msg, at) < 1 {
+    if msg.len() <= at {
         return Content::Nothing;
     }
-    let n = octets::big1(msg, at) as u64;
     Content::Whole {
         negative: false,
-        magnitude: n,
+        magnitude: u64::from(msg[at]),
     }
 }
 
@@ -133,7 +119,7 @@ fn signed_of(n: u64) -> Content
 fn signed(msg: &[u8], at: usize) -> Content
     ensures { result ≡ signed_found msg.now at }
 {
-    if left(msg, at) < 5 {
+    if msg.len().saturating_sub(at) < 5 {
         return Content::Nothing;
     }
     signed_of(octets::big4(msg, at + 1) as u64)
@@ -149,7 +135,7 @@ fn whole(negative: bool, n: u64) -> Content
         };
     }
     Content::Whole {
-        negative: negative,
+        negative,
         magnitude: n,
     }
 }
@@ -161,8 +147,8 @@ fn of_digits(msg: &[u8], negative: bool, start: usize, n: usize) -> Content
 {
     if 8 < n {
         return Content::Big {
-            negative: negative,
-            start: start,
+            negative,
+            start,
             digits: n,
         };
     }
@@ -200,11 +186,11 @@ fn integer(msg: &[u8], at: usize, tag: u8) -> Content
 fn float(msg: &[u8], at: usize) -> Content
     ensures { result ≡ float_found msg.now at }
 {
-    if left(msg, at) < 9 {
+    if msg.len().saturating_sub(at) < 9 {
         return Content::Nothing;
     }
     let bits = octets::big8(msg, at + 1);
-    Content::Float { bits: bits }
+    Content::Float { bits }
 }
 
 // The width of the length of an atom with this tag; None for one of the list, which has none.
@@ -228,19 +214,11 @@ fn text(msg: &[u8], w: usize, latin1: bool, at: usize) -> Content
     };
     let start = at + 1 + w;
     Content::Text {
-        latin1: latin1,
+        latin1,
         listed: false,
-        start: start,
+        start,
         length: end - start,
     }
-}
-
-// A length of the list.
-fn length_at(lengths: &[u16], i: usize) -> usize
-    requires { i < length lengths.now }
-    ensures { result ≡ get_or lengths.now i 0 }
-{
-    octets::wide16(lengths[i])
 }
 
 // The text of the list's place i.
@@ -251,15 +229,15 @@ fn place(places: &[u8], lengths: &[u16], i: usize) -> Content
     if lengths.len() <= i {
         return Content::Nothing;
     }
-    let n = length_at(lengths, i);
+    let n = usize::from(lengths[i]);
     let start = sizes::PLACE_BYTES * i;
-    if left(places, start) < n {
+    if places.len().saturating_sub(start) < n {
         return Content::Nothing;
     }
     Content::Text {
         latin1: false,
         listed: true,
-        start: start,
+        start,
         length: n,
     }
 }
@@ -268,7 +246,7 @@ fn place(places: &[u8], lengths: &[u16], i: usize) -> Content
 fn listed(msg: &[u8], places: &[u8], lengths: &[u16], at: usize) -> Content
     ensures { result ≡ listed_found msg.now places.now lengths.now at }
 {
-    if left(msg, at) < 2 {
+    if msg.len().saturating_sub(at) < 2 {
         return Content::Nothing;
     }
     place(places, lengths, octets::big1(msg, at + 1))
@@ -299,7 +277,7 @@ fn text_end(msg: &[u8], width: Option<usize>, at: usize) -> usize
 fn atom_end(msg: &[u8], at: usize) -> usize
     ensures { result ≡ atom_end msg.now at }
 {
-    if left(msg, at) < 1 {
+    if msg.len() <= at {
         return msg.len();
     }
     text_end(msg, width_of(msg[at]), at)
@@ -322,22 +300,14 @@ fn bytes(msg: &[u8], at: usize) -> Content
 fn of_bits(bits: usize, start: usize, n: usize) -> Content
     ensures { result ≡ bits_of bits start n }
 {
-    if bits == 0 {
-        return Content::Bytes {
-            start: start,
+    if bits == 0 || bits == 8 {
+        Content::Bytes { start, length: n }
+    } else {
+        Content::Bits {
+            bits,
+            start,
             length: n,
-        };
-    }
-    if bits == 8 {
-        return Content::Bytes {
-            start: start,
-            length: n,
-        };
-    }
-    Content::Bits {
-        bits: bits,
-        start: start,
-        length: n,
+        }
     }
 }
 
@@ -357,10 +327,10 @@ fn binary(msg: &[u8], at: usize, tag: u8) -> Content
     requires { at < length msg.now }
     ensures { result ≡ binary_found msg.now at tag }
 {
-    if tag == tags::BIT_BINARY_EXT {
-        return bits(msg, at);
+    match tag {
+        tags::BIT_BINARY_EXT => bits(msg, at),
+        _ => bytes(msg, at),
     }
-    bytes(msg, at)
 }
 
 // The pid whose node ends at `end`, with w bytes of Creation.
@@ -368,16 +338,16 @@ fn pid_from(msg: &[u8], w: usize, end: usize) -> Content
     requires { Width w }
     ensures { result ≡ pid_found msg.now w end }
 {
-    if left(msg, end) < 8 + w {
+    if msg.len().saturating_sub(end) < 8 + w {
         return Content::Nothing;
     }
     let id = octets::big4(msg, end) as u64;
     let serial = octets::big4(msg, end + 4) as u64;
     let creation = octets::number(msg, end + 8, w);
     Content::Pid {
-        id: id,
-        serial: serial,
-        creation: creation,
+        id,
+        serial,
+        creation,
     }
 }
 
@@ -386,15 +356,12 @@ fn port_from(msg: &[u8], v: usize, w: usize, end: usize) -> Content
     requires { Width v × Width w }
     ensures { result ≡ port_found msg.now v w end }
 {
-    if left(msg, end) < v + w {
+    if msg.len().saturating_sub(end) < v + w {
         return Content::Nothing;
     }
     let id = octets::number(msg, end, v);
     let creation = octets::number(msg, end + v, w);
-    Content::Port {
-        id: id,
-        creation: creation,
-    }
+    Content::Port { id, creation }
 }
 
 // The reference of n words whose node ends at `end`, with w bytes of Creation.
@@ -402,12 +369,12 @@ fn words_from(msg: &[u8], w: usize, n: usize, end: usize) -> Content
     requires { Width w × (n < 65536) }
     ensures { result ≡ words_found msg.now w n end }
 {
-    if left(msg, end) < w + 4 * n {
+    if msg.len().saturating_sub(end) < w + 4 * n {
         return Content::Nothing;
     }
     let creation = octets::number(msg, end, w);
     Content::Reference {
-        creation: creation,
+        creation,
         start: end + w,
         words: n,
     }
@@ -417,12 +384,12 @@ fn words_from(msg: &[u8], w: usize, n: usize, end: usize) -> Content
 fn word_from(msg: &[u8], end: usize) -> Content
     ensures { result ≡ word_found msg.now end }
 {
-    if left(msg, end) < 5 {
+    if msg.len().saturating_sub(end) < 5 {
         return Content::Nothing;
     }
     let creation = octets::big1(msg, end + 4) as u64;
     Content::Reference {
-        creation: creation,
+        creation,
         start: end,
         words: 1,
     }
@@ -433,7 +400,7 @@ fn counted(msg: &[u8], w: usize, at: usize) -> Content
     requires { Width w }
     ensures { result ≡ counted_found msg.now w at }
 {
-    if left(msg, at) < 3 {
+    if msg.len().saturating_sub(at) < 3 {
         return Content::Nothing;
     }
     let n = octets::big2(msg, at + 1);
@@ -446,10 +413,10 @@ fn pid(msg: &[u8], at: usize, tag: u8) -> Content
     ensures { result ≡ pids_found msg.now at tag }
 {
     let end = atom_end(msg, at + 1);
-    if tag == tags::PID_EXT {
-        return pid_from(msg, 1, end);
+    match tag {
+        tags::PID_EXT => pid_from(msg, 1, end),
+        _ => pid_from(msg, 4, end),
     }
-    pid_from(msg, 4, end)
 }
 
 // The port whose tag is at `at`.
@@ -458,13 +425,11 @@ fn port(msg: &[u8], at: usize, tag: u8) -> Content
     ensures { result ≡ ports_found msg.now at tag }
 {
     let end = atom_end(msg, at + 1);
-    if tag == tags::V4_PORT_EXT {
-        return port_from(msg, 8, 4, end);
+    match tag {
+        tags::V4_PORT_EXT => port_from(msg, 8, 4, end),
+        tags::PORT_EXT => port_from(msg, 4, 1, end),
+        _ => port_from(msg, 4, 4, end),
     }
-    if tag == tags::PORT_EXT {
-        return port_from(msg, 4, 1, end);
-    }
-    port_from(msg, 4, 4, end)
 }
 
 // The reference whose tag is at `at`.
@@ -472,13 +437,11 @@ fn reference(msg: &[u8], at: usize, tag: u8) -> Content
     requires { at < length msg.now }
     ensures { result ≡ references_found msg.now at tag }
 {
-    if tag == tags::REFERENCE_EXT {
-        return word_from(msg, atom_end(msg, at + 1));
+    match tag {
+        tags::REFERENCE_EXT => word_from(msg, atom_end(msg, at + 1)),
+        tags::NEW_REFERENCE_EXT => counted(msg, 1, at),
+        _ => counted(msg, 4, at),
     }
-    if tag == tags::NEW_REFERENCE_EXT {
-        return counted(msg, 1, at);
-    }
-    counted(msg, 4, at)
 }
 
 // The own fields of the term of this kind whose tag is at `offset`; of a character, whose byte is there.

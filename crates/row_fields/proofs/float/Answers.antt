@@ -4,10 +4,10 @@ use Rattle.row_fields.specs.Found.{float_found}
 use Rattle.row_fields.proofs.Tests.{below, not_below}
 use Rattle.row_fields.proofs.float.Goals as goal
 
-pub returns-then-left-lt9 : goal.returns-then-left-lt9
+pub returns-then-saturating_sub-lt9 : goal.returns-then-saturating_sub-lt9
 unfolding float_found
-returns-then-left-lt9 c = below _ c.left.ensures refl c.if-left-lt9.true refl
+returns-then-saturating_sub-lt9 c = below _ c.saturating_sub.ensures refl c.if-saturating_sub-lt9.true refl
 
 pub returns : goal.returns
 unfolding float_found
-returns c = not_below _ c.left.ensures refl c.if-left-lt9.false (cc)
+returns c = not_below _ c.saturating_sub.ensures refl c.if-saturating_sub-lt9.false (cc)

@@ -8,10 +8,10 @@ pub returns-then-lengths-i : goal.returns-then-lengths-i
 unfolding place_found
 returns-then-lengths-i c = at_most _ refl refl c.if-lengths-i.true refl
 
-pub returns-then-left-n : goal.returns-then-left-n
+pub returns-then-saturating_sub-n : goal.returns-then-saturating_sub-n
 unfolding place_found
-returns-then-left-n c = above _ refl refl c.if-lengths-i.false (below _ c.left.ensures c.length_at-n.ensures c.if-left-n.true refl)
+returns-then-saturating_sub-n c = above _ refl refl c.if-lengths-i.false (below _ c.saturating_sub.ensures c.from-n.ensures c.if-saturating_sub-n.true refl)
 
 pub returns : goal.returns
 unfolding place_found
-returns c = above _ refl refl c.if-lengths-i.false (not_below _ c.left.ensures c.length_at-n.ensures c.if-left-n.false (cc))
+returns c = above _ refl refl c.if-lengths-i.false (not_below _ c.saturating_sub.ensures c.from-n.ensures c.if-saturating_sub-n.false (cc))

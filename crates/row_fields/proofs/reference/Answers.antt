@@ -1,24 +1,18 @@
 -- `reference` meets its contract.
-use mathlib.Core.Path.{refl, ◌∙◌, ap}
+use mathlib.Core.Path.{◌≡◌, refl, sym, ◌∙◌, ap}
+use native.Mathlib.Omega.{arith}
 use Rattle.row_fields.specs.Found.{word_found, references_found}
-use Rattle.octets.proofs.Widths.{width_1, width_4}
-use Rattle.row_fields.proofs.Tests.{equal, unequal}
+use Rattle.row_fields.proofs.Tests.{unequal}
 use Rattle.row_fields.proofs.reference.Goals as goal
 
-pub returns-then-tag-eq-REFERENCE_EXT : goal.returns-then-tag-eq-REFERENCE_EXT
+pub returns-in-101 : goal.returns-in-101
 unfolding references_found
-returns-then-tag-eq-REFERENCE_EXT c = equal _ refl refl c.if-tag-eq-REFERENCE_EXT.true (c.word_from.ensures ∙ ap (word_found _) c.atom_end.ensures)
+returns-in-101 c = c.word_from.ensures ∙ ap (word_found _) c.atom_end.ensures ∙ sym (ap (references_found c.args.msg.now c.args.at) c.in-101.is)
 
-pub counted-requires : goal.counted-requires
-counted-requires c = width_1
-
-pub returns-then-tag-eq-NEW_REFERENCE_EXT : goal.returns-then-tag-eq-NEW_REFERENCE_EXT
+pub returns-in-114 : goal.returns-in-114
 unfolding references_found
-returns-then-tag-eq-NEW_REFERENCE_EXT c = unequal _ refl refl c.if-tag-eq-REFERENCE_EXT.false (equal _ refl refl c.if-tag-eq-NEW_REFERENCE_EXT.true c.counted.ensures)
+returns-in-114 c = c.counted.ensures ∙ sym (ap (references_found c.args.msg.now c.args.at) c.in-114.is)
 
-pub counted-requires-2 : goal.counted-requires-2
-counted-requires-2 c = width_4
-
-pub returns : goal.returns
+pub returns-in_default : goal.returns-in_default
 unfolding references_found
-returns c = unequal _ refl refl c.if-tag-eq-REFERENCE_EXT.false (unequal _ refl refl c.if-tag-eq-NEW_REFERENCE_EXT.false c.counted-2.ensures)
+returns-in_default c = unequal _ refl refl (λ (e : c.args.tag ≡ 101). omega arith) (unequal _ refl refl (λ (e : c.args.tag ≡ 114). omega arith) c.counted-in_default.ensures)
