@@ -5,6 +5,7 @@ ghost use Rattle.std.specs.Prelude.{◌≡◌};
 ghost use Rattle.term_spec.specs.Text.{coding_of};
 ghost use Rattle.term_spec.specs.Connection.{coding_agreed, flags_known};
 
+// Bits of a number and no enum: C passes the flags as one byte.
 // Bit 0: the texts of headers are in UTF-8, else in Latin-1.
 pub const UTF8: u8 = 1;
 // Bit 1: newer identifiers.
@@ -18,6 +19,7 @@ pub struct Connection {
 }
 
 // Whether no unknown flag is set.
+#[tactic(auto, unfolding(term_spec::specs::Connection::flags_known))]
 pub fn flags_known(flags: u8) -> bool
     ensures { result ≡ flags_known flags }
 {
@@ -25,6 +27,7 @@ pub fn flags_known(flags: u8) -> bool
 }
 
 // Whether the texts of headers are in UTF-8.
+#[tactic(auto, unfolding(term_spec::specs::Connection::coding_agreed))]
 pub fn utf8_agreed(flags: u8) -> bool
     ensures { coding_of result ≡ coding_agreed flags }
 {
