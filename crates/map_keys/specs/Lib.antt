@@ -3,3 +3,4 @@ pub mod Compare
 pub mod Found
 pub mod Marks
 pub mod KeySet
+pub mod Lent

@@ -7,11 +7,12 @@ ghost use Rattle.map_keys.specs.Path.{next_place};
 ghost use Rattle.map_keys.specs.Compare.{same_rows, pair_among, pair_around, pairs_among, leads, at_key, pair_marked, pairs_marked};
 ghost use Rattle.map_keys.specs.Found.{same_key};
 ghost use Rattle.map_keys.specs.Marks.{Reached, Marks, MarkOf};
-ghost use Rattle.map_keys.specs.KeySet.{Contains, Keeps, key_hashes, key_seed, Seeded, key_found, maps_at, terms_at, among_rows, Absent, ContainsOrInsert};
+ghost use Rattle.map_keys.specs.KeySet.{Contains, Keeps, key_hashes, key_seed, Seeded, among_rows, Absent, ContainsOrInsert};
+ghost use Rattle.map_keys.specs.Lent.{maps_of, terms_of, found_of};
 
 use row::{parts_in, size_in, whole_in};
 use term_hash::{next_seed, round_hash};
-use term_rows::{pair_size, row_at, same_row, unordered_rows};
+use term_rows::{Rows, pair_size, row_at, unordered_rows};
 use term_spec::sizes;
 
 // More levels than any term of a table has rows. Calls nest no deeper than the terms do.
@@ -32,32 +33,29 @@ const WINDOW: usize = 2;
 // The path of a key has so many steps, in rounds of WINDOW.
 const PATH: usize = 256;
 
+// The rows of terms, and the slots of the set, which may name some of them.
+#[derive(Clone, Copy)]
+struct Keys<'a> {
+    rows: Rows<'a>,
+    slots: &'a [u16],
+}
+
 // Whether the n rows from a on mean the same as those from b on: row by row, but maps that have pairs as wholes.
 #[cycle(compare)]
-fn same_rows(
-    msg: &[u8],
-    places: &[u8],
-    lengths: &[u16],
-    table: &[u64],
-    slots: &[u16],
-    levels: usize,
-    n: usize,
-    a: usize,
-    b: usize,
-) -> bool
+fn same_rows(keys: &Keys, levels: usize, n: usize, a: usize, b: usize) -> bool
     requires { (n < 16384) × (a < 2305843009213693952) × (b < 2305843009213693952) }
-    ensures { result ≡ same_rows (same_row msg.now places.now lengths.now) table.now (maps_at msg.now places.now lengths.now table.now slots.now levels) n 0 a b }
+    ensures { result ≡ same_rows (same_row keys.now.rows.msg.now keys.now.rows.places.now keys.now.rows.lengths.now) keys.now.rows.table.now (maps_of keys.now levels) n 0 a b }
 {
     let mut i = 0usize;
     // A while and no for: the rows of a map are stepped over at once.
     while i < n {
-        let v = row_at(table, a + i);
-        let w = row_at(table, b + i);
-        if !same_row(msg, places, lengths, v, w) {
+        let v = row_at(keys.rows.table, a + i);
+        let w = row_at(keys.rows.table, b + i);
+        if !keys.rows.same_row(v, w) {
             return false;
         }
         let unordered = unordered_rows(v);
-        if unordered != 0 && !same_maps(msg, places, lengths, table, slots, levels, a + i, b + i) {
+        if unordered != 0 && !same_maps(keys, levels, a + i, b + i) {
             return false;
         }
         i += 1 + unordered;
@@ -68,43 +66,25 @@ fn same_rows(
 // Whether the terms whose rows start at a and b mean the same, maps being at most `levels` deep in them.
 #[cycle(compare)]
 #[tactic(auto, unfolding(crate::specs::Compare::same_from))]
-fn same_terms(
-    msg: &[u8],
-    places: &[u8],
-    lengths: &[u16],
-    table: &[u64],
-    slots: &[u16],
-    levels: usize,
-    a: usize,
-    b: usize,
-) -> bool
-    ensures { result ≡ terms_at msg.now places.now lengths.now table.now slots.now levels a b }
+fn same_terms(keys: &Keys, levels: usize, a: usize, b: usize) -> bool
+    ensures { result ≡ terms_of keys.now levels a b }
 {
-    let (Some(v), Some(w)) = (table.get(a), table.get(b)) else {
+    let (Some(v), Some(w)) = (keys.rows.table.get(a), keys.rows.table.get(b)) else {
         return false;
     };
     let n = size_in(*v);
-    n == size_in(*w) && same_rows(msg, places, lengths, table, slots, levels, n, a, b)
+    n == size_in(*w) && same_rows(keys, levels, n, a, b)
 }
 
 // Whether the maps at a and b, of the same number of pairs, have the same pairs.
 #[cycle(compare)]
-fn same_maps(
-    msg: &[u8],
-    places: &[u8],
-    lengths: &[u16],
-    table: &[u64],
-    slots: &[u16],
-    levels: usize,
-    a: usize,
-    b: usize,
-) -> bool
+fn same_maps(keys: &Keys, levels: usize, a: usize, b: usize) -> bool
     requires { (a < 2305843009213710336) × (b < 2305843009213710336) }
-    ensures { result ≡ maps_at msg.now places.now lengths.now table.now slots.now levels a b }
+    ensures { result ≡ maps_of keys.now levels a b }
 {
-    let v = row_at(table, a);
+    let v = row_at(keys.rows.table, a);
     let size = size_in(v);
-    if levels == 0 || size != size_in(row_at(table, b)) {
+    if levels == 0 || size != size_in(row_at(keys.rows.table, b)) {
         return false;
     }
     let n = parts_in(v) / sizes::PAIR_PARTS;
@@ -112,48 +92,26 @@ fn same_maps(
     let x = a + 1;
     let y = b + 1;
     if n < MANY_PAIRS {
-        pairs_among(msg, places, lengths, table, slots, deep, n, x, y)
+        pairs_among(keys, deep, n, x, y)
     } else {
-        many_among(msg, places, lengths, table, slots, deep, n, x, y, b + size)
+        many_among(keys, deep, n, x, y, b + size)
     }
 }
 
 // Whether each of the n pairs from a on is one of the n from b on. A pair is looked for from the place on that it has itself, and then from b on.
 #[cycle(compare)]
-fn pairs_among(
-    msg: &[u8],
-    places: &[u8],
-    lengths: &[u16],
-    table: &[u64],
-    slots: &[u16],
-    levels: usize,
-    n: usize,
-    a: usize,
-    b: usize,
-) -> bool
+fn pairs_among(keys: &Keys, levels: usize, n: usize, a: usize, b: usize) -> bool
     requires { (a + 32768 * n < 4611686018427387904) × (b + 32768 * n < 4611686018427387904) }
-    ensures { result ≡ pairs_among table.now (terms_at msg.now places.now lengths.now table.now slots.now levels) n 0 a b b }
+    ensures { result ≡ pairs_among keys.now.rows.table.now (terms_of keys.now levels) n 0 a b b }
 {
     let mut x = a;
     let mut y = b;
     for i in 0..n {
-        if !pair_around(
-            msg,
-            places,
-            lengths,
-            table,
-            slots,
-            levels,
-            n - i,
-            i,
-            x,
-            y,
-            b,
-        ) {
+        if !pair_around(keys, levels, n - i, i, x, y, b) {
             return false;
         }
-        x += pair_size(table, x);
-        y += pair_size(table, y);
+        x += pair_size(keys.rows.table, x);
+        y += pair_size(keys.rows.table, y);
     }
     true
 }
@@ -162,11 +120,7 @@ fn pairs_among(
 #[cycle(compare)]
 #[tactic(auto, unfolding(crate::specs::Compare::pair_around))]
 fn pair_around(
-    msg: &[u8],
-    places: &[u8],
-    lengths: &[u16],
-    table: &[u64],
-    slots: &[u16],
+    keys: &Keys,
     levels: usize,
     n: usize,
     m: usize,
@@ -175,36 +129,25 @@ fn pair_around(
     b: usize,
 ) -> bool
     requires { (k < 4611686018427387904) × (at + 32768 * n < 4611686018427387904) × (b + 32768 * m < 4611686018427387904) }
-    ensures { result ≡ pair_around table.now (terms_at msg.now places.now lengths.now table.now slots.now levels) n m k at b }
+    ensures { result ≡ pair_around keys.now.rows.table.now (terms_of keys.now levels) n m k at b }
 {
-    pair_among(msg, places, lengths, table, slots, levels, n, k, at)
-        || pair_among(msg, places, lengths, table, slots, levels, m, k, b)
+    pair_among(keys, levels, n, k, at) || pair_among(keys, levels, m, k, b)
 }
 
 // Whether of the n pairs from `at` on the first with the key at k has the value after that key.
 #[cycle(compare)]
-fn pair_among(
-    msg: &[u8],
-    places: &[u8],
-    lengths: &[u16],
-    table: &[u64],
-    slots: &[u16],
-    levels: usize,
-    n: usize,
-    k: usize,
-    at: usize,
-) -> bool
+fn pair_among(keys: &Keys, levels: usize, n: usize, k: usize, at: usize) -> bool
     requires { (k < 4611686018427387904) × (at + 32768 * n < 4611686018427387904) }
-    ensures { result ≡ pair_among table.now (terms_at msg.now places.now lengths.now table.now slots.now levels) n k at }
+    ensures { result ≡ pair_among keys.now.rows.table.now (terms_of keys.now levels) n k at }
 {
     let mut x = at;
     for _ in 0..n {
-        if same_terms(msg, places, lengths, table, slots, levels, k, x) {
-            let v = k + size_in(row_at(table, k));
-            let w = x + size_in(row_at(table, x));
-            return same_terms(msg, places, lengths, table, slots, levels, v, w);
+        if same_terms(keys, levels, k, x) {
+            let v = k + size_in(row_at(keys.rows.table, k));
+            let w = x + size_in(row_at(keys.rows.table, x));
+            return same_terms(keys, levels, v, w);
         }
-        x += pair_size(table, x);
+        x += pair_size(keys.rows.table, x);
     }
     false
 }
@@ -286,21 +229,10 @@ fn at_key(table: &[u64], marks: &[u16], b: usize, end: usize, row: usize) -> boo
 // Whether the row is that of a key of the map whose first key is at the row `first`, and means the same as that at the row `key`.
 #[cycle(compare)]
 #[tactic(auto, unfolding(crate::specs::Found::same_key))]
-fn same_key(
-    msg: &[u8],
-    places: &[u8],
-    lengths: &[u16],
-    table: &[u64],
-    slots: &[u16],
-    levels: usize,
-    first: usize,
-    key: usize,
-    row: usize,
-) -> bool
-    ensures { result ≡ same_key table.now (terms_at msg.now places.now lengths.now table.now slots.now levels) first key row }
+fn same_key(keys: &Keys, levels: usize, first: usize, key: usize, row: usize) -> bool
+    ensures { result ≡ same_key keys.now.rows.table.now (terms_of keys.now levels) first key row }
 {
-    whole_in(row_at(table, row)) == first
-        && same_terms(msg, places, lengths, table, slots, levels, key, row)
+    whole_in(row_at(keys.rows.table, row)) == first && same_terms(keys, levels, key, row)
 }
 
 // The row of the key in a slot: its row + 1 stands there, and 0 where there is none.
@@ -312,31 +244,22 @@ fn key_in(slot: u16) -> Option<usize>
 
 // The row of such a key as the slots name it: a hint, for nothing is known of the slots.
 #[cycle(compare)]
-fn found_key(
-    msg: &[u8],
-    places: &[u8],
-    lengths: &[u16],
-    table: &[u64],
-    slots: &[u16],
-    levels: usize,
-    first: usize,
-    key: usize,
-) -> Option<usize>
+fn found_key(keys: &Keys, levels: usize, first: usize, key: usize) -> Option<usize>
     requires { key < 3458764513820540928 }
-    ensures found { result ≡ key_found msg.now places.now lengths.now table.now slots.now (terms_at msg.now places.now lengths.now table.now slots.now levels) first key }
+    ensures found { result ≡ found_of keys.now levels first key }
     ensures small { IfSome result (λ row. row < 65536) }
 {
-    let n = slots.len();
+    let n = keys.slots.len();
     if n == 0 {
         return None;
     }
     let mut seed = 0u64;
     let mut i = 0usize;
     for d in 0..PATH {
-        seed = path_seed(msg, places, lengths, table, first, key, d, seed);
+        seed = path_seed(&keys.rows, first, key, d, seed);
         i = path_slot(n, seed, d, i);
-        let row = key_in(slots[i])?;
-        if same_key(msg, places, lengths, table, slots, levels, first, key, row) {
+        let row = key_in(keys.slots[i])?;
+        if same_key(keys, levels, first, key, row) {
             return Some(row);
         }
     }
@@ -347,11 +270,7 @@ fn found_key(
 #[cycle(compare)]
 #[tactic(auto, using(crate::proofs::Found::found_same), unfolding(crate::specs::Compare::pair_marked, crate::specs::Compare::pair_named))]
 fn pair_marked(
-    msg: &[u8],
-    places: &[u8],
-    lengths: &[u16],
-    table: &[u64],
-    slots: &[u16],
+    keys: &Keys,
     marks: &[u16],
     levels: usize,
     n: usize,
@@ -359,27 +278,23 @@ fn pair_marked(
     b: usize,
     end: usize,
 ) -> bool
-    requires { (k < 3458764513820540928) × (b + 32768 * n < 4611686018427387904) × Marks table.now b marks.now }
-    ensures { result ≡ pair_marked table.now (terms_at msg.now places.now lengths.now table.now slots.now levels) (key_found msg.now places.now lengths.now table.now slots.now (terms_at msg.now places.now lengths.now table.now slots.now levels)) n k b end }
+    requires { (k < 3458764513820540928) × (b + 32768 * n < 4611686018427387904) × Marks keys.now.rows.table.now b marks.now }
+    ensures { result ≡ pair_marked keys.now.rows.table.now (terms_of keys.now levels) (found_of keys.now levels) n k b end }
 {
-    match found_key(msg, places, lengths, table, slots, levels, b, k) {
-        Some(x) if at_key(table, marks, b, end, x) => {
-            let value = k + size_in(row_at(table, k));
-            let found = x + size_in(row_at(table, x));
-            same_terms(msg, places, lengths, table, slots, levels, value, found)
+    match found_key(keys, levels, b, k) {
+        Some(x) if at_key(keys.rows.table, marks, b, end, x) => {
+            let value = k + size_in(row_at(keys.rows.table, k));
+            let found = x + size_in(row_at(keys.rows.table, x));
+            same_terms(keys, levels, value, found)
         }
-        _ => pair_among(msg, places, lengths, table, slots, levels, n, k, b),
+        _ => pair_among(keys, levels, n, k, b),
     }
 }
 
 // Whether each of the n pairs from a on is one of the n from b on, which end before the row `end` and of whose keys some are marked.
 #[cycle(compare)]
 fn pairs_marked(
-    msg: &[u8],
-    places: &[u8],
-    lengths: &[u16],
-    table: &[u64],
-    slots: &[u16],
+    keys: &Keys,
     marks: &[u16],
     levels: usize,
     n: usize,
@@ -387,68 +302,45 @@ fn pairs_marked(
     b: usize,
     end: usize,
 ) -> bool
-    requires { (a + 32768 * n < 3458764513820540928) × (b + 32768 * n < 4611686018427387904) × Marks table.now b marks.now }
-    ensures { result ≡ pairs_marked table.now (terms_at msg.now places.now lengths.now table.now slots.now levels) (key_found msg.now places.now lengths.now table.now slots.now (terms_at msg.now places.now lengths.now table.now slots.now levels)) n n a b end }
+    requires { (a + 32768 * n < 3458764513820540928) × (b + 32768 * n < 4611686018427387904) × Marks keys.now.rows.table.now b marks.now }
+    ensures { result ≡ pairs_marked keys.now.rows.table.now (terms_of keys.now levels) (found_of keys.now levels) n n a b end }
 {
     let mut x = a;
     for _ in 0..n {
-        if !pair_marked(
-            msg, places, lengths, table, slots, marks, levels, n, x, b, end,
-        ) {
+        if !pair_marked(keys, marks, levels, n, x, b, end) {
             return false;
         }
-        x += pair_size(table, x);
+        x += pair_size(keys.rows.table, x);
     }
     true
 }
 
 // The same, with marks of its own.
 #[cycle(compare)]
-fn many_among(
-    msg: &[u8],
-    places: &[u8],
-    lengths: &[u16],
-    table: &[u64],
-    slots: &[u16],
-    levels: usize,
-    n: usize,
-    a: usize,
-    b: usize,
-    end: usize,
-) -> bool
+fn many_among(keys: &Keys, levels: usize, n: usize, a: usize, b: usize, end: usize) -> bool
     requires { (n < 4096) × (a + 32768 * n < 3458764513820540928) × (b + 32768 * n < 4611686018427387904) }
-    ensures { result ≡ pairs_marked table.now (terms_at msg.now places.now lengths.now table.now slots.now levels) (key_found msg.now places.now lengths.now table.now slots.now (terms_at msg.now places.now lengths.now table.now slots.now levels)) n n a b end }
+    ensures { result ≡ pairs_marked keys.now.rows.table.now (terms_of keys.now levels) (found_of keys.now levels) n n a b end }
 {
     let mut marks = [0u16; MARKS];
-    let count = mark_keys(table, n, b, &mut marks);
+    let count = mark_keys(keys.rows.table, n, b, &mut marks);
     let marks = &marks[..count];
-    pairs_marked(
-        msg, places, lengths, table, slots, marks, levels, n, a, b, end,
-    )
+    pairs_marked(keys, marks, levels, n, a, b, end)
 }
 
 // Whether the term at the row `key` means the same as a key of the pairs from the row `first` on.
-fn key_among(
-    msg: &[u8],
-    places: &[u8],
-    lengths: &[u16],
-    table: &[u64],
-    slots: &[u16],
-    first: usize,
-    key: usize,
-) -> bool
-    ensures { result ≡ among_rows msg.now places.now lengths.now table.now slots.now first key }
+fn key_among(keys: &Keys, first: usize, key: usize) -> bool
+    ensures { result ≡ among_rows keys.now.rows.msg.now keys.now.rows.places.now keys.now.rows.lengths.now keys.now.rows.table.now keys.now.slots.now first key }
 {
-    if table.len() <= key {
+    if keys.rows.table.len() <= key {
         return false;
     }
     let mut at = first;
     // A while and no for: each step is as long as the pair there.
     while at < key {
-        if same_terms(msg, places, lengths, table, slots, LEVELS, key, at) {
+        if same_terms(keys, LEVELS, key, at) {
             return true;
         }
-        let step = pair_size(table, at);
+        let step = pair_size(keys.rows.table, at);
         if step == 0 {
             return false;
         }
@@ -476,21 +368,12 @@ fn next_slot(i: usize, n: usize) -> usize
 
 // What the round of step d of a key's path goes by; `seed` is what that of the step before went by.
 #[tactic(auto, unfolding(crate::specs::KeySet::key_seed))]
-fn path_seed(
-    msg: &[u8],
-    places: &[u8],
-    lengths: &[u16],
-    table: &[u64],
-    first: usize,
-    key: usize,
-    d: usize,
-    seed: u64,
-) -> u64
-    requires { (key < 3458764513820540928) × Seeded msg.now places.now lengths.now table.now first key d seed }
-    ensures { result ≡ key_seed msg.now places.now lengths.now table.now first key (d / 2) }
+fn path_seed(rows: &Rows, first: usize, key: usize, d: usize, seed: u64) -> u64
+    requires { (key < 3458764513820540928) × Seeded rows.now.msg.now rows.now.places.now rows.now.lengths.now rows.now.table.now first key d seed }
+    ensures { result ≡ key_seed rows.now.msg.now rows.now.places.now rows.now.lengths.now rows.now.table.now first key (d / 2) }
 {
     if d % WINDOW == 0 {
-        next_seed(msg, places, lengths, table, first, key, d / WINDOW, seed)
+        next_seed(rows, first, key, d / WINDOW, seed)
     } else {
         seed
     }
@@ -510,28 +393,20 @@ fn path_slot(n: usize, seed: u64, d: usize, i: usize) -> usize
 }
 
 // The first empty slot of a key's path, if there is one and no row before it means the same as the key.
-fn free_slot(
-    msg: &[u8],
-    places: &[u8],
-    lengths: &[u16],
-    table: &[u64],
-    slots: &[u16],
-    first: usize,
-    key: usize,
-) -> Option<usize>
-    requires { (0 < length slots.now) × (key < 65535) }
-    ensures { IfSome result (λ i. (i < length slots.now) × Absent msg.now places.now lengths.now table.now first key slots.now i) }
+fn free_slot(keys: &Keys, first: usize, key: usize) -> Option<usize>
+    requires { (0 < length keys.now.slots.now) × (key < 65535) }
+    ensures { IfSome result (λ i. (i < length keys.now.slots.now) × Absent keys.now.rows.msg.now keys.now.rows.places.now keys.now.rows.lengths.now keys.now.rows.table.now first key keys.now.slots.now i) }
 {
-    let n = slots.len();
+    let n = keys.slots.len();
     let mut seed = 0u64;
     let mut i = 0usize;
     for d in 0..PATH {
-        seed = path_seed(msg, places, lengths, table, first, key, d, seed);
+        seed = path_seed(&keys.rows, first, key, d, seed);
         i = path_slot(n, seed, d, i);
-        let Some(row) = key_in(slots[i]) else {
+        let Some(row) = key_in(keys.slots[i]) else {
             return Some(i);
         };
-        if same_key(msg, places, lengths, table, slots, LEVELS, first, key, row) {
+        if same_key(keys, LEVELS, first, key, row) {
             return None;
         }
     }
@@ -539,23 +414,15 @@ fn free_slot(
 }
 
 // Inserts the key's row in the first empty slot of its path, if there is one.
-fn insert(
-    msg: &[u8],
-    places: &[u8],
-    lengths: &[u16],
-    table: &[u64],
-    slots: &mut [u16],
-    first: usize,
-    key: usize,
-)
+fn insert(rows: &Rows, slots: &mut [u16], first: usize, key: usize)
     requires { (0 < length slots.old) × (key < 65535) }
-    ensures { Keeps slots.old slots.new × Contains slots.new (key_hashes msg.now places.now lengths.now table.now first key) key }
+    ensures { Keeps slots.old slots.new × Contains slots.new (key_hashes rows.now.msg.now rows.now.places.now rows.now.lengths.now rows.now.table.now first key) key }
 {
     let n = slots.len();
     let mut seed = 0u64;
     let mut i = 0usize;
     for d in 0..PATH {
-        seed = path_seed(msg, places, lengths, table, first, key, d, seed);
+        seed = path_seed(rows, first, key, d, seed);
         i = path_slot(n, seed, d, i);
         if key_in(slots[i]).is_none() {
             slots[i] = (key + 1) as u16;
@@ -577,13 +444,20 @@ pub fn contains_or_insert(
     requires { (0 < length slots.old) × (key < 65535) }
     ensures { ContainsOrInsert msg.now places.now lengths.now table.now first key slots.old result slots.new }
 {
-    if let Some(i) = free_slot(msg, places, lengths, table, slots, first, key) {
+    let rows = Rows {
+        msg,
+        places,
+        lengths,
+        table,
+    };
+    let keys = Keys { rows, slots };
+    if let Some(i) = free_slot(&keys, first, key) {
         slots[i] = (key + 1) as u16;
         return false;
     }
-    if key_among(msg, places, lengths, table, slots, first, key) {
+    if key_among(&keys, first, key) {
         return true;
     }
-    insert(msg, places, lengths, table, slots, first, key);
+    insert(&rows, slots, first, key);
     false
 }

@@ -4,10 +4,9 @@
 ghost use Rattle.std.specs.Prelude.{◌≡◌, ◌+◌, ◌*◌, ◌-◌, ◌<◌};
 ghost use Rattle.term_hash.specs.Hash.{hash_row, added, hash_rows, hash_pairs, factor_of, levels_of, hashed_rows, pass_hash, seed_of, round_hash};
 
-use row::{kind_in, offset_in, parts_in, size_in};
+use row::{kind_in, parts_in, size_in};
 use row_compare::{hash_content, mix};
-use row_fields::content_at;
-use term_rows::{pair_size, row_at, term_kind, unordered_rows};
+use term_rows::{Rows, pair_size, row_at, term_kind, unordered_rows};
 use term_spec::sizes;
 
 // In so many passes the maps in a key count down to EARLY_LEVELS alone, so that keys in keys are not hashed again at every level.
@@ -40,14 +39,13 @@ const FACTOR_STEP: u64 = 2135587862;
 
 // A hash after what a row says of its term.
 #[tactic(auto, using(crate::proofs::Steps::kind_small), unfolding(crate::specs::Hash::hash_row))]
-fn hash_row(factor: u64, msg: &[u8], places: &[u8], lengths: &[u16], h: u64, w: u64) -> u64
+fn hash_row(factor: u64, rows: &Rows, h: u64, w: u64) -> u64
     requires { (factor < 4294967296) × (h < 4294967296) }
-    ensures { (result ≡ hash_row factor msg.now places.now lengths.now h w) × (result < 4294967296) }
+    ensures { (result ≡ hash_row factor rows.now.msg.now rows.now.places.now rows.now.lengths.now h w) × (result < 4294967296) }
 {
-    let kind = kind_in(w);
-    let sum = mix(factor, h, (16 * parts_in(w) + term_kind(kind)) as u64);
-    let own = content_at(msg, places, lengths, kind, offset_in(w));
-    hash_content(factor, msg, places, sum, own)
+    let said = 16 * parts_in(w) + term_kind(kind_in(w));
+    let sum = mix(factor, h, said as u64);
+    hash_content(factor, rows.msg, rows.places, sum, rows.content(w))
 }
 
 // A hash to which x is added, in any order.
@@ -61,33 +59,21 @@ fn add(h: u64, x: u64) -> u64
 
 // A hash after the n rows from a row on: one after the other, but the pairs of a map in any order.
 #[cycle(hash)]
-fn hash_rows(
-    factor: u64,
-    msg: &[u8],
-    places: &[u8],
-    lengths: &[u16],
-    table: &[u64],
-    levels: usize,
-    h: u64,
-    n: usize,
-    row: usize,
-) -> u64
+fn hash_rows(factor: u64, rows: &Rows, levels: usize, h: u64, n: usize, row: usize) -> u64
     requires { (factor < 4294967296) × (h < 4294967296) × (n < 32768) × (row + 268435456 * levels + 268435456 < 4611686018427387904) }
-    ensures { (result ≡ hash_rows (hash_row factor msg.now places.now lengths.now) table.now (hash_pairs (hash_row factor msg.now places.now lengths.now) table.now levels) h n 0 row) × (result < 4294967296) }
+    ensures { (result ≡ hash_rows (hash_row factor rows.now.msg.now rows.now.places.now rows.now.lengths.now) rows.now.table.now (hash_pairs (hash_row factor rows.now.msg.now rows.now.places.now rows.now.lengths.now) rows.now.table.now levels) h n 0 row) × (result < 4294967296) }
 {
     let mut sum = h;
     let mut i = 0usize;
     // A while and no for: the rows of a map are stepped over at once.
     while i < n {
-        let w = row_at(table, row + i);
-        sum = hash_row(factor, msg, places, lengths, sum, w);
+        let w = row_at(rows.table, row + i);
+        sum = hash_row(factor, rows, sum, w);
         let unordered = unordered_rows(w);
         if unordered != 0 {
             let pairs = parts_in(w) / sizes::PAIR_PARTS;
             let next = row + i + 1;
-            sum = hash_pairs(
-                factor, msg, places, lengths, table, levels, sum, pairs, next,
-            );
+            sum = hash_pairs(factor, rows, levels, sum, pairs, next);
         }
         i += 1 + unordered;
     }
@@ -96,19 +82,9 @@ fn hash_rows(
 
 // A hash to which those of the n pairs from a row on are added, maps being at most `levels` deep.
 #[cycle(hash)]
-fn hash_pairs(
-    factor: u64,
-    msg: &[u8],
-    places: &[u8],
-    lengths: &[u16],
-    table: &[u64],
-    levels: usize,
-    h: u64,
-    n: usize,
-    row: usize,
-) -> u64
+fn hash_pairs(factor: u64, rows: &Rows, levels: usize, h: u64, n: usize, row: usize) -> u64
     requires { (factor < 4294967296) × (h < 4294967296) × (row + 32768 * n + 268435456 * levels < 4611686018427387904) }
-    ensures { (result ≡ hash_pairs (hash_row factor msg.now places.now lengths.now) table.now levels h n row) × (result < 4294967296) }
+    ensures { (result ≡ hash_pairs (hash_row factor rows.now.msg.now rows.now.places.now rows.now.lengths.now) rows.now.table.now levels h n row) × (result < 4294967296) }
 {
     if levels == 0 {
         return h;
@@ -116,8 +92,8 @@ fn hash_pairs(
     let mut sum = h;
     let mut at = row;
     for _ in 0..n {
-        let size = pair_size(table, at);
-        let own = hash_rows(factor, msg, places, lengths, table, levels - 1, 0, size, at);
+        let size = pair_size(rows.table, at);
+        let own = hash_rows(factor, rows, levels - 1, 0, size, at);
         sum = add(sum, own);
         at += size;
     }
@@ -159,51 +135,34 @@ fn hashed_rows(n: usize) -> usize
 
 // The hash that a pass gives the term at a row, as a key of the map whose first key is at the row `first`.
 #[tactic(auto, unfolding(crate::specs::Hash::pass_hash, crate::specs::Hash::hash_term))]
-fn pass_hash(
-    msg: &[u8],
-    places: &[u8],
-    lengths: &[u16],
-    table: &[u64],
-    pass: usize,
-    first: usize,
-    row: usize,
-) -> u64
+fn pass_hash(rows: &Rows, pass: usize, first: usize, row: usize) -> u64
     requires { (pass < 65536) × (row < 3458764513820540928) }
-    ensures { (result ≡ pass_hash msg.now places.now lengths.now table.now first row pass) × (result < 4294967296) }
+    ensures { (result ≡ pass_hash rows.now.msg.now rows.now.places.now rows.now.lengths.now rows.now.table.now first row pass) × (result < 4294967296) }
 {
     let factor = factor_of(pass);
     let start = mix(factor, 0, first as u64);
-    let w = row_at(table, row);
+    let w = row_at(rows.table, row);
     let n = hashed_rows(size_in(w));
     let sum = if n < 2 {
-        hash_row(factor, msg, places, lengths, start, w)
+        hash_row(factor, rows, start, w)
     } else {
         let levels = levels_of(pass);
-        hash_rows(factor, msg, places, lengths, table, levels, start, n, row)
+        hash_rows(factor, rows, levels, start, n, row)
     };
     mix(factor, sum, n as u64)
 }
 
 // What a round goes by, of the term at a row as a key of the map whose first key is at the row `first`; `seed` is what the round before went by.
 #[tactic(auto, using(crate::proofs::Steps::hash_below), unfolding(crate::specs::Hash::seed_of))]
-pub fn next_seed(
-    msg: &[u8],
-    places: &[u8],
-    lengths: &[u16],
-    table: &[u64],
-    first: usize,
-    row: usize,
-    round: usize,
-    seed: u64,
-) -> u64
-    requires { (row < 3458764513820540928) × (0 < round → seed ≡ seed_of (pass_hash msg.now places.now lengths.now table.now first row) (round - 1)) }
-    ensures { result ≡ seed_of (pass_hash msg.now places.now lengths.now table.now first row) round }
+pub fn next_seed(rows: &Rows, first: usize, row: usize, round: usize, seed: u64) -> u64
+    requires { (row < 3458764513820540928) × (0 < round → seed ≡ seed_of (pass_hash rows.now.msg.now rows.now.places.now rows.now.lengths.now rows.now.table.now first row) (round - 1)) }
+    ensures { result ≡ seed_of (pass_hash rows.now.msg.now rows.now.places.now rows.now.lengths.now rows.now.table.now first row) round }
 {
     match round {
-        0 => pass_hash(msg, places, lengths, table, 0, first, row),
-        1 => seed * HASH_SIZE + pass_hash(msg, places, lengths, table, 1, first, row),
-        LATE_ROUND => pass_hash(msg, places, lengths, table, 2, first, row),
-        LAST_ROUND => seed * HASH_SIZE + pass_hash(msg, places, lengths, table, 3, first, row),
+        0 => pass_hash(rows, 0, first, row),
+        1 => seed * HASH_SIZE + pass_hash(rows, 1, first, row),
+        LATE_ROUND => pass_hash(rows, 2, first, row),
+        LAST_ROUND => seed * HASH_SIZE + pass_hash(rows, 3, first, row),
         _ => seed,
     }
 }

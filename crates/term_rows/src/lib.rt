@@ -2,12 +2,14 @@
 #![tactic(auto)]
 
 ghost use Rattle.std.specs.Prelude.{◌≡◌, false, ◌+◌, ◌*◌, ◌-◌, ◌<◌, get_or};
+ghost use Rattle.term_spec.specs.Rows.{kind_in, offset_in};
+ghost use Rattle.row_fields.specs.Found.{content_of};
 ghost use Rattle.row_fields.specs.Meaning.{term_kind};
-ghost use Rattle.term_rows.specs.Rows.{same_fields, same_row, unordered_rows, pair_size};
+ghost use Rattle.term_rows.specs.Rows.{same_row, unordered_rows, pair_size};
 
 use row::{kind_in, offset_in, parts_in, size_in};
 use row_compare::same_content;
-use row_fields::content_at;
+use row_fields::{Content, content_at};
 use term_spec::{kinds, sizes};
 
 // The row at an index of the table as its word, 0 past its end.
@@ -29,42 +31,38 @@ pub fn term_kind(kind: usize) -> usize
     }
 }
 
-// Whether the own fields of the terms of these kinds at these offsets are equal.
-#[tactic(auto, unfolding(crate::specs::Rows::same_fields))]
-pub fn same_fields(
-    msg: &[u8],
-    places: &[u8],
-    lengths: &[u16],
-    kind: usize,
-    offset: usize,
-    kind2: usize,
-    offset2: usize,
-) -> bool
-    ensures { result ≡ same_fields msg.now places.now lengths.now kind offset kind2 offset2 }
-{
-    let a = content_at(msg, places, lengths, kind, offset);
-    let b = content_at(msg, places, lengths, kind2, offset2);
-    same_content(msg, places, a, b)
+// A message, its atom list and the table of its terms' rows, as they are lent.
+#[derive(Clone, Copy)]
+pub struct Rows<'a> {
+    pub msg: &'a [u8],
+    pub places: &'a [u8],
+    pub lengths: &'a [u16],
+    pub table: &'a [u64],
 }
 
-// Whether two words of rows say the same fields and number of parts.
-#[tactic(auto, unfolding(crate::specs::Rows::same_row))]
-pub fn same_row(msg: &[u8], places: &[u8], lengths: &[u16], v: u64, w: u64) -> bool
-    ensures { result ≡ same_row msg.now places.now lengths.now v w }
-{
-    let kind = kind_in(v);
-    let other = kind_in(w);
-    term_kind(kind) == term_kind(other)
-        && parts_in(v) == parts_in(w)
-        && same_fields(
-            msg,
-            places,
-            lengths,
-            kind,
-            offset_in(v),
-            other,
+impl Rows<'_> {
+    // The own fields of the term of a row's word.
+    pub fn content(&self, w: u64) -> Content
+        ensures { result ≡ content_of self.now.msg.now self.now.places.now self.now.lengths.now (kind_in w) (offset_in w) }
+    {
+        content_at(
+            self.msg,
+            self.places,
+            self.lengths,
+            kind_in(w),
             offset_in(w),
         )
+    }
+
+    // Whether two words of rows say the same fields and number of parts.
+    #[tactic(auto, unfolding(crate::specs::Rows::same_row, crate::specs::Rows::same_fields))]
+    pub fn same_row(&self, v: u64, w: u64) -> bool
+        ensures { result ≡ same_row self.now.msg.now self.now.places.now self.now.lengths.now v w }
+    {
+        term_kind(kind_in(v)) == term_kind(kind_in(w))
+            && parts_in(v) == parts_in(w)
+            && same_content(self.msg, self.places, self.content(v), self.content(w))
+    }
 }
 
 // How many rows after a row stand in no order: of a map that has pairs all others of its term, else none.

@@ -2,11 +2,11 @@
 use Rattle.map_keys.proofs.Steps.{no_such_row, among_start, among_found, among_stuck, among_later, among_none}
 use Rattle.map_keys.proofs.key_among.Goals as goal
 
-pub returns-then-table-key : goal.returns-then-table-key
-returns-then-table-key c = no_such_row _ _ _ _ c.if-table-key.true
+pub returns-then-keys-key : goal.returns-then-keys-key
+returns-then-keys-key c = no_such_row _ _ _ _ c.if-keys-key.true
 
 pub loop-at-init : goal.loop-at-init
-loop-at-init c = (c.if-table-key.false, among_start _ _ _ _ c.if-table-key.false)
+loop-at-init c = (c.if-keys-key.false, among_start _ _ _ _ c.if-keys-key.false)
 
 pub returns-then-same_terms : goal.returns-then-same_terms
 returns-then-same_terms c = among_found _ _ _ _ _ c.loop-at.invariant.1 c.loop-at-test.true _ c.same_terms.ensures c.if-same_terms.true
