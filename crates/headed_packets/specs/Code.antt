@@ -1,20 +1,19 @@
 -- What the code answers and leaves of a packet with a header, in terms of the definitions of packets.
 -- About the code alone, proved against the definitions of packet_spec: nothing here has to be believed.
-use Rattle.std.specs.Prelude.{◌≡◌, List, ℕ, ◌+◌, ◌≤◌, length, drop}
+use Rattle.std.specs.Prelude.{◌≡◌, List, ℕ, ◌+◌, ◌≤◌, length, drop, Result, Ok, Err}
 use Rattle.term_spec.specs.Text.{Coding}
 use Rattle.term_spec.specs.Answer.{Answer, good, refused, Position, at_offset, Reading, ◌>>=◌, done, here}
 use Rattle.term_spec.specs.AtomList.{AtomList}
 use Rattle.term_spec.specs.Message.{result_of}
 use Rattle.packet_spec.specs.declared.Pending.{Pending}
-use Rattle.packet_spec.specs.declared.Taken.{Taken}
-use Rattle.packet_spec.specs.declared.PacketAnswer.{PacketAnswer}
+use Rattle.packet_spec.specs.Answers.{PacketAnswer, Taken}
 use Rattle.packet_spec.specs.Memory.{Cache, memory_of, Held, held}
 use Rattle.packet_spec.specs.Header.{Reference, header}
 use Rattle.packet_spec.specs.Packet.{normal, starting, payload_after, rest}
 use Rattle.packet_spec.specs.Calls.{entered, list_of}
 use Rattle.fragments.specs.Code.{Takes}
-use Rattle.headed_packets.specs.declared.Headed.{Headed}
-use Rattle.headed_packets.specs.declared.Headed.TheVariants as headeds
+use Rattle.term_spec.specs.declared.Refusal.{Refusal}
+use Rattle.headed_packets.specs.declared.Payload.{Payload}
 
 -- a header, then the payload's offset, and the payload with 12
 unfoldable pub headed : Coding → (ℕ → Held) → Reading (List Reference × ℕ × List ℕ)
@@ -41,9 +40,9 @@ pub record TakesHeader (o : Answer ((List Reference × ℕ × List ℕ) × Posit
   pub list_is : list' ≡ list_of references
 
 -- the header at `at`, taken or refused
-unfoldable pub Heads : Coding → List ℕ → ℕ → Cache → AtomList → Headed → Cache → AtomList → Type 0
-Heads agreed s at c list (headeds.Refused f) c' list' = RefusesHeader (headed agreed (held c) (at_offset s at 0)) f.number f.place c c' list list'
-Heads agreed s at c list (headeds.Payload offset size) c' list' = TakesHeader (headed agreed (held c) (at_offset s at 0)) s c c' list' offset size
+unfoldable pub Heads : Coding → List ℕ → ℕ → Cache → AtomList → Result Payload Refusal → Cache → AtomList → Type 0
+Heads agreed s at c list (Err f) c' list' = RefusesHeader (headed agreed (held c) (at_offset s at 0)) f.number f.place c c' list list'
+Heads agreed s at c list (Ok p) c' list' = TakesHeader (headed agreed (held c) (at_offset s at 0)) s c c' list' p.offset p.size
 
 -- a plain packet, whatever the memory of the pending sequence is: that stays
 pub record TakesPlain (agreed : Coding) (s : List ℕ) (c : Cache) (plain_list : AtomList) (r : PacketAnswer) (c' : Cache) (plain_list' : AtomList) : Type 0 where

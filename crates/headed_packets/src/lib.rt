@@ -8,15 +8,15 @@ ghost use Rattle.packet_spec.specs.Memory.{cache_of, CacheSized};
 ghost use Rattle.cache_entries.specs.Code.{ListSized};
 ghost use Rattle.headed_packets.specs.Code.{Heads, TakesPlain, TakesStart};
 
-use dist_header::HeaderAnswer;
-use packet_spec::{PacketAnswer, Pending, Taken, sizes};
+use dist_header::Cache;
+use packet_spec::{Ids, PacketAnswer, PacketOutcome, Pending, Taken, sizes};
 use term_spec::{Refusal, refusals};
 
-// A header taken: the refusal, or the payload's offset and length.
-#[derive(Drop)]
-enum Headed {
-    Refused(Refusal),
-    Payload { offset: usize, size: usize },
+// Where the payload of a packet stands.
+#[derive(Clone, Copy)]
+struct Payload {
+    offset: usize,
+    size: usize,
 }
 
 // Takes the header at `at`: judges it and the payload's length, then writes the list and the cache.
@@ -29,7 +29,7 @@ fn take_header(
     list_n: &mut u8,
     list_places: &mut [u8],
     list_lengths: &mut [u16],
-) -> Headed
+) -> Result<Payload, Refusal>
     requires { (at ≤ length packet.now) × CacheSized (cache_of cache.old cache_lengths.old) × ListSized list_places.old list_lengths.old }
     ensures { Heads (coding_of utf8) packet.now at
         (cache_of cache.old cache_lengths.old)
@@ -38,41 +38,33 @@ fn take_header(
         (cache_of cache.new cache_lengths.new)
         (lent_list list_n.new list_places.new list_lengths.new) }
 {
-    match dist_header::check_header(utf8, packet, at, cache, cache_lengths) {
-        HeaderAnswer::Refused(refusal) => Headed::Refused(refusal),
-        HeaderAnswer::Header {
-            n,
-            width,
-            first,
-            payload,
-        } => {
-            let size = packet.len() - payload;
-            if term_spec::sizes::MESSAGE_MOST < size {
-                return Headed::Refused(Refusal {
-                    number: refusals::LONG,
-                    place: 0,
-                });
-            }
-            cache_entries::write_list(
-                utf8,
-                packet,
-                at,
-                n,
-                width,
-                first,
-                cache,
-                cache_lengths,
-                list_places,
-                list_lengths,
-            );
-            cache_entries::write_cache(utf8, packet, at, n, width, first, cache, cache_lengths);
-            *list_n = n as u8;
-            Headed::Payload {
-                offset: payload,
-                size: size,
-            }
-        }
+    let shared = Cache {
+        places: cache,
+        lengths: cache_lengths,
+    };
+    let header = dist_header::check_header(utf8, packet, at, &shared)?;
+    let size = packet.len() - header.payload;
+    if term_spec::sizes::MESSAGE_MOST < size {
+        return Err(Refusal {
+            number: refusals::LONG,
+            place: 0,
+        });
     }
+    cache_entries::write_list(
+        utf8,
+        packet,
+        at,
+        header.start,
+        &shared,
+        list_places,
+        list_lengths,
+    );
+    cache_entries::write_cache(utf8, packet, at, header.start, cache, cache_lengths);
+    *list_n = header.start.n as u8;
+    Ok(Payload {
+        offset: header.payload,
+        size,
+    })
 }
 
 // Takes a plain packet: the list for it, the cache.
@@ -93,7 +85,7 @@ pub fn take_plain(
         (cache_of cache.new cache_lengths.new)
         (lent_list plain_n.new plain_places.new plain_lengths.new) }
 {
-    match take_header(
+    let payload = take_header(
         utf8,
         packet,
         sizes::PLAIN_PREAMBLE,
@@ -102,21 +94,18 @@ pub fn take_plain(
         plain_n,
         plain_places,
         plain_lengths,
-    ) {
-        Headed::Refused(refusal) => PacketAnswer::Refused(refusal),
-        Headed::Payload { offset, size } => PacketAnswer::Plain {
-            offset: offset,
-            length: size,
-        },
-    }
+    )?;
+    Ok(PacketOutcome::Plain {
+        offset: payload.offset,
+        length: payload.size,
+    })
 }
 
 // Takes the first fragment of a sequence: 26, the header, 12; then the list for the sequence, the cache, the gather buffer, the record.
 pub fn take_start(
     utf8: bool,
     packet: &[u8],
-    sequence: u64,
-    fragment: u64,
+    ids: Ids,
     cache: &mut [u8],
     cache_lengths: &mut [u16],
     pending_n: &mut u8,
@@ -126,8 +115,8 @@ pub fn take_start(
     gather: &mut [u8],
 ) -> Taken
     requires { (18 ≤ length packet.now) × CacheSized (cache_of cache.old cache_lengths.old) × ListSized pending_places.old pending_lengths.old
-        × (length gather.old ≡ 65536) × (0 < fragment) }
-    ensures { TakesStart (coding_of utf8) packet.now sequence fragment
+        × (length gather.old ≡ 65536) × (0 < ids.fragment) }
+    ensures { TakesStart (coding_of utf8) packet.now ids.sequence ids.fragment
         (cache_of cache.old cache_lengths.old)
         (lent_list pending_n.old pending_places.old pending_lengths.old)
         pending gather.old result
@@ -136,7 +125,7 @@ pub fn take_start(
         gather.new }
 {
     if pending.due != 0 {
-        return fragments::refused(refusals::PENDING, pending);
+        return packet_spec::refused(refusals::PENDING, pending);
     }
     match take_header(
         utf8,
@@ -148,13 +137,13 @@ pub fn take_start(
         pending_places,
         pending_lengths,
     ) {
-        Headed::Refused(refusal) => Taken {
-            answer: PacketAnswer::Refused(refusal),
-            pending: pending,
+        Err(refusal) => Taken {
+            answer: Err(refusal),
+            pending,
         },
-        Headed::Payload { offset, size } => {
+        Ok(Payload { offset, size }) => {
             octets::copy(packet, offset, gather, 0, size);
-            fragments::after_fragment(sequence, fragment, size as u64)
+            fragments::after_fragment(ids, size as u64)
         }
     }
 }

@@ -1,21 +1,21 @@
 -- `take_start` meets its contract.
 use native.Mathlib.Omega.{arith}
+use Rattle.term_spec.specs.AtomList.{lent_list}
 use Rattle.term_spec.specs.Text.{coding_of}
 use Rattle.packet_spec.specs.Memory.{cache_of}
 use Rattle.headed_packets.proofs.Rests.{start_again, start_refused, start_good}
 use Rattle.headed_packets.proofs.Headers.{head_inside}
-use Rattle.term_spec.specs.AtomList.{lent_list}
 use Rattle.headed_packets.proofs.take_start.Goals as goal
 
 pub returns-then-pending-ne0 : goal.returns-then-pending-ne0
 returns-then-pending-ne0 c = let a = c.args in
-    rw c.refused.ensures (record { takes_start = λ plain_list. start_again (coding_of a.utf8) (cache_of a.cache.now a.cache_lengths.now) (cache_of a.cache.now a.cache_lengths.now) (lent_list a.pending_n.now a.pending_places.now a.pending_lengths.now) (lent_list a.pending_n.now a.pending_places.now a.pending_lengths.now) a.packet.now plain_list a.pending a.gather.now a.sequence a.fragment c.if-pending-ne0.true })
+    rw c.refused.ensures (record { takes_start = λ plain_list. start_again (coding_of a.utf8) (cache_of a.cache.now a.cache_lengths.now) (cache_of a.cache.now a.cache_lengths.now) (lent_list a.pending_n.now a.pending_places.now a.pending_lengths.now) (lent_list a.pending_n.now a.pending_places.now a.pending_lengths.now) a.packet.now plain_list a.pending a.gather.now a.ids.sequence a.ids.fragment c.if-pending-ne0.true })
 
 pub copy-requires : goal.copy-requires
-copy-requires c = let i = head_inside _ _ _ _ _ _ _ _ _ (rw c.in-Payload.is at c.take_header.ensures) in (i.0, omega (arith, i.1, c.requires.3))
+copy-requires c = let i = head_inside _ _ _ _ _ _ _ _ c.in-Ok.ensures in (i.0, omega (arith, i.1, c.requires.3))
 
-pub returns-in-Refused : goal.returns-in-Refused
-returns-in-Refused c = record { takes_start = λ plain_list. start_refused _ _ _ _ _ c.args.packet.now plain_list _ _ _ _ c.if-pending-ne0.false _ _ (rw c.in-Refused.is at c.take_header.ensures) }
+pub returns-in-Err : goal.returns-in-Err
+returns-in-Err c = record { takes_start = λ plain_list. start_refused _ _ _ _ _ c.args.packet.now plain_list _ _ _ _ c.if-pending-ne0.false _ c.in-Err.ensures }
 
-pub returns-in-Payload : goal.returns-in-Payload
-returns-in-Payload c = record { takes_start = λ plain_list. start_good _ _ _ _ _ c.args.packet.now plain_list _ _ _ _ c.if-pending-ne0.false _ _ _ _ (rw c.in-Payload.is at c.take_header.ensures) c.copy.ensures c.after_fragment.ensures }
+pub returns-in-Ok : goal.returns-in-Ok
+returns-in-Ok c = record { takes_start = λ plain_list. start_good _ _ _ _ _ c.args.packet.now plain_list _ _ _ _ c.if-pending-ne0.false _ _ _ c.in-Ok.ensures c.copy.ensures c.after_fragment.ensures }
