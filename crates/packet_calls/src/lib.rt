@@ -45,19 +45,19 @@ pub fn take_packet(
         pending_lengths,
         gather,
     ) {
-        return fragments::refused(refusals::SIZE, pending);
+        return packet_spec::refused(refusals::SIZE, pending);
     }
     if !connection::flags_known(connection.flags) {
-        return fragments::refused(refusals::STATE, pending);
+        return packet_spec::refused(refusals::STATE, pending);
     }
     if pending.gathered > term_spec::sizes::MESSAGE_MOST as u64 {
-        return fragments::refused(refusals::STATE, pending);
+        return packet_spec::refused(refusals::STATE, pending);
     }
     let utf8 = connection::utf8_agreed(connection.flags);
     match packet_preamble::read_preamble(packet) {
-        Preamble::Refused(number) => fragments::refused(number, pending),
-        Preamble::Plain => {
-            let answer = headed_packets::take_plain(
+        Err(number) => packet_spec::refused(number, pending),
+        Ok(Preamble::Plain) => Taken {
+            answer: headed_packets::take_plain(
                 utf8,
                 packet,
                 cache,
@@ -65,17 +65,13 @@ pub fn take_packet(
                 plain_n,
                 plain_places,
                 plain_lengths,
-            );
-            Taken {
-                answer: answer,
-                pending: pending,
-            }
-        }
-        Preamble::Start { sequence, fragment } => headed_packets::take_start(
+            ),
+            pending,
+        },
+        Ok(Preamble::Start(ids)) => headed_packets::take_start(
             utf8,
             packet,
-            sequence,
-            fragment,
+            ids,
             cache,
             cache_lengths,
             pending_n,
@@ -84,8 +80,8 @@ pub fn take_packet(
             pending,
             gather,
         ),
-        Preamble::Continuation { sequence, fragment } => fragments::take_continuation(
-            packet, sequence, fragment, pending, gather,
-        ),
+        Ok(Preamble::Continuation(ids)) => {
+            fragments::take_continuation(packet, ids, pending, gather)
+        }
     }
 }
