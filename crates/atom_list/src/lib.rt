@@ -14,10 +14,7 @@ const LENGTH_MOST: u16 = 32;
 pub fn list_fits(places: &[u8], lengths: &[u16]) -> bool
     ensures { (n : ℕ) → result ≡ of_size (lent_list n places.now lengths.now) }
 {
-    if places.len() != sizes::LIST_BYTES {
-        return false;
-    }
-    lengths.len() == sizes::LIST_PLACES
+    places.len() == sizes::LIST_BYTES && lengths.len() == sizes::LIST_PLACES
 }
 
 // Whether place i of a list of its stated size holds a text: its length at most 32, its bytes UTF-8.
@@ -26,10 +23,6 @@ pub fn place_holds_text(places: &[u8], lengths: &[u16], i: usize) -> bool
     ensures { (n : ℕ) → result ≡ is_valid (place_text (lent_list n places.now lengths.now) i) }
 {
     let length = lengths[i];
-    if LENGTH_MOST < length {
-        return false;
-    }
     let from = sizes::PLACE_BYTES * i;
-    let end = from + length as usize;
-    text::is_utf8(&places[from..end])
+    length <= LENGTH_MOST && text::is_utf8(&places[from..from + usize::from(length)])
 }

@@ -17,7 +17,7 @@ pub fn pack(n: u8, flags: u8, capacity: usize) -> usize
     requires { capacity ≤ 8192 }
     ensures { Packed n flags capacity result }
 {
-    octets::wide(n) + COUNTS * octets::wide(flags) + CAPACITIES * capacity
+    usize::from(n) + COUNTS * usize::from(flags) + CAPACITIES * capacity
 }
 
 pub fn count_in(context: usize) -> usize

@@ -13,6 +13,7 @@ use borrow.Author.Tests.{eq-eqb, ne_eqb, le-leb, lt-leb, leb-true}
 use Rattle.term_spec.specs.Tree.{empty, ◌▹◌, count, size, sizes, EachNode}
 use Rattle.term_spec.specs.Connection.{flags_known}
 use Rattle.term_spec.specs.Answer.{Answer, good, refused, Position, at_offset, Reading, after, done}
+use Rattle.term_spec.specs.declared.Refusal.{Refusal}
 use Rattle.term_spec.specs.Answers.{ReadAnswer, read_answer}
 use Rattle.term_spec.specs.Promises.{ReadCall}
 use Rattle.term_spec.specs.AtomList.{AtomList, of_size, given_of, lent_list}
@@ -26,11 +27,9 @@ use Rattle.term_spec.proofs.Words.{length_words_of}
 use Rattle.octets.specs.Cleared.{cleared}
 use Rattle.octets.proofs.Cleared.{cleared_all, cleared_sets}
 use Rattle.context.specs.Word.{Packed, capacity_in, list_in, given_in}
-use Rattle.term_reader.specs.declared.Step.{Step}
-use Rattle.term_reader.specs.declared.Step.TheVariants.{Got, Refused}
 use Rattle.reader.specs.declared.Framing.{Framing}
 use Rattle.reader.specs.declared.Framing.TheVariants.{Standalone, Payload}
-use Rattle.term_reader.specs.Code.{whole_of, Room, Done, TermDone}
+use Rattle.term_reader.specs.Code.{Step, got, whole_of, Room, Done, TermDone}
 use Rattle.reader.specs.Code.{framing_of, MessageDone, first_number, first_refusal, rows_in}
 use Rattle.term_reader.proofs.Runs.{after_same}
 use Rattle.term_reader.proofs.Found.{Found, step_found, step_refused, joined_words}
@@ -96,11 +95,11 @@ module _ (given : Given) (cap : ℕ) (m : List ℕ) (T : List ℕ) where
   standalone_other U e = rw (version_other m e)
 
   module _ (some : length m ≡ 0 → ⊥) (first : get_or m 0 0 ≡ 131) (r : Step) (T' : List ℕ) (d : TermDone m cap 0 0 T (term given cap 64 any (at_offset m 1 0)) r T') where
-    pub standalone_refused : (k p : ℕ) (U : List ℕ) → r ≡ Refused k p → StandaloneDone (refusal k p) U
+    pub standalone_refused : (x : Refusal) (U : List ℕ) → r ≡ Err x → StandaloneDone (Err x) U
     unfolding standalone_term Done
-    standalone_refused k p U e = rw (version_there m some first, step_refused _ _ _ m cap 0 T (term given cap 64 any (at_offset m 1 0)) r T' k p e d)
+    standalone_refused x U e = rw (version_there m some first, step_refused _ _ _ m cap 0 T (term given cap 64 any (at_offset m 1 0)) r T' x e d)
 
-    module _ (next end : ℕ) (e : r ≡ Got next end) where
+    module _ (next end : ℕ) (e : r ≡ got next end) where
       abbrev only : Found size (λ t. row_words (tree_rows (whole_of 0) 0 t)) (EachNode (Placed 65536)) m cap 0 T (term given cap 64 any (at_offset m 1 0)) next end T'
       only = step_found size _ _ m cap 0 T (term given cap 64 any (at_offset m 1 0)) r T' next end e d
 
@@ -126,11 +125,11 @@ module _ (given : Given) (cap : ℕ) (m : List ℕ) (T : List ℕ) (r : Step) (T
   abbrev PayloadDone : ReadAnswer → List ℕ → Type 0
   PayloadDone a U = MessageDone m cap T (payload_terms given cap (at_offset m 0 0)) a U
 
-  pub payload_refused : (k p : ℕ) (U : List ℕ) → r ≡ Refused k p → PayloadDone (refusal k p) U
+  pub payload_refused : (x : Refusal) (U : List ℕ) → r ≡ Err x → PayloadDone (Err x) U
   unfolding payload_terms Done
-  payload_refused k p U e = rw (step_refused _ _ _ m cap 0 T (term given cap 64 any (at_offset m 0 0)) r T' k p e d)
+  payload_refused x U e = rw (step_refused _ _ _ m cap 0 T (term given cap 64 any (at_offset m 0 0)) r T' x e d)
 
-  module _ (next end : ℕ) (e : r ≡ Got next end) where
+  module _ (next end : ℕ) (e : r ≡ got next end) where
     abbrev one : Found size (λ t. row_words (tree_rows (whole_of 0) 0 t)) (EachNode (Placed 65536)) m cap 0 T (term given cap 64 any (at_offset m 0 0)) next end T'
     one = step_found size _ _ m cap 0 T (term given cap 64 any (at_offset m 0 0)) r T' next end e d
 
@@ -158,11 +157,11 @@ module _ (given : Given) (cap : ℕ) (m : List ℕ) (T : List ℕ) (r : Step) (T
           ≡ after (term given cap 64 any (at_offset m next end)) (λ u. λ s. after (ending s.left s) (λ _. done (one.x ▹ u ▹ empty)))
       second = payload_is ∙ ap (λ (l : List ℕ). rest given cap one.x l (at_offset m next end)) (drop-cons m next 0 more)
 
-      pub payload_second_refused : (k p : ℕ) (U : List ℕ) → r' ≡ Refused k p → PayloadDone (refusal k p) U
+      pub payload_second_refused : (x : Refusal) (U : List ℕ) → r' ≡ Err x → PayloadDone (Err x) U
       unfolding Done
-      payload_second_refused k p U f = rw (second, step_refused _ _ _ m cap end T' (term given cap 64 any (at_offset m next end)) r' T'' k p f d')
+      payload_second_refused x U f = rw (second, step_refused _ _ _ m cap end T' (term given cap 64 any (at_offset m next end)) r' T'' x f d')
 
-      module _ (next' end' : ℕ) (f : r' ≡ Got next' end') where
+      module _ (next' end' : ℕ) (f : r' ≡ got next' end') where
         abbrev two : Found size (λ t. row_words (tree_rows (whole_of 0) end t)) (EachNode (Placed 65536)) m cap end T' (term given cap 64 any (at_offset m next end)) next' end' T''
         two = step_found size _ _ m cap end T' (term given cap 64 any (at_offset m next end)) r' T'' next' end' f d'
 
@@ -253,11 +252,6 @@ module _ (flags : ℕ) (list : AtomList) (m : List ℕ) where
       → read flags framing list lent m ≡ result_of (terms_framed (given_of flags list) (min 8192 lent) framing (at_offset m 0 0))
   unfolding read
   read_goes framing lent e = let h = read_first e in rw (h.0, h.1, le-leb (length m) 65536 h.2)
-
--- ---- `settle`
-
-pub settled_rows : (a : ReadAnswer) (T U : List ℕ) (r : ℕ) → r ≡ rows_in a → U ≡ cleared r T → U ≡ cleared (rows_in a) T
-settled_rows a T U r e f = f ∙ ap (λ (k : ℕ). cleared k T) e
 
 -- ---- the public calls: what is read, and then the rest cleared
 

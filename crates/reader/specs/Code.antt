@@ -11,8 +11,7 @@ use Rattle.term_spec.specs.Message as message
 use Rattle.term_spec.specs.Message.{Terms, outermost, terms_framed}
 use Rattle.term_spec.specs.Rows.{rows, row_words}
 use Rattle.term_spec.specs.Answers.{ReadAnswer}
-use Rattle.term_reader.specs.declared.Step.{Step}
-use Rattle.term_reader.specs.Code.{Done, TermDone}
+use Rattle.term_reader.specs.Code.{Step, Done, TermDone}
 use Rattle.reader.specs.declared.Framing.{Framing}
 use Rattle.reader.specs.declared.Framing.TheVariants as framing
 

@@ -1,7 +1,7 @@
 // Reading messages into a table of rows: a standalone term, or the terms of a payload.
 #![tactic(auto)]
 
-ghost use Rattle.std.specs.Prelude.{◌≡◌, ℕ, ◌<◌, ◌≤◌, length};
+ghost use Rattle.std.specs.Prelude.{◌≡◌, ℕ, ◌<◌, ◌≤◌, length, MatchResult};
 ghost use Rattle.term_spec.specs.AtomList.{lent_list};
 ghost use Rattle.term_spec.specs.Message.{standalone, payload};
 ghost use Rattle.term_spec.specs.Promises.{ReadCall};
@@ -12,7 +12,7 @@ ghost use Rattle.reader.specs.Code.{first_refusal, rows_in, framing_of, Outermos
 
 use connection::Connection;
 use term_head::Wanted;
-use term_reader::Step;
+use term_reader::Reached;
 use term_spec::{ReadAnswer, Refusal, TermsRead, refusals, sizes, tags};
 
 // Messages of at most few, some and more bytes, each with as many slots as its keys may need and half as many again; a longer one has MOST_SLOTS.
@@ -47,7 +47,7 @@ fn read_outermost(
     seen: &mut [u16],
     at: usize,
     row: usize,
-) -> Step
+) -> Result<Reached, Refusal>
     requires room { Room msg.now (list_in context places.now lengths.now) table.old (capacity_in context) at row 0 }
     requires seen_nonzero { 0 < length seen.old }
     ensures { OutermostRead msg.now (given_in context places.now lengths.now) (capacity_in context) at row table.old result table.new }
@@ -66,6 +66,19 @@ fn read_outermost(
         Wanted::Any,
         1,
     )
+}
+
+// Bytes left over from `next` on are refused.
+fn ended(msg: &[u8], next: usize) -> Result<(), Refusal>
+    ensures { MatchResult result (λ _. length msg.now ≤ next) (λ r. (next < length msg.now) × (r ≡ record { number = 10; place = next })) }
+{
+    if next < msg.len() {
+        return Err(Refusal {
+            number: refusals::LEFT_OVER,
+            place: next,
+        });
+    }
+    Ok(())
 }
 
 // A standalone term: 131, one term, end.
@@ -87,18 +100,12 @@ fn standalone_terms(
             place: 0,
         });
     }
-    match read_outermost(msg, context, places, lengths, table, seen, 1, 0) {
-        Step::Refused { number, place } => Err(Refusal { number, place }),
-        Step::Got { next, rows } => {
-            if next < msg.len() {
-                return Err(Refusal {
-                    number: refusals::LEFT_OVER,
-                    place: next,
-                });
-            }
-            Ok(TermsRead { terms: 1, rows })
-        }
-    }
+    let only = read_outermost(msg, context, places, lengths, table, seen, 1, 0)?;
+    ended(msg, only.next)?;
+    Ok(TermsRead {
+        terms: 1,
+        rows: only.rows,
+    })
 }
 
 // A payload: one or two terms, end.
@@ -114,26 +121,21 @@ fn payload_terms(
     requires seen_nonzero { 0 < length seen.old }
     ensures { MessageRead payload msg.now (given_in context places.now lengths.now) (capacity_in context) table.old result table.new }
 {
-    match read_outermost(msg, context, places, lengths, table, seen, 0, 0) {
-        Step::Refused { number, place } => Err(Refusal { number, place }),
-        Step::Got { next, rows } => {
-            if msg.len() <= next {
-                return Ok(TermsRead { terms: 1, rows });
-            }
-            match read_outermost(msg, context, places, lengths, table, seen, next, rows) {
-                Step::Refused { number, place } => Err(Refusal { number, place }),
-                Step::Got { next, rows } => {
-                    if next < msg.len() {
-                        return Err(Refusal {
-                            number: refusals::LEFT_OVER,
-                            place: next,
-                        });
-                    }
-                    Ok(TermsRead { terms: 2, rows })
-                }
-            }
-        }
+    let first = read_outermost(msg, context, places, lengths, table, seen, 0, 0)?;
+    if msg.len() <= first.next {
+        return Ok(TermsRead {
+            terms: 1,
+            rows: first.rows,
+        });
     }
+    let second = read_outermost(
+        msg, context, places, lengths, table, seen, first.next, first.rows,
+    )?;
+    ended(msg, second.next)?;
+    Ok(TermsRead {
+        terms: 2,
+        rows: second.rows,
+    })
 }
 
 // The terms of a message that are set so.
@@ -201,11 +203,7 @@ fn read_with(
     if let Some(number) = first_refusal(flags, msg, places, lengths) {
         return settle(table, Err(Refusal { number, place: 0 }));
     }
-    let context = context::pack(
-        n,
-        flags,
-        term_reader::at_most(table.len(), sizes::ROWS_MOST),
-    );
+    let context = context::pack(n, flags, table.len().min(sizes::ROWS_MOST));
     let answer = framed_terms(msg, context, places, lengths, table, seen, framing);
     settle(table, answer)
 }

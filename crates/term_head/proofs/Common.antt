@@ -14,7 +14,7 @@ use Rattle.term_spec.specs.Head as head_spec
 use Rattle.term_spec.specs.Reading.{empty_108, opening}
 use Rattle.term_spec.specs.Rows.{kind_of}
 use Rattle.term_head.specs.Code.{kind_later, later_of, head_at, head_of}
-use Rattle.term_head.specs.Quick.{only_if, fit, quick_later, quick_word, Common, some_parts, no_characters, some_elements, some_pairs, HoldsWord, Told}
+use Rattle.term_head.specs.Quick.{only_if, fit, quick_later, head_word, quick_word, Common, some_parts, no_characters, some_elements, some_pairs, HoldsWord, Told}
 use Rattle.term_head.proofs.HeadFacts.{Past, past_is, head_past_tag}
 
 held : (b : Bool) (w v : ℕ) → (w ≡ 0 → ⊥) → w ≡ only_if b v → (b ≡ true) × (w ≡ v)
@@ -43,8 +43,8 @@ module _ (w : ℕ) (some : w ≡ 0 → ⊥) (next : ℕ) where
   known_told n (head_spec.reference_fields k v) e = absurd (some e)
   known_told n head_spec.old_reference_fields e = absurd (some e)
 
-  told : (h : head_spec.Head) → w ≡ quick_word (head_at h next) → Told w h next
-  unfolding head_at quick_word
+  told : (h : head_spec.Head) → w ≡ head_word (head_at h next) → Told w h next
+  unfolding head_at head_word
   told (parts ws n l) e =
       let a = held (eqb (length ws) 0) w _ some e in
       let b : ws ≡ [] = none_left ws (eqb-true (length ws) 0 a.0) in

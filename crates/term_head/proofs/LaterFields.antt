@@ -18,11 +18,10 @@ use Rattle.octets.proofs.Numbers.{big_halves, big_one}
 use Rattle.octets.specs.Parts.{words_at}
 use Rattle.term_head.specs.declared.Later.{Later}
 use Rattle.term_head.specs.declared.Later.TheVariants.{Known, Pid, Port, Reference, OldReference}
-use Rattle.term_head.specs.declared.Step.{Step}
-use Rattle.term_head.specs.declared.Step.TheVariants.{Got, Refused}
-use Rattle.term_head.specs.Code.{step_of, later_fields, later_of}
+use Rattle.term_spec.specs.declared.Refusal.{Refusal}
+use Rattle.std.specs.Prelude.{Result, Ok}
+use Rattle.term_head.specs.Code.{refusal, end_of, later_fields, later_of}
 
--- a test's result that the code denies
 -- one byte more of a number
 big_next : (m : List ℕ) (at i : ℕ) → at + i < length m → big_endian (take (i + 1) (drop at m)) ≡ big_endian (take i (drop at m)) * 256 + get_or m (at + i) 0
 big_next m at i h = big_halves m at i 1 (omega arith) ∙ ap (λ (b : ℕ). big_endian (take i (drop at m)) * 256 + b) (big_one m (at + i) h)
@@ -99,14 +98,14 @@ and_not true t e = e
 and_not false t e = refl
 
 module _ (flags : ℕ) (m : List ℕ) (at place rows : ℕ) (inside : at ≤ length m) where
-  pub pid_short : (w : ℕ) → length m - at < 8 → Refused 2 place ≡ later_fields flags m at place (pid_fields w) rows
-  unfolding later_fields later step_of
+  pub pid_short : (w : ℕ) → length m - at < 8 → refusal 2 place ≡ later_fields flags m at place (pid_fields w) rows
+  unfolding later_fields later end_of
   pid_short w h =
       by_less (length m - at) 4 (λ less. rw (number_end m place 4 at rows inside (omega arith)))
       (λ over. rw (number_at m place 4 at rows (omega arith), number_end m place 4 (at + 4) rows (omega arith) (omega arith)))
 
-  pub pid_cut : (w : ℕ) → 8 ≤ length m - at → length m - at - 8 < w → Refused 2 place ≡ later_fields flags m at place (pid_fields w) rows
-  unfolding later_fields later step_of
+  pub pid_cut : (w : ℕ) → 8 ≤ length m - at → length m - at - 8 < w → refusal 2 place ≡ later_fields flags m at place (pid_fields w) rows
+  unfolding later_fields later end_of
   pid_cut w h g =
       rw (
         number_at m place 4 at rows (omega arith),
@@ -122,8 +121,8 @@ module _ (flags : ℕ) (m : List ℕ) (at place rows : ℕ) (inside : at ≤ len
         && ltb (big_endian (take 4 (drop (at + 4) m))) serials
         && creation_rule w (big_endian (take w (drop (at + 4 + 4) m)))
 
-    pid_broken : pid_rule ≡ false → Refused 4 place ≡ later_fields flags m at place (pid_fields w) rows
-    unfolding later_fields later step_of
+    pid_broken : pid_rule ≡ false → refusal 4 place ≡ later_fields flags m at place (pid_fields w) rows
+    unfolding later_fields later end_of
     pid_broken f =
         rw (
           number_at m place 4 at rows (omega arith),
@@ -134,22 +133,22 @@ module _ (flags : ℕ) (m : List ℕ) (at place rows : ℕ) (inside : at ≤ len
           f,
         )
 
-    pub pid_id : ltb (big_endian (take 4 (drop at m))) ids ≡ false → Refused 4 place ≡ later_fields flags m at place (pid_fields w) rows
+    pub pid_id : ltb (big_endian (take 4 (drop at m))) ids ≡ false → refusal 4 place ≡ later_fields flags m at place (pid_fields w) rows
     pid_id f = pid_broken (rw f)
 
-    pub pid_serial : ltb (big_endian (take 4 (drop (at + 4) m))) serials ≡ false → Refused 4 place ≡ later_fields flags m at place (pid_fields w) rows
+    pub pid_serial : ltb (big_endian (take 4 (drop (at + 4) m))) serials ≡ false → refusal 4 place ≡ later_fields flags m at place (pid_fields w) rows
     pid_serial f =
         let e = and_not (ltb (big_endian (take 4 (drop at m))) ids) _ f in
         pid_broken (rw e)
 
-    pub pid_creation : creation_rule w (big_endian (take w (drop (at + 4 + 4) m))) ≡ false → Refused 4 place ≡ later_fields flags m at place (pid_fields w) rows
+    pub pid_creation : creation_rule w (big_endian (take w (drop (at + 4 + 4) m))) ≡ false → refusal 4 place ≡ later_fields flags m at place (pid_fields w) rows
     pid_creation f =
         let e = and_not (ltb (big_endian (take 4 (drop at m))) ids && ltb (big_endian (take 4 (drop (at + 4) m))) serials) _ f in
         pid_broken e
 
     pub pid_there : ltb (big_endian (take 4 (drop at m))) ids ≡ true → ltb (big_endian (take 4 (drop (at + 4) m))) serials ≡ true
-        → creation_rule w (big_endian (take w (drop (at + 4 + 4) m))) ≡ true → Got (at + 4 + 4 + w) ≡ later_fields flags m at place (pid_fields w) rows
-    unfolding later_fields later step_of
+        → creation_rule w (big_endian (take w (drop (at + 4 + 4) m))) ≡ true → Ok (at + 4 + 4 + w) ≡ later_fields flags m at place (pid_fields w) rows
+    unfolding later_fields later end_of
     pid_there e f g =
         rw (
           number_at m place 4 at rows (omega arith),
@@ -162,88 +161,88 @@ module _ (flags : ℕ) (m : List ℕ) (at place rows : ℕ) (inside : at ≤ len
           g,
         )
 
-  pub port_short : (v w : ℕ) → length m - at < v → Refused 2 place ≡ later_fields flags m at place (port_fields v w) rows
-  unfolding later_fields later step_of
+  pub port_short : (v w : ℕ) → length m - at < v → refusal 2 place ≡ later_fields flags m at place (port_fields v w) rows
+  unfolding later_fields later end_of
   port_short v w h = rw (number_end m place v at rows inside (omega arith))
 
   module _ (v w : ℕ) (some : v ≤ length m - at) where
-    pub port_cut : length m - at - v < w → Refused 2 place ≡ later_fields flags m at place (port_fields v w) rows
-    unfolding later_fields later step_of
+    pub port_cut : length m - at - v < w → refusal 2 place ≡ later_fields flags m at place (port_fields v w) rows
+    unfolding later_fields later end_of
     port_cut h = rw (number_at m place v at rows (omega arith), number_end m place w (at + v) rows (omega arith) (omega arith))
 
     module _ (all_there : w ≤ length m - at - v) where
-      pub port_id : (eqb v 8 || ltb (big_endian (take v (drop at m))) 268435456) ≡ false → Refused 4 place ≡ later_fields flags m at place (port_fields v w) rows
-      unfolding later_fields later step_of
+      pub port_id : (eqb v 8 || ltb (big_endian (take v (drop at m))) 268435456) ≡ false → refusal 4 place ≡ later_fields flags m at place (port_fields v w) rows
+      unfolding later_fields later end_of
       port_id f = rw (number_at m place v at rows (omega arith), number_at m place w (at + v) rows (omega arith), f)
 
-      pub port_creation : creation_rule w (big_endian (take w (drop (at + v) m))) ≡ false → Refused 4 place ≡ later_fields flags m at place (port_fields v w) rows
-      unfolding later_fields later step_of
+      pub port_creation : creation_rule w (big_endian (take w (drop (at + v) m))) ≡ false → refusal 4 place ≡ later_fields flags m at place (port_fields v w) rows
+      unfolding later_fields later end_of
       port_creation f =
           let e = and_not (eqb v 8 || ltb (big_endian (take v (drop at m))) 268435456) _ f in
           rw (number_at m place v at rows (omega arith), number_at m place w (at + v) rows (omega arith), e)
 
       pub port_there : (eqb v 8 || ltb (big_endian (take v (drop at m))) 268435456) ≡ true → creation_rule w (big_endian (take w (drop (at + v) m))) ≡ true
-          → Got (at + v + w) ≡ later_fields flags m at place (port_fields v w) rows
-      unfolding later_fields later step_of
+          → Ok (at + v + w) ≡ later_fields flags m at place (port_fields v w) rows
+      unfolding later_fields later end_of
       port_there e f = rw (number_at m place v at rows (omega arith), number_at m place w (at + v) rows (omega arith), e, f)
 
-  pub reference_short : (k w : ℕ) → length m - at < w → Refused 2 place ≡ later_fields flags m at place (reference_fields k w) rows
-  unfolding later_fields later step_of
+  pub reference_short : (k w : ℕ) → length m - at < w → refusal 2 place ≡ later_fields flags m at place (reference_fields k w) rows
+  unfolding later_fields later end_of
   reference_short k w h = rw (number_end m place w at rows inside (omega arith))
 
   module _ (k w : ℕ) (some : w ≤ length m - at) where
-    pub reference_cut : (length m - at - w) / 4 < k → Refused 2 place ≡ later_fields flags m at place (reference_fields k w) rows
-    unfolding later_fields later step_of
+    pub reference_cut : (length m - at - w) / 4 < k → refusal 2 place ≡ later_fields flags m at place (reference_fields k w) rows
+    unfolding later_fields later end_of
     reference_cut h = rw (number_at m place w at rows (omega arith), words_end m place k (at + w) rows (omega arith) (omega arith))
 
     module _ (all_there : k ≤ (length m - at - w) / 4) where
-      pub reference_creation : creation_rule w (big_endian (take w (drop at m))) ≡ false → Refused 4 place ≡ later_fields flags m at place (reference_fields k w) rows
-      unfolding later_fields later step_of
+      pub reference_creation : creation_rule w (big_endian (take w (drop at m))) ≡ false → refusal 4 place ≡ later_fields flags m at place (reference_fields k w) rows
+      unfolding later_fields later end_of
       reference_creation f = rw (number_at m place w at rows (omega arith), words_there m place k (at + w) rows (omega arith), f)
 
-      pub reference_words : words_rule w (words_at m (at + w) k) ≡ false → Refused 4 place ≡ later_fields flags m at place (reference_fields k w) rows
-      unfolding later_fields later step_of
+      pub reference_words : words_rule w (words_at m (at + w) k) ≡ false → refusal 4 place ≡ later_fields flags m at place (reference_fields k w) rows
+      unfolding later_fields later end_of
       reference_words f =
           let e = and_not (creation_rule w (big_endian (take w (drop at m)))) _ f in
           rw (number_at m place w at rows (omega arith), words_there m place k (at + w) rows (omega arith), e)
 
       pub reference_there : creation_rule w (big_endian (take w (drop at m))) ≡ true → words_rule w (words_at m (at + w) k) ≡ true
-          → Got (at + w + k * 4) ≡ later_fields flags m at place (reference_fields k w) rows
-      unfolding later_fields later step_of
+          → Ok (at + w + k * 4) ≡ later_fields flags m at place (reference_fields k w) rows
+      unfolding later_fields later end_of
       reference_there e f = rw (number_at m place w at rows (omega arith), words_there m place k (at + w) rows (omega arith), e, f)
 
-  pub old_short : length m - at < 5 → Refused 2 place ≡ later_fields flags m at place old_reference_fields rows
-  unfolding later_fields later step_of
+  pub old_short : length m - at < 5 → refusal 2 place ≡ later_fields flags m at place old_reference_fields rows
+  unfolding later_fields later end_of
   old_short h =
       by_less (length m - at) 4 (λ less. rw (words_end m place 1 at rows inside (omega arith)))
       (λ over. rw (words_there m place 1 at rows (omega arith), number_end m place 1 (at + 4) rows (omega arith) (omega arith)))
 
   module _ (all_there : 5 ≤ length m - at) where
-    pub old_words : words_rule 1 (words_at m at 1) ≡ false → Refused 4 place ≡ later_fields flags m at place old_reference_fields rows
-    unfolding later_fields later step_of
+    pub old_words : words_rule 1 (words_at m at 1) ≡ false → refusal 4 place ≡ later_fields flags m at place old_reference_fields rows
+    unfolding later_fields later end_of
     old_words f = rw (words_there m place 1 at rows (omega arith), number_at m place 1 (at + 4) rows (omega arith), f)
 
-    pub old_creation : creation_rule 1 (big_endian (take 1 (drop (at + 4) m))) ≡ false → Refused 4 place ≡ later_fields flags m at place old_reference_fields rows
-    unfolding later_fields later step_of
+    pub old_creation : creation_rule 1 (big_endian (take 1 (drop (at + 4) m))) ≡ false → refusal 4 place ≡ later_fields flags m at place old_reference_fields rows
+    unfolding later_fields later end_of
     old_creation f =
         let e = and_not (words_rule 1 (words_at m at 1)) _ f in
         rw (words_there m place 1 at rows (omega arith), number_at m place 1 (at + 4) rows (omega arith), e)
 
     pub old_there : words_rule 1 (words_at m at 1) ≡ true → creation_rule 1 (big_endian (take 1 (drop (at + 4) m))) ≡ true
-        → Got (at + 4 + 1) ≡ later_fields flags m at place old_reference_fields rows
-    unfolding later_fields later step_of
+        → Ok (at + 4 + 1) ≡ later_fields flags m at place old_reference_fields rows
+    unfolding later_fields later end_of
     old_there e f = rw (words_there m place 1 at rows (omega arith), number_at m place 1 (at + 4) rows (omega arith), e, f)
 
 -- later fields, from what the code has of them
-unfoldable pub by_later : ℕ → List ℕ → ℕ → ℕ → ℕ → Later → Step
-by_later flags m at place rows Known = Got at
+unfoldable pub by_later : ℕ → List ℕ → ℕ → ℕ → ℕ → Later → Result ℕ Refusal
+by_later flags m at place rows Known = Ok at
 by_later flags m at place rows (Pid w) = later_fields flags m at place (pid_fields w) rows
 by_later flags m at place rows (Port v w) = later_fields flags m at place (port_fields v w) rows
 by_later flags m at place rows (Reference k w) = later_fields flags m at place (reference_fields k w) rows
 by_later flags m at place rows OldReference = later_fields flags m at place old_reference_fields rows
 
 pub settled : (flags : ℕ) (m : List ℕ) (at place rows : ℕ) (l : head_spec.Later) → later_fields flags m at place l rows ≡ by_later flags m at place rows (later_of l)
-unfolding by_later later_of later_fields later step_of
+unfolding by_later later_of later_fields later end_of
 settled flags m at place rows (known x) = refl
 settled flags m at place rows (pid_fields w) = refl
 settled flags m at place rows (port_fields v w) = refl

@@ -1,5 +1,5 @@
 -- What is known of an opening that the code found: for the reader of terms.
-use mathlib.Core.Path.{◌≡◌, refl, sym, ap, ◌∙◌}
+use mathlib.Core.Path.{◌≡◌, refl, ap, ◌∙◌}
 use mathlib.Core.Bool.{Bool, true, false, ◌&&◌, ◌||◌}
 use mathlib.Core.List.{List, [], ◌∷◌}
 use Prim.Native.Nat.{ℕ, ◌+◌, ◌^◌, ◌≤◌}
@@ -11,7 +11,8 @@ use Rattle.term_spec.specs.Head as head_spec
 use Rattle.term_spec.specs.Reading.{empty_108, opening}
 use Rattle.term_spec.specs.Rows.{kind_of}
 use Rattle.term_spec.proofs.Holds.{Holds, bind, weaken, done_holds, refused_holds, skip}
-use Rattle.term_head.specs.declared.Head.TheVariants.{Refused}
+use Rattle.term_spec.specs.declared.Refusal.{Refusal}
+use Rattle.std.specs.Prelude.{Result, Ok, Err}
 use Rattle.term_head.specs.declared.Opening.{Opening}
 use Rattle.term_head.specs.Code.{kind_later, head_at, opening_of}
 use Rattle.term_head.proofs.HeadFacts.{Past, past_is, head_past_tag, Wanting, head_wanting}
@@ -39,27 +40,19 @@ opening_opens given m (b ∷ bound) at rows w =
     go h t i w false ih = done_holds _ t (record { from = omega arith; past = i; wanting = w })
 
 -- What the code's opening r says of the definition's opening o
-module _ (o : Answer ((ℕ × head_spec.Head) × Position)) (r : Opening) (e : r ≡ opening_of o) where
-  pub refused_found : (n p : ℕ) → r.head ≡ Refused n p → (o ≡ refused n p) × (r.place ≡ p)
-  unfolding opening_of head_at
-  refused_found n p f = go o refl
+module _ (o : Answer ((ℕ × head_spec.Head) × Position)) (r : Result Opening Refusal) (e : r ≡ opening_of o) where
+  pub refused_found : (x : Refusal) → r ≡ Err x → o ≡ refused x.number x.place
+  unfolding opening_of
+  refused_found x f = go o refl
     where
-      not_good : (h : head_spec.Head) (k : ℕ) → head_at h k ≡ Refused n p → ⊥
-      not_good (parts ws c l) k d = let z : ◌≡◌ {A = ℕ} 0 1 = cc in omega arith
-      not_good (characters cs) k d = let z : ◌≡◌ {A = ℕ} 0 1 = cc in omega arith
-      not_good (elements c) k d = let z : ◌≡◌ {A = ℕ} 0 1 = cc in omega arith
-      not_good (pairs c) k d = let z : ◌≡◌ {A = ℕ} 0 1 = cc in omega arith
-
-      go : (o' : Answer ((ℕ × head_spec.Head) × Position)) → o ≡ o' → (o ≡ refused n p) × (r.place ≡ p)
+      go : (o' : Answer ((ℕ × head_spec.Head) × Position)) → o ≡ o' → o ≡ refused x.number x.place
       go (refused k q) d =
-          let g : r ≡ record { place = q; head = Refused k q } = e ∙ ap opening_of d in
-          let h : Refused k q ≡ Refused n p = sym (ap (λ (x : Opening). x.head) g) ∙ f in
-          let a : k ≡ n = cc in
-          let b : q ≡ p = cc in
-          (rw (a, b) at d, ap (λ (x : Opening). x.place) g ∙ b)
-      go (good x) d =
-          let g : r ≡ record { place = x.0.0; head = head_at x.0.1 x.1.at } = e ∙ ap opening_of d in
-          absurd (not_good x.0.1 x.1.at (sym (ap (λ (y : Opening). y.head) g) ∙ f))
+          let g : r ≡ Err (record { number = k; place = q }) = e ∙ ap opening_of d in
+          let h : x ≡ record { number = k; place = q } = cc in
+          rw h d
+      go (good y) d =
+          let g : r ≡ Ok (record { place = y.0.0; head = head_at y.0.1 y.1.at }) = e ∙ ap opening_of d in
+          absurd (cc)
 
 -- the later fields of a term do not change its kind
 pub later_kind : (flags p : ℕ) (l : head_spec.Later) (s : Position) → Holds (later flags p l s) (λ label _. kind_of label ≡ kind_later l)

@@ -6,7 +6,7 @@ use Prim.Native.Nat.{ℕ, zero, suc, ◌+◌, ◌-◌, ◌<◌, ◌≤◌}
 use native.Mathlib.Omega.{arith}
 use lib.Dec.{eqb, leb}
 use lib.ListN.{length, get_or, take, drop, length-drop}
-use borrow.Author.Tests.{eqb-true, eqb-false, leb-true, le-leb, lt-leb, eq-eqb, ne_eqb}
+use borrow.Author.Tests.{eqb-true, eqb-false, leb-true, le-leb, eq-eqb}
 use Rattle.term_spec.specs.Numbers.{big_endian}
 use Rattle.term_spec.specs.Answer.{Answer, good, refused, Position, at_offset, Reading, after, done}
 use Rattle.term_spec.specs.Head.{Given, any, forms, form_in, form_or, form, fields, term_head, parts, characters, elements, pairs}
@@ -16,21 +16,16 @@ use Rattle.term_spec.proofs.Bridge.{byte_at, byte_end, number_at, number_end}
 use Rattle.term_spec.proofs.Holds.{Holds, weaken, done_holds, refused_holds}
 use Rattle.term_spec.proofs.Tests.{both_true, by_less}
 use Rattle.term_head.specs.declared.Wanted.{Wanted}
-use Rattle.term_head.specs.declared.Wanted.TheVariants.{Any}
+use Rattle.term_head.specs.declared.Wanted.TheVariants.{Any, Atom, Arity}
 use Rattle.term_head.specs.declared.Head.{Head}
 use Rattle.term_head.specs.declared.Opening.{Opening}
-use Rattle.term_head.specs.Code.{head_of, head_at, opening_of, opened_at, wanted_of, allowed, empty_at, ElementsAt, Skipped}
+use Rattle.term_spec.specs.declared.Refusal.{Refusal}
+use Rattle.std.specs.Prelude.{Some, None, Result, Ok, Err}
+use Rattle.std.proofs.Common.{◌⊎◌, inl, inr}
+use Rattle.term_head.specs.Code.{head_of, opening_of, wanted_of, allowed, empty_at, ElementsAt, Skipped}
 use Rattle.term_head.proofs.HeadFacts.{no_108, other_tag, not_108}
 
 module _ (m : List ℕ) (p : ℕ) where
-  pub empty_short : length m - p < 5 → false ≡ empty_at m p
-  unfolding empty_at
-  empty_short h = rw (lt-leb 5 (length m - p) h)
-
-  pub empty_other : 5 ≤ length m - p → (get_or m p 0 ≡ 108 → ⊥) → false ≡ empty_at m p
-  unfolding empty_at
-  empty_other h f = rw (le-leb 5 (length m - p) h, ne_eqb (get_or m p 0) 108 f)
-
   pub empty_count : (n : ℕ) → 5 ≤ length m - p → get_or m p 0 ≡ 108 → n ≡ big_endian (take 4 (drop (p + 1) m)) → eqb n 0 ≡ empty_at m p
   unfolding empty_at
   empty_count n h e f = rw (le-leb 5 (length m - p) h, eq-eqb (get_or m p 0) 108 e, f)
@@ -109,23 +104,38 @@ module _ (m : List ℕ) (p : ℕ) where
 
   -- ---- `elements_at`
 
-  elements_none : ((n : ℕ) → ListOf n → n ≡ 0) → ElementsAt m p 0
+  elements_none : ((n : ℕ) → ListOf n → ⊥) → ElementsAt m p None
   elements_none f =
-      record { inside = λ more. absurd (more refl); some = λ more. absurd (more refl); none = λ _ given rows k t e. f k ((list_only given rows).known (elements k) t e k refl) }
+      record { inside = λ n e. absurd (cc); some = λ n e. absurd (cc); none = λ _ given rows k t e. f k ((list_only given rows).known (elements k) t e k refl) }
 
-  pub elements_short : length m - p < 5 → ElementsAt m p 0
-  elements_short h = elements_none (λ n i. absurd (omega (arith, i.there)))
+  pub elements_short : length m - p < 5 → ElementsAt m p None
+  elements_short h = elements_none (λ n i. omega (arith, i.there))
 
-  pub elements_other : (get_or m p 0 ≡ 108 → ⊥) → ElementsAt m p 0
-  elements_other f = elements_none (λ n i. absurd (f i.tag_is))
+  pub elements_other : (get_or m p 0 ≡ 108 → ⊥) → ElementsAt m p None
+  elements_other f = elements_none (λ n i. f i.tag_is)
 
-  pub elements_count : (n : ℕ) → 5 ≤ length m - p → get_or m p 0 ≡ 108 → n ≡ big_endian (take 4 (drop (p + 1) m)) → ElementsAt m p n
+  pub elements_count : (n : ℕ) → 5 ≤ length m - p → get_or m p 0 ≡ 108 → n ≡ big_endian (take 4 (drop (p + 1) m)) → ElementsAt m p (Some n)
   elements_count n h e f =
       record {
-        inside = λ _. omega arith;
-        some = λ _ given rows. list_here given rows n (record { there = h; tag_is = e; count_is = f });
-        none = λ z given rows k t d. ((list_only given rows).known (elements k) t d k refl).count_is ∙ sym f ∙ z;
+        inside = λ _ _. omega arith;
+        some = λ k d given rows. let i : k ≡ n = cc in list_here given rows k (record { there = h; tag_is = e; count_is = i ∙ f });
+        none = λ z. absurd (cc);
       }
+
+  -- ---- `empty_list_at`, by what `elements_at` answers of any given
+
+  module _ (given : Given) where
+    none_empty : (b : Bool) → empty_at m p ≡ b → ElementsAt m p None → false ≡ b
+    none_empty false e i = refl
+    none_empty true e i = absurd (i.none refl given 0 0 _ (list_here given 0 0 (empty_is e)))
+
+    pub empty_none : ElementsAt m p None → false ≡ empty_at m p
+    empty_none i = none_empty (empty_at m p) refl i
+
+    pub empty_some : (n : ℕ) → ElementsAt m p (Some n) → eqb n 0 ≡ empty_at m p
+    empty_some n i =
+        let j : ListOf n = (list_only given 0).known (elements n) _ (i.some n refl given 0) n refl in
+        empty_count n j.there j.tag_is j.count_is
 
 -- 108s of length 0 from `at` on are passed up to `place`
 abbrev pub Passed : List ℕ → ℕ → ℕ → Type 0
@@ -158,17 +168,14 @@ module _ (given : Given) (m : List ℕ) (at rows : ℕ) (w : head_spec.Wanted) w
           (f.known x.0 x.1 refl)
       go (refused n p) f = refl
 
--- an opening as the code has it
-opened_head : (at : ℕ) (h : head_spec.Head) (next : ℕ) → opened_at at (head_at h next) ≡ record { place = at; head = head_at h next }
-unfolding opened_at head_at
-opened_head at (parts ws n l) next = refl
-opened_head at (characters cs) next = refl
-opened_head at (elements n) next = refl
-opened_head at (pairs n) next = refl
+-- a head with the offset of its tag; a refusal with its own place
+abbrev pub opened_at : ℕ → Result Head Refusal → Result Opening Refusal
+opened_at at (Ok h) = Ok (record { place = at; head = h })
+opened_at at (Err x) = Err x
 
 opened_is : (at : ℕ) (o : Answer (head_spec.Head × Position)) → opened_at at (head_of o) ≡ opening_of (after o (λ h. done (at, h)))
-unfolding opened_at head_of opening_of
-opened_is at (good x) = opened_head at x.0 x.1.at
+unfolding head_of opening_of
+opened_is at (good x) = refl
 opened_is at (refused n p) = refl
 
 -- past 108s of length 0 the first head is the opening
@@ -184,17 +191,31 @@ module _ (given : Given) (m : List ℕ) (at place rows : ℕ) (s : Skipped m at 
 pub skipped_here : (m : List ℕ) (at place : ℕ) → Skipped m at place → Skipped m place place
 skipped_here m at place s = record { from = omega arith; inside = s.inside; stops = s.stops; opens = passed_none m place }
 
-module _ (given : Given) (m : List ℕ) (at rows : ℕ) (hd : Head) (r : Opening) where
-  pub opening_any : (w : Wanted) (place : ℕ) → w ≡ Any → Skipped m at place → hd ≡ head_of (term_head given (wanted_of Any) (at_offset m place rows)) → r ≡ opened_at place hd
-      → r ≡ opening_of (opening given (drop at m) (wanted_of w) (at_offset m at rows))
-  unfolding wanted_of
-  opening_any w place e s f g =
-      rw (e, g, f) (opened_is place (term_head given any (at_offset m place rows)) ∙ ap opening_of (sym (skipped_opens given m at place rows s)))
+-- where an opening that is so wanted has its tag: past 108s of length 0, or at once
+abbrev pub TagAt : List ℕ → ℕ → Wanted → ℕ → Type 0
+TagAt m at w place = ((w ≡ Any) × Skipped m at place) ⊎ ((w ≡ Any → ⊥) × (place ≡ at))
 
-  pub opening_only : (w : Wanted) → allowed w 108 ≡ false → hd ≡ head_of (term_head given (wanted_of w) (at_offset m at rows)) → r ≡ opened_at at hd
-      → r ≡ opening_of (opening given (drop at m) (wanted_of w) (at_offset m at rows))
-  opening_only w e f g =
+module _ (given : Given) (m : List ℕ) (at rows : ℕ) where
+  opening_any : (place : ℕ) → Skipped m at place
+      → opened_at place (head_of (term_head given (wanted_of Any) (at_offset m place rows))) ≡ opening_of (opening given (drop at m) (wanted_of Any) (at_offset m at rows))
+  unfolding wanted_of
+  opening_any place s = opened_is place (term_head given any (at_offset m place rows)) ∙ ap opening_of (sym (skipped_opens given m at place rows s))
+
+  opening_only : (w : Wanted) → allowed w 108 ≡ false
+      → opened_at at (head_of (term_head given (wanted_of w) (at_offset m at rows))) ≡ opening_of (opening given (drop at m) (wanted_of w) (at_offset m at rows))
+  opening_only w e =
       let y = plain_opening given m at rows (wanted_of w) (drop at m) (simp length-drop (omega arith)) (not_108 given m at rows w (λ a t.
       let b : allowed w 108 ≡ true = rw t at a in
       let z : ◌≡◌ {A = ℕ} 0 1 = cc in omega arith)) in
-      rw (g, f) (opened_is at (term_head given (wanted_of w) (at_offset m at rows)) ∙ ap opening_of (sym y))
+      opened_is at (term_head given (wanted_of w) (at_offset m at rows)) ∙ ap opening_of (sym y)
+
+  no_108_wanted : (w : Wanted) → (w ≡ Any → ⊥) → allowed w 108 ≡ false
+  unfolding allowed
+  no_108_wanted Any f = absurd (f refl)
+  no_108_wanted Atom f = refl
+  no_108_wanted Arity f = refl
+
+  pub opening_at : (w : Wanted) (place : ℕ) (hd : Result Head Refusal) → TagAt m at w place → hd ≡ head_of (term_head given (wanted_of w) (at_offset m place rows))
+      → opened_at place hd ≡ opening_of (opening given (drop at m) (wanted_of w) (at_offset m at rows))
+  opening_at w place hd (inl x) e = rw (e, x.0) (opening_any place x.1)
+  opening_at w place hd (inr x) e = rw (e, x.1) (opening_only w (no_108_wanted w x.0))

@@ -17,28 +17,30 @@ use Rattle.term_head.specs.declared.Wanted.{Wanted}
 use Rattle.term_head.specs.declared.Wanted.TheVariants.{Any, Atom, Arity}
 use Rattle.term_head.specs.declared.Later.TheVariants.{Known, Pid, Port, OldReference}
 use Rattle.term_head.specs.declared.Head.{Head}
-use Rattle.term_head.specs.declared.Head.TheVariants.{Refused, Parts, Characters}
-use Rattle.term_head.specs.Code.{head_of, head_at, fields_of, tag_fields, kind_later, later_of, wanted_of, allowed}
+use Rattle.term_head.specs.declared.Head.TheVariants.{Parts, Characters}
+use Rattle.term_spec.specs.declared.Refusal.{Refusal}
+use Rattle.std.specs.Prelude.{Result, Ok}
+use Rattle.term_head.specs.Code.{refusal, head_of, head_at, fields_of, tag_fields, kind_later, later_of, wanted_of, allowed}
 
 module _ (given : Given) (m : List ℕ) (at rows : ℕ) where
   -- layouts without fields
-  pub nil_head : Characters 0 (at + 1) ≡ fields_of given m at nil_ext rows
+  pub nil_head : Ok (Characters 0 (at + 1)) ≡ fields_of given m at nil_ext rows
   unfolding fields_of fields head_of head_at
   nil_head = refl
 
-  pub pid_head : (w : ℕ) → Parts 10 1 0 (Pid w) (at + 1) ≡ fields_of given m at (pid_ext w) rows
+  pub pid_head : (w : ℕ) → Ok (Parts 10 1 0 (Pid w) (at + 1)) ≡ fields_of given m at (pid_ext w) rows
   unfolding fields_of fields head_of head_at kind_later later_of
   pid_head w = refl
 
-  pub port_head : (v w : ℕ) → Parts 11 1 0 (Port v w) (at + 1) ≡ fields_of given m at (port_ext v w) rows
+  pub port_head : (v w : ℕ) → Ok (Parts 11 1 0 (Port v w) (at + 1)) ≡ fields_of given m at (port_ext v w) rows
   unfolding fields_of fields head_of head_at kind_later later_of
   port_head v w = refl
 
-  pub old_head : Parts 12 1 0 OldReference (at + 1) ≡ fields_of given m at reference_ext rows
+  pub old_head : Ok (Parts 12 1 0 OldReference (at + 1)) ≡ fields_of given m at reference_ext rows
   unfolding fields_of fields head_of head_at kind_later later_of
   old_head = refl
 
-  pub export_head : Parts 13 3 0 Known (at + 1) ≡ fields_of given m at export_ext rows
+  pub export_head : Ok (Parts 13 3 0 Known (at + 1)) ≡ fields_of given m at export_ext rows
   unfolding fields_of fields head_of head_at kind_later kind_of later_of
   export_head = refl
 
@@ -59,17 +61,13 @@ absent B (f ∷ fs) tag h =
     let i = absent (B × (tag ≡ f.0 → ⊥)) fs tag h in
     (i.0.0, ap (λ (t : Bool). elim t as (λ _. Option Form) [ true ↦ some f.1 | false ↦ form_in fs tag ]) (ne_eqb f.0 tag (λ e. i.0.1 (sym e))) ∙ i.1)
 
-pub no_tag : (given : Given) (m : List ℕ) (at rows tag : ℕ) → Past (Unit {0}) forms tag → Refused 3 at ≡ tag_fields given m at tag rows
+pub no_tag : (given : Given) (m : List ℕ) (at rows tag : ℕ) → Past (Unit {0}) forms tag → refusal 3 at ≡ tag_fields given m at tag rows
 unfolding tag_fields form_or head_of
 no_tag given m at rows tag h = rw (absent (Unit {0}) forms tag h).1
 
--- an atom's tag, or none
+-- an atom's tag
 pub atom_tag : (tag k : ℕ) → tag ≡ k → one_of k (82 ∷ 100 ∷ 115 ∷ 118 ∷ 119 ∷ []) ≡ true → true ≡ one_of tag (82 ∷ 100 ∷ 115 ∷ 118 ∷ 119 ∷ [])
 atom_tag tag k e h = rw e (sym h)
-
-pub no_atom_tag : (tag : ℕ) → (tag ≡ 82 → ⊥) → (tag ≡ 100 → ⊥) → (tag ≡ 115 → ⊥) → (tag ≡ 118 → ⊥) → (tag ≡ 119 → ⊥)
-    → false ≡ one_of tag (82 ∷ 100 ∷ 115 ∷ 118 ∷ 119 ∷ [])
-no_atom_tag tag a b c d e = rw (ne_eqb tag 82 a, ne_eqb tag 100 b, ne_eqb tag 115 c, ne_eqb tag 118 d, ne_eqb tag 119 e)
 
 pub arity_tag : (tag : ℕ) → eqb tag 97 ≡ one_of tag (97 ∷ [])
 arity_tag tag = go (eqb tag 97)
@@ -113,16 +111,16 @@ module _ (at tag : ℕ) (s : Position) where
   fails Arity e = ap (λ (t : Bool). (elim t as (λ _. Reading Form) [ true ↦ form_or 4 at (form_in forms tag) | false ↦ refuse 4 at ]) s) e
 
 module _ (given : Given) (m : List ℕ) (at rows : ℕ) (w : Wanted) where
-  pub head_past : length m ≤ at → Refused 2 at ≡ head_of (term_head given (wanted_of w) (at_offset m at rows))
+  pub head_past : length m ≤ at → refusal 2 at ≡ head_of (term_head given (wanted_of w) (at_offset m at rows))
   unfolding term_head head_of
   head_past h = rw (byte_end m at at rows h)
 
   module _ (inside : at < length m) where
-    pub head_barred : allowed w (get_or m at 0) ≡ false → Refused 4 at ≡ head_of (term_head given (wanted_of w) (at_offset m at rows))
+    pub head_barred : allowed w (get_or m at 0) ≡ false → refusal 4 at ≡ head_of (term_head given (wanted_of w) (at_offset m at rows))
     unfolding term_head head_of
     head_barred e = rw (byte_at m at at rows inside, fails at (get_or m at 0) (at_offset m (at + 1) rows) w e)
 
-    pub head_known : (r : Head) → allowed w (get_or m at 0) ≡ true → r ≡ tag_fields given m at (get_or m at 0) rows
+    pub head_known : (r : Result Head Refusal) → allowed w (get_or m at 0) ≡ true → r ≡ tag_fields given m at (get_or m at 0) rows
         → r ≡ head_of (term_head given (wanted_of w) (at_offset m at rows))
     unfolding term_head tag_fields
     head_known r e f = rw (byte_at m at at rows inside, stands at (get_or m at 0) (at_offset m (at + 1) rows) w e) f

@@ -5,8 +5,11 @@ use native.Mathlib.Omega.{arith}
 use borrow.Author.Tests.{lt-ltb, le-ltb, eq-eqb, ne_eqb}
 use Rattle.term_head.specs.declared.Later.{Later}
 use Rattle.term_head.specs.declared.Later.TheVariants.{Known, Pid, Port, Reference, OldReference}
+use Rattle.term_spec.specs.declared.Refusal.{Refusal}
+use Rattle.std.specs.Prelude.{Result, Ok, Err}
+use Rattle.term_head.specs.declared.Head.{Head}
 use Rattle.term_head.specs.declared.Head.TheVariants.{Parts, Characters, Elements, Pairs}
-use Rattle.term_head.specs.Quick.{only_if, fit, quick_later, quick_word}
+use Rattle.term_head.specs.Quick.{only_if, fit, quick_later, head_word, quick_word}
 
 -- ---- `fit`
 
@@ -39,36 +42,41 @@ other_later OldReference w h = refl
 
 -- ---- `word_of`
 
+pub refused_word : (r : Result Head Refusal) → ((h : Head) → r ≡ Ok h → ⊥) → 0 ≡ quick_word r
+unfolding quick_word
+refused_word (Ok h) f = absurd (f h refl)
+refused_word (Err x) f = refl
+
 module _ (kind wanted count : ℕ) (later : Later) (next : ℕ) where
-  pub parts_wanted : (wanted ≡ 0 → ⊥) → 0 ≡ quick_word (Parts kind wanted count later next)
-  unfolding quick_word only_if
+  pub parts_wanted : (wanted ≡ 0 → ⊥) → 0 ≡ head_word (Parts kind wanted count later next)
+  unfolding head_word only_if
   parts_wanted h = rw (ne_eqb wanted 0 h)
 
-  pub parts_word : wanted ≡ 0 → quick_later later (fit kind next count) ≡ quick_word (Parts kind wanted count later next)
-  unfolding quick_word only_if
+  pub parts_word : wanted ≡ 0 → quick_later later (fit kind next count) ≡ head_word (Parts kind wanted count later next)
+  unfolding head_word only_if
   parts_word h = rw (eq-eqb wanted 0 h)
 
 module _ (count next : ℕ) where
-  pub characters_some : (count ≡ 0 → ⊥) → 0 ≡ quick_word (Characters count next)
-  unfolding quick_word only_if
+  pub characters_some : (count ≡ 0 → ⊥) → 0 ≡ head_word (Characters count next)
+  unfolding head_word only_if
   characters_some h = rw (ne_eqb count 0 h)
 
-  pub characters_none : count ≡ 0 → fit 5 next 0 ≡ quick_word (Characters count next)
-  unfolding quick_word only_if
+  pub characters_none : count ≡ 0 → fit 5 next 0 ≡ head_word (Characters count next)
+  unfolding head_word only_if
   characters_none h = rw (eq-eqb count 0 h)
 
-  pub elements_none : count ≡ 0 → 0 ≡ quick_word (Elements count next)
-  unfolding quick_word only_if
+  pub elements_none : count ≡ 0 → 0 ≡ head_word (Elements count next)
+  unfolding head_word only_if
   elements_none h = rw (le-ltb 0 count (omega arith))
 
-  pub elements_some : (count ≡ 0 → ⊥) → fit 15 next count ≡ quick_word (Elements count next)
-  unfolding quick_word only_if
+  pub elements_some : (count ≡ 0 → ⊥) → fit 15 next count ≡ head_word (Elements count next)
+  unfolding head_word only_if
   elements_some h = rw (lt-ltb 0 count (omega arith))
 
-  pub pairs_none : count ≡ 0 → 0 ≡ quick_word (Pairs count next)
-  unfolding quick_word only_if
+  pub pairs_none : count ≡ 0 → 0 ≡ head_word (Pairs count next)
+  unfolding head_word only_if
   pairs_none h = rw (le-ltb 0 count (omega arith))
 
-  pub pairs_some : (count ≡ 0 → ⊥) → fit 0 next count ≡ quick_word (Pairs count next)
-  unfolding quick_word only_if
+  pub pairs_some : (count ≡ 0 → ⊥) → fit 0 next count ≡ head_word (Pairs count next)
+  unfolding head_word only_if
   pairs_some h = rw (lt-ltb 0 count (omega arith))

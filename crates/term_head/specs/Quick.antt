@@ -1,14 +1,15 @@
 -- The head of a common term in one word, which is handed about faster than a head: its kind, the offset past it, the number of its parts.
 -- About the code alone, proved against the definitions of term_spec: nothing here has to be believed.
-use Rattle.std.specs.Prelude.{◌≡◌, Bool, true, false, [], ℕ, ◌+◌, ◌*◌, ◌<◌, eqb, ltb}
+use Rattle.std.specs.Prelude.{◌≡◌, Bool, true, false, [], ℕ, ◌+◌, ◌*◌, ◌<◌, Result, Ok, Err, eqb, ltb}
 use Rattle.term_spec.specs.Term.{Label}
 use Rattle.term_spec.specs.Head.{known, parts, characters, elements, pairs}
 use Rattle.term_spec.specs.Head as head_spec
 use Rattle.term_spec.specs.Rows.{kind_of}
+use Rattle.term_spec.specs.declared.Refusal.{Refusal}
 use Rattle.term_head.specs.declared.Later.{Later}
 use Rattle.term_head.specs.declared.Later.TheVariants.{Known, Pid, Port, Reference, OldReference}
 use Rattle.term_head.specs.declared.Head.{Head}
-use Rattle.term_head.specs.declared.Head.TheVariants.{Refused, Parts, Characters, Elements, Pairs}
+use Rattle.term_head.specs.declared.Head.TheVariants.{Parts, Characters, Elements, Pairs}
 
 unfoldable pub only_if : Bool → ℕ → ℕ
 only_if true w = w
@@ -27,12 +28,16 @@ quick_later OldReference w = 0
 
 -- Of a head with no wanted parts and no later fields. In the kind's place some elements have 15, some pairs 0, which are no kinds of a row. Where there are none, and
 -- for characters, the word is 0
-unfoldable pub quick_word : Head → ℕ
-quick_word (Refused n p) = 0
-quick_word (Parts kind wanted count later next) = only_if (eqb wanted 0) (quick_later later (fit kind next count))
-quick_word (Characters count next) = only_if (eqb count 0) (fit 5 next 0)
-quick_word (Elements count next) = only_if (ltb 0 count) (fit 15 next count)
-quick_word (Pairs count next) = only_if (ltb 0 count) (fit 0 next count)
+unfoldable pub head_word : Head → ℕ
+head_word (Parts kind wanted count later next) = only_if (eqb wanted 0) (quick_later later (fit kind next count))
+head_word (Characters count next) = only_if (eqb count 0) (fit 5 next 0)
+head_word (Elements count next) = only_if (ltb 0 count) (fit 15 next count)
+head_word (Pairs count next) = only_if (ltb 0 count) (fit 0 next count)
+
+-- where a head is refused, the word is 0
+unfoldable pub quick_word : Result Head Refusal → ℕ
+quick_word (Ok h) = head_word h
+quick_word (Err x) = 0
 
 -- The heads that have a word, each with what stands in the kind's place and with the number of parts
 pub data Common : head_spec.Head → ℕ → ℕ → Type 0 where

@@ -16,9 +16,9 @@ ghost use Rattle.term_spec.specs.AtomList.{of_size};
 ghost use Rattle.term_head.specs.Quick.{fit, quick_later, quick_word};
 ghost use Rattle.octets.specs.Parts.{Width, words_at};
 ghost use Rattle.context.specs.Word.{flags_in, list_in, given_in};
-ghost use Rattle.term_head.specs.Code.{Bits, head_of, fields_of, later_of, step_of, later_fields, tag_fields, allowed, wanted_of, empty_at, ElementsAt, Skipped, opened_at, opening_of};
+ghost use Rattle.term_head.specs.Code.{Bits, head_of, fields_of, later_of, end_of, later_fields, tag_fields, allowed, wanted_of, empty_at, ElementsAt, Skipped, opening_of};
 
-use term_spec::{kinds, refusals, tags};
+use term_spec::{Refusal, kinds, refusals, tags};
 
 // An exponent of all ones, and what a float's bits are divided by to find its 11 bits of exponent.
 const EXPONENT_ONES: u64 = 2047;
@@ -69,7 +69,7 @@ pub enum Wanted {
 }
 
 // What is read after the parts.
-#[derive(Drop)]
+#[derive(Clone, Copy)]
 pub enum Later {
     Known,
     Pid { width: usize },
@@ -79,12 +79,8 @@ pub enum Later {
 }
 
 // What the tag and the fields before the first part say is to come: `wanted` wanted parts, then `count` of any kind.
-#[derive(Drop)]
+#[derive(Clone, Copy)]
 pub enum Head {
-    Refused {
-        number: u8,
-        place: usize,
-    },
     Parts {
         kind: usize,
         wanted: usize,
@@ -106,241 +102,190 @@ pub enum Head {
     },
 }
 
-#[derive(Drop)]
+#[derive(Clone, Copy)]
 pub struct Opening {
     pub place: usize,
     pub head: Head,
 }
 
-// Where later fields end.
-#[derive(Drop)]
-pub enum Step {
-    Got { next: usize },
-    Refused { number: u8, place: usize },
+// The bytes end inside what is being read, or before it.
+fn cut(place: usize) -> Refusal
+    ensures { result ≡ record { number = 2; place = place } }
+{
+    Refusal {
+        number: refusals::CUT,
+        place,
+    }
+}
+
+// A field breaks its rule, or the tag of a part.
+fn broken(place: usize) -> Refusal
+    ensures { result ≡ record { number = 4; place = place } }
+{
+    Refusal {
+        number: refusals::FIELD,
+        place,
+    }
+}
+
+// The head of a term without parts and later fields.
+fn leaf(kind: usize, next: usize) -> Head
+    ensures { result ≡ Head.Parts kind 0 0 Later.Known next }
+{
+    Head::Parts {
+        kind,
+        wanted: 0,
+        count: 0,
+        later: Later::Known,
+        next,
+    }
 }
 
 // Tags 97 and 98.
-fn integer(msg: &[u8], at: usize, width: usize) -> Head
+fn integer(msg: &[u8], at: usize, width: usize) -> Result<Head, Refusal>
     requires { at < length msg.now }
     ensures { (value : ℕ → ℤ) (rows : ℕ) → result ≡ head_of (after (answer.number at width (at_offset msg.now (at + 1) rows)) (λ n. done (leaf (integer (value n))))) }
 {
     if msg.len() - at - 1 < width {
-        return Head::Refused {
-            number: refusals::CUT,
-            place: at,
-        };
+        return Err(cut(at));
     }
-    Head::Parts {
-        kind: kinds::INTEGER,
-        wanted: 0,
-        count: 0,
-        later: Later::Known,
-        next: at + 1 + width,
-    }
+    Ok(leaf(kinds::INTEGER, at + 1 + width))
 }
 
 // Tags 110 and 111: a count of digits, a sign, the digits.
-fn big(msg: &[u8], at: usize, width: usize) -> Head
+fn big(msg: &[u8], at: usize, width: usize) -> Result<Head, Refusal>
     requires { (at < length msg.now) × Width width }
     ensures { (given : Given) (rows : ℕ) → result ≡ fields_of given msg.now at (big_ext width) rows }
 {
-    let end = octets::past_counted(msg, at, width, 1);
-    if end == 0 {
-        return Head::Refused {
-            number: refusals::CUT,
-            place: at,
-        };
-    }
+    let Some(end) = octets::past_counted(msg, at, width, 1) else {
+        return Err(cut(at));
+    };
     if 1 < octets::big1(msg, at + 1 + width) {
-        return Head::Refused {
-            number: refusals::FIELD,
-            place: at,
-        };
+        return Err(broken(at));
     }
-    Head::Parts {
-        kind: kinds::INTEGER,
-        wanted: 0,
-        count: 0,
-        later: Later::Known,
-        next: end,
-    }
+    Ok(leaf(kinds::INTEGER, end))
 }
 
 // Tag 70: an exponent of all ones is refused.
-fn float(msg: &[u8], at: usize) -> Head
+fn float(msg: &[u8], at: usize) -> Result<Head, Refusal>
     requires { at < length msg.now }
     ensures { (given : Given) (rows : ℕ) → result ≡ fields_of given msg.now at new_float_ext rows }
 {
     if msg.len() - at - 1 < 8 {
-        return Head::Refused {
-            number: refusals::CUT,
-            place: at,
-        };
+        return Err(cut(at));
     }
     if octets::big8(msg, at + 1) / FRACTIONS % EXPONENTS == EXPONENT_ONES {
-        return Head::Refused {
-            number: refusals::FIELD,
-            place: at,
-        };
+        return Err(broken(at));
     }
-    Head::Parts {
-        kind: kinds::FLOAT,
-        wanted: 0,
-        count: 0,
-        later: Later::Known,
-        next: at + 1 + 8,
-    }
+    Ok(leaf(kinds::FLOAT, at + 1 + 8))
 }
 
 // Tags 104 and 105.
-fn tuple(msg: &[u8], at: usize, width: usize) -> Head
+fn tuple(msg: &[u8], at: usize, width: usize) -> Result<Head, Refusal>
     requires { (at < length msg.now) × Width width }
     ensures { (given : Given) (rows : ℕ) → result ≡ fields_of given msg.now at (tuple_ext width) rows }
 {
     if msg.len() - at - 1 < width {
-        return Head::Refused {
-            number: refusals::CUT,
-            place: at,
-        };
+        return Err(cut(at));
     }
-    Head::Parts {
+    Ok(Head::Parts {
         kind: kinds::TUPLE,
         wanted: 0,
         count: octets::number(msg, at + 1, width) as usize,
         later: Later::Known,
         next: at + 1 + width,
-    }
+    })
 }
 
 // Tag 107.
-fn string(msg: &[u8], at: usize) -> Head
+fn string(msg: &[u8], at: usize) -> Result<Head, Refusal>
     requires { at < length msg.now }
     ensures { (given : Given) (rows : ℕ) → result ≡ fields_of given msg.now at string_ext rows }
 {
-    let end = octets::past_counted(msg, at, 2, 0);
-    if end == 0 {
-        return Head::Refused {
-            number: refusals::CUT,
-            place: at,
-        };
-    }
+    let Some(end) = octets::past_counted(msg, at, 2, 0) else {
+        return Err(cut(at));
+    };
     let count = end - at - 3;
-    Head::Characters { count, next: end }
+    Ok(Head::Characters { count, next: end })
 }
 
 // Tag 108.
-fn list(msg: &[u8], at: usize) -> Head
+fn list(msg: &[u8], at: usize) -> Result<Head, Refusal>
     requires { at < length msg.now }
     ensures { (given : Given) (rows : ℕ) → result ≡ fields_of given msg.now at list_ext rows }
 {
     if msg.len() - at - 1 < 4 {
-        return Head::Refused {
-            number: refusals::CUT,
-            place: at,
-        };
+        return Err(cut(at));
     }
-    Head::Elements {
+    Ok(Head::Elements {
         count: octets::big4(msg, at + 1),
         next: at + 1 + 4,
-    }
+    })
 }
 
 // Tag 109.
-fn binary(msg: &[u8], at: usize) -> Head
+fn binary(msg: &[u8], at: usize) -> Result<Head, Refusal>
     requires { at < length msg.now }
     ensures { (given : Given) (rows : ℕ) → result ≡ fields_of given msg.now at binary_ext rows }
 {
-    let end = octets::past_counted(msg, at, 4, 0);
-    if end == 0 {
-        return Head::Refused {
-            number: refusals::CUT,
-            place: at,
-        };
-    }
-    Head::Parts {
-        kind: kinds::BINARY,
-        wanted: 0,
-        count: 0,
-        later: Later::Known,
-        next: end,
-    }
+    let Some(end) = octets::past_counted(msg, at, 4, 0) else {
+        return Err(cut(at));
+    };
+    Ok(leaf(kinds::BINARY, end))
 }
 
-// The kind of n bytes of which `bits` of the last count: a binary, a bitstring, or 0 where these bits break the rule.
-fn bits_kind(n: usize, bits: usize) -> usize
+// The kind of n bytes of which `bits` of the last count: a binary or a bitstring; None where these bits break the rule.
+fn bits_kind(n: usize, bits: usize) -> Option<usize>
     ensures { Bits n bits result }
 {
     if n == 0 {
         if bits == 0 {
-            return kinds::BINARY;
+            return Some(kinds::BINARY);
         }
-        return 0;
+        return None;
     }
-    if bits < 1 {
-        return 0;
-    }
-    if 8 < bits {
-        return 0;
+    if bits < 1 || 8 < bits {
+        return None;
     }
     if bits == 8 {
-        return kinds::BINARY;
+        return Some(kinds::BINARY);
     }
-    kinds::BITSTRING
+    Some(kinds::BITSTRING)
 }
 
 // Tag 77: a count of bytes, the bits of the last one, the bytes.
-fn bitstring(msg: &[u8], at: usize) -> Head
+fn bitstring(msg: &[u8], at: usize) -> Result<Head, Refusal>
     requires { at < length msg.now }
     ensures { (given : Given) (rows : ℕ) → result ≡ fields_of given msg.now at bit_binary_ext rows }
 {
-    let end = octets::past_counted(msg, at, 4, 1);
-    if end == 0 {
-        return Head::Refused {
-            number: refusals::CUT,
-            place: at,
-        };
-    }
-    let kind = bits_kind(end - at - 6, octets::big1(msg, at + 1 + 4));
-    if kind == 0 {
-        return Head::Refused {
-            number: refusals::FIELD,
-            place: at,
-        };
-    }
-    Head::Parts {
-        kind: kind,
-        wanted: 0,
-        count: 0,
-        later: Later::Known,
-        next: end,
-    }
+    let Some(end) = octets::past_counted(msg, at, 4, 1) else {
+        return Err(cut(at));
+    };
+    let Some(kind) = bits_kind(end - at - 6, octets::big1(msg, at + 1 + 4)) else {
+        return Err(broken(at));
+    };
+    Ok(leaf(kind, end))
 }
 
 // Tag 116.
-fn map(msg: &[u8], at: usize) -> Head
+fn map(msg: &[u8], at: usize) -> Result<Head, Refusal>
     requires { at < length msg.now }
     ensures { (given : Given) (rows : ℕ) → result ≡ fields_of given msg.now at map_ext rows }
 {
     if msg.len() - at - 1 < 4 {
-        return Head::Refused {
-            number: refusals::CUT,
-            place: at,
-        };
+        return Err(cut(at));
     }
-    Head::Pairs {
+    Ok(Head::Pairs {
         count: octets::big4(msg, at + 1),
         next: at + 1 + 4,
-    }
+    })
 }
 
 // Whether the wider limits of newer identifiers hold for one with such a Creation.
 fn is_newer(context: usize, width: usize) -> bool
     ensures { result ≡ (v4_nc (flags_in context) && eqb width 4) }
 {
-    if !context::v4_nc(context) {
-        return false;
-    }
-    width == NEWER_WIDTH
+    context::v4_nc(context) && width == NEWER_WIDTH
 }
 
 // The most words of a reference with such a Creation.
@@ -374,97 +319,72 @@ fn pid_serials(context: usize, width: usize) -> usize
 }
 
 // Tags 90 and 114: a count of words, from 1 to the most.
-fn reference(msg: &[u8], context: usize, at: usize, width: usize) -> Head
+fn reference(msg: &[u8], context: usize, at: usize, width: usize) -> Result<Head, Refusal>
     requires { at < length msg.now }
     ensures { (given : Given) → given.flags ≡ flags_in context → (rows : ℕ) → result ≡ fields_of given msg.now at (new_reference_ext width) rows }
 {
     if msg.len() - at - 1 < 2 {
-        return Head::Refused {
-            number: refusals::CUT,
-            place: at,
-        };
+        return Err(cut(at));
     }
     let words = octets::big2(msg, at + 1);
-    if words < 1 {
-        return Head::Refused {
-            number: refusals::FIELD,
-            place: at,
-        };
+    if words < 1 || words_most(context, width) < words {
+        return Err(broken(at));
     }
-    if words_most(context, width) < words {
-        return Head::Refused {
-            number: refusals::FIELD,
-            place: at,
-        };
-    }
-    Head::Parts {
+    Ok(Head::Parts {
         kind: kinds::REFERENCE,
         wanted: 1,
         count: 0,
         later: Later::Reference { words, width },
         next: at + 1 + 2,
-    }
+    })
 }
 
 // Tags 100 and 115 (Latin-1), 118 and 119 (UTF-8): a count of bytes, the bytes of a text.
-fn atom(msg: &[u8], at: usize, width: usize, utf8: bool) -> Head
+fn atom(msg: &[u8], at: usize, width: usize, utf8: bool) -> Result<Head, Refusal>
     requires { (at < length msg.now) × Width width }
     ensures { (given : Given) (rows : ℕ) → result ≡ fields_of given msg.now at (atom_ext (coding_of utf8) width) rows }
 {
-    let end = octets::past_counted(msg, at, width, 0);
-    if end == 0 {
-        return Head::Refused {
-            number: refusals::CUT,
-            place: at,
-        };
-    }
+    let Some(end) = octets::past_counted(msg, at, width, 0) else {
+        return Err(cut(at));
+    };
     let from = at + 1 + width;
     match text::check_text(&msg[from..end], utf8) {
-        text::Checked::Text => Head::Parts {
-            kind: kinds::ATOM,
-            wanted: 0,
-            count: 0,
-            later: Later::Known,
-            next: end,
-        },
-        text::Checked::Bad(k) => Head::Refused {
+        Ok(()) => Ok(leaf(kinds::ATOM, end)),
+        Err(k) => Err(Refusal {
             number: refusals::TEXT,
             place: from + k,
-        },
+        }),
     }
 }
 
 // Tag 82: an index of this list, and the text at its place.
-fn cached_atom(msg: &[u8], context: usize, places: &[u8], lengths: &[u16], at: usize) -> Head
+fn cached_atom(
+    msg: &[u8],
+    context: usize,
+    places: &[u8],
+    lengths: &[u16],
+    at: usize,
+) -> Result<Head, Refusal>
     requires { (at < length msg.now) × (of_size (list_in context places.now lengths.now) ≡ true) }
     ensures { (rows : ℕ) → result ≡ fields_of (given_in context places.now lengths.now) msg.now at atom_cache_ref rows }
 {
     if msg.len() - at - 1 < 1 {
-        return Head::Refused {
-            number: refusals::CUT,
-            place: at,
-        };
+        return Err(cut(at));
     }
     let i = octets::big1(msg, at + 1);
     if context::count_in(context) <= i {
-        return Head::Refused {
+        return Err(Refusal {
             number: refusals::INDEX,
             place: at,
-        };
+        });
     }
     if !atom_list::place_holds_text(places, lengths, i) {
-        return Head::Refused {
+        return Err(Refusal {
             number: refusals::STATE,
             place: 0,
-        };
+        });
     }
-    Head::Parts {
-        kind: kinds::ATOM,
-        wanted: 0,
-        count: 0,
-        later: Later::Known,
-        next: at + 1 + 1,
-    }
+    Ok(leaf(kinds::ATOM, at + 1 + 1))
 }
 
 // Whether the number in `width` bytes is below `limit`.
@@ -473,13 +393,11 @@ fn below(msg: &[u8], at: usize, width: usize, limit: usize) -> bool
     ensures { result ≡ ltb (big_endian (take width (drop at msg.now))) limit }
 {
     let mut n = 0usize;
-    let mut i = 0usize;
-    while i < width {
-        n = n * 256 + octets::wide(msg[at + i]);
+    for i in 0..width {
+        n = n * 256 + usize::from(msg[at + i]);
         if limit <= n {
             return false;
         }
-        i += 1;
     }
     true
 }
@@ -489,10 +407,7 @@ fn creation_fits(msg: &[u8], at: usize, width: usize) -> bool
     requires { at + width ≤ length msg.now }
     ensures { result ≡ creation_rule width (big_endian (take width (drop at msg.now))) }
 {
-    if width != 1 {
-        return true;
-    }
-    below(msg, at, 1, CREATIONS)
+    width != 1 || below(msg, at, 1, CREATIONS)
 }
 
 // A port's ID is under 2^28, but not in 8 bytes.
@@ -500,10 +415,7 @@ fn port_id_fits(msg: &[u8], at: usize, width: usize) -> bool
     requires { at + width ≤ length msg.now }
     ensures { result ≡ (eqb width 8 || ltb (big_endian (take width (drop at msg.now))) 268435456) }
 {
-    if width == 8 {
-        return true;
-    }
-    below(msg, at, width, PORT_IDS)
+    width == 8 || below(msg, at, width, PORT_IDS)
 }
 
 // With a Creation of one byte, the first word is under 2^18.
@@ -511,159 +423,105 @@ fn words_fit(msg: &[u8], at: usize, words: usize, width: usize) -> bool
     requires { at + words * 4 ≤ length msg.now }
     ensures { result ≡ words_rule width (words_at msg.now at words) }
 {
-    if words == 0 {
-        return true;
-    }
-    if width != 1 {
+    if words == 0 || width != 1 {
         return true;
     }
     below(msg, at, 4, FIRST_WORDS)
 }
 
 // ID, Serial, Creation.
-fn pid_fields(msg: &[u8], context: usize, at: usize, place: usize, width: usize) -> Step
+fn pid_fields(
+    msg: &[u8],
+    context: usize,
+    at: usize,
+    place: usize,
+    width: usize,
+) -> Result<usize, Refusal>
     requires { at ≤ length msg.now }
     ensures { (rows : ℕ) → result ≡ later_fields (flags_in context) msg.now at place (pid_fields width) rows }
 {
     let left = msg.len() - at;
-    if left < 8 {
-        return Step::Refused {
-            number: refusals::CUT,
-            place,
-        };
+    if left < 8 || left - 8 < width {
+        return Err(cut(place));
     }
-    if left - 8 < width {
-        return Step::Refused {
-            number: refusals::CUT,
-            place,
-        };
+    if !below(msg, at, 4, pid_ids(context, width))
+        || !below(msg, at + 4, 4, pid_serials(context, width))
+        || !creation_fits(msg, at + 4 + 4, width)
+    {
+        return Err(broken(place));
     }
-    if !below(msg, at, 4, pid_ids(context, width)) {
-        return Step::Refused {
-            number: refusals::FIELD,
-            place,
-        };
-    }
-    if !below(msg, at + 4, 4, pid_serials(context, width)) {
-        return Step::Refused {
-            number: refusals::FIELD,
-            place,
-        };
-    }
-    if !creation_fits(msg, at + 4 + 4, width) {
-        return Step::Refused {
-            number: refusals::FIELD,
-            place,
-        };
-    }
-    Step::Got {
-        next: at + 4 + 4 + width,
-    }
+    Ok(at + 4 + 4 + width)
 }
 
 // ID, Creation.
-fn port_fields(msg: &[u8], at: usize, place: usize, id: usize, width: usize) -> Step
+fn port_fields(
+    msg: &[u8],
+    at: usize,
+    place: usize,
+    id: usize,
+    width: usize,
+) -> Result<usize, Refusal>
     requires { at ≤ length msg.now }
     ensures { (flags rows : ℕ) → result ≡ later_fields flags msg.now at place (port_fields id width) rows }
 {
     let left = msg.len() - at;
-    if left < id {
-        return Step::Refused {
-            number: refusals::CUT,
-            place,
-        };
+    if left < id || left - id < width {
+        return Err(cut(place));
     }
-    if left - id < width {
-        return Step::Refused {
-            number: refusals::CUT,
-            place,
-        };
+    if !port_id_fits(msg, at, id) || !creation_fits(msg, at + id, width) {
+        return Err(broken(place));
     }
-    if !port_id_fits(msg, at, id) {
-        return Step::Refused {
-            number: refusals::FIELD,
-            place,
-        };
-    }
-    if !creation_fits(msg, at + id, width) {
-        return Step::Refused {
-            number: refusals::FIELD,
-            place,
-        };
-    }
-    Step::Got {
-        next: at + id + width,
-    }
+    Ok(at + id + width)
 }
 
 // Creation, words.
-fn reference_fields(msg: &[u8], at: usize, place: usize, words: usize, width: usize) -> Step
+fn reference_fields(
+    msg: &[u8],
+    at: usize,
+    place: usize,
+    words: usize,
+    width: usize,
+) -> Result<usize, Refusal>
     requires { at ≤ length msg.now }
     ensures { (flags rows : ℕ) → result ≡ later_fields flags msg.now at place (reference_fields words width) rows }
 {
     let left = msg.len() - at;
-    if left < width {
-        return Step::Refused {
-            number: refusals::CUT,
-            place,
-        };
+    if left < width || (left - width) / 4 < words {
+        return Err(cut(place));
     }
-    if (left - width) / 4 < words {
-        return Step::Refused {
-            number: refusals::CUT,
-            place,
-        };
+    if !creation_fits(msg, at, width) || !words_fit(msg, at + width, words, width) {
+        return Err(broken(place));
     }
-    if !creation_fits(msg, at, width) {
-        return Step::Refused {
-            number: refusals::FIELD,
-            place,
-        };
-    }
-    if !words_fit(msg, at + width, words, width) {
-        return Step::Refused {
-            number: refusals::FIELD,
-            place,
-        };
-    }
-    Step::Got {
-        next: at + width + words * 4,
-    }
+    Ok(at + width + words * 4)
 }
 
 // One word, Creation of one byte.
-fn old_reference_fields(msg: &[u8], at: usize, place: usize) -> Step
+fn old_reference_fields(msg: &[u8], at: usize, place: usize) -> Result<usize, Refusal>
     requires { at ≤ length msg.now }
     ensures { (flags rows : ℕ) → result ≡ later_fields flags msg.now at place old_reference_fields rows }
 {
     if msg.len() - at < 5 {
-        return Step::Refused {
-            number: refusals::CUT,
-            place,
-        };
+        return Err(cut(place));
     }
-    if !words_fit(msg, at, 1, 1) {
-        return Step::Refused {
-            number: refusals::FIELD,
-            place,
-        };
+    if !words_fit(msg, at, 1, 1) || !creation_fits(msg, at + 4, 1) {
+        return Err(broken(place));
     }
-    if !creation_fits(msg, at + 4, 1) {
-        return Step::Refused {
-            number: refusals::FIELD,
-            place,
-        };
-    }
-    Step::Got { next: at + 4 + 1 }
+    Ok(at + 4 + 1)
 }
 
 // The fields after the parts of the term at `place`: all are there (2) before one is judged (4).
-pub fn read_later(msg: &[u8], context: usize, at: usize, place: usize, later: Later) -> Step
+pub fn read_later(
+    msg: &[u8],
+    context: usize,
+    at: usize,
+    place: usize,
+    later: Later,
+) -> Result<usize, Refusal>
     requires { at ≤ length msg.now }
-    ensures { (l : head_spec.Later) → later_of l ≡ later → (rows : ℕ) → result ≡ step_of (head_spec.later (flags_in context) place l (at_offset msg.now at rows)) }
+    ensures { (l : head_spec.Later) → later_of l ≡ later → (rows : ℕ) → result ≡ end_of (head_spec.later (flags_in context) place l (at_offset msg.now at rows)) }
 {
     match later {
-        Later::Known => Step::Got { next: at },
+        Later::Known => Ok(at),
         Later::Pid { width } => pid_fields(msg, context, at, place, width),
         Later::Port { id, width } => port_fields(msg, at, place, id, width),
         Later::Reference { words, width } => reference_fields(msg, at, place, words, width),
@@ -686,7 +544,14 @@ fn no_fields(at: usize, kind: usize, wanted: usize, later: Later) -> Head
 }
 
 // The fields that this tag has: the tag table.
-fn by_tag(msg: &[u8], context: usize, places: &[u8], lengths: &[u16], at: usize, tag: u8) -> Head
+fn by_tag(
+    msg: &[u8],
+    context: usize,
+    places: &[u8],
+    lengths: &[u16],
+    at: usize,
+    tag: u8,
+) -> Result<Head, Refusal>
     requires { (at < length msg.now) × (length msg.now ≤ 65536) × (of_size (list_in context places.now lengths.now) ≡ true) }
     ensures { (rows : ℕ) → result ≡ tag_fields (given_in context places.now lengths.now) msg.now at tag rows }
 {
@@ -703,28 +568,28 @@ fn by_tag(msg: &[u8], context: usize, places: &[u8], lengths: &[u16], at: usize,
         tags::ATOM_CACHE_REF => cached_atom(msg, context, places, lengths, at),
         tags::SMALL_TUPLE_EXT => tuple(msg, at, 1),
         tags::LARGE_TUPLE_EXT => tuple(msg, at, 4),
-        tags::NIL_EXT => Head::Characters {
+        tags::NIL_EXT => Ok(Head::Characters {
             count: 0,
             next: at + 1,
-        },
+        }),
         tags::STRING_EXT => string(msg, at),
         tags::LIST_EXT => list(msg, at),
         tags::BINARY_EXT => binary(msg, at),
         tags::BIT_BINARY_EXT => bitstring(msg, at),
         tags::MAP_EXT => map(msg, at),
-        tags::NEW_PID_EXT => no_fields(at, kinds::PID, 1, Later::Pid { width: 4 }),
-        tags::PID_EXT => no_fields(at, kinds::PID, 1, Later::Pid { width: 1 }),
-        tags::NEW_PORT_EXT => no_fields(at, kinds::PORT, 1, Later::Port { id: 4, width: 4 }),
-        tags::PORT_EXT => no_fields(at, kinds::PORT, 1, Later::Port { id: 4, width: 1 }),
-        tags::V4_PORT_EXT => no_fields(at, kinds::PORT, 1, Later::Port { id: 8, width: 4 }),
+        tags::NEW_PID_EXT => Ok(no_fields(at, kinds::PID, 1, Later::Pid { width: 4 })),
+        tags::PID_EXT => Ok(no_fields(at, kinds::PID, 1, Later::Pid { width: 1 })),
+        tags::NEW_PORT_EXT => Ok(no_fields(at, kinds::PORT, 1, Later::Port { id: 4, width: 4 })),
+        tags::PORT_EXT => Ok(no_fields(at, kinds::PORT, 1, Later::Port { id: 4, width: 1 })),
+        tags::V4_PORT_EXT => Ok(no_fields(at, kinds::PORT, 1, Later::Port { id: 8, width: 4 })),
         tags::NEWER_REFERENCE_EXT => reference(msg, context, at, 4),
         tags::NEW_REFERENCE_EXT => reference(msg, context, at, 1),
-        tags::REFERENCE_EXT => no_fields(at, kinds::REFERENCE, 1, Later::OldReference),
-        tags::EXPORT_EXT => no_fields(at, kinds::EXPORT, 3, Later::Known),
-        _ => Head::Refused {
+        tags::REFERENCE_EXT => Ok(no_fields(at, kinds::REFERENCE, 1, Later::OldReference)),
+        tags::EXPORT_EXT => Ok(no_fields(at, kinds::EXPORT, 3, Later::Known)),
+        _ => Err(Refusal {
             number: refusals::TAG,
             place: at,
-        },
+        }),
     }
 }
 
@@ -732,14 +597,14 @@ fn by_tag(msg: &[u8], context: usize, places: &[u8], lengths: &[u16], at: usize,
 fn is_atom_tag(tag: u8) -> bool
     ensures { result ≡ one_of tag (82 ∷ 100 ∷ 115 ∷ 118 ∷ 119 ∷ []) }
 {
-    match tag {
-        tags::ATOM_CACHE_REF => true,
-        tags::ATOM_EXT => true,
-        tags::SMALL_ATOM_EXT => true,
-        tags::ATOM_UTF8_EXT => true,
-        tags::SMALL_ATOM_UTF8_EXT => true,
-        _ => false,
-    }
+    matches!(
+        tag,
+        tags::ATOM_CACHE_REF
+            | tags::ATOM_EXT
+            | tags::SMALL_ATOM_EXT
+            | tags::ATOM_UTF8_EXT
+            | tags::SMALL_ATOM_UTF8_EXT
+    )
 }
 
 // Whether a term with this tag may stand where one is so wanted.
@@ -761,22 +626,16 @@ fn read_head(
     lengths: &[u16],
     at: usize,
     wanted: Wanted,
-) -> Head
+) -> Result<Head, Refusal>
     requires { (at ≤ length msg.now) × (length msg.now ≤ 65536) × (of_size (list_in context places.now lengths.now) ≡ true) }
     ensures { (rows : ℕ) → result ≡ head_of (term_head (given_in context places.now lengths.now) (wanted_of wanted) (at_offset msg.now at rows)) }
 {
     if msg.len() <= at {
-        return Head::Refused {
-            number: refusals::CUT,
-            place: at,
-        };
+        return Err(cut(at));
     }
     let tag = msg[at];
     if !may_stand(wanted, tag) {
-        return Head::Refused {
-            number: refusals::FIELD,
-            place: at,
-        };
+        return Err(broken(at));
     }
     by_tag(msg, context, places, lengths, at, tag)
 }
@@ -786,24 +645,18 @@ pub fn nil_at(msg: &[u8], at: usize) -> bool
     requires { at ≤ length msg.now }
     ensures { result ≡ true → (given : Given) (rows : ℕ) → term_head given any (at_offset msg.now at rows) ≡ good (characters [], at_offset msg.now (at + 1) rows) }
 {
-    if msg.len() <= at {
-        return false;
-    }
-    msg[at] == tags::NIL_EXT
+    at < msg.len() && msg[at] == tags::NIL_EXT
 }
 
-// The number of elements of the 108 that stands here, or 0.
-pub fn elements_at(msg: &[u8], at: usize) -> usize
+// The number of elements of the 108 that stands here.
+pub fn elements_at(msg: &[u8], at: usize) -> Option<usize>
     requires { at ≤ length msg.now }
     ensures { ElementsAt msg.now at result }
 {
-    if msg.len() - at < LIST_HEAD {
-        return 0;
+    if msg.len() - at < LIST_HEAD || msg[at] != tags::LIST_EXT {
+        return None;
     }
-    if msg[at] != tags::LIST_EXT {
-        return 0;
-    }
-    octets::big4(msg, at + 1)
+    Some(octets::big4(msg, at + 1))
 }
 
 // Whether a 108 of length 0 stands here.
@@ -811,13 +664,10 @@ fn empty_list_at(msg: &[u8], at: usize) -> bool
     requires { at ≤ length msg.now }
     ensures { result ≡ empty_at msg.now at }
 {
-    if msg.len() - at < LIST_HEAD {
-        return false;
+    match elements_at(msg, at) {
+        Some(count) => count == 0,
+        None => false,
     }
-    if msg[at] != tags::LIST_EXT {
-        return false;
-    }
-    octets::big4(msg, at + 1) == 0
 }
 
 // The offset past all 108s of length 0.
@@ -832,46 +682,6 @@ pub fn skip_empty(msg: &[u8], at: usize) -> usize
     place
 }
 
-// A head with the offset of its tag; a refusal with its own place.
-fn opened(at: usize, head: Head) -> Opening
-    ensures { result ≡ opened_at at head }
-{
-    match head {
-        Head::Refused { number, place } => Opening {
-            place,
-            head: Head::Refused { number, place },
-        },
-        Head::Parts {
-            kind,
-            wanted,
-            count,
-            later,
-            next,
-        } => Opening {
-            place: at,
-            head: Head::Parts {
-                kind,
-                wanted,
-                count,
-                later,
-                next,
-            },
-        },
-        Head::Characters { count, next } => Opening {
-            place: at,
-            head: Head::Characters { count, next },
-        },
-        Head::Elements { count, next } => Opening {
-            place: at,
-            head: Head::Elements { count, next },
-        },
-        Head::Pairs { count, next } => Opening {
-            place: at,
-            head: Head::Pairs { count, next },
-        },
-    }
-}
-
 // A term's tag and fields, with the tag's offset: what stands in the place of a 108 of length 0 is taken.
 pub fn read_opening(
     msg: &[u8],
@@ -880,40 +690,23 @@ pub fn read_opening(
     lengths: &[u16],
     at: usize,
     wanted: Wanted,
-) -> Opening
+) -> Result<Opening, Refusal>
     requires { (at ≤ length msg.now) × (length msg.now ≤ 65536) × (of_size (list_in context places.now lengths.now) ≡ true) }
     ensures { (rows : ℕ) → result ≡ opening_of (opening (given_in context places.now lengths.now) (drop at msg.now) (wanted_of wanted) (at_offset msg.now at rows)) }
 {
-    match wanted {
-        Wanted::Any => {
-            let place = skip_empty(msg, at);
-            opened(
-                place,
-                read_head(msg, context, places, lengths, place, Wanted::Any),
-            )
-        }
-        Wanted::Atom => opened(
-            at,
-            read_head(msg, context, places, lengths, at, Wanted::Atom),
-        ),
-        Wanted::Arity => opened(
-            at,
-            read_head(msg, context, places, lengths, at, Wanted::Arity),
-        ),
-    }
+    let place = match wanted {
+        Wanted::Any => skip_empty(msg, at),
+        _ => at,
+    };
+    let head = read_head(msg, context, places, lengths, place, wanted)?;
+    Ok(Opening { place, head })
 }
 
 // A kind, the offset past a head and a number of parts in one word; 0 where they do not fit.
 fn fit(kind: usize, next: usize, count: usize) -> usize
     ensures { result ≡ fit kind next count }
 {
-    if WORD_KINDS <= kind {
-        return 0;
-    }
-    if WORD_OFFSETS <= next {
-        return 0;
-    }
-    if WORD_COUNTS <= count {
+    if WORD_KINDS <= kind || WORD_OFFSETS <= next || WORD_COUNTS <= count {
         return 0;
     }
     kind + WORD_KINDS * next + WORD_PARTS * count
@@ -930,11 +723,13 @@ fn word_of_parts(kind: usize, count: usize, later: Later, next: usize) -> usize
 }
 
 // The head of a common term in one word, or 0.
-fn word_of(head: Head) -> usize
+fn word_of(head: Result<Head, Refusal>) -> usize
     ensures { result ≡ quick_word head }
 {
+    let Ok(head) = head else {
+        return 0;
+    };
     match head {
-        Head::Refused { number, place } => 0,
         Head::Parts {
             kind,
             wanted,
@@ -979,10 +774,10 @@ fn leaf_word(msg: &[u8], at: usize, tag: u8) -> usize
         tags::NEW_FLOAT_EXT => word_of(float(msg, at)),
         tags::SMALL_ATOM_UTF8_EXT => word_of(atom(msg, at, 1, true)),
         tags::BINARY_EXT => word_of(binary(msg, at)),
-        tags::NIL_EXT => word_of(Head::Characters {
+        tags::NIL_EXT => word_of(Ok(Head::Characters {
             count: 0,
             next: at + 1,
-        }),
+        })),
         tags::BIT_BINARY_EXT => word_of(bitstring(msg, at)),
         tags::SMALL_BIG_EXT => word_of(big(msg, at, 1)),
         _ => 0,

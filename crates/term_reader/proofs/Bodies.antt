@@ -22,13 +22,11 @@ use Rattle.term_spec.proofs.Rows.{count_le_sizes}
 use Rattle.term_spec.proofs.Words.{Between, kind_of_range}
 use Rattle.octets.proofs.Stores.{set_before}
 use Rattle.term_head.specs.declared.Head as code
-use Rattle.term_head.specs.declared.Head.TheVariants as heads
-use Rattle.term_head.specs.declared.Opening.{Opening}
 use Rattle.term_head.specs.Code.{head_at, opening_of}
-use Rattle.term_reader.specs.declared.Step.{Step}
-use Rattle.term_reader.specs.declared.Step.TheVariants as step
-use Rattle.term_reader.specs.declared.Parts.{Parts}
-use Rattle.term_reader.specs.declared.Parts.TheVariants as parts_of
+use Rattle.std.specs.Prelude.{Err}
+use Rattle.term_spec.specs.declared.Refusal.{Refusal}
+use Rattle.term_head.specs.Code.{refusal}
+use Rattle.term_reader.specs.Code.{Step, PartsStep, got, got_parts}
 use Rattle.term_reader.specs.Code.{whole_of, Room, SoundHead, inner, Done, TermDone, PartsDone}
 use Rattle.term_reader.proofs.Characters.{code_of_whole, row_free, row_none}
 use Rattle.term_reader.proofs.Found.{PartsFound, parts_found, parts_refused}
@@ -38,10 +36,10 @@ use Rattle.term_reader.proofs.Runs.{after_same, after_after}
 -- ---- `read_term`
 
 module _ (given : Given) (cap left : ℕ) (w : Wanted) (m : List ℕ) (at row whole : ℕ) (T U : List ℕ) where
-  pub term_refused : (R : Opening) (n p : ℕ) → ((rows : ℕ) → R ≡ opening_of (opening given (drop at m) w (at_offset m at rows))) → R.head ≡ heads.Refused n p
-      → TermDone m cap row whole T (term given cap left w (at_offset m at row)) (step.Refused n p) U
+  pub term_refused : (x : Refusal) → ((rows : ℕ) → Err x ≡ opening_of (opening given (drop at m) w (at_offset m at rows)))
+      → TermDone m cap row whole T (term given cap left w (at_offset m at row)) (Err x) U
   unfolding one_term Done
-  term_refused R n p e f = rw (opened_refused given m at row w R n p e f)
+  term_refused x e = rw (opened_refused given m at row w x e)
 
   pub term_opened : {place : ℕ} {head : code.Head} (o : OpenedAt given m at row w place head) (r : Step)
       → ((h : Head) (next : ℕ) → head ≡ head_at h next → SoundHead m place next h → TermDone m cap row whole T (body given cap left place h (at_offset m next row)) r U)
@@ -74,7 +72,7 @@ whole_inner given cap d p (elements n) s =
 whole_inner given cap d p (pairs n) s = sym (after_after (entries (term given cap d) [] n s) _ _)
 
 module _ (given : Given) (cap left : ℕ) (m : List ℕ) (place : ℕ) (h : Head) (next row whole : ℕ) (T : List ℕ) where
-  pub body_deep : (U : List ℕ) → left ≡ 0 → TermDone m cap row whole T (body given cap left place h (at_offset m next row)) (step.Refused 8 place) U
+  pub body_deep : (U : List ℕ) → left ≡ 0 → TermDone m cap row whole T (body given cap left place h (at_offset m next row)) (refusal 8 place) U
   unfolding body Done
   body_deep U e = rw e
 
@@ -82,7 +80,7 @@ module _ (given : Given) (cap left : ℕ) (m : List ℕ) (place : ℕ) (h : Head
     body_at : (s : Position) → body given cap left place h s ≡ body given cap (suc (left - 1)) place h s
     body_at s = let e : left ≡ suc (left - 1) = omega arith in ap (λ (d : ℕ). body given cap d place h s) e
 
-    pub body_full : (U : List ℕ) → cap ≤ row → TermDone m cap row whole T (body given cap left place h (at_offset m next row)) (step.Refused 9 place) U
+    pub body_full : (U : List ℕ) → cap ≤ row → TermDone m cap row whole T (body given cap left place h (at_offset m next row)) (refusal 9 place) U
     unfolding body Done
     body_full U full = rw (body_at (at_offset m next row), row_none given cap place next (drop next m) row full)
 
@@ -93,14 +91,14 @@ module _ (given : Given) (cap left : ℕ) (m : List ℕ) (place : ℕ) (h : Head
         body_at (at_offset m next row)
         ∙ rw (row_free given cap place next (drop next m) row low) (whole_inner given cap (left - 1) place h (at_offset m next (row + 1)))
 
-    module _ (low : row < cap) (r : Parts) (T' : List ℕ)
+    module _ (low : row < cap) (r : PartsStep) (T' : List ℕ)
         (d : PartsDone m 0 cap (row + 1) (row + 1) T (inner given cap (left - 1) place h (at_offset m next (row + 1))) r T') where
-      pub body_refused : (k p : ℕ) (U : List ℕ) → r ≡ parts_of.Refused k p → TermDone m cap row whole T (body given cap left place h (at_offset m next row)) (step.Refused k p) U
+      pub body_refused : (x : Refusal) (U : List ℕ) → r ≡ Err x → TermDone m cap row whole T (body given cap left place h (at_offset m next row)) (Err x) U
       unfolding Done
-      body_refused k p U e = rw (body_inner low, parts_refused m 0 cap (row + 1) (row + 1) T (inner given cap (left - 1) place h (at_offset m next (row + 1))) r T' k p e d)
+      body_refused x U e = rw (body_inner low, parts_refused m 0 cap (row + 1) (row + 1) T (inner given cap (left - 1) place h (at_offset m next (row + 1))) r T' x e d)
 
-      pub body_got : (end rows' n kind v : ℕ) → r ≡ parts_of.Got end rows' n kind → place < 65536 → v ≡ pack kind place whole n (rows' - row)
-          → TermDone m cap row whole T (body given cap left place h (at_offset m next row)) (step.Got end rows') (set T' row v)
+      pub body_got : (end rows' n kind v : ℕ) → r ≡ got_parts end rows' n kind → place < 65536 → v ≡ pack kind place whole n (rows' - row)
+          → TermDone m cap row whole T (body given cap left place h (at_offset m next row)) (got end rows') (set T' row v)
       unfolding Done tree_rows row_words word kind_at offset_of whole_of EachNode
       body_got end rows' n kind v e near is =
           let f : PartsFound m 0 cap (row + 1) (row + 1) T (inner given cap (left - 1) place h (at_offset m next (row + 1))) end rows' n kind T'
@@ -115,7 +113,7 @@ module _ (given : Given) (cap left : ℕ) (m : List ℕ) (place : ℕ) (h : Head
           = cc (code_of_whole whole, f.kind_is) in
           let t : T' ≡ sets T (row + 1) ws = f.are.table_is ∙ rw w in
           rw (body_inner low, f.are.is) (
-            ap (step.Got end) a,
+            ap (got end) a,
             record {
               table_is = ap₂ (λ (l : List ℕ) (x : ℕ). set l row x) t i ∙ set_before T row _ ws;
               stands = ap (λ (k : ℕ). at_offset m end k) a;
@@ -126,7 +124,7 @@ module _ (given : Given) (cap left : ℕ) (m : List ℕ) (place : ℕ) (h : Head
           )
 
       -- the row's fields are within their bits
-      pub body_small : (list : AtomList) (at end rows' n kind : ℕ) → r ≡ parts_of.Got end rows' n kind → Room m list T cap at row whole → place < 65536
+      pub body_small : (list : AtomList) (at end rows' n kind : ℕ) → r ≡ got_parts end rows' n kind → Room m list T cap at row whole → place < 65536
           → SmallFields kind place whole n (rows' - row)
       body_small list at end rows' n kind e room near =
           let f : PartsFound m 0 cap (row + 1) (row + 1) T (inner given cap (left - 1) place h (at_offset m next (row + 1))) end rows' n kind T'
@@ -141,7 +139,7 @@ module _ (given : Given) (cap left : ℕ) (m : List ℕ) (place : ℕ) (h : Head
           record { small_kind = omega arith; small_offset = omega arith; small_whole = omega arith; small_parts = omega arith; small_size = omega arith }
 
 -- the number of rows past the parts
-pub parts_past : (m : List ℕ) (before cap row whole : ℕ) (T : List ℕ) (o : Answer ((Terms × Label) × Position)) (r : Parts) (T' : List ℕ) (next end n kind : ℕ) → r ≡ parts_of.Got next end n kind
+pub parts_past : (m : List ℕ) (before cap row whole : ℕ) (T : List ℕ) (o : Answer ((Terms × Label) × Position)) (r : PartsStep) (T' : List ℕ) (next end n kind : ℕ) → r ≡ got_parts next end n kind
     → PartsDone m before cap row whole T o r T' → row ≤ end
 parts_past m before cap row whole T o r T' next end n kind e d =
     let f = parts_found m before cap row whole T o r T' next end n kind e d in omega (arith, f.are.rows_are)

@@ -18,8 +18,8 @@ use Rattle.term_spec.specs.Rows.{rows, kind_of, kind_at, offset_of, whole_code, 
 use Rattle.term_spec.proofs.Steps.{spot}
 use Rattle.term_spec.proofs.Tests.{by_less}
 use Rattle.octets.proofs.Stores.{sets_at}
-use Rattle.term_reader.specs.declared.Parts.{Parts}
-use Rattle.term_reader.specs.declared.Parts.TheVariants.{Got, Refused}
+use Rattle.term_head.specs.Code.{refusal}
+use Rattle.term_reader.specs.Code.{PartsStep, got_parts}
 use Rattle.term_reader.specs.Code.{whole_of, character_words, inner, Done, PartsDone}
 
 pub code_of_whole : (w : ℕ) → whole_code (whole_of w) ≡ w
@@ -123,25 +123,25 @@ put_all T at row whole T' i n p h f = let e : i ≡ n = omega arith in p.stores 
 -- ---- one law for each way through `read_characters`
 
 module _ (given : Given) (m cs : List ℕ) (before cap row whole deep place next : ℕ) (T T' : List ℕ) (n : ℕ) (same : length cs ≡ n) where
-  abbrev Read : Parts → Type 0
+  abbrev Read : PartsStep → Type 0
   Read r = PartsDone m before cap row whole T (inner given cap deep place (characters cs) (at_offset m next row)) r T'
 
-  pub characters_none : n ≡ 0 → next ≤ length m → row ≤ cap → T' ≡ T → Read (Got next row before 5)
+  pub characters_none : n ≡ 0 → next ≤ length m → row ≤ cap → T' ≡ T → Read (got_parts next row before 5)
   unfolding inner string Done rows row_words EachNode kind_of
   characters_none e near low kept = go cs (same ∙ e)
     where
-      go : (cs : List ℕ) → length cs ≡ 0 → PartsDone m before cap row whole T (inner given cap deep place (characters cs) (at_offset m next row)) (Got next row before 5) T'
+      go : (cs : List ℕ) → length cs ≡ 0 → PartsDone m before cap row whole T (inner given cap deep place (characters cs) (at_offset m next row)) (got_parts next row before 5) T'
       go [] e =
           let a : row ≡ row + 0 = omega arith in
           let b : before ≡ before + 0 = omega arith in
           (cc, record { table_is = kept; stands = ap (λ (k : ℕ). at_offset m next k) a; near = near; room = omega arith; from = tt })
       go (c ∷ cs) e = absurd (omega arith)
 
-  pub characters_deep : (n ≡ 0 → ⊥) → deep ≡ 0 → Read (Refused 8 place)
+  pub characters_deep : (n ≡ 0 → ⊥) → deep ≡ 0 → Read (refusal 8 place)
   unfolding inner string Done
   characters_deep more e = go cs (λ z. more (sym same ∙ z))
     where
-      go : (cs : List ℕ) → (length cs ≡ 0 → ⊥) → PartsDone m before cap row whole T (inner given cap deep place (characters cs) (at_offset m next row)) (Refused 8 place) T'
+      go : (cs : List ℕ) → (length cs ≡ 0 → ⊥) → PartsDone m before cap row whole T (inner given cap deep place (characters cs) (at_offset m next row)) (refusal 8 place) T'
       go [] more = absurd (more refl)
       go (c ∷ cs) more = rw e
 
@@ -149,11 +149,11 @@ module _ (given : Given) (m cs : List ℕ) (before cap row whole deep place next
     string_at : string given cap deep place (place + 3) cs (at_offset m next row) ≡ string given cap (suc (deep - 1)) place (place + 3) cs (at_offset m next row)
     string_at = let e : deep ≡ suc (deep - 1) = omega arith in ap (λ (d : ℕ). string given cap d place (place + 3) cs (at_offset m next row)) e
 
-    pub characters_full : row ≤ cap → cap - row < n → Read (Refused 9 place)
+    pub characters_full : row ≤ cap → cap - row < n → Read (refusal 9 place)
     unfolding inner Done
     characters_full low full = rw (string_at, string_full given cap (deep - 1) place next _ (place + 3) cs row low (omega arith))
 
-    pub characters_got : next ≤ length m → row + n ≤ cap → place + 3 + n ≤ 65536 → T' ≡ sets T row (character_words whole (place + 3) n) → Read (Got next (row + n) (before + n) 5)
+    pub characters_got : next ≤ length m → row + n ≤ cap → place + 3 + n ≤ 65536 → T' ≡ sets T row (character_words whole (place + 3) n) → Read (got_parts next (row + n) (before + n) 5)
     unfolding inner Done kind_of
     characters_got near room short stored =
         let ts : Terms = characters_from (place + 3) cs in

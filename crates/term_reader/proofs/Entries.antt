@@ -2,7 +2,7 @@
 use mathlib.Core.Path.{◌≡◌, refl, sym, ap, ◌∙◌, subst}
 use mathlib.Core.Bool.{Bool, true, false, not}
 use mathlib.Core.List.{List, [], ◌∷◌, append-nil}
-use Prim.Native.Nat.{ℕ, zero, suc, ◌+◌, ◌-◌, ◌*◌, ◌/◌, ◌%◌, ◌≤◌, ◌<◌}
+use Prim.Native.Nat.{ℕ, zero, suc, ◌+◌, ◌-◌, ◌*◌, ◌≤◌, ◌<◌}
 use native.Mathlib.Omega.{arith}
 use lib.ListN.{length, get_or, drop}
 use lib.Seq.{sets, length-sets}
@@ -32,10 +32,10 @@ use Rattle.map_keys.specs.KeySet.{Keeps, ContainsOrInsert}
 use Rattle.map_keys.proofs.Compare.{KeysOf, no_keys, one_more_key}
 use Rattle.term_rows.proofs.InTable.{RowsInTable}
 use Rattle.map_keys.proofs.KeySet.{keeps_trans, ContainsKey, ContainsKeys, no_key, key_kept, keys_kept, keys_more, key_inserted, key_judged}
-use Rattle.term_reader.specs.declared.Step.{Step}
-use Rattle.term_reader.specs.declared.Step.TheVariants as step
-use Rattle.term_reader.specs.declared.Parts.{Parts}
-use Rattle.term_reader.specs.declared.Parts.TheVariants as parts_of
+use Rattle.std.specs.Prelude.{Err}
+use Rattle.term_spec.specs.declared.Refusal.{Refusal}
+use Rattle.term_head.specs.Code.{refusal}
+use Rattle.term_reader.specs.Code.{Step, PartsStep, got, got_parts}
 use Rattle.term_reader.specs.Code.{whole_of, Room, inner, Done, TermDone, PartsDone}
 use Rattle.term_reader.proofs.Characters.{code_of_whole}
 use Rattle.term_reader.proofs.Found.{Found, step_found, step_refused, joined_words}
@@ -79,7 +79,7 @@ keys_told flags n places lengths m cap first sized few under =
     }
 
 -- a term that was read has a row
-pub term_inside : (m : List ℕ) (cap row whole : ℕ) (T : List ℕ) (o : Answer (Located × Position)) (r : Step) (T' : List ℕ) (next end : ℕ) → r ≡ step.Got next end
+pub term_inside : (m : List ℕ) (cap row whole : ℕ) (T : List ℕ) (o : Answer (Located × Position)) (r : Step) (T' : List ℕ) (next end : ℕ) → r ≡ got next end
     → TermDone m cap row whole T o r T' → row < cap
 term_inside m cap row whole T o r T' next end e d =
     let f = step_found size (λ t. row_words (tree_rows (whole_of whole) row t)) (EachNode (Placed 65536)) m cap row T o r T' next end e d in
@@ -137,16 +137,10 @@ module _ (given : Given) (cap deep : ℕ) (m places lengths : List ℕ) (start f
     pub goes : all_entries
         ≡ after (Part any (at_offset m at row)) (λ v. λ u. after (entries Part (meaning key ∷ earlier) more u) (λ us. done ((ts ▹▹ (key ▹ empty)) ▹▹ (v ▹ us))))
 
-  -- how far the reading has come
-  pub data Reached (at row parts : ℕ) (T L : List ℕ) : Type 0 where
-    before_key : BeforeKey at row parts T L → Reached at row parts T L
-    before_value : BeforeValue at row parts T L → Reached at row parts T L
-
-  pub reached_none : (L : List ℕ) → Reached start first 0 T₀ L
+  pub none_read : (L : List ℕ) → BeforeKey start first 0 T₀ L
   unfolding rows row_words EachNode
-  reached_none L =
-      before_key
-      (record {
+  none_read L =
+      record {
         ts = empty;
         earlier = [];
         more = all;
@@ -155,38 +149,24 @@ module _ (given : Given) (cap deep : ℕ) (m places lengths : List ℕ) (start f
         keys = no_keys;
         remembered = no_key;
         goes = after_done all_entries;
-      })
+      }
 
-  abbrev MapDone : ℕ → Parts → List ℕ → Type 0
+  abbrev MapDone : ℕ → PartsStep → List ℕ → Type 0
   MapDone place r U = PartsDone m 0 cap first first T₀ (inner given cap deep place (pairs all) (at_offset m start first)) r U
 
   abbrev then_value : List Term → ℕ → Located → Reading Terms
   then_value earlier more k = λ s. after (Part any s) (λ v. λ u. after (entries Part (meaning k ∷ earlier) more u) (λ us. done (k ▹ v ▹ us)))
 
   module _ (at row parts : ℕ) (T L : List ℕ) where
-    -- before a key an even number of parts is read, before a value an odd one
-    pub at_key : Reached at row parts T L → ((parts + 1) % 2 ≡ 0 → ⊥) → BeforeKey at row parts T L
-    at_key (before_key i) odd = i
-    at_key (before_value i) odd = absurd (odd (omega (arith, i.left)))
+    pub read_few : BeforeKey at row parts T L → row ≤ cap → parts ≤ cap
+    read_few i low = omega (arith, i.stored.many, i.stored.rows_are, count_le_sizes i.ts)
 
-    pub at_value : Reached at row parts T L → (parts + 1) % 2 ≡ 0 → BeforeValue at row parts T L
-    at_value (before_key i) even = absurd (omega (arith, i.left))
-    at_value (before_value i) even = i
-
-    stored_few : (ts : Terms) → Stored ts row parts T → row ≤ cap → parts ≤ cap
-    stored_few ts s low = omega (arith, s.many, s.rows_are, count_le_sizes ts)
-
-    pub reached_few : Reached at row parts T L → row ≤ cap → parts ≤ cap
-    reached_few (before_key i) low = stored_few i.ts i.stored low
-    reached_few (before_value i) low = stored_few (i.ts ▹▹ (i.key ▹ empty)) i.stored low
-
-    pub reached_end : (place : ℕ) → Reached at row parts T L → all ≤ parts / 2 → row ≤ cap → at ≤ length m → MapDone place (parts_of.Got at row parts 9) T
+    pub all_read : (place : ℕ) → BeforeKey at row parts T L → parts ≡ all * 2 → row ≤ cap → at ≤ length m → MapDone place (got_parts at row (all * 2) 9) T
     unfolding inner entries Done kind_of
-    reached_end place (before_value i) over low near = absurd (omega (arith, i.left))
-    reached_end place (before_key i) over low near =
+    all_read place i over low near =
         let ts : Terms = i.ts in
         let a : row ≡ first + sizes ts = i.stored.rows_are in
-        let b : parts ≡ 0 + count ts = omega (arith, i.stored.many) in
+        let b : all * 2 ≡ 0 + count ts = omega (arith, i.stored.many) in
         let e : i.more ≡ 0 = omega (arith, i.left) in
         let g : entries Part i.earlier i.more (at_offset m at row) ≡ good (empty, at_offset m at row)
         = ap (λ (k : ℕ). entries Part i.earlier k (at_offset m at row)) e in
@@ -195,7 +175,7 @@ module _ (given : Given) (cap deep : ℕ) (m places lengths : List ℕ) (start f
           record { table_is = i.stored.table_is; stands = ap (λ (k : ℕ). at_offset m at k) a; near = near; room = omega arith; from = i.stored.placed },
         )
 
-    next_pair : (i : BeforeKey at row parts T L) → parts / 2 < all
+    next_pair : (i : BeforeKey at row parts T L) → parts < all * 2
         → entries Part i.earlier i.more (at_offset m at row)
         ≡ after (Part any (at_offset m at row)) (λ k. λ s. after (rule (not (among (meaning k) i.earlier)) 7 at s) (λ _. then_value i.earlier (i.more - 1) k))
     unfolding entries
@@ -204,7 +184,7 @@ module _ (given : Given) (cap deep : ℕ) (m places lengths : List ℕ) (start f
         ap (λ (n : ℕ). entries Part i.earlier n (at_offset m at row)) e
 
     -- a key is read that is new
-    key_goes : (i : BeforeKey at row parts T L) (k : Located) (next end : ℕ) → parts / 2 < all → Part any (at_offset m at row) ≡ good (k, at_offset m next end) → among (meaning k) i.earlier ≡ false
+    key_goes : (i : BeforeKey at row parts T L) (k : Located) (next end : ℕ) → parts < all * 2 → Part any (at_offset m at row) ≡ good (k, at_offset m next end) → among (meaning k) i.earlier ≡ false
         → all_entries
         ≡ after (Part any (at_offset m next end)) (λ v. λ u. after (entries Part (meaning k ∷ i.earlier) (i.more - 1) u) (λ us. done ((i.ts ▹▹ (k ▹ empty)) ▹▹ (v ▹ us))))
     key_goes i k next end some e new =
@@ -225,12 +205,15 @@ module _ (given : Given) (cap deep : ℕ) (m places lengths : List ℕ) (start f
         (one_more (i.ts ▹▹ (i.key ▹ empty)) us v ∙ ap (λ (x : Terms). x ▹▹ us) (sym (one_more i.ts (v ▹ empty) i.key)))))
 
     module _ (r : Step) (T' : List ℕ) (d : TermDone m cap row first T (Part any (at_offset m at row)) r T') where
-      pub part_refused : (k p place : ℕ) (U : List ℕ) → Reached at row parts T L → parts / 2 < all → r ≡ step.Refused k p → MapDone place (parts_of.Refused k p) U
+      pub key_refused : (x : Refusal) (place : ℕ) (U : List ℕ) → BeforeKey at row parts T L → parts < all * 2 → r ≡ Err x → MapDone place (Err x) U
       unfolding inner Done
-      part_refused k p place U (before_key i) some e = rw (i.goes, next_pair i some, step_refused _ _ _ m cap row T (Part any (at_offset m at row)) r T' k p e d)
-      part_refused k p place U (before_value i) some e = rw (i.goes, step_refused _ _ _ m cap row T (Part any (at_offset m at row)) r T' k p e d)
+      key_refused x place U i some e = rw (i.goes, next_pair i some, step_refused _ _ _ m cap row T (Part any (at_offset m at row)) r T' x e d)
 
-      module _ (list : AtomList) (room : Room m list T cap at row first) (next end : ℕ) (e : r ≡ step.Got next end) (sound : Sound given cap deep m) where
+      pub value_refused : (x : Refusal) (place : ℕ) (U : List ℕ) → BeforeValue at row parts T L → r ≡ Err x → MapDone place (Err x) U
+      unfolding inner Done
+      value_refused x place U i e = rw (i.goes, step_refused _ _ _ m cap row T (Part any (at_offset m at row)) r T' x e d)
+
+      module _ (list : AtomList) (room : Room m list T cap at row first) (next end : ℕ) (e : r ≡ got next end) (sound : Sound given cap deep m) where
         abbrev part : Found size (λ t. row_words (tree_rows (whole_of first) row t)) (EachNode (Placed 65536)) m cap row T (Part any (at_offset m at row)) next end T'
         part = step_found size _ _ m cap row T (Part any (at_offset m at row)) r T' next end e d
 
@@ -251,13 +234,13 @@ module _ (given : Given) (cap deep : ℕ) (m places lengths : List ℕ) (start f
             }
 
         -- the value of a key
-        pub value_entered : (L' : List ℕ) → Keeps L L' → BeforeValue at row parts T L → Reached next end (parts + 1) T' L'
-        value_entered L' kept i =
+        pub value_entered : (L' : List ℕ) → Keeps L L' → BeforeValue at row parts T L → (n : ℕ) → n ≡ parts + 1 → BeforeKey next end n T' L'
+        value_entered L' kept i n is =
             let ts : Terms = i.ts in
             let k : Located = i.key in
             let v : Located = part.x in
             let j : (ts ▹▹ (k ▹ empty)) ▹▹ (v ▹ empty) ≡ ts ▹▹ (k ▹ v ▹ empty) = sym (one_more ts (v ▹ empty) k) in
-            before_key
+            rw is
             (record {
               ts = ts ▹▹ (k ▹ v ▹ empty);
               earlier = meaning k ∷ i.earlier;
@@ -270,7 +253,7 @@ module _ (given : Given) (cap deep : ℕ) (m places lengths : List ℕ) (start f
             })
 
         -- a key, which is judged, and which is among the earlier ones or not
-        module _ (i : BeforeKey at row parts T L) (some : parts / 2 < all) (tell : Told m cap given places lengths first)
+        module _ (i : BeforeKey at row parts T L) (some : parts < all * 2) (tell : Told m cap given places lengths first)
             (b : Bool) (L₁ L₂ : List ℕ) (kept : Keeps L L₁) (judged : ContainsOrInsert m places lengths T' first row L₁ b L₂) where
           with_key : Stored (i.ts ▹▹ (part.x ▹ empty)) end (parts + 1) T'
           with_key = stored_more i.ts i.stored
@@ -296,25 +279,23 @@ module _ (given : Given) (cap deep : ℕ) (m places lengths : List ℕ) (start f
           is_among : b ≡ among (meaning part.x) i.earlier
           is_among = tell.judges T' i.ts part.x i.earlier L₁ L₂ b held with_key.valid i.keys (keys_kept kept i.remembered) judged_key
 
-          pub key_twice : (place : ℕ) (U : List ℕ) → b ≡ true → MapDone place (parts_of.Refused 7 at) U
+          pub key_twice : (place : ℕ) (U : List ℕ) → b ≡ true → MapDone place (refusal 7 at) U
           unfolding inner Done
           key_twice place U f = rw (i.goes, next_pair i some, part.is, sym is_among ∙ f)
 
-          pub key_entered : b ≡ false → Reached next end (parts + 1) T' L₂
+          pub key_entered : b ≡ false → BeforeValue next end (parts + 1) T' L₂
           key_entered new =
               let ts : Terms = i.ts in
               let k : Located = part.x in
-              let more : ℕ = i.more - 1 in
-              before_value
-              (record {
+              record {
                 ts = ts;
                 earlier = i.earlier;
                 key = k;
-                more = more;
+                more = i.more - 1;
                 stored = with_key;
                 left = omega (arith, i.left);
                 keys = i.keys;
                 remembered = keys_kept (keeps_trans kept judged.keys_kept) i.remembered;
                 contained = tell.enters T' ts k L₁ L₂ b held judged_key new;
                 goes = key_goes i k next end some part.is (sym is_among ∙ new);
-              })
+              }

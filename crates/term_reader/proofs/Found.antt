@@ -1,4 +1,4 @@
--- What a reader that answers `Got` has found, and what one that refuses has.
+-- What a reader that answers `Ok` has found, and what one that refuses has.
 use mathlib.Core.Path.{◌≡◌, sym, ap, ap₂, ◌∙◌}
 use mathlib.Core.List.{List}
 use Prim.Native.Nat.{ℕ, suc, ◌+◌, ◌≤◌}
@@ -14,11 +14,31 @@ use Rattle.term_spec.specs.Rows.{tree_rows, rows, kind_of, row_words, Placed}
 use Rattle.term_spec.proofs.Rows.{sizes_join, count_join, length_tree_rows, length_rows, rows_join, each_nodes_join}
 use Rattle.term_spec.proofs.Words.{words_of_join, length_words_of}
 use Rattle.octets.proofs.Stores.{sets_at}
-use Rattle.term_reader.specs.declared.Step.{Step}
-use Rattle.term_reader.specs.declared.Step.TheVariants as step
-use Rattle.term_reader.specs.declared.Parts.{Parts}
-use Rattle.term_reader.specs.declared.Parts.TheVariants as parts_of
+use Rattle.std.specs.Prelude.{Result, Ok, Err}
+use Rattle.term_spec.specs.declared.Refusal.{Refusal}
+use Rattle.std.specs.Result.{IsErrAnd}
+use Rattle.std.proofs.lemmas.Result.{err_from_is_err_and}
+use Rattle.term_head.specs.Code.{refusal}
+use Rattle.term_reader.specs.Code.{Step, PartsStep, got, got_parts}
 use Rattle.term_reader.specs.Code.{whole_of, RowsStored, Done, RunDone, PartsDone}
+
+-- what a `?` hands on
+pub handed_on : {A : Type 0} {x : Refusal} (r : Result A Refusal) → IsErrAnd r (λ y. y ≡ x) → r ≡ Err x
+handed_on r h = let p = err_from_is_err_and r h in p.1 ∙ ap (λ (y : Refusal). Err y) p.2
+
+-- the fields of an `Ok`
+abbrev next_in : Step → ℕ
+next_in (Ok x) = x.next
+next_in (Err x) = 0
+
+abbrev end_in : Step → ℕ
+end_in (Ok x) = x.rows
+end_in (Err x) = 0
+
+-- the same of parts: where they end, their number, the kind of the whole
+abbrev parts_in : PartsStep → ℕ × ℕ × ℕ × ℕ
+parts_in (Ok x) = (x.next, x.rows, x.parts, x.kind)
+parts_in (Err x) = (0, 0, 0, 0)
 
 module _ {X : Type 0} (size_of : X → ℕ) (as_rows : X → List ℕ) (From : X → Type 0) (m : List ℕ) (cap row : ℕ) (T : List ℕ) where
   -- x is found, and its rows are stored; reading goes on at `next`, with the row `end`
@@ -45,21 +65,20 @@ module _ {X : Type 0} (size_of : X → ℕ) (as_rows : X → List ℕ) (From : X
       }
 
   abbrev pub StepDone : Answer (X × Position) → Step → List ℕ → Type 0
-  StepDone = Done (λ x next end. step.Got next end) step.Refused size_of as_rows From m cap row T
+  StepDone = Done (λ x next end. got next end) refusal size_of as_rows From m cap row T
 
-  pub step_found : (o : Answer (X × Position)) (r : Step) (T' : List ℕ) (next end : ℕ) → r ≡ step.Got next end → StepDone o r T' → Found o next end T'
+  pub step_found : (o : Answer (X × Position)) (r : Step) (T' : List ℕ) (next end : ℕ) → r ≡ got next end → StepDone o r T' → Found o next end T'
   unfolding Done
-  step_found (refused n p) r T' next end e d = let z : ◌≡◌ {A = ℕ} 0 1 = cc in absurd (omega arith)
+  step_found (refused n p) r T' next end e d = absurd (cc)
   step_found (good y) r T' next end e d =
-      let f : r ≡ step.Got y.1.at (row + size_of y.0) = d.0 in
-      found_at y T' next end (cc) (cc) d.1
+      let f : r ≡ got y.1.at (row + size_of y.0) = d.0 in
+      let g : got next end ≡ got y.1.at (row + size_of y.0) = sym e ∙ f in
+      found_at y T' next end (ap next_in g) (ap end_in g) d.1
 
-  pub step_refused : (o : Answer (X × Position)) (r : Step) (T' : List ℕ) (n p : ℕ) → r ≡ step.Refused n p → StepDone o r T' → o ≡ refused n p
+  pub step_refused : (o : Answer (X × Position)) (r : Step) (T' : List ℕ) (x : Refusal) → r ≡ Err x → StepDone o r T' → o ≡ refused x.number x.place
   unfolding Done
-  step_refused (refused k q) r T' n p e d = cc
-  step_refused (good y) r T' n p e d =
-      let f : r ≡ step.Got y.1.at (row + size_of y.0) = d.0 in
-      let z : ◌≡◌ {A = ℕ} 0 1 = cc in absurd (omega arith)
+  step_refused (refused k q) r T' x e d = let f : x ≡ record { number = k; place = q } = cc in rw f
+  step_refused (good y) r T' x e d = let f : r ≡ got y.1.at (row + size_of y.0) = d.0 in absurd (cc)
 
 -- the same for the parts of a term
 module _ (m : List ℕ) (before cap row whole : ℕ) (T : List ℕ) where
@@ -71,20 +90,25 @@ module _ (m : List ℕ) (before cap row whole : ℕ) (T : List ℕ) where
     pub many : parts ≡ before + count are.x.0
     pub kind_is : kind ≡ kind_of are.x.1
 
-  pub parts_found : (o : Answer ((Terms × Label) × Position)) (r : Parts) (T' : List ℕ) (next end parts kind : ℕ) → r ≡ parts_of.Got next end parts kind
+  pub parts_found : (o : Answer ((Terms × Label) × Position)) (r : PartsStep) (T' : List ℕ) (next end parts kind : ℕ) → r ≡ got_parts next end parts kind
       → PartsDone m before cap row whole T o r T' → PartsFound o next end parts kind T'
   unfolding Done found_at
-  parts_found (refused n p) r T' next end parts kind e d = let z : ◌≡◌ {A = ℕ} 0 1 = cc in absurd (omega arith)
+  parts_found (refused n p) r T' next end parts kind e d = absurd (cc)
   parts_found (good y) r T' next end parts kind e d =
-      let f : r ≡ parts_of.Got y.1.at (row + sizes y.0.0) (before + count y.0.0) (kind_of y.0.1) = d.0 in
-      record { are = found_at _ _ _ m cap row T y T' next end (cc) (cc) d.1; many = cc; kind_is = cc }
+      let f : r ≡ got_parts y.1.at (row + sizes y.0.0) (before + count y.0.0) (kind_of y.0.1) = d.0 in
+      let g = ap parts_in (sym e ∙ f) in
+      record {
+        are = found_at _ _ _ m cap row T y T' next end (ap (λ (x : ℕ × ℕ × ℕ × ℕ). x.0) g) (ap (λ (x : ℕ × ℕ × ℕ × ℕ). x.1) g) d.1;
+        many = ap (λ (x : ℕ × ℕ × ℕ × ℕ). x.2) g;
+        kind_is = ap (λ (x : ℕ × ℕ × ℕ × ℕ). x.3) g;
+      }
 
-  pub parts_refused : (o : Answer ((Terms × Label) × Position)) (r : Parts) (T' : List ℕ) (n p : ℕ) → r ≡ parts_of.Refused n p → PartsDone m before cap row whole T o r T' → o ≡ refused n p
+  pub parts_refused : (o : Answer ((Terms × Label) × Position)) (r : PartsStep) (T' : List ℕ) (x : Refusal) → r ≡ Err x → PartsDone m before cap row whole T o r T' → o ≡ refused x.number x.place
   unfolding Done
-  parts_refused (refused k q) r T' n p e d = cc
-  parts_refused (good y) r T' n p e d =
-      let f : r ≡ parts_of.Got y.1.at (row + sizes y.0.0) (before + count y.0.0) (kind_of y.0.1) = d.0 in
-      let z : ◌≡◌ {A = ℕ} 0 1 = cc in absurd (omega arith)
+  parts_refused (refused k q) r T' x e d = let f : x ≡ record { number = k; place = q } = cc in rw f
+  parts_refused (good y) r T' x e d =
+      let f : r ≡ got_parts y.1.at (row + sizes y.0.0) (before + count y.0.0) (kind_of y.0.1) = d.0 in
+      absurd (cc)
 
 -- ---- what was found before, and then what follows
 
@@ -99,7 +123,7 @@ module _ (m : List ℕ) (cap row whole : ℕ) (T T' : List ℕ) where
       let ts : Terms = y.0 in
       let a : end + sizes ts ≡ row + (size t + sizes ts) = omega arith in
       let s = d.1 in (
-        d.0 ∙ ap (step.Got y.1.at) a,
+        d.0 ∙ ap (got y.1.at) a,
         record {
           table_is = s.table_is ∙ rw (e, f, words_of_join)
               (sets_at T row (row_words (tree_rows (whole_of whole) row t)) (row_words (rows (whole_of whole) (row + size t) ts)) (row + size t)
@@ -132,7 +156,7 @@ module _ (m : List ℕ) (cap row whole : ℕ) (T T' : List ℕ) where
         let us : Terms = y.0 in
         let s = d.1 in
         let z : end + sizes us ≡ row + sizes (ts ▹▹ us) = joined_end us in (
-          d.0 ∙ ap (step.Got y.1.at) z,
+          d.0 ∙ ap (got y.1.at) z,
           record {
             table_is = s.table_is ∙ joined_words us;
             stands = s.stands ∙ ap (λ (k : ℕ). at_offset m y.1.at k) z;
@@ -144,7 +168,7 @@ module _ (m : List ℕ) (cap row whole : ℕ) (T T' : List ℕ) where
 
     -- the first parts of a term, and then the others
     pub join_parts : (before sum : ℕ) → sum ≡ before + count ts → EachNodes (Placed 65536) ts
-        → (o : Answer ((Terms × Label) × Position)) (r : Parts) (U : List ℕ) → PartsDone m sum cap end whole T' o r U
+        → (o : Answer ((Terms × Label) × Position)) (r : PartsStep) (U : List ℕ) → PartsDone m sum cap end whole T' o r U
         → PartsDone m before cap row whole T (after o (λ e. done (ts ▹▹ e.0, e.1))) r U
     unfolding Done
     join_parts before sum c p (refused k q) r U d = d
@@ -153,7 +177,7 @@ module _ (m : List ℕ) (cap row whole : ℕ) (T T' : List ℕ) where
         let s = d.1 in
         let z : end + sizes us ≡ row + sizes (ts ▹▹ us) = joined_end us in
         let w : sum + count us ≡ before + count (ts ▹▹ us) = omega (arith, count_join ts us) in (
-          d.0 ∙ ap₂ (λ (k j : ℕ). parts_of.Got y.1.at k j (kind_of y.0.1)) z w,
+          d.0 ∙ ap₂ (λ (k j : ℕ). got_parts y.1.at k j (kind_of y.0.1)) z w,
           record {
             table_is = s.table_is ∙ joined_words us;
             stands = s.stands ∙ ap (λ (k : ℕ). at_offset m y.1.at k) z;

@@ -18,28 +18,23 @@ use Rattle.term_spec.proofs.Rows.{each_nodes_join, sizes_join, count_join, count
 use Rattle.term_head.specs.declared.Head as code
 use Rattle.term_head.specs.declared.Head.TheVariants as heads
 use Rattle.term_head.specs.declared.Later as code_later
-use Rattle.term_head.specs.declared.Opening.{Opening}
-use Rattle.term_head.specs.declared.Step as later_step
-use Rattle.term_head.specs.declared.Step.TheVariants as fields
 use Rattle.term_head.specs.declared.Wanted.TheVariants.{Any}
-use Rattle.term_head.specs.Code.{wanted_of, kind_later, later_of, head_at, opening_of, step_of, Skipped}
-use Rattle.term_reader.specs.declared.Step.{Step}
-use Rattle.term_reader.specs.declared.Step.TheVariants as step
-use Rattle.term_reader.specs.declared.Parts.{Parts}
-use Rattle.term_reader.specs.declared.Parts.TheVariants as parts_of
+use Rattle.term_head.specs.Code.{wanted_of, kind_later, later_of, head_at, opening_of, end_of, Skipped}
+use Rattle.std.specs.Prelude.{Result, Ok, Err}
+use Rattle.term_spec.specs.declared.Refusal.{Refusal}
+use Rattle.term_reader.specs.Code.{Step, PartsStep, got, got_parts}
 use Rattle.term_reader.specs.Code.{whole_of, asked, HeadFits, SoundHead, HeadRead, LastAt, inner, Done, TermDone, RunDone, PartsDone}
 use Rattle.term_reader.proofs.Found.{Found, step_found, step_refused, join_parts, joined_words}
 use Rattle.term_head.proofs.HeadFacts.{Past, past_is}
 use Rattle.term_head.proofs.OpeningFacts.{later_kind}
 use Rattle.term_head.proofs.Openings.{skipped_opens, skipped_here}
-use Rattle.term_reader.proofs.Openings.{OpenedAt, opened_refused, head_refused, later_past, nil_opened}
+use Rattle.term_reader.proofs.Openings.{OpenedAt, opened_refused, later_past, nil_opened}
 use Rattle.term_reader.proofs.Characters.{characters_none}
 use Rattle.term_reader.proofs.Runs.{run_each}
 
 -- ---- what a head promises, from the code's head
 
 abbrev pub next_of : code.Head → ℕ
-next_of (heads.Refused n p) = 0
 next_of (heads.Parts k w c l n) = n
 next_of (heads.Characters c n) = n
 next_of (heads.Elements c n) = n
@@ -78,12 +73,9 @@ opens_span m place head n next o e short some =
 
 -- ---- `read_inner`
 
-module _ (given : Given) (cap deep : ℕ) (m : List ℕ) (place row : ℕ) (T : List ℕ) (head : code.Head) (r : Parts) (U : List ℕ) where
+module _ (given : Given) (cap deep : ℕ) (m : List ℕ) (place row : ℕ) (T : List ℕ) (head : code.Head) (r : PartsStep) (U : List ℕ) where
   abbrev InnerDone : Head → ℕ → Type 0
   InnerDone h next = PartsDone m 0 cap row row T (inner given cap deep place h (at_offset m next row)) r U
-
-  pub inner_refused : (n p : ℕ) → head ≡ heads.Refused n p → (h : Head) (next : ℕ) → head ≡ head_at h next → SoundHead m place next h → InnerDone h next
-  inner_refused n p e h next f s = absurd (head_refused h next n p (sym f ∙ e))
 
   pub inner_parts : (kind wanted n : ℕ) (l' : code_later.Later) (at : ℕ) → head ≡ heads.Parts kind wanted n l' at
       → ((l : Later) → kind ≡ kind_later l → later_of l ≡ l' → InnerDone (parts (asked wanted) n l) at)
@@ -141,12 +133,12 @@ record LaterRead (flags : ℕ) (m : List ℕ) (at place : ℕ) (l : Later) (r en
   pub near : end ≤ length m
   pub kind_is : kind_of label ≡ kind_later l
 
-later_read : (flags : ℕ) (m : List ℕ) (at place : ℕ) (l : Later) (r : ℕ) (R : later_step.Step) (end : ℕ) → at ≤ length m → R ≡ step_of (later flags place l (at_offset m at r)) → R ≡ fields.Got end → LaterRead flags m at place l r end
-unfolding step_of
+later_read : (flags : ℕ) (m : List ℕ) (at place : ℕ) (l : Later) (r : ℕ) (R : Result ℕ Refusal) (end : ℕ) → at ≤ length m → R ≡ end_of (later flags place l (at_offset m at r)) → R ≡ Ok end → LaterRead flags m at place l r end
+unfolding end_of
 later_read flags m at place l r R end near e f = go (later flags place l (at_offset m at r)) refl (sym e ∙ f)
   where
-    go : (o : Answer (Label × Position)) → later flags place l (at_offset m at r) ≡ o → step_of o ≡ fields.Got end → LaterRead flags m at place l r end
-    go (refused n p) g h = let z : ◌≡◌ {A = ℕ} 0 1 = cc in absurd (omega arith)
+    go : (o : Answer (Label × Position)) → later flags place l (at_offset m at r) ≡ o → end_of o ≡ Ok end → LaterRead flags m at place l r end
+    go (refused n p) g h = absurd (cc)
     go (good y) g h =
         let i : Past m at r y.1 = (later_past flags m r place l at near).known y.0 y.1 g in
         let a : y.1.at ≡ end = cc in
@@ -157,14 +149,14 @@ later_read flags m at place l r R end near e f = go (later flags place l (at_off
           kind_is = (later_kind flags place l (at_offset m at r)).known y.0 y.1 g;
         }
 
-later_refused : (flags : ℕ) (m : List ℕ) (at place : ℕ) (l : Later) (r : ℕ) (R : later_step.Step) (n p : ℕ) → R ≡ step_of (later flags place l (at_offset m at r)) → R ≡ fields.Refused n p
-    → later flags place l (at_offset m at r) ≡ refused n p
-unfolding step_of
-later_refused flags m at place l r R n p e f = go (later flags place l (at_offset m at r)) refl (sym e ∙ f)
+later_refused : (flags : ℕ) (m : List ℕ) (at place : ℕ) (l : Later) (r : ℕ) (R : Result ℕ Refusal) (x : Refusal) → R ≡ end_of (later flags place l (at_offset m at r)) → R ≡ Err x
+    → later flags place l (at_offset m at r) ≡ refused x.number x.place
+unfolding end_of
+later_refused flags m at place l r R x e f = go (later flags place l (at_offset m at r)) refl (sym e ∙ f)
   where
-    go : (o : Answer (Label × Position)) → later flags place l (at_offset m at r) ≡ o → step_of o ≡ fields.Refused n p → later flags place l (at_offset m at r) ≡ refused n p
-    go (refused k q) g h = let z : ◌≡◌ {A = Answer (Label × Position)} (refused k q) (refused n p) = cc in g ∙ z
-    go (good y) g h = let z : ◌≡◌ {A = ℕ} 0 1 = cc in absurd (omega arith)
+    go : (o : Answer (Label × Position)) → later flags place l (at_offset m at r) ≡ o → end_of o ≡ Err x → later flags place l (at_offset m at r) ≡ refused x.number x.place
+    go (refused k q) g h = let z : x ≡ record { number = k; place = q } = cc in rw z g
+    go (good y) g h = absurd (cc)
 
 -- n terms of any kind
 any_run : (part : Wanted → Reading Located) (n : ℕ) (s : Position) → run part n s ≡ each part (replicate n (wanted_of Any)) s
@@ -173,35 +165,35 @@ any_run part n s = run_each part n s
 
 module _ (given : Given) (cap deep : ℕ) (m : List ℕ) (place at row : ℕ) (T : List ℕ) (wanted n : ℕ) (l : Later) (r : Step) (T' : List ℕ)
     (d : RunDone m wanted cap row row T (each (term given cap deep) (asked wanted) (at_offset m at row)) r T') where
-  abbrev PartsAreDone : Parts → List ℕ → Type 0
+  abbrev PartsAreDone : PartsStep → List ℕ → Type 0
   PartsAreDone s U = PartsDone m 0 cap row row T (inner given cap deep place (parts (asked wanted) n l) (at_offset m at row)) s U
 
-  pub parts_first : (k p : ℕ) (U : List ℕ) → r ≡ step.Refused k p → PartsAreDone (parts_of.Refused k p) U
+  pub parts_first : (x : Refusal) (U : List ℕ) → r ≡ Err x → PartsAreDone (Err x) U
   unfolding inner Done
-  parts_first k p U e = rw (step_refused _ _ _ m cap row T (each (term given cap deep) (asked wanted) (at_offset m at row)) r T' k p e d)
+  parts_first x U e = rw (step_refused _ _ _ m cap row T (each (term given cap deep) (asked wanted) (at_offset m at row)) r T' x e d)
 
-  module _ (next end : ℕ) (e : r ≡ step.Got next end) (r' : Step) (T'' : List ℕ)
+  module _ (next end : ℕ) (e : r ≡ got next end) (r' : Step) (T'' : List ℕ)
       (d' : RunDone m n cap end row T' (each (term given cap deep) (replicate n (wanted_of Any)) (at_offset m next end)) r' T'') where
     abbrev ran : Found sizes (λ ts. row_words (rows (whole_of row) row ts)) (λ ts. (count ts ≡ wanted) × EachNodes (Placed 65536) ts) m cap row T
         (each (term given cap deep) (asked wanted) (at_offset m at row)) next end T'
     ran = step_found sizes _ _ m cap row T (each (term given cap deep) (asked wanted) (at_offset m at row)) r T' next end e d
 
-    pub parts_second : (k p : ℕ) (U : List ℕ) → r' ≡ step.Refused k p → PartsAreDone (parts_of.Refused k p) U
+    pub parts_second : (x : Refusal) (U : List ℕ) → r' ≡ Err x → PartsAreDone (Err x) U
     unfolding inner Done
-    parts_second k p U f =
-        rw (ran.is, any_run (term given cap deep) n (at_offset m next end), step_refused _ _ _ m cap end T' (each (term given cap deep) (replicate n (wanted_of Any)) (at_offset m next end)) r' T'' k p f d')
+    parts_second x U f =
+        rw (ran.is, any_run (term given cap deep) n (at_offset m next end), step_refused _ _ _ m cap end T' (each (term given cap deep) (replicate n (wanted_of Any)) (at_offset m next end)) r' T'' x f d')
 
-    module _ (next' end' : ℕ) (e' : r' ≡ step.Got next' end') (R : later_step.Step) (g : R ≡ step_of (later given.flags place l (at_offset m next' end'))) where
+    module _ (next' end' : ℕ) (e' : r' ≡ got next' end') (R : Result ℕ Refusal) (g : R ≡ end_of (later given.flags place l (at_offset m next' end'))) where
       abbrev ran' : Found sizes (λ ts. row_words (rows (whole_of row) end ts)) (λ ts. (count ts ≡ n) × EachNodes (Placed 65536) ts) m cap end T'
           (each (term given cap deep) (replicate n (wanted_of Any)) (at_offset m next end)) next' end' T''
       ran' = step_found sizes _ _ m cap end T' (each (term given cap deep) (replicate n (wanted_of Any)) (at_offset m next end)) r' T'' next' end' e' d'
 
-      pub parts_later_refused : (k p : ℕ) (U : List ℕ) → R ≡ fields.Refused k p → PartsAreDone (parts_of.Refused k p) U
+      pub parts_later_refused : (x : Refusal) (U : List ℕ) → R ≡ Err x → PartsAreDone (Err x) U
       unfolding inner Done
-      parts_later_refused k p U f =
-          rw (ran.is, any_run (term given cap deep) n (at_offset m next end), ran'.is, later_refused given.flags m next' place l end' R k p g f)
+      parts_later_refused x U f =
+          rw (ran.is, any_run (term given cap deep) n (at_offset m next end), ran'.is, later_refused given.flags m next' place l end' R x g f)
 
-      pub parts_got : (kind after_fields : ℕ) → kind ≡ kind_later l → R ≡ fields.Got after_fields → PartsAreDone (parts_of.Got after_fields end' (wanted + n) kind) T''
+      pub parts_got : (kind after_fields : ℕ) → kind ≡ kind_later l → R ≡ Ok after_fields → PartsAreDone (got_parts after_fields end' (wanted + n) kind) T''
       unfolding inner Done
       parts_got kind after_fields f h =
           let k : LaterRead given.flags m next' place l end' after_fields = later_read given.flags m next' place l end' R after_fields ran'.near g h in
@@ -224,7 +216,7 @@ module _ (given : Given) (cap deep : ℕ) (m : List ℕ) (place at row : ℕ) (T
 -- ---- `read_list`
 
 -- terms in turn take as many rows as there are or more
-pub run_many : (m : List ℕ) (n cap row whole : ℕ) (T : List ℕ) (o : Answer (Terms × Position)) (r : Step) (T' : List ℕ) (next end : ℕ) → RunDone m n cap row whole T o r T' → r ≡ step.Got next end
+pub run_many : (m : List ℕ) (n cap row whole : ℕ) (T : List ℕ) (o : Answer (Terms × Position)) (r : Step) (T' : List ℕ) (next end : ℕ) → RunDone m n cap row whole T o r T' → r ≡ got next end
     → (row + n ≤ end) × (next ≤ length m)
 run_many m n cap row whole T o r T' next end d e =
     let f = step_found sizes (λ ts. row_words (rows (whole_of whole) row ts)) (λ ts. (count ts ≡ n) × EachNodes (Placed 65536) ts) m cap row T o r T' next end e d in
@@ -232,12 +224,12 @@ run_many m n cap row whole T o r T' next end d e =
 
 module _ (given : Given) (cap deep : ℕ) (m : List ℕ) (place at row : ℕ) (T : List ℕ) (n : ℕ) (r : Step) (T' : List ℕ)
     (d : RunDone m n cap row row T (each (term given cap deep) (replicate n (wanted_of Any)) (at_offset m at row)) r T') where
-  pub list_first : (k p : ℕ) (U : List ℕ) → r ≡ step.Refused k p → PartsDone m 0 cap row row T (inner given cap deep place (elements n) (at_offset m at row)) (parts_of.Refused k p) U
+  pub list_first : (x : Refusal) (U : List ℕ) → r ≡ Err x → PartsDone m 0 cap row row T (inner given cap deep place (elements n) (at_offset m at row)) (Err x) U
   unfolding inner Done
-  list_first k p U e =
-      rw (any_run (term given cap deep) n (at_offset m at row), step_refused _ _ _ m cap row T (each (term given cap deep) (replicate n (wanted_of Any)) (at_offset m at row)) r T' k p e d)
+  list_first x U e =
+      rw (any_run (term given cap deep) n (at_offset m at row), step_refused _ _ _ m cap row T (each (term given cap deep) (replicate n (wanted_of Any)) (at_offset m at row)) r T' x e d)
 
-  pub list_then : (next end : ℕ) (s : Parts) (U : List ℕ) → r ≡ step.Got next end
+  pub list_then : (next end : ℕ) (s : PartsStep) (U : List ℕ) → r ≡ got next end
       → PartsDone m n cap end row T' (list_tail given cap deep (body given cap deep) (drop next m) (at_offset m next end)) s U
       → PartsDone m 0 cap row row T (inner given cap deep place (elements n) (at_offset m at row)) s U
   unfolding inner
@@ -337,7 +329,7 @@ module _ (given : Given) (cap deep : ℕ) (m : List ℕ) (at row : ℕ) where
 
 -- a tail of characters, after `before` elements
 pub tail_characters : (given : Given) (cap deep : ℕ) (m : List ℕ) (at row whole before : ℕ) (T : List ℕ) {place : ℕ} {head : code.Head} (o : OpenedAt given m at row (wanted_of Any) place head)
-    (n next : ℕ) (r : Parts) (U : List ℕ) → head ≡ heads.Characters n next
+    (n next : ℕ) (r : PartsStep) (U : List ℕ) → head ≡ heads.Characters n next
     → ((cs : List ℕ) → length cs ≡ n → next ≤ length m → PartsDone m before cap row whole T (inner given cap deep place (characters cs) (at_offset m next row)) r U)
     → (bound : List ℕ) → length m - at ≤ length bound → PartsDone m before cap row whole T (list_tail given cap deep (body given cap deep) bound (at_offset m at row)) r U
 tail_characters given cap deep m at row whole before T {place} {head} o n next r U e d bound h =
@@ -352,16 +344,16 @@ run_moves given cap d n s =
     run_kept cap (λ t. s.at ≤ t.at) (λ t b bs e h. omega arith) (λ t l h. h) given d n s (omega arith)
 
 -- the tails of a list, joined on so far: what is left to read from `at` on
-pub record Tailed (given : Given) (cap deep : ℕ) (m : List ℕ) (at row : ℕ) (whole : ℕ) (T : List ℕ) (before : ℕ) (all_parts : Parts → List ℕ → Type 0) : Type 0 where
+pub record Tailed (given : Given) (cap deep : ℕ) (m : List ℕ) (at row : ℕ) (whole : ℕ) (T : List ℕ) (before : ℕ) (all_parts : PartsStep → List ℕ → Type 0) : Type 0 where
   pub bound : List ℕ
   pub enough : length m - at ≤ length bound
-  pub goes : (s : Parts) (U : List ℕ) → PartsDone m before cap row whole T (list_tail given cap deep (body given cap deep) bound (at_offset m at row)) s U → all_parts s U
+  pub goes : (s : PartsStep) (U : List ℕ) → PartsDone m before cap row whole T (list_tail given cap deep (body given cap deep) bound (at_offset m at row)) s U → all_parts s U
 
 pub tailed_none : (given : Given) (cap deep : ℕ) (m : List ℕ) (at row whole : ℕ) (T : List ℕ) (before : ℕ)
     → Tailed given cap deep m at row whole T before (PartsDone m before cap row whole T (list_tail given cap deep (body given cap deep) (drop at m) (at_offset m at row)))
 tailed_none given cap deep m at row whole T before = record { bound = drop at m; enough = simp length-drop (omega arith); goes = λ s U d. d }
 
-module _ (given : Given) (cap deep : ℕ) (m : List ℕ) (at row whole : ℕ) (T : List ℕ) (before : ℕ) (All : Parts → List ℕ → Type 0) (i : Tailed given cap deep m at row whole T before All) where
+module _ (given : Given) (cap deep : ℕ) (m : List ℕ) (at row whole : ℕ) (T : List ℕ) (before : ℕ) (All : PartsStep → List ℕ → Type 0) (i : Tailed given cap deep m at row whole T before All) where
   -- 108s of length 0 are passed
   pub tailed_skipped : (place : ℕ) → Skipped m at place → Tailed given cap deep m place row whole T before All
   unfolding list_tail
@@ -372,26 +364,26 @@ module _ (given : Given) (cap deep : ℕ) (m : List ℕ) (at row whole : ℕ) (T
       same [] h = ap (refused 2) (omega (arith, s.from, s.inside))
       same (b ∷ bound) h = rw (skipped_opens given m at place row s, skipped_opens given m place place row (skipped_here m at place s))
 
-  pub tailed_nil : Skipped m at at → term_head given any (at_offset m at row) ≡ good (characters [], at_offset m (at + 1) row) → row ≤ cap → All (parts_of.Got (at + 1) row before 5) T
+  pub tailed_nil : Skipped m at at → term_head given any (at_offset m at row) ≡ good (characters [], at_offset m (at + 1) row) → row ≤ cap → All (got_parts (at + 1) row before 5) T
   tailed_nil s e low =
       i.goes _ T (tail_characters given cap deep m at row whole before T (nil_opened given m at row s e) 0 (at + 1) _ T refl
       (λ cs z near. characters_none given m cs before cap row whole deep at (at + 1) T T 0 z refl near low refl) i.bound i.enough)
 
-  pub tailed_last : (r : Parts) (U : List ℕ)
+  pub tailed_last : (r : PartsStep) (U : List ℕ)
       → ((bound : List ℕ) → length m - at ≤ length bound → PartsDone m before cap row whole T (list_tail given cap deep (body given cap deep) bound (at_offset m at row)) r U) → All r U
   tailed_last r U d = i.goes r U (d i.bound i.enough)
 
   module _ {place : ℕ} {head : code.Head} (o : OpenedAt given m at row (wanted_of Any) place head) where
     module _ (n next : ℕ) (e : head ≡ heads.Elements n next) (r : Step) (T' : List ℕ)
         (d : RunDone m n cap row whole T (each (term given cap deep) (replicate n (wanted_of Any)) (at_offset m next row)) r T') where
-      pub tailed_run_refused : (k p : ℕ) (U : List ℕ) → r ≡ step.Refused k p → All (parts_of.Refused k p) U
+      pub tailed_run_refused : (x : Refusal) (U : List ℕ) → r ≡ Err x → All (Err x) U
       unfolding Done
-      tailed_run_refused k p U f =
+      tailed_run_refused x U f =
           let j = tail_joins given cap deep m at row o i.bound n next i.enough e in
-          i.goes (parts_of.Refused k p) U
-          (rw (j.4, step_refused _ _ _ m cap row T (each (term given cap deep) (replicate n (wanted_of Any)) (at_offset m next row)) r T' k p f d))
+          i.goes (Err x) U
+          (rw (j.4, step_refused _ _ _ m cap row T (each (term given cap deep) (replicate n (wanted_of Any)) (at_offset m next row)) r T' x f d))
 
-      module _ (next' end : ℕ) (f : r ≡ step.Got next' end) where
+      module _ (next' end : ℕ) (f : r ≡ got next' end) where
         abbrev elements_run : Found sizes (λ ts. row_words (rows (whole_of whole) row ts)) (λ ts. (count ts ≡ n) × EachNodes (Placed 65536) ts) m cap row T
             (each (term given cap deep) (replicate n (wanted_of Any)) (at_offset m next row)) next' end T'
         elements_run = step_found sizes _ _ m cap row T (each (term given cap deep) (replicate n (wanted_of Any)) (at_offset m next row)) r T' next' end f d
@@ -420,13 +412,12 @@ module _ (given : Given) (cap deep : ℕ) (m : List ℕ) (at row whole : ℕ) (T
 -- ---- `read_last`
 
 module _ (given : Given) (cap deep : ℕ) (m : List ℕ) (at row whole before : ℕ) (T : List ℕ) where
-  abbrev LastDone : Parts → List ℕ → Type 0
+  abbrev LastDone : PartsStep → List ℕ → Type 0
   LastDone r U = (bound : List ℕ) → length m - at ≤ length bound → PartsDone m before cap row whole T (list_tail given cap deep (body given cap deep) bound (at_offset m at row)) r U
 
-  pub last_none : (R : Opening) (n p : ℕ) (U : List ℕ) → ((rows : ℕ) → R ≡ opening_of (opening given (drop at m) (wanted_of Any) (at_offset m at rows))) → R.head ≡ heads.Refused n p
-      → LastDone (parts_of.Refused n p) U
+  pub last_none : (x : Refusal) (U : List ℕ) → ((rows : ℕ) → Err x ≡ opening_of (opening given (drop at m) (wanted_of Any) (at_offset m at rows))) → LastDone (Err x) U
   unfolding Done
-  last_none R n p U e f bound h = rw (tail_refused given cap deep m at row bound n p h (opened_refused given m at row (wanted_of Any) R n p e f))
+  last_none x U e bound h = rw (tail_refused given cap deep m at row bound x.number x.place h (opened_refused given m at row (wanted_of Any) x e))
 
   module _ {place : ℕ} {head : code.Head} (o : OpenedAt given m at row (wanted_of Any) place head) (no : LastAt m at) (other : (n next : ℕ) → head ≡ heads.Characters n next → ⊥) (r : Step) (T' : List ℕ)
       (d : TermDone m cap row whole T (body given cap deep place o.h (at_offset m o.next row)) r T') where
@@ -438,17 +429,17 @@ module _ (given : Given) (cap deep : ℕ) (m : List ℕ) (at row whole before : 
         (λ n e. no.no_elements given row place n (at_offset m o.next row) (o.is ∙ ap (λ (x : Head). good ((place, x), at_offset m o.next row)) e))
         (λ cs e. other (length cs) o.next (o.head_is ∙ ap (λ (x : Head). head_at x o.next) e))
 
-    pub last_refused : (k p : ℕ) (U : List ℕ) → r ≡ step.Refused k p → LastDone (parts_of.Refused k p) U
+    pub last_refused : (x : Refusal) (U : List ℕ) → r ≡ Err x → LastDone (Err x) U
     unfolding Done
-    last_refused k p U e bound h = rw (last_is bound h, step_refused _ _ _ m cap row T (body given cap deep place o.h (at_offset m o.next row)) r T' k p e d)
+    last_refused x U e bound h = rw (last_is bound h, step_refused _ _ _ m cap row T (body given cap deep place o.h (at_offset m o.next row)) r T' x e d)
 
-    pub last_got : (next end : ℕ) → r ≡ step.Got next end → LastDone (parts_of.Got next end (before + 1) 6) T'
+    pub last_got : (next end : ℕ) → r ≡ got next end → LastDone (got_parts next end (before + 1) 6) T'
     unfolding Done rows EachNode kind_of
     last_got next end e bound h =
         let f = step_found size (λ t. row_words (tree_rows (whole_of whole) row t)) (EachNode (Placed 65536)) m cap row T (body given cap deep place o.h (at_offset m o.next row)) r T' next end e d in
         let a : end ≡ row + (size f.x + 0) = omega (arith, f.rows_are) in
         rw (last_is bound h, f.is) (
-          ap (λ (k : ℕ). parts_of.Got next k (before + 1) 6) a,
+          ap (λ (k : ℕ). got_parts next k (before + 1) 6) a,
           record {
             table_is = f.table_is ∙ ap (λ (rs : List Row). sets T row (row_words rs)) (sym (append-nil (tree_rows (whole_of whole) row f.x)));
             stands = ap (λ (k : ℕ). at_offset m next k) a;

@@ -1,13 +1,12 @@
 -- What the code's opening says of the definition's.
 use mathlib.Core.Path.{◌≡◌, refl, sym, ap, ap₂, ◌∙◌, subst}
-use mathlib.Core.Bool.{false}
 use mathlib.Core.List.{List, [], ◌∷◌}
 use Prim.Native.Nat.{ℕ, ◌+◌, ◌≤◌, ◌<◌}
 use native.Mathlib.Omega.{arith}
 use lib.ListN.{length, drop}
 use Rattle.term_spec.specs.Answer.{Answer, good, refused, Position, at_offset, after, done}
 use Rattle.term_spec.specs.Head.{Given, Wanted, any, Head, parts, characters, elements, pairs, Later, later, term_head}
-use Rattle.term_spec.specs.Reading.{empty_108, opening}
+use Rattle.term_spec.specs.Reading.{opening}
 use Rattle.term_spec.proofs.Backed.{CharsAt, OnChars, opening_backed}
 use Rattle.term_spec.proofs.Backed as backing
 use Rattle.term_spec.proofs.Holds.{Holds}
@@ -18,9 +17,11 @@ use Rattle.term_head.specs.declared.Opening.{Opening}
 use Rattle.term_head.specs.declared.Wanted.TheVariants.{Any}
 use Rattle.term_head.specs.Code.{wanted_of, head_at, opening_of, ElementsAt, Skipped}
 use Rattle.term_head.proofs.HeadFacts.{Past, past_byte, past_row, past_is, Wants, no_part, one_node, a_function, Wanting}
-use Rattle.term_head.proofs.Openings.{skipped_head, skipped_opens}
+use Rattle.term_head.proofs.Openings.{skipped_opens}
 use Rattle.term_head.proofs.OpeningFacts.{opening_opens, refused_found}
 use Rattle.term_head.proofs.OpeningFacts as facts
+use Rattle.std.specs.Prelude.{Some, None, Ok, Err}
+use Rattle.term_spec.specs.declared.Refusal.{Refusal}
 use Rattle.term_reader.specs.Code.{asked, HeadFits, SoundHead, HeadRead, LastAt}
 
 -- later fields end in the message too, with no row taken
@@ -48,13 +49,6 @@ head_fits m cap given place (characters cs) w c = λ some. characters_end m cap 
 head_fits m cap given place (elements n) w c = tt
 head_fits m cap given place (pairs n) w c = tt
 
-pub head_refused : (h : Head) (next n p : ℕ) → head_at h next ≡ heads.Refused n p → ⊥
-unfolding head_at
-head_refused (parts ws n' l) next n p e = let z : ◌≡◌ {A = ℕ} 0 1 = cc in omega arith
-head_refused (characters cs) next n p e = let z : ◌≡◌ {A = ℕ} 0 1 = cc in omega arith
-head_refused (elements n') next n p e = let z : ◌≡◌ {A = ℕ} 0 1 = cc in omega arith
-head_refused (pairs n') next n p e = let z : ◌≡◌ {A = ℕ} 0 1 = cc in omega arith
-
 module _ (given : Given) (m : List ℕ) (at row : ℕ) (w : Wanted) where
   pub record OpenedAt (place : ℕ) (head' : code.Head) : Type 0 where
     pub h : Head
@@ -64,33 +58,32 @@ module _ (given : Given) (m : List ℕ) (at row : ℕ) (w : Wanted) where
     pub further : at < next
     pub sound : SoundHead m place next h
 
-  opened_by : (o : Answer ((ℕ × Head) × Position)) (R : Opening) → opening given (drop at m) w (at_offset m at row) ≡ o → R ≡ opening_of o → ((n p : ℕ) → R.head ≡ heads.Refused n p → ⊥)
-      → at ≤ length m → OpenedAt R.place R.head
+  opened_by : (o : Answer ((ℕ × Head) × Position)) (R : Opening) → opening given (drop at m) w (at_offset m at row) ≡ o → Ok R ≡ opening_of o → at ≤ length m → OpenedAt R.place R.head
   unfolding opening_of
-  opened_by (refused k q) R f e other near = absurd (other k q (ap (λ (x : Opening). x.head) e))
-  opened_by (good y) R f e other near =
+  opened_by (refused k q) R f e near = absurd (cc)
+  opened_by (good y) R f e near =
       let k : facts.Opens m at row y.0.0 y.0.1 y.1 = (opening_opens given m (drop at m) at row w).known y.0 y.1 f in
       let b : backing.Opened m row given y.0 y.1
       = (opening_backed m row given (drop at m) w (at_offset m at row) (record { bytes_are = refl; inside = near; room = omega arith })).known y.0 y.1 f in
-      let p : R.place ≡ y.0.0 = ap (λ (x : Opening). x.place) e in
+      let d : R ≡ record { place = y.0.0; head = head_at y.0.1 y.1.at } = cc in
+      let p : R.place ≡ y.0.0 = ap (λ (x : Opening). x.place) d in
       let ends : y.0.0 < y.1.at = omega (arith, k.past.later) in
       record {
         h = y.0.1;
         next = y.1.at;
         is = f ∙ ap₂ (λ (a : ℕ) (s : Position). good ((a, y.0.1), s)) (sym p) (past_is m (y.0.0 + 1) row y.1 k.past);
-        head_is = ap (λ (x : Opening). x.head) e;
+        head_is = ap (λ (x : Opening). x.head) d;
         further = omega (arith, k.from);
         sound = subst (λ (a : ℕ). SoundHead m a y.1.at y.0.1) (sym p)
             (record { before = ends; end = k.past.in_step.inside; fits = head_fits m row given y.0.0 y.0.1 k.wanting b.3 });
       }
 
-  pub opened : (R : Opening) → ((rows : ℕ) → R ≡ opening_of (opening given (drop at m) w (at_offset m at rows))) → ((n p : ℕ) → R.head ≡ heads.Refused n p → ⊥)
-      → at ≤ length m → OpenedAt R.place R.head
-  opened R e other near = opened_by _ R refl (e row) other near
+  pub opened : (R : Opening) → ((rows : ℕ) → Ok R ≡ opening_of (opening given (drop at m) w (at_offset m at rows))) → at ≤ length m → OpenedAt R.place R.head
+  opened R e near = opened_by _ R refl (e row) near
 
-  pub opened_refused : (R : Opening) (n p : ℕ) → ((rows : ℕ) → R ≡ opening_of (opening given (drop at m) w (at_offset m at rows))) → R.head ≡ heads.Refused n p
-      → opening given (drop at m) w (at_offset m at row) ≡ refused n p
-  opened_refused R n p e f = (refused_found _ R (e row) n p f).0
+  pub opened_refused : (x : Refusal) → ((rows : ℕ) → Err x ≡ opening_of (opening given (drop at m) w (at_offset m at rows)))
+      → opening given (drop at m) w (at_offset m at row) ≡ refused x.number x.place
+  opened_refused x e = refused_found _ (Err x) (e row) x refl
 
   pub opens : {place : ℕ} {head' : code.Head} → OpenedAt place head' → HeadRead m place head'
   opens o = record { h = o.h; next = o.next; is = o.head_is; sound = o.sound }
@@ -103,18 +96,18 @@ module _ (given : Given) (m : List ℕ) (at row : ℕ) (s : Skipped m at at) whe
   head_opened h next e =
       opened_by given m at row any (good ((at, h), at_offset m next row)) (record { place = at; head = head_at h next })
       (skipped_opens given m at at row s ∙ ap (λ (o : Answer (Head × Position)). after o (λ x. done (at, x))) e)
-      refl (λ n p f. head_refused h next n p f) s.inside
+      refl s.inside
 
   pub nil_opened : term_head given any (at_offset m at row) ≡ good (characters [], at_offset m (at + 1) row) → OpenedAt given m at row (wanted_of Any) at (heads.Characters 0 (at + 1))
   unfolding wanted_of head_at
   nil_opened e = head_opened (characters []) (at + 1) e
 
-  pub elements_opened : (n : ℕ) → (n ≡ 0 → ⊥) → ElementsAt m at n → OpenedAt given m at row (wanted_of Any) at (heads.Elements n (at + 5))
+  pub elements_opened : (n : ℕ) → ElementsAt m at (Some n) → OpenedAt given m at row (wanted_of Any) at (heads.Elements n (at + 5))
   unfolding wanted_of head_at
-  elements_opened n more e = head_opened (elements n) (at + 5) (e.some more given row)
+  elements_opened n e = head_opened (elements n) (at + 5) (e.some n refl given row)
 
-pub last_at : (m : List ℕ) (at : ℕ) → Skipped m at at → (n : ℕ) → n ≡ 0 → ElementsAt m at n → LastAt m at
-last_at m at s n z i = record { no_elements = λ given rows place k t e. go given rows place k t (term_head given any (at_offset m at rows)) refl (sym (skipped_opens given m at at rows s) ∙ e) }
+pub last_at : (m : List ℕ) (at : ℕ) → Skipped m at at → ElementsAt m at None → LastAt m at
+last_at m at s i = record { no_elements = λ given rows place k t e. go given rows place k t (term_head given any (at_offset m at rows)) refl (sym (skipped_opens given m at at rows s) ∙ e) }
   where
     go : (given : Given) (rows place k : ℕ) (t : Position) (o : Answer (Head × Position)) → term_head given any (at_offset m at rows) ≡ o
         → ◌≡◌ {A = Answer ((ℕ × Head) × Position)} (after o (λ h. done (at, h))) (good ((place, elements k), t)) → ⊥
@@ -122,7 +115,4 @@ last_at m at s n z i = record { no_elements = λ given rows place k t e. go give
     go given rows place k t (good x) f e =
         let q : ◌≡◌ {A = (ℕ × Head) × Position} ((at, x.0), x.1) ((place, elements k), t) = cc in
         let h : x.0 ≡ elements k = ap (λ (y : (ℕ × Head) × Position). y.0.1) q in
-        let y : k ≡ 0 = i.none z given rows k x.1 (f ∙ ap (λ (w : Head). good (w, x.1)) h) in
-        let full : empty_108 x.0 ≡ false = (skipped_head given m at at rows s).known x.0 x.1 f in
-        let none : empty_108 (elements 0) ≡ false = rw (h, y) at full in
-        let w : ◌≡◌ {A = ℕ} 0 1 = cc in omega arith
+        i.none refl given rows k x.1 (f ∙ ap (λ (w : Head). good (w, x.1)) h)

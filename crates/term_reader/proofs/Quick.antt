@@ -12,15 +12,13 @@ use Rattle.term_spec.specs.AtomList.{AtomList}
 use Rattle.term_spec.specs.Reading.{each, run, string, one_term, body, term}
 use Rattle.term_spec.specs.Rows.{rows, kind_of, pack, SmallFields, row_words}
 use Rattle.term_spec.proofs.Words.{Between, kind_of_range}
-use Rattle.term_head.specs.declared.Step.TheVariants as fields
 use Rattle.term_head.specs.declared.Wanted.TheVariants.{Any}
-use Rattle.term_head.specs.Code.{wanted_of, kind_later, head_of, step_of}
+use Rattle.term_head.specs.Code.{wanted_of, kind_later, head_of, end_of}
 use Rattle.term_head.specs.Quick.{quick_word, Common, some_parts, no_characters, some_elements, some_pairs, Told}
 use Rattle.term_head.proofs.Common.{Quickly, quickly}
-use Rattle.term_reader.specs.declared.Step.{Step}
-use Rattle.term_reader.specs.declared.Step.TheVariants as step
-use Rattle.term_reader.specs.declared.Parts.{Parts}
-use Rattle.term_reader.specs.declared.Parts.TheVariants as parts_of
+use Rattle.std.specs.Prelude.{Ok, Err}
+use Rattle.term_spec.specs.declared.Refusal.{Refusal}
+use Rattle.term_reader.specs.Code.{Step, PartsStep, got, got_parts}
 use Rattle.term_reader.specs.Code.{asked, Room, inner, Done, TermDone, RunDone, PartsDone}
 use Rattle.term_reader.proofs.Bodies.{body_got}
 use Rattle.term_reader.proofs.Inner.{parts_second, parts_got}
@@ -64,27 +62,27 @@ is_run (some_pairs n x) a b some = absurd (b refl)
 -- ---- `read_common`
 
 module _ (given : Given) (cap deep : ℕ) (m : List ℕ) (place row : ℕ) (T : List ℕ) where
-  abbrev CommonDone : Head → ℕ → Parts → List ℕ → Type 0
+  abbrev CommonDone : Head → ℕ → PartsStep → List ℕ → Type 0
   CommonDone h next r U = PartsDone m 0 cap row row T (inner given cap deep place h (at_offset m next row)) r U
 
   -- a term without parts
-  leaf_done : {h : Head} {k c : ℕ} → Common h k c → c ≡ 0 → (next : ℕ) → next ≤ length m → row ≤ cap → CommonDone h next (parts_of.Got next row 0 k) T
+  leaf_done : {h : Head} {k c : ℕ} → Common h k c → c ≡ 0 → (next : ℕ) → next ≤ length m → row ≤ cap → CommonDone h next (got_parts next row 0 k) T
   unfolding inner each run string later Done rows row_words EachNode kind_of
   leaf_done (some_parts l n) e next near low =
-      rw e (ap (λ (k : ℕ). parts_of.Got next k 0 (kind_of l)) (omega arith), record { table_is = refl; stands = ap (λ (k : ℕ). at_offset m next k) (omega arith); near = near; room = omega arith; from = tt })
+      rw e (ap (λ (k : ℕ). got_parts next k 0 (kind_of l)) (omega arith), record { table_is = refl; stands = ap (λ (k : ℕ). at_offset m next k) (omega arith); near = near; room = omega arith; from = tt })
   leaf_done no_characters e next near low =
-      (ap (λ (k : ℕ). parts_of.Got next k 0 5) (omega arith), record { table_is = refl; stands = ap (λ (k : ℕ). at_offset m next k) (omega arith); near = near; room = omega arith; from = tt })
+      (ap (λ (k : ℕ). got_parts next k 0 5) (omega arith), record { table_is = refl; stands = ap (λ (k : ℕ). at_offset m next k) (omega arith); near = near; room = omega arith; from = tt })
   leaf_done (some_elements n some) e next near low = absurd (some e)
   leaf_done (some_pairs n some) e next near low = absurd (some e)
 
   module _ (w : ℕ) {h : Head} {next : ℕ} (t : Told w h next) where
-    pub common_leaf : w / 2097152 ≡ 0 → next ≤ length m → row ≤ cap → CommonDone h next (parts_of.Got (w / 16 % 131072) row 0 (w % 16)) T
+    pub common_leaf : w / 2097152 ≡ 0 → next ≤ length m → row ≤ cap → CommonDone h next (got_parts (w / 16 % 131072) row 0 (w % 16)) T
     common_leaf e near low = rw (told_next t, told_kind t) (leaf_done t.common (sym (told_count t) ∙ e) next near low)
 
-    pub common_list : (r : Parts) (U : List ℕ) → w % 16 ≡ 15 → CommonDone (elements (w / 2097152)) (w / 16 % 131072) r U → CommonDone h next r U
+    pub common_list : (r : PartsStep) (U : List ℕ) → w % 16 ≡ 15 → CommonDone (elements (w / 2097152)) (w / 16 % 131072) r U → CommonDone h next r U
     common_list r U e d = rw (is_list t.common (sym (told_kind t) ∙ e)) (rw (told_next t, told_count t) at d)
 
-    pub common_pairs : (r : Parts) (U : List ℕ) → w % 16 ≡ 0 → CommonDone (pairs (w / 2097152)) (w / 16 % 131072) r U → CommonDone h next r U
+    pub common_pairs : (r : PartsStep) (U : List ℕ) → w % 16 ≡ 0 → CommonDone (pairs (w / 2097152)) (w / 16 % 131072) r U → CommonDone h next r U
     common_pairs r U e d = rw (is_map t.common (sym (told_kind t) ∙ e)) (rw (told_next t, told_count t) at d)
 
     module _ (some : w / 2097152 ≡ 0 → ⊥) (no_list : w % 16 ≡ 15 → ⊥) (no_map : w % 16 ≡ 0 → ⊥) (near : next ≤ length m) (low : row ≤ cap) (r : Step) (T' : List ℕ)
@@ -95,20 +93,20 @@ module _ (given : Given) (cap deep : ℕ) (m : List ℕ) (place row : ℕ) (T : 
       it : RunOf h t.kind t.count
       it = is_run t.common (λ e. no_list (told_kind t ∙ e)) (λ e. no_map (told_kind t ∙ e)) (λ e. some (told_count t ∙ e))
 
-      none_wanted : RunDone m 0 cap row row T (each (term given cap deep) (asked 0) (at_offset m next row)) (step.Got next row) T
+      none_wanted : RunDone m 0 cap row row T (each (term given cap deep) (asked 0) (at_offset m next row)) (got next row) T
       unfolding asked
       none_wanted = run_none (term given cap deep) any m cap row row next T 0 refl low near
 
-      pub common_refused : (k p : ℕ) (U : List ℕ) → r ≡ step.Refused k p → CommonDone h next (parts_of.Refused k p) U
+      pub common_refused : (x : Refusal) (U : List ℕ) → r ≡ Err x → CommonDone h next (Err x) U
       unfolding asked
-      common_refused k p U e = rw it.head_is (parts_second given cap deep m place next row T 0 t.count (known it.l) (step.Got next row) T none_wanted next row refl r T' ran k p U e)
+      common_refused x U e = rw it.head_is (parts_second given cap deep m place next row T 0 t.count (known it.l) (got next row) T none_wanted next row refl r T' ran x U e)
 
-      pub common_got : (next' end : ℕ) → r ≡ step.Got next' end → CommonDone h next (parts_of.Got next' end (w / 2097152) (w % 16)) T'
-      unfolding asked step_of later kind_later
+      pub common_got : (next' end : ℕ) → r ≡ got next' end → CommonDone h next (got_parts next' end (w / 2097152) (w % 16)) T'
+      unfolding asked end_of later kind_later
       common_got next' end e =
           let z : 0 + t.count ≡ t.count = omega arith in
           rw (it.head_is, told_kind t, told_count t)
-          (rw z at (parts_got given cap deep m place next row T 0 t.count (known it.l) (step.Got next row) T none_wanted next row refl r T' ran next' end e (fields.Got next') refl t.kind next' it.kind_is refl))
+          (rw z at (parts_got given cap deep m place next row T 0 t.count (known it.l) (got next row) T none_wanted next row refl r T' ran next' end e (Ok next') refl t.kind next' it.kind_is refl))
 
 -- ---- `read_quick`, and a leaf in `read_run`, `read_entry` and `read_wanted`
 
@@ -129,12 +127,12 @@ module _ (given : Given) (w : Wanted) (m : List ℕ) (at row word : ℕ) (some :
     quick_term r U d = rw opened_quickly.opens d
 
     pub quick_leaf : word < 2097152 → (left ≡ 0 → ⊥) → row < cap → at < 65536 → (v : ℕ) → v ≡ pack (word % 16) at whole 0 1
-        → TermDone m cap row whole T (term given cap left w (at_offset m at row)) (step.Got (word / 16) (row + 1)) (set T row v)
+        → TermDone m cap row whole T (term given cap left w (at_offset m at row)) (got (word / 16) (row + 1)) (set T row v)
     quick_leaf little some_left low near v f =
         let a : word / 16 ≡ word / 16 % 131072 = omega arith in
         let b : row + 1 - row ≡ 1 = omega arith in
         rw a (quick_term _ _
-        (body_got given cap left m at opened_quickly.h opened_quickly.next row whole T some_left low (parts_of.Got (word / 16 % 131072) (row + 1) 0 (word % 16)) T
+        (body_got given cap left m at opened_quickly.h opened_quickly.next row whole T some_left low (got_parts (word / 16 % 131072) (row + 1) 0 (word % 16)) T
         (common_leaf given cap (left - 1) m at (row + 1) T word opened_quickly.told_by (omega arith) opened_quickly.near (omega arith))
         (word / 16 % 131072) (row + 1) 0 (word % 16) v refl near (f ∙ ap (λ (k : ℕ). pack (word % 16) at whole 0 k) (sym b))))
 

@@ -14,14 +14,15 @@ use Rattle.term_spec.specs.Message.{Terms}
 use Rattle.term_spec.specs.Rows.{tree_rows, rows, row_words, Placed}
 use Rattle.term_head.specs.declared.Wanted.TheVariants.{Atom, Arity}
 use Rattle.term_head.specs.Code.{wanted_of}
-use Rattle.term_reader.specs.declared.Step.{Step}
-use Rattle.term_reader.specs.declared.Step.TheVariants.{Got, Refused}
+use Rattle.std.specs.Prelude.{Err}
+use Rattle.term_spec.specs.declared.Refusal.{Refusal}
+use Rattle.term_reader.specs.Code.{Step, got}
 use Rattle.term_reader.specs.Code.{whole_of, asked, Room, Done, TermDone, RunDone}
 use Rattle.term_reader.proofs.Found.{Found, StepDone, step_found, step_refused, also, join}
 
 -- the room that is left after what was found
 pub room_after : {X : Type 0} (size_of : X → ℕ) (as_rows : X → List ℕ) (From : X → Type 0) (m : List ℕ) (list : AtomList) (T T' : List ℕ) (cap at row whole next end : ℕ)
-    (o : Answer (X × Position)) (r : Step) → Room m list T cap at row whole → StepDone size_of as_rows From m cap row T o r T' → r ≡ Got next end → length T' ≡ length T
+    (o : Answer (X × Position)) (r : Step) → Room m list T cap at row whole → StepDone size_of as_rows From m cap row T o r T' → r ≡ got next end → length T' ≡ length T
     → Room m list T' cap next end whole
 room_after size_of as_rows From m list T T' cap at row whole next end o r room d e same =
     let f : Found size_of as_rows From m cap row T o next end T' = step_found size_of as_rows From m cap row T o r T' next end e d in
@@ -73,30 +74,30 @@ each_append part (x ∷ xs) ys s =
 -- ---- `read_run`
 
 module _ (part : Wanted → Reading Located) (w : Wanted) (m : List ℕ) (cap row whole at : ℕ) (T : List ℕ) (n : ℕ) where
-  pub run_none : n ≡ 0 → row ≤ cap → at ≤ length m → RunDone m n cap row whole T (each part (replicate n w) (at_offset m at row)) (Got at row) T
+  pub run_none : n ≡ 0 → row ≤ cap → at ≤ length m → RunDone m n cap row whole T (each part (replicate n w) (at_offset m at row)) (got at row) T
   unfolding each Done rows row_words EachNode
   run_none e low near =
       let a : row ≡ row + 0 = omega arith in
-      rw e (ap (Got at) a, record { table_is = refl; stands = ap (λ (k : ℕ). at_offset m at k) a; near = near; room = omega arith; from = (refl, tt) })
+      rw e (ap (got at) a, record { table_is = refl; stands = ap (λ (k : ℕ). at_offset m at k) a; near = near; room = omega arith; from = (refl, tt) })
 
-  module _ (some : n ≡ 0 → ⊥) (r : Step) (T' : List ℕ) where
-    first : (s : Position) → each part (replicate n w) s ≡ after (part w s) (λ t. λ u. after (each part (replicate (n - 1) w) u) (λ ts. done (t ▹ ts)))
+  module _ (k : ℕ) (is : n ≡ suc k) (r : Step) (T' : List ℕ) where
+    first : (s : Position) → each part (replicate n w) s ≡ after (part w s) (λ t. λ u. after (each part (replicate k w) u) (λ ts. done (t ▹ ts)))
     unfolding each
-    first s = let e : n ≡ suc (n - 1) = omega arith in ap (λ (k : ℕ). each part (replicate k w) s) e
+    first s = ap (λ (j : ℕ). each part (replicate j w) s) is
 
-    pub run_refused : (k p : ℕ) (U : List ℕ) → r ≡ Refused k p → TermDone m cap row whole T (part w (at_offset m at row)) r T'
-        → RunDone m n cap row whole T (each part (replicate n w) (at_offset m at row)) (Refused k p) U
+    pub run_refused : (x : Refusal) (U : List ℕ) → r ≡ Err x → TermDone m cap row whole T (part w (at_offset m at row)) r T'
+        → RunDone m n cap row whole T (each part (replicate n w) (at_offset m at row)) (Err x) U
     unfolding Done
-    run_refused k p U e d = rw (first (at_offset m at row), step_refused _ _ _ m cap row T (part w (at_offset m at row)) r T' k p e d)
+    run_refused x U e d = rw (first (at_offset m at row), step_refused _ _ _ m cap row T (part w (at_offset m at row)) r T' x e d)
 
-    pub run_more : (next end : ℕ) (s : Step) (U : List ℕ) → r ≡ Got next end → TermDone m cap row whole T (part w (at_offset m at row)) r T'
-        → RunDone m (n - 1) cap end whole T' (each part (replicate (n - 1) w) (at_offset m next end)) s U
+    pub run_more : (next end : ℕ) (s : Step) (U : List ℕ) → r ≡ got next end → TermDone m cap row whole T (part w (at_offset m at row)) r T'
+        → RunDone m k cap end whole T' (each part (replicate k w) (at_offset m next end)) s U
         → RunDone m n cap row whole T (each part (replicate n w) (at_offset m at row)) s U
     run_more next end s U e d rest =
         let f = step_found size (λ t. row_words (tree_rows (whole_of whole) row t)) (EachNode (Placed 65536)) m cap row T (part w (at_offset m at row)) r T' next end e d in
-        let many : suc (n - 1) ≡ n = omega arith in
+        let many : suc k ≡ n = sym is in
         rw (first (at_offset m at row), f.is)
-        (rw many at (also m cap row whole T T' (n - 1) f.x end f.table_is f.rows_are f.from (each part (replicate (n - 1) w) (at_offset m next end)) s U rest))
+        (rw many at (also m cap row whole T T' k f.x end f.table_is f.rows_are f.from (each part (replicate k w) (at_offset m next end)) s U rest))
 
 -- a run of one is that term
 module _ (part : Wanted → Reading Located) (w : Wanted) (m : List ℕ) (cap row whole at : ℕ) (T : List ℕ) (r : Step) (T' : List ℕ) where
@@ -106,7 +107,7 @@ module _ (part : Wanted → Reading Located) (w : Wanted) (m : List ℕ) (cap ro
   one (good y) d =
       let a : row + (size y.0 + 0) ≡ row + size y.0 = omega arith in
       let s = d.1 in (
-        d.0 ∙ ap (Got y.1.at) a,
+        d.0 ∙ ap (got y.1.at) a,
         record {
           table_is = s.table_is ∙ ap (λ (ws : List ℕ). sets T row ws) (ap row_words (append-nil (tree_rows (whole_of whole) row y.0)));
           stands = s.stands ∙ ap (λ (k : ℕ). at_offset m y.1.at k) a;
@@ -124,12 +125,12 @@ module _ (part : Wanted → Reading Located) (w : Wanted) (m : List ℕ) (cap ro
 
 -- where one part is wanted, a term read as an atom is all of it
 pub wanted_node : (part : Wanted → Reading Located) (m : List ℕ) (cap row whole at : ℕ) (T : List ℕ) (n next end : ℕ) (T' : List ℕ) → n ≡ 1
-    → TermDone m cap row whole T (part an_atom (at_offset m at row)) (Got next end) T'
-    → RunDone m n cap row whole T (each part (asked n) (at_offset m at row)) (Got next end) T'
+    → TermDone m cap row whole T (part an_atom (at_offset m at row)) (got next end) T'
+    → RunDone m n cap row whole T (each part (asked n) (at_offset m at row)) (got next end) T'
 unfolding asked
 wanted_node part m cap row whole at T n next end T' e d =
-    let f = step_found size (λ t. row_words (tree_rows (whole_of whole) row t)) (EachNode (Placed 65536)) m cap row T (part an_atom (at_offset m at row)) (Got next end) T' next end refl d in
-    rw e (run_more part an_atom m cap row whole at T 1 (λ z. omega arith) (Got next end) T' next end (Got next end) T' refl d
+    let f = step_found size (λ t. row_words (tree_rows (whole_of whole) row t)) (EachNode (Placed 65536)) m cap row T (part an_atom (at_offset m at row)) (got next end) T' next end refl d in
+    rw e (run_more part an_atom m cap row whole at T 1 0 refl (got next end) T' next end (got next end) T' refl d
     (run_none part an_atom m cap end whole next T' 0 refl f.room f.near))
 
 module _ (part : Wanted → Reading Located) (m : List ℕ) (cap row whole at : ℕ) (T : List ℕ) (n a : ℕ) (least : a ≡ min n 2) (r : Step) (T' : List ℕ)
@@ -142,11 +143,11 @@ module _ (part : Wanted → Reading Located) (m : List ℕ) (cap row whole at : 
       ap₂ (λ (x y : ℕ). each part (replicate x an_atom ++ replicate y an_arity) (at_offset m at row)) (sym least) e
       ∙ each_append part (replicate a an_atom) (replicate (n - a) an_arity) (at_offset m at row)
 
-  pub wanted_refused : (k p : ℕ) (U : List ℕ) → r ≡ Refused k p → RunDone m n cap row whole T (each part (asked n) (at_offset m at row)) (Refused k p) U
+  pub wanted_refused : (x : Refusal) (U : List ℕ) → r ≡ Err x → RunDone m n cap row whole T (each part (asked n) (at_offset m at row)) (Err x) U
   unfolding Done
-  wanted_refused k p U e = rw (both, step_refused _ _ _ m cap row T (each part (replicate a (wanted_of Atom)) (at_offset m at row)) r T' k p e d)
+  wanted_refused x U e = rw (both, step_refused _ _ _ m cap row T (each part (replicate a (wanted_of Atom)) (at_offset m at row)) r T' x e d)
 
-  pub wanted_more : (next end : ℕ) (s : Step) (U : List ℕ) → r ≡ Got next end
+  pub wanted_more : (next end : ℕ) (s : Step) (U : List ℕ) → r ≡ got next end
       → RunDone m (n - a) cap end whole T' (each part (replicate (n - a) (wanted_of Arity)) (at_offset m next end)) s U
       → RunDone m n cap row whole T (each part (asked n) (at_offset m at row)) s U
   wanted_more next end s U e rest =

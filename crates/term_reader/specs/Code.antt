@@ -1,6 +1,6 @@
 -- What the contracts of reading terms say of the code's own values.
 -- About the code alone, proved against the definitions of term_spec: nothing here has to be believed.
-use Rattle.std.specs.Prelude.{◌≡◌, true, List, [], ◌∷◌, ◌++◌, ℕ, zero, suc, ◌+◌, ◌-◌, ◌≤◌, ◌<◌, min, length, drop, replicate}
+use Rattle.std.specs.Prelude.{◌≡◌, true, List, [], ◌∷◌, ◌++◌, ℕ, zero, suc, ◌+◌, ◌-◌, ◌≤◌, ◌<◌, min, Result, Ok, length, drop, replicate}
 use Rattle.std.proofs.Math.Option.{Option, none, some}
 use Rattle.std.proofs.lemmas.List.Edits.{sets}
 use Rattle.term_spec.specs.Tree.{◌▹▹◌, count, size, sizes, EachNode, EachNodes}
@@ -13,13 +13,26 @@ use Rattle.term_spec.specs.Message.{Terms}
 use Rattle.term_spec.specs.Rows.{tree_rows, rows, kind_of, pack, row_words, Placed}
 use Rattle.term_head.specs.declared.Head as code
 use Rattle.term_head.specs.declared.Later as code_later
-use Rattle.term_head.specs.Code.{kind_later, later_of, head_at, head_of}
+use Rattle.term_head.specs.Code.{refusal, kind_later, later_of, head_at, head_of}
 use Rattle.term_head.specs.Quick.{Told, quick_word}
 use Rattle.map_keys.specs.KeySet.{Keeps}
-use Rattle.term_reader.specs.declared.Step.{Step}
-use Rattle.term_reader.specs.declared.Step.TheVariants as step
-use Rattle.term_reader.specs.declared.Parts.{Parts}
-use Rattle.term_reader.specs.declared.Parts.TheVariants as parts_of
+use Rattle.term_spec.specs.declared.Refusal.{Refusal}
+use Rattle.term_reader.specs.declared.Reached as code_reached
+use Rattle.term_reader.specs.declared.Parts as code_parts
+
+-- what reading a term, or some terms in turn, comes to: the offset and the row past them
+abbrev pub Step : Type 0
+Step = Result code_reached.Reached Refusal
+
+abbrev pub got : ℕ → ℕ → Step
+got next rows = Ok (record { next = next; rows = rows })
+
+-- what reading the parts of a term comes to
+abbrev pub PartsStep : Type 0
+PartsStep = Result code_parts.Parts Refusal
+
+abbrev pub got_parts : ℕ → ℕ → ℕ → ℕ → PartsStep
+got_parts next rows many kind = Ok (record { next = next; rows = rows; parts = many; kind = kind })
 
 -- the whole that a number in a row's word stands for: its row plus 1, or 0
 unfoldable pub whole_of : ℕ → Option ℕ
@@ -106,17 +119,17 @@ module _ {X S : Type 0} (got : X → ℕ → ℕ → S) (no : ℕ → ℕ → S)
 -- one term
 abbrev pub TermDone : List ℕ → ℕ → ℕ → ℕ → List ℕ → Answer (Located × Position) → Step → List ℕ → Type 0
 TermDone m cap row whole =
-    Done (λ t next end. step.Got next end) step.Refused size (λ t. row_words (tree_rows (whole_of whole) row t)) (EachNode (Placed 65536)) m cap row
+    Done (λ t next end. got next end) refusal size (λ t. row_words (tree_rows (whole_of whole) row t)) (EachNode (Placed 65536)) m cap row
 
 -- n terms in turn
 abbrev pub RunDone : List ℕ → ℕ → ℕ → ℕ → ℕ → List ℕ → Answer (Terms × Position) → Step → List ℕ → Type 0
 RunDone m n cap row whole =
-    Done (λ ts next end. step.Got next end) step.Refused sizes (λ ts. row_words (rows (whole_of whole) row ts)) (λ ts. (count ts ≡ n) × EachNodes (Placed 65536) ts) m cap row
+    Done (λ ts next end. got next end) refusal sizes (λ ts. row_words (rows (whole_of whole) row ts)) (λ ts. (count ts ≡ n) × EachNodes (Placed 65536) ts) m cap row
 
 -- the parts of a term, of which `before` are read already, and its label
-abbrev pub PartsDone : List ℕ → ℕ → ℕ → ℕ → ℕ → List ℕ → Answer ((Terms × Label) × Position) → Parts → List ℕ → Type 0
+abbrev pub PartsDone : List ℕ → ℕ → ℕ → ℕ → ℕ → List ℕ → Answer ((Terms × Label) × Position) → PartsStep → List ℕ → Type 0
 PartsDone m before cap row whole =
-    Done (λ e next end. parts_of.Got next end (before + count e.0) (kind_of e.1)) parts_of.Refused (λ e. sizes e.0) (λ e. row_words (rows (whole_of whole) row e.0))
+    Done (λ e next end. got_parts next end (before + count e.0) (kind_of e.1)) refusal (λ e. sizes e.0) (λ e. row_words (rows (whole_of whole) row e.0))
     (λ e. EachNodes (Placed 65536) e.0) m cap row
 
 -- this word says the head of the term at an offset
@@ -124,7 +137,7 @@ abbrev pub QuickAt : List ℕ → Given → Wanted → ℕ → ℕ → Type 0
 QuickAt m given wanted at word = (rows : ℕ) → word ≡ quick_word (head_of (term_head given wanted (at_offset m at rows)))
 
 -- a 107 at `place` with any `count` characters, whatever else is given
-abbrev pub CharactersRead : ℕ → ℕ → ℕ → ℕ → ℕ → ℕ → ℕ → ℕ → List ℕ → Parts → List ℕ → Type 0
+abbrev pub CharactersRead : ℕ → ℕ → ℕ → ℕ → ℕ → ℕ → ℕ → ℕ → List ℕ → PartsStep → List ℕ → Type 0
 CharactersRead cap left place count next before row whole T r T' =
     (given : Given) (m cs : List ℕ) → length cs ≡ count → next ≤ length m → PartsDone m before cap row whole T (inner given cap left place (characters cs) (at_offset m next row)) r T'
 
@@ -148,35 +161,35 @@ module _ (m : List ℕ) (given : Given) (cap left at row whole : ℕ) (T S : Lis
     pub keys_kept : Keeps S S'
 
   -- the parts of the term at `at`, whose head is read
-  pub record InnerRead (head : code.Head) (r : Parts) (T' S' : List ℕ) : Type 0 where
+  pub record InnerRead (head : code.Head) (r : PartsStep) (T' S' : List ℕ) : Type 0 where
     pub rows_stored : (h : Head) (next : ℕ) → head ≡ head_at h next → SoundHead m at next h
         → PartsDone m 0 cap row whole T (inner given cap left at h (at_offset m next row)) r T'
     pub keys_kept : Keeps S S'
 
   -- the parts of the term at `place`, of this kind: wanted parts, then `count` of any kind, then later fields
-  pub record PartsRead (place kind wanted count : ℕ) (later : code_later.Later) (r : Parts) (T' S' : List ℕ) : Type 0 where
+  pub record PartsRead (place kind wanted count : ℕ) (later : code_later.Later) (r : PartsStep) (T' S' : List ℕ) : Type 0 where
     pub rows_stored : (l : Later) → kind ≡ kind_later l → later_of l ≡ later
         → PartsDone m 0 cap row whole T (inner given cap left place (parts (asked wanted) count l) (at_offset m at row)) r T'
     pub keys_kept : Keeps S S'
 
   -- the parts of any term with the head h
-  pub record ManyRead (h : Head) (r : Parts) (T' S' : List ℕ) : Type 0 where
+  pub record ManyRead (h : Head) (r : PartsStep) (T' S' : List ℕ) : Type 0 where
     pub rows_stored : (place : ℕ) → PartsDone m 0 cap row whole T (inner given cap left place h (at_offset m at row)) r T'
     pub keys_kept : Keeps S S'
 
   -- what follows the elements of a list, of which `before` are read
-  pub record TailRead (before : ℕ) (r : Parts) (T' S' : List ℕ) : Type 0 where
+  pub record TailRead (before : ℕ) (r : PartsStep) (T' S' : List ℕ) : Type 0 where
     pub rows_stored : PartsDone m before cap row whole T (list_tail given cap left (body given cap left) (drop at m) (at_offset m at row)) r T'
     pub keys_kept : Keeps S S'
 
   -- the same of a tail that is joined no further, by any bound as long as the bytes left
-  pub record LastRead (before : ℕ) (r : Parts) (T' S' : List ℕ) : Type 0 where
+  pub record LastRead (before : ℕ) (r : PartsStep) (T' S' : List ℕ) : Type 0 where
     pub rows_stored : (bound : List ℕ) → length m - at ≤ length bound
         → PartsDone m before cap row whole T (list_tail given cap left (body given cap left) bound (at_offset m at row)) r T'
     pub keys_kept : Keeps S S'
 
 -- the parts of a term whose head is in a word
-pub record CommonRead (m : List ℕ) (given : Given) (cap left row whole : ℕ) (T S : List ℕ) (word : ℕ) (r : Parts) (T' S' : List ℕ) : Type 0 where
+pub record CommonRead (m : List ℕ) (given : Given) (cap left row whole : ℕ) (T S : List ℕ) (word : ℕ) (r : PartsStep) (T' S' : List ℕ) : Type 0 where
   pub rows_stored : (place : ℕ) (h : Head) (next : ℕ) → Told word h next
       → PartsDone m 0 cap row whole T (inner given cap left place h (at_offset m next row)) r T'
   pub keys_kept : Keeps S S'

@@ -9,42 +9,27 @@ ghost use Rattle.term_head.specs.Code.{wanted_of};
 ghost use Rattle.term_reader.specs.Code.{asked, character_words, Room, HeadRead, LastAt, QuickAt, CharactersRead, TermRead, RunRead, BodyRead, InnerRead, PartsRead, ManyRead, TailRead, LastRead, CommonRead};
 
 use term_head::{Head, Later, Wanted};
-use term_spec::{kinds, refusals};
+use term_spec::{Refusal, kinds, refusals, sizes};
 
 // Of the parts that are wanted, so many are atoms at most.
 const WANTED_ATOMS: usize = 2;
-// The parts of a pair: a key and its value.
-const PAIR_PARTS: usize = 2;
 // The bytes of a 107 before its characters.
 const STRING_HEAD: usize = 3;
 
-// What reading a term, or some terms in turn, comes to: the offset and the row past it, or a refusal.
-#[derive(Drop)]
-pub enum Step {
-    Got { next: usize, rows: usize },
-    Refused { number: u8, place: usize },
+// Where reading a term, or some terms in turn, has come to: the offset and the row past them.
+#[derive(Clone, Copy)]
+pub struct Reached {
+    pub next: usize,
+    pub rows: usize,
 }
 
 // What reading the parts of a term comes to: the offset and the row past them, their number, and the term's kind.
-#[derive(Drop)]
-pub enum Parts {
-    Got {
-        next: usize,
-        rows: usize,
-        parts: usize,
-        kind: usize,
-    },
-    Refused {
-        number: u8,
-        place: usize,
-    },
-}
-
-// The lesser of two numbers.
-pub fn at_most(n: usize, most: usize) -> usize
-    ensures { result ≡ min n most }
-{
-    if n < most { n } else { most }
+#[derive(Clone, Copy)]
+pub struct Parts {
+    pub next: usize,
+    pub rows: usize,
+    pub parts: usize,
+    pub kind: usize,
 }
 
 // A term. `whole` is the row of its whole plus 1, or 0; `left` the levels that are left for it.
@@ -61,7 +46,7 @@ fn read_term(
     whole: usize,
     left: usize,
     wanted: Wanted,
-) -> Step
+) -> Result<Reached, Refusal>
     requires room { Room msg.now (list_in context places.now lengths.now) table.old (capacity_in context) at row whole }
     requires seen_nonzero { 0 < length seen.old }
     ensures { TermRead msg.now (given_in context places.now lengths.now) (capacity_in context) left at row whole table.old seen.old (wanted_of wanted) result table.new seen.new }
@@ -72,15 +57,20 @@ fn read_term(
             msg, context, places, lengths, table, seen, at, row, whole, left, wanted, word,
         );
     }
-    let opening = term_head::read_opening(msg, context, places, lengths, at, wanted);
-    let place = opening.place;
-    let head = opening.head;
-    match head {
-        Head::Refused { number, place } => Step::Refused { number, place },
-        _ => read_body(
-            msg, context, places, lengths, table, seen, place, head, row, whole, left,
-        ),
-    }
+    let opening = term_head::read_opening(msg, context, places, lengths, at, wanted)?;
+    read_body(
+        msg,
+        context,
+        places,
+        lengths,
+        table,
+        seen,
+        opening.place,
+        opening.head,
+        row,
+        whole,
+        left,
+    )
 }
 
 // A common term, whose head is in `word`. Its own row is stored after its parts.
@@ -98,24 +88,24 @@ fn read_quick(
     left: usize,
     wanted: Wanted,
     word: usize,
-) -> Step
+) -> Result<Reached, Refusal>
     requires room { Room msg.now (list_in context places.now lengths.now) table.old (capacity_in context) at row whole × (word ≡ 0 → ⊥) × QuickAt msg.now (given_in context places.now lengths.now) (wanted_of wanted) at word }
     requires seen_nonzero { 0 < length seen.old }
     ensures { TermRead msg.now (given_in context places.now lengths.now) (capacity_in context) left at row whole table.old seen.old (wanted_of wanted) result table.new seen.new }
 {
     if left == 0 {
-        return Step::Refused {
+        return Err(Refusal {
             number: refusals::DEPTH,
             place: at,
-        };
+        });
     }
     if !context::has_row(context, row) {
-        return Step::Refused {
+        return Err(Refusal {
             number: refusals::ROWS,
             place: at,
-        };
+        });
     }
-    match read_common(
+    let inner = read_common(
         msg,
         context,
         places,
@@ -125,18 +115,12 @@ fn read_quick(
         row + 1,
         left - 1,
         word,
-    ) {
-        Parts::Refused { number, place } => Step::Refused { number, place },
-        Parts::Got {
-            next,
-            rows,
-            parts,
-            kind,
-        } => {
-            table[row] = row::pack(kind, at, whole, parts, rows - row);
-            Step::Got { next, rows }
-        }
-    }
+    )?;
+    table[row] = row::pack(inner.kind, at, whole, inner.parts, inner.rows - row);
+    Ok(Reached {
+        next: inner.next,
+        rows: inner.rows,
+    })
 }
 
 // The parts of a common term, whose head is in `word`, from `row` on; their whole is the row before.
@@ -151,7 +135,7 @@ fn read_common(
     row: usize,
     deep: usize,
     word: usize,
-) -> Parts
+) -> Result<Parts, Refusal>
     requires room { Room msg.now (list_in context places.now lengths.now) table.old (capacity_in context) (word / 16 % 131072) row row }
     requires seen_nonzero { 0 < length seen.old }
     ensures { CommonRead msg.now (given_in context places.now lengths.now) (capacity_in context) deep row row table.old seen.old word result table.new seen.new }
@@ -160,12 +144,12 @@ fn read_common(
     let at = word / term_head::WORD_KINDS % term_head::WORD_OFFSETS;
     let count = word / term_head::WORD_PARTS;
     if count == 0 {
-        return Parts::Got {
+        return Ok(Parts {
             next: at,
             rows: row,
             parts: 0,
             kind,
-        };
+        });
     }
     if kind == term_head::WORD_ELEMENTS {
         return read_list(
@@ -177,7 +161,7 @@ fn read_common(
             msg, context, places, lengths, table, seen, at, row, deep, count,
         );
     }
-    match read_run(
+    let run = read_run(
         msg,
         context,
         places,
@@ -190,15 +174,13 @@ fn read_common(
         deep,
         Wanted::Any,
         count,
-    ) {
-        Step::Refused { number, place } => Parts::Refused { number, place },
-        Step::Got { next, rows } => Parts::Got {
-            next,
-            rows,
-            parts: count,
-            kind,
-        },
-    }
+    )?;
+    Ok(Parts {
+        next: run.next,
+        rows: run.rows,
+        parts: count,
+        kind,
+    })
 }
 
 // The term at `place`, whose tag and fields are read. Its own row is stored after its parts.
@@ -215,24 +197,24 @@ fn read_body(
     row: usize,
     whole: usize,
     left: usize,
-) -> Step
+) -> Result<Reached, Refusal>
     requires room { Room msg.now (list_in context places.now lengths.now) table.old (capacity_in context) place row whole × HeadRead msg.now place head }
     requires seen_nonzero { 0 < length seen.old }
     ensures { BodyRead msg.now (given_in context places.now lengths.now) (capacity_in context) left place row whole table.old seen.old head result table.new seen.new }
 {
     if left == 0 {
-        return Step::Refused {
+        return Err(Refusal {
             number: refusals::DEPTH,
             place,
-        };
+        });
     }
     if !context::has_row(context, row) {
-        return Step::Refused {
+        return Err(Refusal {
             number: refusals::ROWS,
             place,
-        };
+        });
     }
-    match read_inner(
+    let inner = read_inner(
         msg,
         context,
         places,
@@ -243,18 +225,12 @@ fn read_body(
         head,
         row + 1,
         left - 1,
-    ) {
-        Parts::Refused { number, place } => Step::Refused { number, place },
-        Parts::Got {
-            next,
-            rows,
-            parts,
-            kind,
-        } => {
-            table[row] = row::pack(kind, place, whole, parts, rows - row);
-            Step::Got { next, rows }
-        }
-    }
+    )?;
+    table[row] = row::pack(inner.kind, place, whole, inner.parts, inner.rows - row);
+    Ok(Reached {
+        next: inner.next,
+        rows: inner.rows,
+    })
 }
 
 // The parts of the term at `place`, from `row` on; their whole is the row before.
@@ -270,13 +246,12 @@ fn read_inner(
     head: Head,
     row: usize,
     deep: usize,
-) -> Parts
+) -> Result<Parts, Refusal>
     requires room { Room msg.now (list_in context places.now lengths.now) table.old (capacity_in context) place row row × HeadRead msg.now place head }
     requires seen_nonzero { 0 < length seen.old }
     ensures { InnerRead msg.now (given_in context places.now lengths.now) (capacity_in context) deep place row row table.old seen.old head result table.new seen.new }
 {
     match head {
-        Head::Refused { number, place } => Parts::Refused { number, place },
         Head::Parts {
             kind,
             wanted,
@@ -320,43 +295,35 @@ fn read_parts(
     wanted: usize,
     count: usize,
     later: Later,
-) -> Parts
+) -> Result<Parts, Refusal>
     requires room { Room msg.now (list_in context places.now lengths.now) table.old (capacity_in context) at row row }
     requires seen_nonzero { 0 < length seen.old }
     ensures { PartsRead msg.now (given_in context places.now lengths.now) (capacity_in context) deep at row row table.old seen.old place kind wanted count later result table.new seen.new }
 {
-    match read_wanted(
+    let first = read_wanted(
         msg, context, places, lengths, table, seen, at, row, row, deep, wanted,
-    ) {
-        Step::Refused { number, place } => Parts::Refused { number, place },
-        Step::Got { next, rows } => match read_more(
-            msg,
-            context,
-            places,
-            lengths,
-            table,
-            seen,
-            next,
-            rows,
-            row,
-            deep,
-            Wanted::Any,
-            count,
-        ) {
-            Step::Refused { number, place } => Parts::Refused { number, place },
-            Step::Got { next, rows } => match term_head::read_later(
-                msg, context, next, place, later,
-            ) {
-                term_head::Step::Refused { number, place } => Parts::Refused { number, place },
-                term_head::Step::Got { next } => Parts::Got {
-                    next,
-                    rows,
-                    parts: wanted + count,
-                    kind,
-                },
-            },
-        },
-    }
+    )?;
+    let others = read_more(
+        msg,
+        context,
+        places,
+        lengths,
+        table,
+        seen,
+        first.next,
+        first.rows,
+        row,
+        deep,
+        Wanted::Any,
+        count,
+    )?;
+    let next = term_head::read_later(msg, context, others.next, place, later)?;
+    Ok(Parts {
+        next,
+        rows: others.rows,
+        parts: wanted + count,
+        kind,
+    })
 }
 
 // Terms as in a run, where there are any: most terms that go this way have none, and an empty run is no call.
@@ -374,16 +341,16 @@ fn read_more(
     deep: usize,
     wanted: Wanted,
     count: usize,
-) -> Step
+) -> Result<Reached, Refusal>
     requires room { Room msg.now (list_in context places.now lengths.now) table.old (capacity_in context) at row whole }
     requires seen_nonzero { 0 < length seen.old }
     ensures { RunRead msg.now (given_in context places.now lengths.now) (capacity_in context) deep at row whole table.old seen.old count (replicate count (wanted_of wanted)) result table.new seen.new }
 {
     if count == 0 {
-        return Step::Got {
+        return Ok(Reached {
             next: at,
             rows: row,
-        };
+        });
     }
     read_run(
         msg, context, places, lengths, table, seen, at, row, whole, deep, wanted, count,
@@ -404,7 +371,7 @@ fn read_wanted(
     whole: usize,
     deep: usize,
     wanted: usize,
-) -> Step
+) -> Result<Reached, Refusal>
     requires room { Room msg.now (list_in context places.now lengths.now) table.old (capacity_in context) at row whole }
     requires seen_nonzero { 0 < length seen.old }
     ensures { RunRead msg.now (given_in context places.now lengths.now) (capacity_in context) deep at row whole table.old seen.old wanted (asked wanted) result table.new seen.new }
@@ -413,14 +380,14 @@ fn read_wanted(
         let word = term_head::node_at(msg, at);
         if is_leaf(word, deep, row, context) {
             table[row] = row::pack(word % term_head::WORD_KINDS, at, whole, 0, 1);
-            return Step::Got {
+            return Ok(Reached {
                 next: word / term_head::WORD_KINDS,
                 rows: row + 1,
-            };
+            });
         }
     }
-    let atoms = at_most(wanted, WANTED_ATOMS);
-    match read_run(
+    let atoms = wanted.min(WANTED_ATOMS);
+    let run = read_run(
         msg,
         context,
         places,
@@ -433,39 +400,28 @@ fn read_wanted(
         deep,
         Wanted::Atom,
         atoms,
-    ) {
-        Step::Refused { number, place } => Step::Refused { number, place },
-        Step::Got { next, rows } => read_more(
-            msg,
-            context,
-            places,
-            lengths,
-            table,
-            seen,
-            next,
-            rows,
-            whole,
-            deep,
-            Wanted::Arity,
-            wanted - atoms,
-        ),
-    }
+    )?;
+    read_more(
+        msg,
+        context,
+        places,
+        lengths,
+        table,
+        seen,
+        run.next,
+        run.rows,
+        whole,
+        deep,
+        Wanted::Arity,
+        wanted - atoms,
+    )
 }
 
 // Whether a word is the head of a term without parts, and there are a level and a row for it.
 fn is_leaf(word: usize, deep: usize, row: usize, context: usize) -> bool
     ensures { result ≡ true → (word ≡ 0 → ⊥) × (word < 2097152) × (deep ≡ 0 → ⊥) × (row < capacity_in context) }
 {
-    if word == 0 {
-        return false;
-    }
-    if term_head::WORD_PARTS <= word {
-        return false;
-    }
-    if deep == 0 {
-        return false;
-    }
-    context::has_row(context, row)
+    word != 0 && word < term_head::WORD_PARTS && deep != 0 && context::has_row(context, row)
 }
 
 // `count` terms in turn.
@@ -483,38 +439,31 @@ pub fn read_run(
     deep: usize,
     wanted: Wanted,
     count: usize,
-) -> Step
+) -> Result<Reached, Refusal>
     requires room { Room msg.now (list_in context places.now lengths.now) table.old (capacity_in context) at row whole }
     requires seen_nonzero { 0 < length seen.old }
     ensures { RunRead msg.now (given_in context places.now lengths.now) (capacity_in context) deep at row whole table.old seen.old count (replicate count (wanted_of wanted)) result table.new seen.new }
 {
     let mut at_now = at;
     let mut row_now = row;
-    let mut more = count;
-    while more > 0 {
+    for _i in 0..count {
         let word = term_head::leaf_at(msg, at_now, wanted);
         if is_leaf(word, deep, row_now, context) {
             table[row_now] = row::pack(word % term_head::WORD_KINDS, at_now, whole, 0, 1);
             at_now = word / term_head::WORD_KINDS;
             row_now += 1;
-            more -= 1;
             continue;
         }
-        match read_term(
+        let term = read_term(
             msg, context, places, lengths, table, seen, at_now, row_now, whole, deep, wanted,
-        ) {
-            Step::Refused { number, place } => return Step::Refused { number, place },
-            Step::Got { next, rows } => {
-                at_now = next;
-                row_now = rows;
-            }
-        }
-        more -= 1;
+        )?;
+        at_now = term.next;
+        row_now = term.rows;
     }
-    Step::Got {
+    Ok(Reached {
         next: at_now,
         rows: row_now,
-    }
+    })
 }
 
 // The rows of `count` characters, the first one's byte at `at`.
@@ -522,10 +471,8 @@ fn put_characters(table: &mut [u64], at: usize, count: usize, row: usize, whole:
     requires { (row + count ≤ length table.old) × (row + count ≤ 8192) × (at + count ≤ 65536) × (whole ≤ row) }
     ensures { table.new ≡ sets table.old row (character_words whole at count) }
 {
-    let mut i = 0usize;
-    while i < count {
+    for i in 0..count {
         table[row + i] = row::pack(kinds::CHARACTER, at + i, whole, 0, 1);
-        i += 1;
     }
 }
 
@@ -540,37 +487,37 @@ fn read_characters(
     deep: usize,
     context: usize,
     before: usize,
-) -> Parts
+) -> Result<Parts, Refusal>
     requires { (capacity_in context ≤ 8192) × (capacity_in context ≤ length table.old) × (row ≤ capacity_in context) × (whole ≤ row) × (before ≤ row) × ((count ≡ 0 → ⊥) → place + 3 + count ≤ 65536) }
     ensures { CharactersRead (capacity_in context) deep place count next before row whole table.old result table.new }
 {
     if count == 0 {
-        return Parts::Got {
+        return Ok(Parts {
             next,
             rows: row,
             parts: before,
             kind: kinds::LIST,
-        };
+        });
     }
     if deep == 0 {
-        return Parts::Refused {
+        return Err(Refusal {
             number: refusals::DEPTH,
             place,
-        };
+        });
     }
     if context::capacity_in(context) - row < count {
-        return Parts::Refused {
+        return Err(Refusal {
             number: refusals::ROWS,
             place,
-        };
+        });
     }
     put_characters(table, place + STRING_HEAD, count, row, whole);
-    Parts::Got {
+    Ok(Parts {
         next,
         rows: row + count,
         parts: before + count,
         kind: kinds::LIST,
-    }
+    })
 }
 
 // The elements of a 108, and what its tail joins on.
@@ -586,12 +533,12 @@ fn read_list(
     row: usize,
     deep: usize,
     count: usize,
-) -> Parts
+) -> Result<Parts, Refusal>
     requires room { Room msg.now (list_in context places.now lengths.now) table.old (capacity_in context) at row row }
     requires seen_nonzero { 0 < length seen.old }
     ensures { ManyRead msg.now (given_in context places.now lengths.now) (capacity_in context) deep at row row table.old seen.old (elements count) result table.new seen.new }
 {
-    match read_run(
+    let run = read_run(
         msg,
         context,
         places,
@@ -604,12 +551,10 @@ fn read_list(
         deep,
         Wanted::Any,
         count,
-    ) {
-        Step::Refused { number, place } => Parts::Refused { number, place },
-        Step::Got { next, rows } => read_tail(
-            msg, context, places, lengths, table, seen, next, rows, row, deep, count,
-        ),
-    }
+    )?;
+    read_tail(
+        msg, context, places, lengths, table, seen, run.next, run.rows, row, deep, count,
+    )
 }
 
 // What follows the elements of a 108, `before` of which are read: tails that are 108s are joined on, up to one that is not.
@@ -626,7 +571,7 @@ fn read_tail(
     whole: usize,
     deep: usize,
     before: usize,
-) -> Parts
+) -> Result<Parts, Refusal>
     requires room { Room msg.now (list_in context places.now lengths.now) table.old (capacity_in context) at row whole × (before ≤ row) }
     requires seen_nonzero { 0 < length seen.old }
     ensures { TailRead msg.now (given_in context places.now lengths.now) (capacity_in context) deep at row whole table.old seen.old before result table.new seen.new }
@@ -637,20 +582,19 @@ fn read_tail(
     loop {
         let place = term_head::skip_empty(msg, at_now);
         if term_head::nil_at(msg, place) {
-            return Parts::Got {
+            return Ok(Parts {
                 next: place + 1,
                 rows: row_now,
                 parts: sum,
                 kind: kinds::LIST,
-            };
+            });
         }
-        let count = term_head::elements_at(msg, place);
-        if count == 0 {
+        let Some(count) = term_head::elements_at(msg, place) else {
             return read_last(
                 msg, context, places, lengths, table, seen, place, row_now, whole, deep, sum,
             );
-        }
-        match read_run(
+        };
+        let run = read_run(
             msg,
             context,
             places,
@@ -663,14 +607,10 @@ fn read_tail(
             deep,
             Wanted::Any,
             count,
-        ) {
-            Step::Refused { number, place } => return Parts::Refused { number, place },
-            Step::Got { next, rows } => {
-                at_now = next;
-                row_now = rows;
-                sum += count;
-            }
-        }
+        )?;
+        at_now = run.next;
+        row_now = run.rows;
+        sum += count;
     }
 }
 
@@ -688,34 +628,33 @@ fn read_last(
     whole: usize,
     deep: usize,
     before: usize,
-) -> Parts
+) -> Result<Parts, Refusal>
     requires room { Room msg.now (list_in context places.now lengths.now) table.old (capacity_in context) at row whole × LastAt msg.now at × (before ≤ row) }
     requires seen_nonzero { 0 < length seen.old }
     ensures { LastRead msg.now (given_in context places.now lengths.now) (capacity_in context) deep at row whole table.old seen.old before result table.new seen.new }
 {
-    let opening = term_head::read_opening(msg, context, places, lengths, at, Wanted::Any);
+    let opening = term_head::read_opening(msg, context, places, lengths, at, Wanted::Any)?;
     let place = opening.place;
-    let head = opening.head;
-    match head {
-        Head::Refused { number, place } => Parts::Refused { number, place },
+    match opening.head {
         Head::Characters { count, next } => {
             read_characters(table, place, count, next, row, whole, deep, context, before)
         }
-        _ => match read_body(
-            msg, context, places, lengths, table, seen, place, head, row, whole, deep,
-        ) {
-            Step::Refused { number, place } => Parts::Refused { number, place },
-            Step::Got { next, rows } => Parts::Got {
-                next,
-                rows,
+        head => {
+            let last = read_body(
+                msg, context, places, lengths, table, seen, place, head, row, whole, deep,
+            )?;
+            Ok(Parts {
+                next: last.next,
+                rows: last.rows,
                 parts: before + 1,
                 kind: kinds::IMPROPER_LIST,
-            },
-        },
+            })
+        }
     }
 }
 
 // A key or a value of a map: the commonest ones, without parts, are read right here.
+#[inline(always)]
 #[cycle(read)]
 fn read_entry(
     msg: &[u8],
@@ -728,7 +667,7 @@ fn read_entry(
     row: usize,
     whole: usize,
     deep: usize,
-) -> Step
+) -> Result<Reached, Refusal>
     requires room { Room msg.now (list_in context places.now lengths.now) table.old (capacity_in context) at row whole }
     requires seen_nonzero { 0 < length seen.old }
     ensures { TermRead msg.now (given_in context places.now lengths.now) (capacity_in context) deep at row whole table.old seen.old any result table.new seen.new }
@@ -736,10 +675,10 @@ fn read_entry(
     let word = term_head::entry_at(msg, at);
     if is_leaf(word, deep, row, context) {
         table[row] = row::pack(word % term_head::WORD_KINDS, at, whole, 0, 1);
-        return Step::Got {
+        return Ok(Reached {
             next: word / term_head::WORD_KINDS,
             rows: row + 1,
-        };
+        });
     }
     read_run(
         msg,
@@ -770,41 +709,33 @@ fn read_pairs(
     row: usize,
     deep: usize,
     count: usize,
-) -> Parts
+) -> Result<Parts, Refusal>
     requires room { Room msg.now (list_in context places.now lengths.now) table.old (capacity_in context) at row row }
     requires seen_nonzero { 0 < length seen.old }
     ensures { ManyRead msg.now (given_in context places.now lengths.now) (capacity_in context) deep at row row table.old seen.old (pairs count) result table.new seen.new }
 {
     let mut at_now = at;
     let mut row_now = row;
-    let mut parts = 0usize;
-    while parts / PAIR_PARTS < count {
-        match read_entry(
+    for _i in 0..count {
+        let key = read_entry(
             msg, context, places, lengths, table, seen, at_now, row_now, row, deep,
-        ) {
-            Step::Refused { number, place } => return Parts::Refused { number, place },
-            Step::Got { next, rows } => {
-                let start = at_now;
-                let key = row_now;
-                at_now = next;
-                row_now = rows;
-                parts += 1;
-                if parts % PAIR_PARTS == 0 {
-                    continue;
-                }
-                if map_keys::contains_or_insert(msg, places, lengths, table, seen, row, key) {
-                    return Parts::Refused {
-                        number: refusals::KEY,
-                        place: start,
-                    };
-                }
-            }
+        )?;
+        if map_keys::contains_or_insert(msg, places, lengths, table, seen, row, row_now) {
+            return Err(Refusal {
+                number: refusals::KEY,
+                place: at_now,
+            });
         }
+        let value = read_entry(
+            msg, context, places, lengths, table, seen, key.next, key.rows, row, deep,
+        )?;
+        at_now = value.next;
+        row_now = value.rows;
     }
-    Parts::Got {
+    Ok(Parts {
         next: at_now,
         rows: row_now,
-        parts,
+        parts: count * sizes::PAIR_PARTS,
         kind: kinds::MAP,
-    }
+    })
 }

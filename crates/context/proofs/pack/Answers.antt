@@ -5,4 +5,4 @@ use Rattle.context.proofs.pack.Goals as goal
 
 pub returns : goal.returns
 unfolding count_in flags_in capacity_in
-returns c = record { count_is = omega (arith, c.wide-2.ensures, c.wide.ensures); flags_are = omega (arith, c.wide-2.ensures, c.wide.ensures); capacity_is = omega (arith, c.wide-2.ensures, c.wide.ensures) }
+returns c = record { count_is = omega (arith, c.from.ensures, c.from-2.ensures); flags_are = omega (arith, c.from.ensures, c.from-2.ensures); capacity_is = omega (arith, c.from.ensures, c.from-2.ensures) }

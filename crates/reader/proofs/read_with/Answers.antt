@@ -6,7 +6,7 @@ pub returns-in-Some : goal.returns-in-Some
 returns-in-Some c = refused_first _ _ _ _ _ _ _ _ (c.in-Some.ensures _) c.settle.ensures
 
 pub framed_terms-answer-requires-clause-room : goal.framed_terms-answer-requires-clause-room
-framed_terms-answer-requires-clause-room c = room_first _ _ _ _ _ _ _ _ (c.in_default.ensures _) c.at_most.ensures c.pack-context.ensures
+framed_terms-answer-requires-clause-room c = room_first _ _ _ _ _ _ _ _ (c.in_default.ensures _) c.min.ensures c.pack-context.ensures
 
 pub returns : goal.returns
-returns c = read_settled _ _ _ _ _ _ _ _ (c.in_default.ensures _) c.at_most.ensures c.pack-context.ensures _ _ _ _ _ c.framed_terms-answer.auto.table c.framed_terms-answer.ensures c.settle-2.ensures
+returns c = read_settled _ _ _ _ _ _ _ _ (c.in_default.ensures _) c.min.ensures c.pack-context.ensures _ _ _ _ _ c.framed_terms-answer.auto.table c.framed_terms-answer.ensures c.settle-2.ensures

@@ -1,7 +1,8 @@
 -- `standalone_terms` meets its contract.
-use Rattle.reader.proofs.Message.{standalone_empty, standalone_other, standalone_refused, standalone_over, standalone_one}
-use Rattle.term_reader.proofs.Bodies.{room_at}
 use native.Mathlib.Omega.{arith}
+use Rattle.term_reader.proofs.Bodies.{room_at}
+use Rattle.term_reader.proofs.Found.{handed_on}
+use Rattle.reader.proofs.Message.{standalone_empty, standalone_other, standalone_refused, standalone_over, standalone_one}
 use Rattle.reader.proofs.standalone_terms.Goals as goal
 use Rattle.reader.proofs.standalone_terms.Goals.{then-msg-eq0-via-then-msg-eq0, then-msg-eq0-via-else-msg-eq0+then-msg}
 
@@ -12,14 +13,16 @@ returns-then-msg-eq0 c =
       | then-msg-eq0-via-else-msg-eq0+then-msg w ↦ standalone_other _ _ _ _ _ w.if-msg.true
     ]
 
-pub read_outermost-requires : goal.read_outermost-requires
-read_outermost-requires c = record { room = room_at _ _ _ _ _ _ _ _ c.requires.room (omega (arith, c.if-msg-eq0.false)); seen_nonzero = c.requires.seen_nonzero }
+pub read_outermost-requires-clause-room : goal.read_outermost-requires-clause-room
+read_outermost-requires-clause-room c = room_at _ _ _ _ _ _ _ _ c.requires.room (omega (arith, c.if-msg-eq0.false))
 
-pub returns-then-next-msg : goal.returns-then-next-msg
-returns-then-next-msg c = standalone_over _ _ _ _ c.if-msg-eq0.false c.if-msg.false _ _ c.read_outermost.ensures _ _ c.in-Got.is _ c.if-next-msg.true
+pub returns-in_err-only : goal.returns-in_err-only
+returns-in_err-only c = rw (handed_on _ c.from_residual.ensures.1) (standalone_refused _ _ _ _ c.if-msg-eq0.false c.if-msg.false _ _ c.read_outermost.ensures _ _ c.in_err-only.was)
 
-pub returns-in-Refused : goal.returns-in-Refused
-returns-in-Refused c = standalone_refused _ _ _ _ c.if-msg-eq0.false c.if-msg.false _ _ c.read_outermost.ensures _ _ _ c.in-Refused.is
+pub returns-in_err-ended : goal.returns-in_err-ended
+returns-in_err-ended c =
+    let e = c.in_err-ended.ensures in
+    rw (handed_on _ c.from_residual-in_err-ended.ensures.1, e.1) (standalone_over _ _ _ _ c.if-msg-eq0.false c.if-msg.false _ _ c.read_outermost.ensures _ _ c.in_ok-only.was _ e.0)
 
-pub returns-else-next-msg : goal.returns-else-next-msg
-returns-else-next-msg c = standalone_one _ _ _ _ c.if-msg-eq0.false c.if-msg.false _ _ c.read_outermost.ensures _ _ c.in-Got.is c.if-next-msg.false
+pub returns : goal.returns
+returns c = standalone_one _ _ _ _ c.if-msg-eq0.false c.if-msg.false _ _ c.read_outermost.ensures _ _ c.in_ok-only.was c.in_ok-ended.ensures

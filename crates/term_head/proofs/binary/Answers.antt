@@ -1,10 +1,12 @@
 -- `binary` meets its contract.
-use Rattle.term_head.proofs.Leaves.{binary_cut, binary_there}
+use mathlib.Core.Path.{ap, ◌∙◌}
+use Rattle.std.specs.Prelude.{Ok, Err}
 use native.Mathlib.Omega.{arith}
+use Rattle.term_head.proofs.Leaves.{binary_cut, binary_there}
 use Rattle.term_head.proofs.binary.Goals as goal
 
-pub returns-then-end-eq0 : goal.returns-then-end-eq0
-returns-then-end-eq0 c = λ given rows. binary_cut _ _ _ _ (omega arith) _ c.past_counted-end.ensures c.if-end-eq0.true
+pub returns-in_default : goal.returns-in_default
+returns-in_default c = λ given rows. ap Err c.cut.ensures ∙ binary_cut _ _ _ _ (omega arith) c.in_default.ensures.0
 
 pub returns : goal.returns
-returns c = λ given rows. binary_there _ _ _ _ (omega arith) _ c.past_counted-end.ensures c.if-end-eq0.false
+returns c = λ given rows. ap Ok c.leaf.ensures ∙ binary_there _ _ _ _ (omega arith) _ c.in-Some.ensures.0

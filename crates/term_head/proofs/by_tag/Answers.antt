@@ -6,9 +6,11 @@ use Rattle.term_spec.specs.AtomList.{given_of}
 use Rattle.term_spec.specs.Text.{latin_1, utf_8, coding_of}
 use Rattle.term_spec.specs.Numbers.{signed32}
 use lib.IntN.{pos}
-use mathlib.Core.Path.{refl}
+use mathlib.Core.Path.{refl, ap, ◌∙◌}
+use Rattle.std.specs.Prelude.{Ok}
 use Rattle.term_head.proofs.Tags.{at_tag, no_tag, Past, nil_head, pid_head, port_head, old_head, export_head}
-use mathlib.Core.Path.{◌∙◌}
+use mathlib.Core.Path.{refl, ap, ◌∙◌}
+use Rattle.std.specs.Prelude.{Ok}
 use Rattle.term_head.proofs.by_tag.Goals as goal
 
 pub returns-in-97 : goal.returns-in-97
@@ -85,23 +87,23 @@ returns-in-116 c = λ rows. c.map.ensures _ rows ∙ at_tag _ _ _ _ _ 116 c.in-1
 
 pub returns-in-88 : goal.returns-in-88
 unfolding form_in forms
-returns-in-88 c = λ rows. c.no_fields.ensures ∙ pid_head _ _ _ _ 4 ∙ at_tag _ _ _ _ _ 88 c.in-88.is (pid_ext 4) refl
+returns-in-88 c = λ rows. ap Ok c.no_fields.ensures ∙ pid_head _ _ _ _ 4 ∙ at_tag _ _ _ _ _ 88 c.in-88.is (pid_ext 4) refl
 
 pub returns-in-103 : goal.returns-in-103
 unfolding form_in forms
-returns-in-103 c = λ rows. c.no_fields-in-103.ensures ∙ pid_head _ _ _ _ 1 ∙ at_tag _ _ _ _ _ 103 c.in-103.is (pid_ext 1) refl
+returns-in-103 c = λ rows. ap Ok c.no_fields-in-103.ensures ∙ pid_head _ _ _ _ 1 ∙ at_tag _ _ _ _ _ 103 c.in-103.is (pid_ext 1) refl
 
 pub returns-in-89 : goal.returns-in-89
 unfolding form_in forms
-returns-in-89 c = λ rows. c.no_fields-in-89.ensures ∙ port_head _ _ _ _ 4 4 ∙ at_tag _ _ _ _ _ 89 c.in-89.is (port_ext 4 4) refl
+returns-in-89 c = λ rows. ap Ok c.no_fields-in-89.ensures ∙ port_head _ _ _ _ 4 4 ∙ at_tag _ _ _ _ _ 89 c.in-89.is (port_ext 4 4) refl
 
 pub returns-in-102 : goal.returns-in-102
 unfolding form_in forms
-returns-in-102 c = λ rows. c.no_fields-in-102.ensures ∙ port_head _ _ _ _ 4 1 ∙ at_tag _ _ _ _ _ 102 c.in-102.is (port_ext 4 1) refl
+returns-in-102 c = λ rows. ap Ok c.no_fields-in-102.ensures ∙ port_head _ _ _ _ 4 1 ∙ at_tag _ _ _ _ _ 102 c.in-102.is (port_ext 4 1) refl
 
 pub returns-in-120 : goal.returns-in-120
 unfolding form_in forms
-returns-in-120 c = λ rows. c.no_fields-in-120.ensures ∙ port_head _ _ _ _ 8 4 ∙ at_tag _ _ _ _ _ 120 c.in-120.is (port_ext 8 4) refl
+returns-in-120 c = λ rows. ap Ok c.no_fields-in-120.ensures ∙ port_head _ _ _ _ 8 4 ∙ at_tag _ _ _ _ _ 120 c.in-120.is (port_ext 8 4) refl
 
 pub returns-in-90 : goal.returns-in-90
 unfolding form_in forms given_of
@@ -113,11 +115,11 @@ returns-in-114 c = λ rows. c.reference-in-114.ensures _ refl rows ∙ at_tag _ 
 
 pub returns-in-101 : goal.returns-in-101
 unfolding form_in forms
-returns-in-101 c = λ rows. c.no_fields-in-101.ensures ∙ old_head _ _ _ _ ∙ at_tag _ _ _ _ _ 101 c.in-101.is reference_ext refl
+returns-in-101 c = λ rows. ap Ok c.no_fields-in-101.ensures ∙ old_head _ _ _ _ ∙ at_tag _ _ _ _ _ 101 c.in-101.is reference_ext refl
 
 pub returns-in-113 : goal.returns-in-113
 unfolding form_in forms
-returns-in-113 c = λ rows. c.no_fields-in-113.ensures ∙ export_head _ _ _ _ ∙ at_tag _ _ _ _ _ 113 c.in-113.is export_ext refl
+returns-in-113 c = λ rows. ap Ok c.no_fields-in-113.ensures ∙ export_head _ _ _ _ ∙ at_tag _ _ _ _ _ 113 c.in-113.is export_ext refl
 
 pub returns-in_default : goal.returns-in_default
 unfolding forms Past

@@ -1,7 +1,6 @@
-use Rattle.term_reader.proofs.Entries.{Reached}
+use Rattle.term_reader.proofs.Entries.{BeforeKey}
 use Rattle.term_reader.proofs.Inner.{Tailed}
-use Rattle.term_reader.specs.Code.{Room, RunDone, PartsDone}
-use Rattle.term_reader.specs.declared.Step.{Step}
+use Rattle.term_reader.specs.Code.{Step, Room, RunDone, PartsDone}
 use Rattle.map_keys.specs.KeySet.{Keeps}
 use Rattle.term_head.specs.Code.{wanted_of}
 use Rattle.term_spec.specs.Answer.{at_offset}
@@ -55,25 +54,19 @@ decreases-read_term l = l.left * 8 + 1
 abbrev pub decreases-read_wanted : goal.decreases-read_wanted
 decreases-read_wanted l = l.deep * 8 + 4
 
-abbrev pub invariant-read_pairs-loop-parts : goal.invariant-read_pairs-loop-parts
-invariant-read_pairs-loop-parts l = Room l.msg (list_in l.context l.places l.lengths) l.table (capacity_in l.context) l.at_now l.row_now l.row
+abbrev pub invariant-read_pairs-loop-i : goal.invariant-read_pairs-loop-i
+invariant-read_pairs-loop-i l = Room l.msg (list_in l.context l.places l.lengths) l.table (capacity_in l.context) l.at_now l.row_now l.row
     × (length l.table ≡ length l.initial.table)
-    × Reached (given_in l.context l.places l.lengths) (capacity_in l.context) l.deep l.msg l.places l.lengths l.at l.row l.count l.initial.table l.at_now l.row_now l.parts l.table l.seen
+    × BeforeKey (given_in l.context l.places l.lengths) (capacity_in l.context) l.deep l.msg l.places l.lengths l.at l.row l.count l.initial.table l.at_now l.row_now (l._i * 2) l.table l.seen
     × Keeps l.initial.seen l.seen
 
-abbrev pub decreases-read_pairs-loop-parts : goal.decreases-read_pairs-loop-parts
-decreases-read_pairs-loop-parts l = l.count * 2 - l.parts
-
-abbrev pub invariant-read_run-loop-more : goal.invariant-read_run-loop-more
-invariant-read_run-loop-more l = Room l.msg (list_in l.context l.places l.lengths) l.table (capacity_in l.context) l.at_now l.row_now l.whole
+abbrev pub invariant-read_run-loop-i : goal.invariant-read_run-loop-i
+invariant-read_run-loop-i l = Room l.msg (list_in l.context l.places l.lengths) l.table (capacity_in l.context) l.at_now l.row_now l.whole
     × (length l.table ≡ length l.initial.table)
     × ((s : Step) (U : List ℕ)
-    → RunDone l.msg l.more (capacity_in l.context) l.row_now l.whole l.table (each (term (given_in l.context l.places l.lengths) (capacity_in l.context) l.deep) (replicate l.more (wanted_of l.wanted)) (at_offset l.msg l.at_now l.row_now)) s U
+    → RunDone l.msg (l.count - l._i) (capacity_in l.context) l.row_now l.whole l.table (each (term (given_in l.context l.places l.lengths) (capacity_in l.context) l.deep) (replicate (l.count - l._i) (wanted_of l.wanted)) (at_offset l.msg l.at_now l.row_now)) s U
     → RunDone l.msg l.count (capacity_in l.context) l.row l.whole l.initial.table (each (term (given_in l.context l.places l.lengths) (capacity_in l.context) l.deep) (replicate l.count (wanted_of l.wanted)) (at_offset l.msg l.at l.row)) s U)
     × Keeps l.initial.seen l.seen
-
-abbrev pub decreases-read_run-loop-more : goal.decreases-read_run-loop-more
-decreases-read_run-loop-more l = l.more
 
 abbrev pub invariant-read_tail-loop-context : goal.invariant-read_tail-loop-context
 invariant-read_tail-loop-context l = Room l.msg (list_in l.context l.places l.lengths) l.table (capacity_in l.context) l.at_now l.row_now l.whole
