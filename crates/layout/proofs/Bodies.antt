@@ -1,23 +1,21 @@
 -- The bytes of a body, case by case, and of a layout.
 use mathlib.Core.Path.{◌≡◌, sym, ◌∙◌, ap, subst}
-use mathlib.Core.Bool.{Bool}
-use mathlib.Core.List.{List, [], ◌++◌}
+use mathlib.Core.List.{List, ◌++◌}
 use Prim.Native.Nat.{ℕ, suc, ◌+◌, ◌-◌, ◌≤◌, ◌<◌}
 use native.Mathlib.Omega.{arith}
 use lib.ListN.{length, get_or, length-append}
 use lib.Seq.{sets}
-use Rattle.term_spec.specs.Numbers.{in_bytes, digits}
-use Rattle.term_spec.specs.Text.{encodes}
+use Rattle.term_spec.specs.Numbers.{in_bytes}
 use Rattle.term_spec.specs.Head.{clear_low}
 use Rattle.term_spec.proofs.Numbers.{length_in_bytes}
 use Rattle.term_spec.proofs.Heads.{length_clear}
-use Rattle.octets.specs.Parts.{stretch, source, high}
+use Rattle.octets.specs.Parts.{stretch, high}
 use Rattle.octets.proofs.Parts.{length_part, part_last}
 use Rattle.octets.proofs.Bits.{clear_last}
 use Rattle.octets.proofs.Numbers.{bytes_one}
 use Rattle.octets.proofs.Stores.{sets_at}
 use Rattle.layout.specs.declared.Body.{Body}
-use Rattle.layout.specs.declared.Body.TheVariants.{Empty, Part, Latin1, Digits, Bits}
+use Rattle.layout.specs.declared.Body.TheVariants.{Bits}
 use Rattle.layout.specs.declared.Layout.{Layout}
 use Rattle.layout.specs.Layout.{body_bytes, layout_bytes, Inside, BodyInside, Put, Lays, laid_of}
 use Rattle.layout.proofs.Puts.{put_then}
@@ -28,58 +26,20 @@ length_stretch s start n h = length_part s start n h.there
 pub length_bits : (bits : ℕ) (s : List ℕ) (start n : ℕ) → Inside s start n → length (clear_low bits (stretch s start n)) ≡ n
 length_bits bits s start n h = length_clear bits (stretch s start n) ∙ length_stretch s start n h
 
-module _ (m places : List ℕ) where
-  module _ (body : Body) where
-    pub body_empty : body ≡ Empty → body_bytes m places body ≡ []
-    unfolding body_bytes
-    body_empty e = ap (body_bytes m places) e
-
-    module _ (listed : Bool) (start n : ℕ) (s : List ℕ) (f : s ≡ source m places listed) where
-      pub body_part : body ≡ Part listed start n → body_bytes m places body ≡ stretch s start n
-      unfolding body_bytes
-      body_part e = ap (body_bytes m places) e ∙ ap (λ (t : List ℕ). stretch t start n) (sym f)
-
-      pub body_latin1 : body ≡ Latin1 listed start n → body_bytes m places body ≡ encodes (stretch s start n)
-      unfolding body_bytes
-      body_latin1 e = ap (body_bytes m places) e ∙ ap (λ (t : List ℕ). encodes (stretch t start n)) (sym f)
-
-      pub part_inside : body ≡ Part listed start n → BodyInside m places body → Inside s start n
-      unfolding BodyInside
-      part_inside e h = rw (e, ← f) at h
-
-      pub latin1_inside : body ≡ Latin1 listed start n → BodyInside m places body → Inside s start n
-      unfolding BodyInside
-      latin1_inside e h = rw (e, ← f) at h
-
-      pub part_needs : (at k : ℕ) → body ≡ Part listed start n → BodyInside m places body × (at + length (body_bytes m places body) ≤ k)
-          → Inside s start n × (at + n ≤ k)
-      part_needs at k e h =
-          let i : Inside s start n = part_inside e h.0 in
-          let l : length (body_bytes m places body) ≡ n = ap length (body_part e) ∙ length_stretch s start n i in
-          (i, omega arith)
-
-      pub latin1_needs : (at k : ℕ) → body ≡ Latin1 listed start n → BodyInside m places body × (at + length (body_bytes m places body) ≤ k)
-          → Inside s start n × (at + length (encodes (stretch s start n)) ≤ k)
-      latin1_needs at k e h = (latin1_inside e h.0, rw (body_latin1 e) at h.1)
-
-    pub body_digits : (n : ℕ) → body ≡ Digits n → body_bytes m places body ≡ digits n
-    unfolding body_bytes
-    body_digits n e = ap (body_bytes m places) e
-
-    pub body_bits : (bits start n : ℕ) → body ≡ Bits bits start n → body_bytes m places body ≡ clear_low bits (stretch m start n)
-    unfolding body_bytes
-    body_bits bits start n e = ap (body_bytes m places) e
-
-    pub bits_inside : (bits start n : ℕ) → body ≡ Bits bits start n → BodyInside m places body → Inside m start n × (1 ≤ n)
-    unfolding BodyInside
-    bits_inside bits start n e h = rw e at h
-
 module _ (m places : List ℕ) (body : Body) where
+  pub body_bits : (bits start n : ℕ) → body ≡ Bits bits start n → body_bytes m places body ≡ clear_low bits (stretch m start n)
+  unfolding body_bytes
+  body_bits bits start n e = ap (body_bytes m places) e
+
+  pub bits_inside : (bits start n : ℕ) → body ≡ Bits bits start n → BodyInside m places body → Inside m start n × (1 ≤ n)
+  unfolding BodyInside
+  bits_inside bits start n e h = rw e at h
+
   pub bits_needs : (bits start n at k : ℕ) → body ≡ Bits bits start n → BodyInside m places body × (at + length (body_bytes m places body) ≤ k)
       → Inside m start n × (1 ≤ n) × (at + n ≤ k)
   bits_needs bits start n at k e h =
-      let i : Inside m start n × (1 ≤ n) = bits_inside m places body bits start n e h.0 in
-      let l : length (body_bytes m places body) ≡ n = ap length (body_bits m places body bits start n e) ∙ length_bits bits m start n i.0 in
+      let i : Inside m start n × (1 ≤ n) = bits_inside bits start n e h.0 in
+      let l : length (body_bytes m places body) ≡ n = ap length (body_bits bits start n e) ∙ length_bits bits m start n i.0 in
       (i.0, i.1, omega arith)
 
 pub bits_split : (bits : ℕ) (s : List ℕ) (start n : ℕ) → Inside s start n → 1 ≤ n → high (get_or s (start + (n - 1)) 0) bits < 256

@@ -141,6 +141,7 @@ fn put_bits(msg: &[u8], bits: usize, start: usize, n: usize, out: &mut [u8], at:
 }
 
 // How many bytes a body has.
+#[tactic(auto, unfolding(crate::specs::Layout::body_bytes, crate::specs::Layout::BodyInside))]
 pub fn body_length(msg: &[u8], places: &[u8], body: Body) -> usize
     requires { BodyInside msg.now places.now body }
     ensures { (result ≡ length (body_bytes msg.now places.now body)) × (result ≤ 131072) }
@@ -159,6 +160,7 @@ pub fn body_length(msg: &[u8], places: &[u8], body: Body) -> usize
 }
 
 // Writes a body from `at` on; the offset past it.
+#[tactic(auto, unfolding(crate::specs::Layout::body_bytes, crate::specs::Layout::BodyInside))]
 fn put_body(msg: &[u8], places: &[u8], body: Body, out: &mut [u8], at: usize) -> usize
     requires { BodyInside msg.now places.now body × (at + length (body_bytes msg.now places.now body) ≤ length out.old) }
     ensures { Put out.old at (body_bytes msg.now places.now body) result out.new }

@@ -4,10 +4,6 @@ use Rattle.already_canonical.proofs.Stands.{sound_in, stands_in, tagged_70, tagg
 use native.Mathlib.Omega.{arith}
 use Rattle.already_canonical.proofs.as_it_stands.Goals as goal
 
-pub returns-in-1 : goal.returns-in-1
-returns-in-1 c = λ places lengths s. IfSome_then c.integer_stands.result (c.integer_stands.ensures places lengths _)
-    (λ r t. stands_in c.args.msg.now places lengths c.args.word _ _ _ c.kind_in-kind.ensures.0 c.in-1.is c.offset_in-at.ensures.0 _ _ c.parts_in-n.ensures.0 (t))
-
 pub returns-in-2 : goal.returns-in-2
 returns-in-2 c = λ places lengths s. IfSome_then c.tagged.result c.tagged.ensures
     (λ r t. stands_in c.args.msg.now places lengths c.args.word _ _ _ c.kind_in-kind.ensures.0 c.in-2.is c.offset_in-at.ensures.0 _ _ c.parts_in-n.ensures.0 (tagged_70 c.args.msg.now places lengths _ _ (λ i. omega (arith, c.type_inv.msg i)) t))

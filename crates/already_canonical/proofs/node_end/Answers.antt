@@ -6,8 +6,5 @@ use Rattle.already_canonical.proofs.node_end.Goals as goal
 pub returns-in-Some : goal.returns-in-Some
 returns-in-Some c = let t = c.in-Some.ensures in let e = t.all in (node_82 c.args.msg.now _ t, omega arith)
 
-pub overflow_add-result-2 : goal.overflow_add-result-2
-overflow_add-result-2 c = let w = node_119 c.args.msg.now _ (λ i. omega (arith, c.type_inv.msg i)) c.in_ok-n.ensures in let l = w.1 in omega arith
-
 pub returns : goal.returns
 returns c = let w = node_119 c.args.msg.now _ (λ i. omega (arith, c.type_inv.msg i)) c.in_ok-n.ensures in let l = w.1 in (w.0, omega arith)

@@ -8,9 +8,6 @@ use mathlib.Core.Path.{refl, ap}
 use native.Mathlib.Omega.{arith}
 use Rattle.canonical_fields.proofs.bare_lead.Goals as goal
 
-pub overflow_sub-n : goal.overflow_sub-n
-overflow_sub-n c = c.requires c.in-6.is
-
 pub returns-in-4 : goal.returns-in-4
 unfolding bare
 returns-in-4 c = let args = c.args in

@@ -5,7 +5,6 @@ use Prim.Native.Nat.{ℕ, ◌+◌}
 use mathlib.Core.List.{List}
 use mathlib.Core.Path.{refl, ◌∙◌, ap₂}
 use Rattle.already_canonical.proofs.Nodes.{around_length}
-use Rattle.already_canonical.proofs.Stands.{stands_length}
 use Rattle.field_writer.proofs.Own.{there_is, list_before, list_after}
 use Rattle.field_writer.proofs.own_length.Goals as goal
 
@@ -14,9 +13,6 @@ returns-then-kind-eq-LIST c = let args = c.args in
     let b = list_before args.msg.now args.places.now args.lengths.now args.word _ _ c.kind_in-kind.ensures.0 c.if-kind-eq-LIST.true c.parts_in.ensures.0 in
     let e = list_after args.msg.now args.places.now args.lengths.now args.word _ _ c.kind_in-kind.ensures.0 c.if-kind-eq-LIST.true c.parts_in.ensures.0 in
     (c.list_length.ensures.0 ∙ ap₂ (λ (x y : List ℕ). length x + length y) b e, omega (arith, c.list_length.ensures.1))
-
-pub returns-in-Some : goal.returns-in-Some
-returns-in-Some c = let args = c.args in stands_length args.msg.now args.places.now args.lengths.now args.word _ (c.in-Some.ensures args.places.now args.lengths.now c.requires)
 
 pub returns-then-is_some : goal.returns-then-is_some
 returns-then-is_some c = let args = c.args in

@@ -1,23 +1,8 @@
 -- `put_before` meets its contract. Bytes that stand as they are written are copied; a list is written by its number of elements.
 use Rattle.layout.proofs.Puts.{put_same}
 use Rattle.already_canonical.proofs.Nodes.{first_room, first_put}
-use Rattle.already_canonical.proofs.Stands.{stands_inside, stands_room, stands_put}
 use Rattle.field_writer.proofs.Own.{there_is, list_before, same_room}
-use borrow.Author.Rules.{rules}
 use Rattle.field_writer.proofs.put_before.Goals as goal
-
-pub copy-requires : goal.copy-requires
-copy-requires c = let args = c.args in
-    let s = c.in-Some.ensures args.places.now args.lengths.now c.requires.0 in
-    (stands_inside args.msg.now args.places.now args.lengths.now args.word _ s _ c.offset_in.ensures.0, stands_room args.msg.now args.places.now args.lengths.now args.word _ s _ _ c.requires.1)
-
-pub overflow_add-result : goal.overflow_add-result
-overflow_add-result c = let args = c.args in
-    let r = stands_room args.msg.now args.places.now args.lengths.now args.word _ (c.in-Some.ensures args.places.now args.lengths.now c.requires.0) args.at _ c.requires.1 in search rules
-
-pub returns-in-Some : goal.returns-in-Some
-returns-in-Some c = let args = c.args in
-    stands_put args.msg.now args.places.now args.lengths.now args.word _ (c.in-Some.ensures args.places.now args.lengths.now c.requires.0) c.offset_in.ensures.0 c.copy.ensures
 
 pub put_list_start-requires : goal.put_list_start-requires
 put_list_start-requires c = let args = c.args in (c.parts_in.ensures.1, same_room _ _ (list_before args.msg.now args.places.now args.lengths.now args.word _ _ c.kind_in-kind.ensures.0 c.if-kind-eq-LIST.true c.parts_in.ensures.0) c.requires.1)
