@@ -11,29 +11,28 @@ use lib.IntN.{pos, negsuc}
 use lib.ListN.{length, get_or, take, drop}
 use borrow.Author.Tests.{lt-ltb, le-ltb, le-leb, lt-leb, ltb-true, ltb-false, ne_eqb}
 use Rattle.term_spec.specs.Numbers.{big_endian, in_bytes, little_endian, digits, with_sign, Under}
-use Rattle.term_spec.specs.Text.{encodes}
 use Rattle.term_spec.specs.Head.{clear_low}
 use Rattle.term_spec.specs.Term.{tuple, list, improper_list, binary, bitstring, map, port, reference, export}
 use Rattle.term_spec.specs.Canonical.{big_bytes, integer_bytes, atom_bytes, tuple_bytes, words_bytes}
 use Rattle.term_spec.proofs.Numbers.{length_digits}
 use Rattle.term_spec.proofs.Holds.{big_under}
 use Rattle.term_spec.proofs.Text.{under_all}
-use Rattle.octets.specs.Parts.{stretch, source}
+use Rattle.octets.specs.Parts.{stretch}
 use Rattle.octets.proofs.Numbers.{bytes_one, bytes_mod}
 use Rattle.octets.proofs.Parts.{length_part, part_last, part_add}
-use Rattle.row_fields.specs.Meaning.{sign, coded, words_at, bare, label_of}
+use Rattle.row_fields.specs.Meaning.{sign, words_at, bare, label_of}
 use Rattle.row_fields.specs.declared.Content.{Content}
 use Rattle.row_fields.specs.declared.Content.TheVariants as fields
 use Rattle.row_fields.specs.declared.Content.TheVariants.{Whole, Big, Text, Bytes, Reference}
 use Rattle.row_fields.proofs.Values.{under_part}
 use Rattle.layout.specs.declared.Body.{Body}
-use Rattle.layout.specs.declared.Body.TheVariants.{Empty, Part, Latin1, Digits, Bits}
+use Rattle.layout.specs.declared.Body.TheVariants.{Empty, Part, Digits, Bits}
 use Rattle.layout.specs.declared.Layout.{Layout}
 use Rattle.layout.specs.Layout.{body_bytes, Inside, BodyInside, Lays, laid_of}
 use Rattle.layout.proofs.Digits.{digits_of}
 use Rattle.layout.proofs.Bodies.{lays, length_stretch, length_bits}
 use Rattle.canonical_fields.specs.Shape.{tagged_bytes, list_start, list_end, before, after}
-use Rattle.canonical_fields.specs.Sound.{High, BytesOnly, Spelt, SoundText, SoundContent, listed_in}
+use Rattle.canonical_fields.specs.Sound.{High, BytesOnly, SoundText, SoundContent, listed_in}
 
 -- other bytes that are the same
 pub says : {m places bs cs : List ℕ} {l : Layout} → bs ≡ cs → Lays m places bs l → Lays m places cs l
@@ -273,32 +272,6 @@ pub bytes_lay : (m places : List ℕ) (start n : ℕ) {l : Layout} → Tagged 10
 unfolding body_bytes BodyInside before tagged_bytes
 bytes_lay m places start n t i =
     says (ap (λ (k : ℕ). 109 ∷ (in_bytes 4 k ++ stretch m start n)) (sym (length_stretch m start n i))) (t m places i)
-
--- ---- texts
-
-pub latin1_lays : (m places : List ℕ) (latin1 listed : Bool) (start n : ℕ) {l : Layout} → latin1 ≡ true
-    → Lays m places (atom_bytes (body_bytes m places (Latin1 listed start n))) l
-    → Lays m places (atom_bytes (encodes (coded latin1 (stretch (source m places listed) start n)))) l
-unfolding body_bytes coded
-latin1_lays m places latin1 listed start n e h = rw e h
-
-pub utf8_lays : (m places : List ℕ) (latin1 listed : Bool) (start n : ℕ) {l : Layout} → latin1 ≡ false → Spelt (stretch (source m places listed) start n)
-    → Lays m places (atom_bytes (body_bytes m places (Part listed start n))) l
-    → Lays m places (atom_bytes (encodes (coded latin1 (stretch (source m places listed) start n)))) l
-unfolding body_bytes coded
-utf8_lays m places latin1 listed start n e s h = rw e (says (ap atom_bytes (sym s.spelt)) h)
-
-pub latin1_there : (m places : List ℕ) (listed : Bool) (start n : ℕ) → Inside (source m places listed) start n → BodyInside m places (Latin1 listed start n)
-unfolding BodyInside
-latin1_there m places listed start n i = i
-
-pub part_there : (m places : List ℕ) (listed : Bool) (start n : ℕ) → Inside (source m places listed) start n → BodyInside m places (Part listed start n)
-unfolding BodyInside
-part_there m places listed start n i = i
-
-pub part_length : (m places : List ℕ) (listed : Bool) (start n : ℕ) → Inside (source m places listed) start n → n ≡ length (body_bytes m places (Part listed start n))
-unfolding body_bytes
-part_length m places listed start n i = sym (length_stretch (source m places listed) start n i)
 
 -- ---- contents
 

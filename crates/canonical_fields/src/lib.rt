@@ -100,6 +100,7 @@ fn text_lead(n: usize, body: Body) -> Layout
 }
 
 // An atom whose text stands in the message or in the list, in Latin-1 or UTF-8.
+#[tactic(auto, unfolding(row_fields::specs::Meaning::coded, layout::specs::Layout::body_bytes, layout::specs::Layout::BodyInside))]
 fn text(msg: &[u8], places: &[u8], latin1: bool, listed: bool, start: usize, n: usize) -> Layout
     requires { SoundText msg.now places.now latin1 listed start n }
     ensures { Lays msg.now places.now (atom_bytes (encodes (coded latin1 (stretch (source msg.now places.now listed) start n)))) result }
