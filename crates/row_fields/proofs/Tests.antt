@@ -4,7 +4,7 @@ use mathlib.Core.Bool.{Bool, true, false, cond}
 use Prim.Native.Nat.{ℕ, ◌+◌, ◌-◌, ◌≤◌, ◌<◌}
 use native.Mathlib.Omega.{arith}
 use lib.Dec.{eqb, leb, ltb}
-use borrow.Author.Tests.{lt-ltb, le-ltb, lt-leb, le-leb, eq-eqb, ne_eqb}
+use borrow.Author.Tests.{lt-ltb, le-ltb, lt-leb, le-leb, eq-eqb}
 
 module _ {A : Type 0} {t u : Bool} where
   pub yes_way : {z a : A} (b : A) → t ≡ u → t ≡ true → z ≡ a → z ≡ cond u a b
@@ -28,9 +28,6 @@ module _ {A : Type 0} {x y k n : ℕ} where
 
   pub equal : {z a : A} (b : A) → x ≡ y → k ≡ n → x ≡ k → z ≡ a → z ≡ cond (eqb y n) a b
   equal b p q h f = yes_way b (ap₂ eqb p q) (eq-eqb x k h) f
-
-  pub unequal : {z b : A} (a : A) → x ≡ y → k ≡ n → (x ≡ k → ⊥) → z ≡ b → z ≡ cond (eqb y n) a b
-  unequal a p q h f = no_way a (ap₂ eqb p q) (ne_eqb x k h) f
 
 -- k are left after `at`
 pub enough : {A : Type 0} {z b : A} (a : A) (l at k n : ℕ) → k ≡ n → at + k ≤ l → z ≡ b → z ≡ cond (ltb (l - at) n) a b

@@ -11,7 +11,7 @@ use Rattle.std.specs.Option.{unwrap_or}
 use Rattle.octets.specs.Parts.{counted_end}
 use Rattle.octets.proofs.Counted.{past_there}
 use Rattle.row_fields.specs.declared.Content.{Content}
-use Rattle.row_fields.specs.declared.Content.TheVariants.{Nothing, Whole, Float, Text, Bytes, Pid, Port, Reference}
+use Rattle.row_fields.specs.declared.Content.TheVariants.{Whole, Float, Text, Bytes, Pid, Port, Reference}
 use Rattle.row_fields.specs.Found.{value, if_counted, stripped, byte_found, signed_whole, signed_found, stripped_found, big_found, integer_found, float_found, text_width, text_found, place_found, listed_found, atom_found, text_end, atom_end, bytes_found, bits_of, bits_found, binary_found, pid_found, port_found, words_found, word_found, counted_found, pids_found, ports_found, references_found}
 use Rattle.row_fields.proofs.Tests.{enough, above}
 
@@ -19,11 +19,6 @@ use Rattle.row_fields.proofs.Tests.{enough, above}
 counted : {z y : Content} (m : List ℕ) (w at b n : ℕ) → value m w (at + 1) ≡ n → at + 1 + w + b + n ≤ length m → z ≡ y → z ≡ if_counted (counted_end m at w b) y
 unfolding if_counted
 counted {z} {y} m w at b n e h f = f ∙ ap (λ (o : Option ℕ). if_counted o y) (past_there m at w b n (sym e) h)
-
--- and where they are cut
-pub uncounted : (m : List ℕ) (at w b : ℕ) (y : Content) → None ≡ counted_end m at w b → Nothing ≡ if_counted (counted_end m at w b) y
-unfolding if_counted
-uncounted m at w b y e = ap (λ (o : Option ℕ). if_counted o y) e
 
 module _ (m : List ℕ) (at : ℕ) where
   pub byte_there : at + 1 ≤ length m → Whole false (value m 1 at) ≡ byte_found m at

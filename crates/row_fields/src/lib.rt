@@ -62,6 +62,7 @@ pub enum Content {
 }
 
 // The number of the n digits from `start` on, up to the highest that is not zero.
+#[tactic(auto, using(crate::proofs::Digits::strip_here, crate::proofs::Digits::strip_next, crate::proofs::Digits::strip_none))]
 fn strip(msg: &[u8], start: usize, n: usize) -> usize
     requires { start + n ≤ length msg.now }
     ensures { (result ≡ stripped msg.now start n) × (result ≤ n) }
@@ -75,6 +76,7 @@ fn strip(msg: &[u8], start: usize, n: usize) -> usize
 }
 
 // The magnitude of the n digits from `start` on, least first.
+#[tactic(auto, using(crate::proofs::Digits::summed_none, crate::proofs::Digits::summed_room, crate::proofs::Digits::summed_all))]
 fn little(msg: &[u8], start: usize, n: usize) -> u64
     requires { (start + n ≤ length msg.now) × (n ≤ 8) }
     ensures { result ≡ little_endian (take n (drop start msg.now)) }
@@ -87,6 +89,7 @@ fn little(msg: &[u8], start: usize, n: usize) -> u64
 }
 
 // The integer in the byte at `at`.
+#[tactic(auto, using(octets::proofs::Numbers::big_one), unfolding(crate::specs::Found::byte_found))]
 fn byte(msg: &[u8], at: usize) -> Content
     ensures { result ≡ byte_found msg.now at }
 {
@@ -99,6 +102,7 @@ fn byte(msg: &[u8], at: usize) -> Content
     }
 }
 
+#[tactic(auto, unfolding(crate::specs::Found::signed_whole))]
 fn signed_of(n: u64) -> Content
     requires { n < 4294967296 }
     ensures { result ≡ signed_whole n }
@@ -116,6 +120,7 @@ fn signed_of(n: u64) -> Content
 }
 
 // The integer of 32 bits whose tag is at `at`.
+#[tactic(auto, unfolding(crate::specs::Found::signed_found))]
 fn signed(msg: &[u8], at: usize) -> Content
     ensures { result ≡ signed_found msg.now at }
 {
@@ -125,6 +130,7 @@ fn signed(msg: &[u8], at: usize) -> Content
     signed_of(octets::big4(msg, at + 1) as u64)
 }
 
+#[tactic(auto, unfolding(crate::specs::Found::integer_of))]
 fn whole(negative: bool, n: u64) -> Content
     ensures { result ≡ integer_of negative n }
 {
@@ -141,6 +147,7 @@ fn whole(negative: bool, n: u64) -> Content
 }
 
 // The integer of n digits, the highest not zero.
+#[tactic(auto, unfolding(crate::specs::Found::stripped_found))]
 fn of_digits(msg: &[u8], negative: bool, start: usize, n: usize) -> Content
     requires { start + n ≤ length msg.now }
     ensures { result ≡ stripped_found msg.now negative start n }
@@ -156,6 +163,7 @@ fn of_digits(msg: &[u8], negative: bool, start: usize, n: usize) -> Content
 }
 
 // The integer by sign and digits whose tag is at `at`, with w bytes of the digits' number.
+#[tactic(auto, unfolding(crate::specs::Found::big_found, crate::specs::Found::if_counted))]
 fn big(msg: &[u8], w: usize, at: usize) -> Content
     requires { Width w × (at < length msg.now) }
     ensures { result ≡ big_found msg.now w at }
@@ -169,6 +177,7 @@ fn big(msg: &[u8], w: usize, at: usize) -> Content
 }
 
 // The integer whose tag is at `at`.
+#[tactic(auto, unfolding(crate::specs::Found::integer_found))]
 fn integer(msg: &[u8], at: usize, tag: u8) -> Content
     requires { at < length msg.now }
     ensures { result ≡ integer_found msg.now at tag }
@@ -183,6 +192,7 @@ fn integer(msg: &[u8], at: usize, tag: u8) -> Content
 }
 
 // The float whose tag is at `at`.
+#[tactic(auto, unfolding(crate::specs::Found::float_found))]
 fn float(msg: &[u8], at: usize) -> Content
     ensures { result ≡ float_found msg.now at }
 {
@@ -194,6 +204,7 @@ fn float(msg: &[u8], at: usize) -> Content
 }
 
 // The width of the length of an atom with this tag; None for one of the list, which has none.
+#[tactic(auto, unfolding(crate::specs::Found::text_width))]
 fn width_of(tag: u8) -> Option<usize>
     ensures { (result ≡ text_width tag) × MatchOption result ⊤ Width }
 {
@@ -205,6 +216,7 @@ fn width_of(tag: u8) -> Option<usize>
 }
 
 // The text in the message of the atom whose tag is at `at`.
+#[tactic(auto, unfolding(crate::specs::Found::text_found, crate::specs::Found::if_counted))]
 fn text(msg: &[u8], w: usize, latin1: bool, at: usize) -> Content
     requires { Width w × (at < length msg.now) }
     ensures { result ≡ text_found msg.now w latin1 at }
@@ -222,6 +234,7 @@ fn text(msg: &[u8], w: usize, latin1: bool, at: usize) -> Content
 }
 
 // The text of the list's place i.
+#[tactic(auto, unfolding(crate::specs::Found::place_found))]
 fn place(places: &[u8], lengths: &[u16], i: usize) -> Content
     requires { i < 256 }
     ensures { result ≡ place_found places.now lengths.now i }
@@ -243,6 +256,7 @@ fn place(places: &[u8], lengths: &[u16], i: usize) -> Content
 }
 
 // The text in the list of the atom whose tag is at `at`.
+#[tactic(auto, unfolding(crate::specs::Found::listed_found))]
 fn listed(msg: &[u8], places: &[u8], lengths: &[u16], at: usize) -> Content
     ensures { result ≡ listed_found msg.now places.now lengths.now at }
 {
@@ -253,6 +267,7 @@ fn listed(msg: &[u8], places: &[u8], lengths: &[u16], at: usize) -> Content
 }
 
 // The atom whose tag is at `at`.
+#[tactic(auto, unfolding(crate::specs::Found::atom_found))]
 fn atom(msg: &[u8], places: &[u8], lengths: &[u16], at: usize, tag: u8) -> Content
     requires { at < length msg.now }
     ensures { result ≡ atom_found msg.now places.now lengths.now at tag }
@@ -263,6 +278,7 @@ fn atom(msg: &[u8], places: &[u8], lengths: &[u16], at: usize, tag: u8) -> Conte
     }
 }
 
+#[tactic(auto, unfolding(crate::specs::Found::text_end))]
 fn text_end(msg: &[u8], width: Option<usize>, at: usize) -> usize
     requires { MatchOption width ⊤ Width × (at < length msg.now) }
     ensures { result ≡ text_end msg.now width at }
@@ -274,6 +290,7 @@ fn text_end(msg: &[u8], width: Option<usize>, at: usize) -> usize
 }
 
 // Where the atom whose tag is at `at` ends.
+#[tactic(auto, unfolding(crate::specs::Found::atom_end))]
 fn atom_end(msg: &[u8], at: usize) -> usize
     ensures { result ≡ atom_end msg.now at }
 {
@@ -284,6 +301,7 @@ fn atom_end(msg: &[u8], at: usize) -> usize
 }
 
 // The bytes of the binary whose tag is at `at`.
+#[tactic(auto, unfolding(crate::specs::Found::bytes_found, crate::specs::Found::if_counted))]
 fn bytes(msg: &[u8], at: usize) -> Content
     requires { at < length msg.now }
     ensures { result ≡ bytes_found msg.now at }
@@ -297,6 +315,7 @@ fn bytes(msg: &[u8], at: usize) -> Content
     }
 }
 
+#[tactic(auto, unfolding(crate::specs::Found::bits_of))]
 fn of_bits(bits: usize, start: usize, n: usize) -> Content
     ensures { result ≡ bits_of bits start n }
 {
@@ -312,6 +331,7 @@ fn of_bits(bits: usize, start: usize, n: usize) -> Content
 }
 
 // The bits of the bitstring whose tag is at `at`.
+#[tactic(auto, unfolding(crate::specs::Found::bits_found, crate::specs::Found::if_counted))]
 fn bits(msg: &[u8], at: usize) -> Content
     requires { at < length msg.now }
     ensures { result ≡ bits_found msg.now at }
@@ -323,6 +343,7 @@ fn bits(msg: &[u8], at: usize) -> Content
 }
 
 // The binary or bitstring whose tag is at `at`.
+#[tactic(auto, unfolding(crate::specs::Found::binary_found))]
 fn binary(msg: &[u8], at: usize, tag: u8) -> Content
     requires { at < length msg.now }
     ensures { result ≡ binary_found msg.now at tag }
@@ -334,6 +355,7 @@ fn binary(msg: &[u8], at: usize, tag: u8) -> Content
 }
 
 // The pid whose node ends at `end`, with w bytes of Creation.
+#[tactic(auto, unfolding(crate::specs::Found::pid_found))]
 fn pid_from(msg: &[u8], w: usize, end: usize) -> Content
     requires { Width w }
     ensures { result ≡ pid_found msg.now w end }
@@ -352,6 +374,7 @@ fn pid_from(msg: &[u8], w: usize, end: usize) -> Content
 }
 
 // The port whose node ends at `end`, with v bytes of ID and w of Creation.
+#[tactic(auto, unfolding(crate::specs::Found::port_found))]
 fn port_from(msg: &[u8], v: usize, w: usize, end: usize) -> Content
     requires { Width v × Width w }
     ensures { result ≡ port_found msg.now v w end }
@@ -365,6 +388,7 @@ fn port_from(msg: &[u8], v: usize, w: usize, end: usize) -> Content
 }
 
 // The reference of n words whose node ends at `end`, with w bytes of Creation.
+#[tactic(auto, unfolding(crate::specs::Found::words_found))]
 fn words_from(msg: &[u8], w: usize, n: usize, end: usize) -> Content
     requires { Width w × (n < 65536) }
     ensures { result ≡ words_found msg.now w n end }
@@ -381,6 +405,7 @@ fn words_from(msg: &[u8], w: usize, n: usize, end: usize) -> Content
 }
 
 // The reference of one word whose node ends at `end`.
+#[tactic(auto, unfolding(crate::specs::Found::word_found))]
 fn word_from(msg: &[u8], end: usize) -> Content
     ensures { result ≡ word_found msg.now end }
 {
@@ -396,6 +421,7 @@ fn word_from(msg: &[u8], end: usize) -> Content
 }
 
 // The reference with a number of words whose tag is at `at`.
+#[tactic(auto, unfolding(crate::specs::Found::counted_found))]
 fn counted(msg: &[u8], w: usize, at: usize) -> Content
     requires { Width w }
     ensures { result ≡ counted_found msg.now w at }
@@ -408,6 +434,7 @@ fn counted(msg: &[u8], w: usize, at: usize) -> Content
 }
 
 // The pid whose tag is at `at`.
+#[tactic(auto, unfolding(crate::specs::Found::pids_found))]
 fn pid(msg: &[u8], at: usize, tag: u8) -> Content
     requires { at < length msg.now }
     ensures { result ≡ pids_found msg.now at tag }
@@ -420,6 +447,7 @@ fn pid(msg: &[u8], at: usize, tag: u8) -> Content
 }
 
 // The port whose tag is at `at`.
+#[tactic(auto, unfolding(crate::specs::Found::ports_found))]
 fn port(msg: &[u8], at: usize, tag: u8) -> Content
     requires { at < length msg.now }
     ensures { result ≡ ports_found msg.now at tag }
@@ -433,6 +461,7 @@ fn port(msg: &[u8], at: usize, tag: u8) -> Content
 }
 
 // The reference whose tag is at `at`.
+#[tactic(auto, unfolding(crate::specs::Found::references_found))]
 fn reference(msg: &[u8], at: usize, tag: u8) -> Content
     requires { at < length msg.now }
     ensures { result ≡ references_found msg.now at tag }
@@ -445,6 +474,7 @@ fn reference(msg: &[u8], at: usize, tag: u8) -> Content
 }
 
 // The own fields of the term of this kind whose tag is at `offset`; of a character, whose byte is there.
+#[tactic(auto, unfolding(crate::specs::Found::content_of, crate::specs::Found::kind_found))]
 pub fn content_at(msg: &[u8], places: &[u8], lengths: &[u16], kind: usize, offset: usize) -> Content
     ensures { result ≡ content_of msg.now places.now lengths.now kind offset }
 {
