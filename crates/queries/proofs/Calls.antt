@@ -5,62 +5,73 @@ use mathlib.Core.List.{List}
 use mathlib.Core.Option as option
 use Prim.Native.Nat.{ℕ, ◌+◌, ◌*◌, ◌^◌, ◌<◌, ◌≤◌}
 use native.Mathlib.Omega.{arith}
-use lib.Dec.{eqb}
+use lib.Dec.{eqb, leb}
 use lib.Ieee.{binary64, of_bits, to_bits}
-use lib.ListN.{get_or, take, drop}
+use lib.ListN.{length, get_or, take, drop}
+use borrow.Author.Tests.{leb-true, leb-false}
+use Rattle.std.specs.Prelude.{Ok, Err}
+use Rattle.std.specs.Result.{MatchResult, IsOkAnd}
 use Rattle.term_spec.specs.Numbers.{big_endian, Under}
 use Rattle.term_spec.specs.Text.{Coding, latin_1, utf_8}
 use Rattle.term_spec.specs.Answer.{Answer, good, refused}
-use Rattle.term_spec.specs.Answers.{read_answer, number_answer, mark_case, mark_answer}
+use Rattle.term_spec.specs.Answers.{ReadAnswer, NumberAnswer, MarkAnswer, read_answer, number_answer, mark_case, mark_answer}
 use Rattle.term_spec.specs.AtomList.{AtomList, place_length, given_of}
 use Rattle.term_spec.specs.Message.{Framing, Terms, all_as_read, read}
 use Rattle.term_spec.specs.Rows.{rows, table_after}
 use Rattle.term_spec.specs.Look.{float_bits, number_at, row_number, number_in, atom_at, Stretch, of_message, of_list, text_of, atom_text, text_in, text_bytes, stretch_bytes}
-use Rattle.term_spec.specs.declared.ReadAnswer.{ReadAnswer}
-use Rattle.term_spec.specs.declared.NumberAnswer.{NumberAnswer}
-use Rattle.term_spec.specs.declared.MarkAnswer.{MarkAnswer}
+use Rattle.term_spec.specs.declared.Mark.{Mark}
+use Rattle.term_spec.proofs.Capacity.{row_for_each_byte}
 use Rattle.term_spec.proofs.Message.{accepted_message, allowed_valid}
-use Rattle.queries.specs.declared.TextAt.{TextAt}
-use Rattle.queries.specs.Code.{numbered, located, mark_at, bytes_at}
-use Rattle.queries.specs.Promises.{is_latin1, stretch_at, text_at, TextInside}
-use Rattle.queries.specs.Promises.{LocateCall}
+use Rattle.queries.specs.Code.{Asked, numbered, located, mark_at, bytes_at}
+use Rattle.queries.specs.Promises.{TextAnswer, is_latin1, stretch_at, text_at, TextInside, LocateCall}
 use Rattle.queries.proofs.Numbers.{float_exact}
 use Rattle.queries.proofs.Rows.{bits_answered, numbers_are, texts_are}
 
--- with a table that reads the message as one of 8,192 rows does
-module _ (flags : ℕ) (framing : Framing) (list : AtomList) (m : List ℕ) (few : list.n ≤ 255) (under : Under 256 m) (lent : ℕ) (T : List ℕ) (r : ReadAnswer)
-    (same : read flags framing list lent m ≡ read flags framing list 8192 m) (call : r ≡ read_answer (read flags framing list lent m)) (table : T ≡ table_after lent (read flags framing list lent m)) where
+-- with a table of a row for each byte of the message, or of 8,192 rows, which reads it as one of 8,192 rows does
+module _ (flags : ℕ) (framing : Framing) (list : AtomList) (m : List ℕ) (few : list.n ≤ 255) (under : Under 256 m) {P : List ℕ → ReadAnswer → Type 0} (a : Asked flags framing list m P) where
+  abbrev rows_lent : ℕ
+  rows_lent = length a.lent
+
+  same : read flags framing list rows_lent m ≡ read flags framing list 8192 m
+  same = go (leb (length m) rows_lent) refl
+    where
+      go : (t : Bool) → leb (length m) rows_lent ≡ t → read flags framing list rows_lent m ≡ read flags framing list 8192 m
+      go true e = row_for_each_byte flags framing list m rows_lent (leb-true (length m) rows_lent e)
+      go false e =
+          let all : rows_lent ≡ 8192 = omega (arith, a.enough, a.most, leb-false (length m) rows_lent e) in
+          ap (λ (k : ℕ). read flags framing list k m) all
+
   -- a row's number
-  pub number_told : (row : ℕ) (x : NumberAnswer) → x ≡ numbered m list.places list.lengths T r row → x ≡ number_answer (number_in flags framing list m row)
+  pub number_told : (row : ℕ) (x : NumberAnswer) → x ≡ numbered m list.places list.lengths a.table a.read row → x ≡ number_answer (number_in flags framing list m row)
   unfolding number_in number_answer row_number numbered read_answer
   number_told row x e =
       e
-      ∙ ap₂ (λ (t : List ℕ) (q : ReadAnswer). numbered m list.places list.lengths t q row) table call
-      ∙ go (read flags framing list lent m) refl
+      ∙ ap₂ (λ (t : List ℕ) (q : ReadAnswer). numbered m list.places list.lengths t q row) a.called.table_left a.called.read_answered
+      ∙ go (read flags framing list rows_lent m) refl
       ∙ ap (λ (o : Answer Terms). number_answer (row_number row o)) same
     where
-      go : (o : Answer Terms) → read flags framing list lent m ≡ o
-          → numbered m list.places list.lengths (table_after lent o) (read_answer o) row ≡ number_answer (row_number row o)
-      go (good ts) f = numbers_are flags list m ts few under lent (accepted_message flags framing list lent m under ts f) row
+      go : (o : Answer Terms) → read flags framing list rows_lent m ≡ o
+          → numbered m list.places list.lengths (table_after rows_lent o) (read_answer o) row ≡ number_answer (row_number row o)
+      go (good ts) f = numbers_are flags list m ts few under rows_lent (accepted_message flags framing list rows_lent m under ts f) row
       go (refused n p) f = refl
 
   -- where an atom's text stands
-  pub text_told : (at : ℕ) (x : TextAt) → x ≡ located m list.places list.lengths T r at → LocateCall flags framing list m at x
+  pub text_told : (at : ℕ) (x : TextAnswer) → x ≡ located m list.places list.lengths a.table a.read at → LocateCall flags framing list m at x
   unfolding text_in atom_text text_at located read_answer TextInside
   text_told at x e =
-      let f : x ≡ found (read flags framing list lent m)
-      = e ∙ ap₂ (λ (t : List ℕ) (q : ReadAnswer). located m list.places list.lengths t q at) table call in
-      let k = go (read flags framing list lent m) refl in
+      let f : x ≡ found (read flags framing list rows_lent m)
+      = e ∙ ap₂ (λ (t : List ℕ) (q : ReadAnswer). located m list.places list.lengths t q at) a.called.table_left a.called.read_answered in
+      let k = go (read flags framing list rows_lent m) refl in
       record {
         text_located = f ∙ k.0 ∙ ap (λ (o : Answer Terms). text_at (atom_text m list at o)) same;
         text_inside = subst (TextInside m list.places) (sym f) k.1;
       }
     where
-      found : Answer Terms → TextAt
-      found o = located m list.places list.lengths (table_after lent o) (read_answer o) at
+      found : Answer Terms → TextAnswer
+      found o = located m list.places list.lengths (table_after rows_lent o) (read_answer o) at
 
-      go : (o : Answer Terms) → read flags framing list lent m ≡ o → (found o ≡ text_at (atom_text m list at o)) × TextInside m list.places (found o)
-      go (good ts) f = texts_are flags list m ts few under lent (accepted_message flags framing list lent m under ts f) at
+      go : (o : Answer Terms) → read flags framing list rows_lent m ≡ o → (found o ≡ text_at (atom_text m list at o)) × TextInside m list.places (found o)
+      go (good ts) f = texts_are flags list m ts few under rows_lent (accepted_message flags framing list rows_lent m under ts f) at
       go (refused n p) f = (refl, tt)
 
 -- for the reader of the promise, used by no proof: the float that a row's number answers has exactly the 64 bits of its term, as encoded back
@@ -95,21 +106,29 @@ mark_of m list at =
     go g h i j k l false false false true = refl
     go g h i j k l false false false false = refl
 
-pub mark_told : (flags : ℕ) (framing : Framing) (list : AtomList) (m : List ℕ) (at : ℕ) (x : TextAt) (r : MarkAnswer) → x ≡ text_at (text_in flags framing list m at) → r ≡ mark_at x
-    → r ≡ mark_answer (text_in flags framing list m at)
-unfolding text_in atom_text text_at mark_answer mark_at
-mark_told flags framing list m at x r e f = f ∙ ap mark_at e ∙ go (read flags framing list 8192 m)
-  where
-    test : (t : Bool) → mark_at (text_at (cond t (good (text_of m list at)) (refused 4 at))) ≡ mark_answer (cond t (good (text_of m list at)) (refused 4 at))
-    test true = mark_of m list at
-    test false = refl
+marked : (o : MarkAnswer) (k x : Mark) → IsOkAnd o (λ y. y ≡ k) → k ≡ x → o ≡ Ok x
+marked (Ok y) k x h g = ap Ok (h ∙ g)
+marked (Err z) k x h g = absurd h
 
-    go : (o : Answer Terms) → mark_at (text_at (atom_text m list at o)) ≡ mark_answer (atom_text m list at o)
-    go (good ts) = test (atom_at at (rows option.none 0 ts))
-    go (refused n p) = refl
+module _ (m : List ℕ) (list : AtomList) (at : ℕ) (r : MarkAnswer) where
+  abbrev MarkOf : TextAnswer → Type 0
+  MarkOf x = MatchResult x (λ t. IsOkAnd r (λ k. k ≡ mark_at t)) (λ z. r ≡ Err z)
+
+  mark_is : (o : Answer Terms) → MarkOf (text_at (atom_text m list at o)) → r ≡ mark_answer (atom_text m list at o)
+  unfolding atom_text text_at mark_answer
+  mark_is (refused n p) h = h
+  mark_is (good ts) h = go (atom_at at (rows option.none 0 ts)) h
+    where
+      go : (t : Bool) → MarkOf (text_at (cond t (good (text_of m list at)) (refused 4 at))) → r ≡ mark_answer (cond t (good (text_of m list at)) (refused 4 at))
+      go true h = marked r _ _ h (mark_of m list at)
+      go false h = h
+
+  pub mark_told : (flags : ℕ) (framing : Framing) (x : TextAnswer) → x ≡ text_at (text_in flags framing list m at) → MarkOf x → r ≡ mark_answer (text_in flags framing list m at)
+  unfolding text_in
+  mark_told flags framing x e f = mark_is (read flags framing list 8192 m) (subst MarkOf e f)
 
 -- a text's bytes
-pub bytes_told : (m : List ℕ) (list : AtomList) (o : Answer (Stretch × Coding)) (x : TextAt) (bs : List ℕ) → x ≡ text_at o → bs ≡ bytes_at m list.places x
+pub bytes_told : (m : List ℕ) (list : AtomList) (o : Answer (Stretch × Coding)) (x : TextAnswer) (bs : List ℕ) → x ≡ text_at o → bs ≡ bytes_at m list.places x
     → bs ≡ text_bytes m list o
 unfolding text_at stretch_at text_bytes stretch_bytes bytes_at
 bytes_told m list o x bs e f = f ∙ ap (bytes_at m list.places) e ∙ go o

@@ -1,5 +1,4 @@
 pub mod Signed
-pub mod Ways
 pub mod Numbers
 pub mod Texts
 pub mod Rows

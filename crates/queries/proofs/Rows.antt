@@ -1,14 +1,16 @@
 -- What the calls find in the table of an accepted message is what its rows say.
 use mathlib.Core.Path.{◌≡◌, refl, sym, ap, ap₂, ◌∙◌, subst}
 use mathlib.Core.Bool.{Bool, true, false, ◌||◌, cond}
-use mathlib.Core.List.{List, [], ◌∷◌}
+use mathlib.Core.List.{List, [], ◌∷◌, ◌++◌}
 use mathlib.Core.Option.{Option, some}
 use mathlib.Core.Option as option
 use Prim.Native.Nat.{ℕ, zero, suc, ◌+◌, ◌^◌, ◌<◌, ◌≤◌, min}
 use native.Mathlib.Omega.{arith}
 use lib.Dec.{eqb, leb}
-use lib.ListN.{length, get_or}
+use lib.ListN.{length, get_or, take}
 use borrow.Author.Tests.{leb-true, leb-false, eqb-true}
+use Rattle.std.specs.List.{list_any}
+use Rattle.std.specs.Prelude.{Ok, Err}
 use Rattle.term_spec.specs.Tree.{Forest, node, empty, ◌▹◌, size, sizes}
 use Rattle.term_spec.specs.Term.{Label, integer, float, atom, tuple, list, improper_list, binary, bitstring, map, pid, port, reference, export}
 use Rattle.term_spec.specs.Answer.{good, refused}
@@ -19,11 +21,11 @@ use Rattle.term_spec.specs.Reading.{Offset, tag_at, character_at, Located, as_re
 use Rattle.term_spec.specs.Message.{Terms, all_as_read}
 use Rattle.term_spec.specs.Rows.{Row, tree_rows, rows, kind_of, kind_at, offset_of, kind_in, offset_in, word, row_words, table_after, Here}
 use Rattle.term_spec.specs.Look.{float_bits, neither, number_of, number_at, atom_at, text_of, atom_text}
-use Rattle.term_spec.specs.declared.NumberAnswer.TheVariants as numbers
+use Rattle.term_spec.specs.declared.RowNumber.TheVariants as numbers
 use Rattle.term_spec.specs.Numbers.{Under}
 use Rattle.term_spec.specs.Valid.{Fits, Valid, Valids}
 use Rattle.term_spec.proofs.Rows.{length_rows}
-use Rattle.term_spec.proofs.Words.{EachRow, each_row_join, each_row_at, SmallRow, WordOf, word_packed, here_word, here_rest, tag_of_kind, kind_of_tag, table_row}
+use Rattle.term_spec.proofs.Words.{EachRow, each_row_join, each_row_at, SmallRow, WordOf, word_packed, tag_of_kind, kind_of_tag, table_row}
 use Rattle.term_spec.proofs.Backed.{LabelAt}
 use Rattle.term_spec.proofs.Message.{AcceptedMessage, allowed_valid}
 use Rattle.row_fields.specs.declared.Content.{Content}
@@ -32,10 +34,8 @@ use Rattle.row_fields.proofs.Says.{Lent, Says}
 use Rattle.row_fields.proofs.Again.{content_says}
 use Rattle.term_rows.proofs.InTable.{RowsInTable, BackedRow, backed_rows}
 use Rattle.term_rows.proofs.Accepted.{held_rows}
-use Rattle.queries.specs.declared.TextAt.{TextAt}
-use Rattle.queries.specs.declared.TextAt.TheVariants as texts
 use Rattle.queries.specs.Code.{content_number, numbered, atom_row, atom_among, text_said, located}
-use Rattle.queries.specs.Promises.{text_at, TextInside}
+use Rattle.queries.specs.Promises.{TextAnswer, text_at, TextInside}
 use Rattle.queries.proofs.Numbers.{content_is, float_label}
 use Rattle.queries.proofs.Texts.{atom_tag, content_stands, said_inside}
 
@@ -109,18 +109,14 @@ kind_atom (port i c) e = absurd (omega arith)
 kind_atom (reference c ws) e = absurd (omega arith)
 kind_atom export e = absurd (omega arith)
 
-or_else : (b x : Bool) → (b || x) ≡ cond b true x
-or_else true x = refl
-or_else false x = refl
-
 module _ (at : ℕ) where
   abbrev test : Label → Offset → Bool
   test l p = cond (eqb (kind_at l p) 3) (eqb (offset_of p) at) false
 
   first_row : (l : Label) (p : Offset) (whole : Option ℕ) (n k : ℕ) (rs : List Row)
-      → atom_at at (record { label = l; place = p; whole = whole; parts = n; size = k } ∷ rs) ≡ cond (test l p) true (atom_at at rs)
+      → atom_at at (record { label = l; place = p; whole = whole; parts = n; size = k } ∷ rs) ≡ (test l p || atom_at at rs)
   unfolding atom_at kind_at kind_of offset_of
-  first_row (atom cs) (tag_at q) whole n k rs = or_else (eqb q at) (atom_at at rs)
+  first_row (atom cs) (tag_at q) whole n k rs = refl
   first_row (integer z) (tag_at q) whole n k rs = refl
   first_row (float bits) (tag_at q) whole n k rs = refl
   first_row tuple (tag_at q) whole n k rs = refl
@@ -148,13 +144,16 @@ module _ (at : ℕ) where
   first_row export (character_at q) whole n k rs = refl
 
   -- the table's words say whether an atom's row is there
-  among_is : (T : List ℕ) (rs : List Row) (a : ℕ) → Here T a (row_words rs) → EachRow SmallRow rs → atom_among T (length rs) a at ≡ atom_at at rs
-  unfolding atom_among atom_row row_words EachRow atom_at
-  among_is T [] a h s = refl
-  among_is T (r ∷ rs) a h s =
+  among_words : (rs : List Row) (after : List ℕ) → EachRow SmallRow rs → list_any (λ w. atom_row w at) (take (length rs) (row_words rs ++ after)) ≡ atom_at at rs
+  unfolding atom_row row_words EachRow atom_at
+  among_words [] after s = refl
+  among_words (r ∷ rs) after s =
       let w : WordOf r (word r) = word_packed r s.0 in
-      let ih : atom_among T (length rs) (a + 1) at ≡ atom_at at rs = among_is T rs (a + 1) (here_rest h) s.1 in
-      rw (here_word h, w.kind_is, w.offset_is, ih) (sym (first_row r.label r.place r.whole r.parts r.size rs))
+      rw (w.kind_is, w.offset_is, among_words rs after s.1) (sym (first_row r.label r.place r.whole r.parts r.size rs))
+
+  among_is : (T : List ℕ) (rs : List Row) → Here T 0 (row_words rs) → EachRow SmallRow rs → atom_among T (length rs) at ≡ atom_at at rs
+  unfolding atom_among
+  among_is T rs h s = rw h.stands (among_words rs h.after s)
 
   module _ (P : Offset → Label → Type 0) where
     -- where one is, it is backed as each row is
@@ -165,7 +164,7 @@ module _ (at : ℕ) where
         by_kind (eqb (kind_at r.label r.place) 3) refl (eqb (offset_of r.place) at) refl (sym (first_row r.label r.place r.whole r.parts r.size rs) ∙ e)
         (λ k. atom_backed rs h.1 k)
       where
-        by_kind : (t : Bool) → eqb (kind_at r.label r.place) 3 ≡ t → (u : Bool) → eqb (offset_of r.place) at ≡ u → cond (cond t u false) true (atom_at at rs) ≡ true
+        by_kind : (t : Bool) → eqb (kind_at r.label r.place) 3 ≡ t → (u : Bool) → eqb (offset_of r.place) at ≡ u → (cond t u false || atom_at at rs) ≡ true
             → (atom_at at rs ≡ true → (cs : List ℕ) × P (tag_at at) (atom cs)) → (cs : List ℕ) × P (tag_at at) (atom cs)
         by_kind true f true g k ih =
             let three : kind_at r.label r.place ≡ 3 = eqb-true _ _ f in
@@ -217,9 +216,9 @@ module _ (flags : ℕ) (list : AtomList) (m : List ℕ) (ts : Terms) (few : list
       ∙ content_is list m kind c says.sound (λ bits e. (fit bits (sym says.means ∙ e)).1)
       ∙ ap content_number (sym same)
 
-  pub numbers_are : (i : ℕ) → numbered m list.places list.lengths T (read_answer (good ts)) i ≡ number_case (number_at i all)
+  pub numbers_are : (i : ℕ) → numbered m list.places list.lengths T (read_answer (good ts)) i ≡ Ok (number_case (number_at i all))
   unfolding read_answer numbered number_case
-  numbers_are i = go (leb (sizes ts) i) refl
+  numbers_are i = ap Ok (go (leb (sizes ts) i) refl)
     where
       go : (t : Bool) → leb (sizes ts) i ≡ t → cond t numbers.Neither (number_case (content_number (found_at (get_or T i 0)))) ≡ number_case (number_at i all)
       go true e =
@@ -228,7 +227,7 @@ module _ (flags : ℕ) (list : AtomList) (m : List ℕ) (ts : Terms) (few : list
       go false e = sym (ap number_case (row_says i (leb-false (sizes ts) i e)))
 
   -- where the text of an atom stands
-  abbrev said : ℕ → TextAt
+  abbrev said : ℕ → TextAnswer
   said at = text_said at (content_of m list.places list.lengths 3 at)
 
   atom_says : (at : ℕ) → atom_at at all ≡ true → (said at ≡ text_at (good (text_of m list at))) × TextInside m list.places (said at)
@@ -243,12 +242,12 @@ module _ (flags : ℕ) (list : AtomList) (m : List ℕ) (ts : Terms) (few : list
       × TextInside m list.places (located m list.places list.lengths T (read_answer (good ts)) at)
   unfolding read_answer located atom_text text_at TextInside
   texts_are at =
-      let e : atom_among T (sizes ts) 0 at ≡ atom_at at all
-      = ap (λ (n : ℕ). atom_among T n 0 at) (sym (length_rows option.none 0 ts)) ∙ among_is at T all 0 held.stand.words held.all_small in
+      let e : atom_among T (sizes ts) at ≡ atom_at at all
+      = ap (λ (n : ℕ). atom_among T n at) (sym (length_rows option.none 0 ts)) ∙ among_is at T all held.stand.words held.all_small in
       rw e (go (atom_at at all) refl)
     where
       go : (t : Bool) → atom_at at all ≡ t
-          → (cond t (said at) (texts.Refused (record { number = 4; place = at })) ≡ text_at (cond t (good (text_of m list at)) (refused 4 at)))
-          × TextInside m list.places (cond t (said at) (texts.Refused (record { number = 4; place = at })))
+          → (cond t (said at) (Err (record { number = 4; place = at })) ≡ text_at (cond t (good (text_of m list at)) (refused 4 at)))
+          × TextInside m list.places (cond t (said at) (Err (record { number = 4; place = at })))
       go true e = atom_says at e
       go false e = (refl, tt)

@@ -9,7 +9,8 @@ use native.Mathlib.Omega.{arith}
 use lib.Dec.{eqb, leb, ltb}
 use lib.IntN.{pos}
 use lib.ListN.{length, get_or}
-use borrow.Author.Tests.{eqb-false, ltb-false}
+use borrow.Author.Tests.{ltb-false}
+use Rattle.std.specs.Prelude.{Ok, Option, Some, None}
 use Rattle.term_spec.specs.Numbers.{little_endian, signed32, with_sign}
 use Rattle.term_spec.specs.Text.{Coding, latin_1, utf_8}
 use Rattle.term_spec.specs.Term.{Label, integer, float, atom, tuple, list, improper_list, binary, bitstring, export}
@@ -27,7 +28,7 @@ use Rattle.octets.proofs.Numbers.{big_one}
 use Rattle.octets.proofs.Counted.{past_some}
 use Rattle.row_fields.specs.declared.Content.{Content}
 use Rattle.row_fields.specs.declared.Content.TheVariants.{Nothing, Whole, Big, Float, Text, Bytes, Bits, Pid, Port, Reference}
-use Rattle.row_fields.specs.Found.{value, text_width, text_found, place_found, listed_found, atom_found, kind_found, content_of}
+use Rattle.row_fields.specs.Found.{if_counted, value, text_width, text_found, place_found, listed_found, atom_found, kind_found, content_of}
 use Rattle.row_fields.specs.Meaning.{bare, label_of}
 use Rattle.row_fields.proofs.Says.{Sound}
 use Rattle.row_fields.proofs.Read.{AllRows, row_of, position_is, head_here}
@@ -157,6 +158,12 @@ module _ (atoms : AtomList) (m : List ℕ) (cs : List ℕ) where
   present true c e = absurd (let k : 13 ≡ 3 = ap kind_of e in omega arith)
   present false c e = (refl, refl, e)
 
+  -- nor do counted bytes that the message has not
+  counted : (o : Option ℕ) (c : Content) → SaysAtom (if_counted o c) → (end : ℕ) × ((Some end ≡ o) × (if_counted o c ≡ c) × SaysAtom c)
+  unfolding label_of bare kind_of if_counted
+  counted None c e = absurd (let k : 13 ≡ 3 = ap kind_of e in omega arith)
+  counted (Some end) c e = (end, (refl, refl, e))
+
   module _ (p : ℕ) where
     atom_content : SaysAtom (content_of m atoms.places atoms.lengths 3 p)
         → (content_of m atoms.places atoms.lengths 3 p ≡ atom_found m atoms.places atoms.lengths p (get_or m p 0)) × SaysAtom (atom_found m atoms.places atoms.lengths p (get_or m p 0))
@@ -166,9 +173,9 @@ module _ (atoms : AtomList) (m : List ℕ) (cs : List ℕ) where
     text_content : (w : ℕ) (latin1 : Bool) → SaysAtom (text_found m w latin1 p) → (text_found m w latin1 p ≡ Text latin1 false (p + 1 + w) (value m w (p + 1))) × (1 + w ≤ length m - p)
     unfolding text_found
     text_content w latin1 e =
-        let a = present (eqb (counted_end m p w 0) 0) (Text latin1 false (p + 1 + w) (value m w (p + 1))) e in
-        let t = past_some m p w 0 refl (eqb-false (counted_end m p w 0) 0 a.0) in
-        (a.1, omega (arith, t.1))
+        let a = counted (counted_end m p w 0) (Text latin1 false (p + 1 + w) (value m w (p + 1))) e in
+        let t = past_some m p w 0 a.1.0 in
+        (a.1.1, omega (arith, t.1))
 
     place_content : (i : ℕ) → SaysAtom (place_found atoms.places atoms.lengths i) → place_found atoms.places atoms.lengths i ≡ Text false true (32 * i) (get_or atoms.lengths i 0)
     unfolding place_found
@@ -186,7 +193,7 @@ module _ (atoms : AtomList) (m : List ℕ) (cs : List ℕ) where
         (a.1 ∙ place_content (value m 1 (p + 1)) a.2, ltb-false (length m - p) 2 a.0)
 
     abbrev Stands : Content → Type 0
-    Stands c = text_said p c ≡ stretch_at (text_of m atoms p).0 (text_of m atoms p).1
+    Stands c = text_said p c ≡ Ok (stretch_at (text_of m atoms p).0 (text_of m atoms p).1)
 
     -- a text in the message
     message_stands : (tag w : ℕ) (coding : Coding) (start n : ℕ) → get_or m p 0 ≡ tag → atom_found m atoms.places atoms.lengths p tag ≡ text_found m w (is_latin1 coding) p
@@ -197,8 +204,8 @@ module _ (atoms : AtomList) (m : List ℕ) (cs : List ℕ) where
         let q : atom_found m atoms.places atoms.lengths p (get_or m p 0) ≡ text_found m w (is_latin1 coding) p = ap (atom_found m atoms.places atoms.lengths p) e ∙ f in
         let k = text_content w (is_latin1 coding) (ap (label_of m atoms 3) (sym q) ∙ s) in
         ap (text_said p) (q ∙ k.0)
-        ∙ ap₂ (λ (i j : ℕ). texts.Message i j (is_latin1 coding)) a (b k.1)
-        ∙ sym (ap (λ (t : Stretch × Coding). stretch_at t.0 t.1) g)
+        ∙ ap₂ (λ (i j : ℕ). Ok (texts.Message i j (is_latin1 coding))) a (b k.1)
+        ∙ sym (ap (λ (t : Stretch × Coding). Ok (stretch_at t.0 t.1)) g)
 
     one_byte : (w : ℕ) → w ≡ 1 → 1 + w ≤ length m - p → value m w (p + 1) ≡ get_or m (p + 1) 0
     one_byte w e h = ap (λ (k : ℕ). value m k (p + 1)) e ∙ big_one m (p + 1) (omega arith)
@@ -212,8 +219,8 @@ module _ (atoms : AtomList) (m : List ℕ) (cs : List ℕ) where
         let v : value m 1 (p + 1) ≡ get_or m (p + 1) 0 = big_one m (p + 1) (omega (arith, k.1)) in
         let g : text_of m atoms p ≡ (of_list (32 * get_or m (p + 1) 0) (get_or atoms.lengths (get_or m (p + 1) 0) 0), utf_8) = rw e in
         ap (text_said p) (q ∙ k.0)
-        ∙ ap (λ (i : ℕ). texts.List (32 * i) (get_or atoms.lengths i 0)) v
-        ∙ sym (ap (λ (t : Stretch × Coding). stretch_at t.0 t.1) g)
+        ∙ ap (λ (i : ℕ). Ok (texts.List (32 * i) (get_or atoms.lengths i 0))) v
+        ∙ sym (ap (λ (t : Stretch × Coding). Ok (stretch_at t.0 t.1)) g)
     atom_stands tag f is_100 e s = message_stands 100 2 latin_1 (p + 3) (value m 2 (p + 1)) e refl (rw e) (omega arith) (λ _. refl) s
     atom_stands tag f is_115 e s = message_stands 115 1 latin_1 (p + 2) (get_or m (p + 1) 0) e refl (rw e) (omega arith) (one_byte 1 refl) s
     atom_stands tag f is_118 e s = message_stands 118 2 utf_8 (p + 3) (value m 2 (p + 1)) e refl (rw e) (omega arith) (λ _. refl) s

@@ -1,33 +1,38 @@
 // Two questions on a message: a row's number, and an atom's text with its mark.
 #![tactic(auto)]
 
-ghost use Rattle.std.specs.Prelude.{◌≡◌, ◌≤◌, ◌<◌, pos, negsuc, length};
+ghost use Rattle.std.specs.Prelude.{◌≡◌, ◌≤◌, length, min};
 ghost use Rattle.term_spec.specs.Answers.{number_case};
+ghost use Rattle.term_spec.specs.AtomList.{lent_list};
 ghost use Rattle.term_spec.specs.Message.{standalone, payload};
 ghost use Rattle.reader.specs.Code.{framing_of};
-ghost use Rattle.queries.specs.Code.{signed_number, float_number, content_number, numbered, atom_row, atom_among, text_said, located, mark_at, bytes_at};
+ghost use Rattle.queries.specs.Code.{Asked, signed_number, float_number, content_number, numbered, atom_row, atom_among, no_atom, text_said, located, mark_at, bytes_at};
 ghost use Rattle.queries.specs.Promises.{TextInside, NumberCall, LocateCall, TextCall, MarkCall};
-ghost use Rattle.term_spec.specs.AtomList.{lent_list};
 
 use connection::Connection;
-use reader::{FEW_BYTES, Framing, SOME_BYTES, read_few, read_larger};
+use reader::{FEW_BYTES, FEW_SLOTS, Framing, SOME_BYTES, read_larger, read_sized};
 use row::{kind_in, offset_in};
 use row_fields::{Content, content_at};
 use term_rows::row_at;
-use term_spec::{MarkAnswer, NumberAnswer, ReadAnswer, Refusal, kinds, refusals, sizes};
+use term_spec::{
+    Mark, MarkAnswer, NumberAnswer, ReadAnswer, Refusal, RowNumber, TermsRead, kinds, refusals,
+    sizes,
+};
 
-// 2^63: the magnitude of the least i64, and the sign bit of a float.
+// The sign bit of a float.
 const SIGN_BIT: u64 = 9223372036854775808;
 // The bits of a float's infinity.
 const INFINITY: u64 = 9218868437227405312;
 
-// The rows of the tables for messages of at most FEW_BYTES and SOME_BYTES: a message has no more rows than bytes.
+// The rows of the tables for messages of at most FEW_BYTES, at most SOME_BYTES and of any length: a message has no more rows than bytes.
 const FEW_ROWS: usize = FEW_BYTES;
 
 const SOME_ROWS: usize = SOME_BYTES;
 
+const MOST_ROWS: usize = sizes::ROWS_MOST;
+
 // Where an atom's text stands: in the message, or in the list's places.
-#[derive(Drop)]
+#[derive(Clone, Copy)]
 pub enum TextAt {
     Message {
         start: usize,
@@ -38,55 +43,38 @@ pub enum TextAt {
         start: usize,
         length: usize,
     },
-    Refused(Refusal),
 }
 
-// -(k + 1): every negative i64, the least one too.
-fn below_zero(k: u64) -> i64
-    requires { k < 9223372036854775808 }
-    ensures { result ≡ negsuc k }
-{
-    -1 - (k as i64)
-}
-
-fn from_zero(k: u64) -> i64
-    requires { k < 9223372036854775808 }
-    ensures { result ≡ pos k }
-{
-    k as i64
-}
+// What an atom answers, asked where its text stands.
+pub type TextAnswer = Result<TextAt, Refusal>;
 
 // The whole number with this sign and magnitude, where an i64 holds it.
-fn signed_number(negative: bool, n: u64) -> NumberAnswer
-    ensures { result ≡ number_case (signed_number negative n) }
+#[tactic(auto, unfolding(crate::specs::Code::signed_number, term_spec::specs::Answers::number_case))]
+fn signed_number(negative: bool, magnitude: u64) -> RowNumber
+    ensures { result ≡ number_case (signed_number negative magnitude) }
 {
-    if negative {
-        if n == 0 {
-            return NumberAnswer::Whole(0);
-        }
-        if SIGN_BIT < n {
-            return NumberAnswer::Neither;
-        }
-        return NumberAnswer::Whole(below_zero(n - 1));
-    }
-    if n < SIGN_BIT {
-        return NumberAnswer::Whole(from_zero(n));
-    }
-    NumberAnswer::Neither
+    let whole = if negative {
+        0i64.checked_sub_unsigned(magnitude)
+    } else {
+        0i64.checked_add_unsigned(magnitude)
+    };
+    whole.map_or(RowNumber::Neither, RowNumber::Whole)
 }
 
 // The float that has these 64 bits, neither infinite nor no number.
-fn float_number(bits: u64) -> NumberAnswer
+#[tactic(auto, using(crate::proofs::Signed::no_nan), unfolding(crate::specs::Code::float_number, term_spec::specs::Answers::number_case))]
+fn float_number(bits: u64) -> RowNumber
     ensures { result ≡ number_case (float_number bits) }
 {
     if bits % SIGN_BIT < INFINITY {
-        return NumberAnswer::Float(f64::from_bits(bits));
+        return RowNumber::Float(f64::from_bits(bits));
     }
-    NumberAnswer::Neither
+    RowNumber::Neither
 }
 
 // The number that a term's own fields say.
-fn content_number(c: Content) -> NumberAnswer
+#[tactic(auto, unfolding(crate::specs::Code::content_number, term_spec::specs::Answers::number_case))]
+fn content_number(c: Content) -> RowNumber
     ensures { result ≡ number_case (content_number c) }
 {
     match c {
@@ -95,11 +83,12 @@ fn content_number(c: Content) -> NumberAnswer
             magnitude,
         } => signed_number(negative, magnitude),
         Content::Float { bits } => float_number(bits),
-        _ => NumberAnswer::Neither,
+        _ => RowNumber::Neither,
     }
 }
 
 // The number of a row of a message, whose reading gave this answer and this table.
+#[tactic(auto, unfolding(crate::specs::Code::numbered, term_spec::specs::Answers::number_case))]
 fn numbered(
     msg: &[u8],
     places: &[u8],
@@ -110,70 +99,68 @@ fn numbered(
 ) -> NumberAnswer
     ensures { result ≡ numbered msg.now places.now lengths.now table.now read row }
 {
-    match read {
-        ReadAnswer::Terms { terms, rows } => {
-            if rows <= row {
-                return NumberAnswer::Neither;
-            }
-            let w = row_at(table, row);
-            content_number(content_at(msg, places, lengths, kind_in(w), offset_in(w)))
-        }
-        ReadAnswer::Refused(refusal) => NumberAnswer::Refused(refusal),
+    let TermsRead { rows, .. } = read?;
+    if rows <= row {
+        return Ok(RowNumber::Neither);
     }
+    let w = row_at(table, row);
+    Ok(content_number(content_at(msg, places, lengths, kind_in(w), offset_in(w))))
 }
 
 // Whether a row is that of an atom whose tag is at this offset.
+#[tactic(auto, unfolding(crate::specs::Code::atom_row))]
 fn atom_row(w: u64, at: usize) -> bool
     ensures { result ≡ atom_row w at }
 {
-    if kind_in(w) != kinds::ATOM {
-        return false;
-    }
-    offset_in(w) == at
+    kind_in(w) == kinds::ATOM && offset_in(w) == at
 }
 
 // Whether one of the rows is that of an atom whose tag is at this offset.
+#[tactic(auto, unfolding(crate::specs::Code::atom_among))]
 fn atom_among(table: &[u64], rows: usize, at: usize) -> bool
-    ensures { result ≡ atom_among table.now rows 0 at }
+    ensures { result ≡ atom_among table.now rows at }
 {
-    let mut i = 0usize;
-    while i < rows {
-        if atom_row(row_at(table, i), at) {
-            return true;
-        }
-        i += 1;
+    table.iter().take(rows).any(|w| atom_row(*w, at))
+}
+
+// The refusal where no atom's tag is at this offset.
+fn no_atom(at: usize) -> Refusal
+    ensures { result ≡ no_atom at }
+{
+    Refusal {
+        number: refusals::FIELD,
+        place: at,
     }
-    false
 }
 
 // Where the text stands that an atom's own fields say; refused where they are no atom's.
-fn text_said(c: Content, at: usize) -> TextAt
+#[tactic(auto, unfolding(crate::specs::Code::text_said))]
+fn text_said(c: Content, at: usize) -> TextAnswer
     ensures { result ≡ text_said at c }
 {
     match c {
         Content::Text {
-            latin1,
-            listed,
+            listed: true,
             start,
             length,
-        } => {
-            if listed {
-                return TextAt::List { start, length };
-            }
-            TextAt::Message {
-                start,
-                length,
-                latin1,
-            }
-        }
-        _ => TextAt::Refused(Refusal {
-            number: refusals::FIELD,
-            place: at,
+            ..
+        } => Ok(TextAt::List { start, length }),
+        Content::Text {
+            latin1,
+            start,
+            length,
+            ..
+        } => Ok(TextAt::Message {
+            start,
+            length,
+            latin1,
         }),
+        _ => Err(no_atom(at)),
     }
 }
 
 // Where the text of the atom at this offset of a message stands, whose reading gave this answer and this table.
+#[tactic(auto, unfolding(crate::specs::Code::located))]
 fn located(
     msg: &[u8],
     places: &[u8],
@@ -181,172 +168,87 @@ fn located(
     table: &[u64],
     read: ReadAnswer,
     at: usize,
-) -> TextAt
+) -> TextAnswer
     ensures { result ≡ located msg.now places.now lengths.now table.now read at }
 {
-    match read {
-        ReadAnswer::Terms { terms, rows } => {
-            if !atom_among(table, rows, at) {
-                return TextAt::Refused(Refusal {
-                    number: refusals::FIELD,
-                    place: at,
-                });
-            }
-            text_said(content_at(msg, places, lengths, kinds::ATOM, at), at)
-        }
-        ReadAnswer::Refused(refusal) => TextAt::Refused(refusal),
+    let TermsRead { rows, .. } = read?;
+    if !atom_among(table, rows, at) {
+        return Err(no_atom(at));
     }
+    text_said(content_at(msg, places, lengths, kinds::ATOM, at), at)
 }
 
 // The mark of a text that stands there.
-fn mark_at(t: TextAt) -> MarkAnswer
+#[tactic(auto, unfolding(crate::specs::Code::mark_at))]
+fn mark_at(t: TextAt) -> Mark
     ensures { result ≡ mark_at t }
 {
     match t {
-        TextAt::Message {
-            start,
-            length,
-            latin1,
-        } => {
-            if latin1 {
-                return MarkAnswer::Latin1;
-            }
-            MarkAnswer::Utf8
-        }
-        TextAt::List { start, length } => MarkAnswer::Utf8,
-        TextAt::Refused(refusal) => MarkAnswer::Refused(refusal),
+        TextAt::Message { latin1: true, .. } => Mark::Latin1,
+        TextAt::Message { .. } | TextAt::List { .. } => Mark::Utf8,
     }
 }
 
-// The bytes of a text that stands there.
-fn bytes_at<'a>(msg: &'a [u8], places: &'a [u8], t: TextAt) -> &'a [u8]
+// The bytes of a text that stands there, none where refused.
+#[tactic(auto, unfolding(crate::specs::Code::bytes_at, crate::specs::Promises::TextInside))]
+fn bytes_at<'a>(msg: &'a [u8], places: &'a [u8], t: TextAnswer) -> &'a [u8]
     requires { TextInside msg.now places.now t }
     ensures { result.now ≡ bytes_at msg.now places.now t }
 {
     match t {
-        TextAt::Message {
-            start,
-            length,
-            latin1,
-        } => {
-            let end = start + length;
-            &msg[start..end]
-        }
-        TextAt::List { start, length } => {
-            let end = start + length;
-            &places[start..end]
-        }
-        TextAt::Refused(refusal) => &msg[0..0],
+        Ok(TextAt::Message { start, length, .. }) => &msg[start..start + length],
+        Ok(TextAt::List { start, length }) => &places[start..start + length],
+        Err(_) => &[],
     }
 }
 
-// The number of a row of a message of at most FEW_BYTES, with a table of a row for each byte.
-fn number_few(
+// Reads a message into a table of ROWS rows, and answers what `answer` makes of it. It is never inlined, so that a small message has a small stack.
+#[inline(never)]
+fn ask_sized<const ROWS: usize, A, F: FnOnce(&[u64], ReadAnswer) -> A>(
     flags: u8,
     msg: &[u8],
     n: u8,
     places: &[u8],
     lengths: &[u16],
-    row: usize,
     framing: Framing,
-) -> NumberAnswer
-    requires { length msg.now ≤ 256 }
-    ensures { NumberCall flags (framing_of framing) (lent_list n places.now lengths.now) msg.now row result }
+    answer: F,
+) -> A
+    requires enough { min 8192 (length msg.now) ≤ ROWS }
+    requires most { ROWS ≤ 8192 }
+    requires callable { F.IsAlwaysCallable answer }
+    ensures { Asked flags (framing_of framing) (lent_list n places.now lengths.now) msg.now (λ table read. (p : _) × F.post answer p read result × (p.now ≡ table)) }
 {
-    let mut table = [0u64; FEW_ROWS];
-    let read = read_few(flags, msg, n, places, lengths, &mut table, framing);
-    numbered(msg, places, lengths, &table, read, row)
+    let mut table = [0u64; ROWS];
+    let read = if ROWS == FEW_ROWS {
+        read_sized::<FEW_SLOTS>(flags, msg, n, places, lengths, &mut table, framing)
+    } else {
+        read_larger(flags, msg, n, places, lengths, &mut table, framing)
+    };
+    answer(&table, read)
 }
 
-// The number of a row of a message of at most SOME_BYTES, with a table of a row for each byte.
-fn number_some(
-    flags: u8,
+// Reads a message into a table of a row for each of its bytes, of 8,192 rows at most, and answers what `answer` makes of it.
+fn ask<A, F: FnOnce(&[u64], ReadAnswer) -> A>(
+    connection: Connection,
     msg: &[u8],
     n: u8,
     places: &[u8],
     lengths: &[u16],
-    row: usize,
     framing: Framing,
-) -> NumberAnswer
-    requires { length msg.now ≤ 1024 }
-    ensures { NumberCall flags (framing_of framing) (lent_list n places.now lengths.now) msg.now row result }
+    answer: F,
+) -> A
+    requires callable { F.IsAlwaysCallable answer }
+    ensures { Asked connection.flags (framing_of framing) (lent_list n places.now lengths.now) msg.now (λ table read. (p : _) × F.post answer p read result × (p.now ≡ table)) }
 {
-    let mut table = [0u64; SOME_ROWS];
-    let read = read_larger(flags, msg, n, places, lengths, &mut table, framing);
-    numbered(msg, places, lengths, &table, read, row)
+    let flags = connection.flags;
+    if msg.len() <= FEW_BYTES {
+        return ask_sized::<FEW_ROWS, A, F>(flags, msg, n, places, lengths, framing, answer);
+    }
+    if msg.len() <= SOME_BYTES {
+        return ask_sized::<SOME_ROWS, A, F>(flags, msg, n, places, lengths, framing, answer);
+    }
+    ask_sized::<MOST_ROWS, A, F>(flags, msg, n, places, lengths, framing, answer)
 }
-
-// The number of a row of a message of any length, with a table of 8,192 rows.
-fn number_many(
-    flags: u8,
-    msg: &[u8],
-    n: u8,
-    places: &[u8],
-    lengths: &[u16],
-    row: usize,
-    framing: Framing,
-) -> NumberAnswer
-    ensures { NumberCall flags (framing_of framing) (lent_list n places.now lengths.now) msg.now row result }
-{
-    let mut table = [0u64; sizes::ROWS_MOST];
-    let read = read_larger(flags, msg, n, places, lengths, &mut table, framing);
-    numbered(msg, places, lengths, &table, read, row)
-}
-
-// Where the text stands of the atom at this offset of a message of at most FEW_BYTES, with a table of a row for each byte.
-fn locate_few(
-    flags: u8,
-    msg: &[u8],
-    n: u8,
-    places: &[u8],
-    lengths: &[u16],
-    at: usize,
-    framing: Framing,
-) -> TextAt
-    requires { length msg.now ≤ 256 }
-    ensures { LocateCall flags (framing_of framing) (lent_list n places.now lengths.now) msg.now at result }
-{
-    let mut table = [0u64; FEW_ROWS];
-    let read = read_few(flags, msg, n, places, lengths, &mut table, framing);
-    located(msg, places, lengths, &table, read, at)
-}
-
-// Where the text stands of the atom at this offset of a message of at most SOME_BYTES, with a table of a row for each byte.
-fn locate_some(
-    flags: u8,
-    msg: &[u8],
-    n: u8,
-    places: &[u8],
-    lengths: &[u16],
-    at: usize,
-    framing: Framing,
-) -> TextAt
-    requires { length msg.now ≤ 1024 }
-    ensures { LocateCall flags (framing_of framing) (lent_list n places.now lengths.now) msg.now at result }
-{
-    let mut table = [0u64; SOME_ROWS];
-    let read = read_larger(flags, msg, n, places, lengths, &mut table, framing);
-    located(msg, places, lengths, &table, read, at)
-}
-
-// Where the text stands of the atom at this offset of a message of any length, with a table of 8,192 rows.
-fn locate_many(
-    flags: u8,
-    msg: &[u8],
-    n: u8,
-    places: &[u8],
-    lengths: &[u16],
-    at: usize,
-    framing: Framing,
-) -> TextAt
-    ensures { LocateCall flags (framing_of framing) (lent_list n places.now lengths.now) msg.now at result }
-{
-    let mut table = [0u64; sizes::ROWS_MOST];
-    let read = read_larger(flags, msg, n, places, lengths, &mut table, framing);
-    located(msg, places, lengths, &table, read, at)
-}
-
-// Each public call picks the size itself: what has two callers stays a function of its own, and a small message has a small stack.
 
 // The number of a row of a standalone term, with the connection's flags and this atom list.
 pub fn number_standalone(
@@ -359,36 +261,14 @@ pub fn number_standalone(
 ) -> NumberAnswer
     ensures { NumberCall connection.flags standalone (lent_list n places.now lengths.now) msg.now row result }
 {
-    if msg.len() <= FEW_BYTES {
-        return number_few(
-            connection.flags,
-            msg,
-            n,
-            places,
-            lengths,
-            row,
-            Framing::Standalone,
-        );
-    }
-    if msg.len() <= SOME_BYTES {
-        return number_some(
-            connection.flags,
-            msg,
-            n,
-            places,
-            lengths,
-            row,
-            Framing::Standalone,
-        );
-    }
-    number_many(
-        connection.flags,
+    ask(
+        connection,
         msg,
         n,
         places,
         lengths,
-        row,
         Framing::Standalone,
+        |table, read| numbered(msg, places, lengths, table, read, row),
     )
 }
 
@@ -400,43 +280,22 @@ pub fn locate_standalone(
     places: &[u8],
     lengths: &[u16],
     at: usize,
-) -> TextAt
+) -> TextAnswer
     ensures { LocateCall connection.flags standalone (lent_list n places.now lengths.now) msg.now at result }
 {
-    if msg.len() <= FEW_BYTES {
-        return locate_few(
-            connection.flags,
-            msg,
-            n,
-            places,
-            lengths,
-            at,
-            Framing::Standalone,
-        );
-    }
-    if msg.len() <= SOME_BYTES {
-        return locate_some(
-            connection.flags,
-            msg,
-            n,
-            places,
-            lengths,
-            at,
-            Framing::Standalone,
-        );
-    }
-    locate_many(
-        connection.flags,
+    ask(
+        connection,
         msg,
         n,
         places,
         lengths,
-        at,
         Framing::Standalone,
+        |table, read| located(msg, places, lengths, table, read, at),
     )
 }
 
 // The text of the atom whose tag is at this offset of a standalone term, empty where refused.
+#[tactic(auto, using(crate::proofs::Calls::bytes_told))]
 pub fn text_standalone<'a>(
     connection: Connection,
     msg: &'a [u8],
@@ -465,7 +324,7 @@ pub fn mark_standalone(
 ) -> MarkAnswer
     ensures { MarkCall connection.flags standalone (lent_list n places.now lengths.now) msg.now at result }
 {
-    mark_at(locate_standalone(connection, msg, n, places, lengths, at))
+    locate_standalone(connection, msg, n, places, lengths, at).map(mark_at)
 }
 
 // The number of a row of a payload, with the connection's flags and this atom list.
@@ -479,36 +338,14 @@ pub fn number_payload(
 ) -> NumberAnswer
     ensures { NumberCall connection.flags payload (lent_list n places.now lengths.now) msg.now row result }
 {
-    if msg.len() <= FEW_BYTES {
-        return number_few(
-            connection.flags,
-            msg,
-            n,
-            places,
-            lengths,
-            row,
-            Framing::Payload,
-        );
-    }
-    if msg.len() <= SOME_BYTES {
-        return number_some(
-            connection.flags,
-            msg,
-            n,
-            places,
-            lengths,
-            row,
-            Framing::Payload,
-        );
-    }
-    number_many(
-        connection.flags,
+    ask(
+        connection,
         msg,
         n,
         places,
         lengths,
-        row,
         Framing::Payload,
+        |table, read| numbered(msg, places, lengths, table, read, row),
     )
 }
 
@@ -520,43 +357,22 @@ pub fn locate_payload(
     places: &[u8],
     lengths: &[u16],
     at: usize,
-) -> TextAt
+) -> TextAnswer
     ensures { LocateCall connection.flags payload (lent_list n places.now lengths.now) msg.now at result }
 {
-    if msg.len() <= FEW_BYTES {
-        return locate_few(
-            connection.flags,
-            msg,
-            n,
-            places,
-            lengths,
-            at,
-            Framing::Payload,
-        );
-    }
-    if msg.len() <= SOME_BYTES {
-        return locate_some(
-            connection.flags,
-            msg,
-            n,
-            places,
-            lengths,
-            at,
-            Framing::Payload,
-        );
-    }
-    locate_many(
-        connection.flags,
+    ask(
+        connection,
         msg,
         n,
         places,
         lengths,
-        at,
         Framing::Payload,
+        |table, read| located(msg, places, lengths, table, read, at),
     )
 }
 
 // The text of the atom whose tag is at this offset of a payload, empty where refused.
+#[tactic(auto, using(crate::proofs::Calls::bytes_told))]
 pub fn text_payload<'a>(
     connection: Connection,
     msg: &'a [u8],
@@ -585,5 +401,5 @@ pub fn mark_payload(
 ) -> MarkAnswer
     ensures { MarkCall connection.flags payload (lent_list n places.now lengths.now) msg.now at result }
 {
-    mark_at(locate_payload(connection, msg, n, places, lengths, at))
+    locate_payload(connection, msg, n, places, lengths, at).map(mark_at)
 }

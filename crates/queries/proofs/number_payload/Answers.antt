@@ -1,21 +1,15 @@
 -- `number_payload` meets its contract.
+use Rattle.std.proofs.Common.{rules}
+use native.Mathlib.Omega.{arith}
+use Rattle.term_spec.specs.AtomList.{lent_list}
+use Rattle.term_spec.specs.Message.{payload}
+use Rattle.term_spec.proofs.Text.{under_all}
 use Rattle.reader.specs.Code.{framing_of}
+use Rattle.queries.proofs.Calls.{number_told}
 use Rattle.queries.proofs.number_payload.Goals as goal
-
-pub number_few-requires : goal.number_few-requires
-number_few-requires c = c.if-msg-le-FEW_BYTES.true
-
-pub returns-then-msg-le-FEW_BYTES : goal.returns-then-msg-le-FEW_BYTES
-unfolding framing_of
-returns-then-msg-le-FEW_BYTES c = c.number_few.ensures
-
-pub number_some-requires : goal.number_some-requires
-number_some-requires c = c.if-msg-le-SOME_BYTES.true
-
-pub returns-then-msg-le-SOME_BYTES : goal.returns-then-msg-le-SOME_BYTES
-unfolding framing_of
-returns-then-msg-le-SOME_BYTES c = c.number_some.ensures
 
 pub returns : goal.returns
 unfolding framing_of
-returns c = c.number_many.ensures
+returns c = let a = c.args in
+    number_told a.connection.flags payload (lent_list a.n a.places.now a.lengths.now) a.msg.now (omega arith)
+    (under_all a.msg.now (λ i _. omega (arith, c.type_inv.msg i))) c.ask.ensures a.row _ (search rules)
