@@ -41,17 +41,9 @@ fn found_length(msg: &[u8], places: &[u8], lengths: &[u16], word: u64) -> usize
     let own = canonical_fields::content(msg, places, lengths, word);
     let kind = row::kind_in(word);
     let n = row::parts_in(word);
-    let first = layout::layout_length(
-        msg,
-        places,
-        canonical_fields::lead(msg, places, kind, own, n),
-    );
-    let last = layout::layout_length(
-        msg,
-        places,
-        canonical_fields::trail(msg, places, kind, own, n),
-    );
-    first + last
+    let first = canonical_fields::lead(msg, places, kind, own, n);
+    let last = canonical_fields::trail(msg, places, kind, own, n);
+    layout::layout_length(msg, places, first) + layout::layout_length(msg, places, last)
 }
 
 // How many bytes stand before and after the elements of a list of n that is written with them.
