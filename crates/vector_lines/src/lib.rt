@@ -9,17 +9,8 @@ ghost use Rattle.io.specs.Counts.{IsPrefixLen};
 ghost use Rattle.vector_lines.specs.Fields.{verb, payload_form};
 
 use arrayvec::{ArrayVec, CapacityError};
-use std::io::Write;
+use std::io::{self, Write};
 use term_spec::{ReadAnswer, Refusal, TermsRead, kinds, sizes};
-
-// The bytes of a case.
-pub type CaseBytes = ArrayVec<u8, 80000>;
-
-// The line that answers a case.
-pub type Line = ArrayVec<u8, 140000>;
-
-// What putting text on a line answers: an error where the line is full, after what still had room.
-pub type Put = std::io::Result<()>;
 
 #[derive(Clone, Copy, Debug, PartialEq, Eq)]
 pub enum Verb {
@@ -31,14 +22,14 @@ pub enum Verb {
 }
 
 // Two digits for each byte.
-pub fn put_hex(line: &mut Line, bytes: &[u8]) -> Put {
+pub fn put_hex<W: Write>(line: &mut W, bytes: &[u8]) -> io::Result<()> {
     for x in bytes {
         write!(line, "{x:02x}")?;
     }
     Ok(())
 }
 
-pub fn put_refused(line: &mut Line, r: Refusal) -> Put {
+pub fn put_refused<W: Write>(line: &mut W, r: Refusal) -> io::Result<()> {
     let Refusal { number, place } = r;
     write!(line, "refused {number} {place}")
 }
@@ -64,7 +55,7 @@ fn kind_name(kind: usize, parts: usize) -> &'static str {
 }
 
 // A space, then kind, offset and whole, or - for none, parted by commas.
-fn put_row(line: &mut Line, w: u64) -> Put {
+fn put_row<W: Write>(line: &mut W, w: u64) -> io::Result<()> {
     let kind = kind_name(row::kind_in(w), row::parts_in(w));
     let offset = row::offset_in(w);
     write!(line, " {kind},{offset},")?;
@@ -75,7 +66,7 @@ fn put_row(line: &mut Line, w: u64) -> Put {
 }
 
 // ` dirty` if a word is not 0, and the line's end.
-pub fn put_end(line: &mut Line, words: &[u64]) -> Put {
+pub fn put_end<W: Write>(line: &mut W, words: &[u64]) -> io::Result<()> {
     if words.iter().all(|w| *w == 0) {
         return writeln!(line);
     }
@@ -83,7 +74,7 @@ pub fn put_end(line: &mut Line, words: &[u64]) -> Put {
 }
 
 // A reading's answer and the table after it, as one line; the rows where they are at most 100.
-pub fn put_read(line: &mut Line, table: &[u64], answer: ReadAnswer) -> Put {
+pub fn put_read<W: Write>(line: &mut W, table: &[u64], answer: ReadAnswer) -> io::Result<()> {
     match answer {
         Err(r) => {
             put_refused(line, r)?;
@@ -114,7 +105,10 @@ fn digit(x: u8) -> u8
 }
 
 // The bytes that pairs of hex digits stand for.
-fn push_hex(case: &mut CaseBytes, hex: &[u8]) -> Result<(), CapacityError<u8>> {
+fn push_hex<const N: usize>(
+    case: &mut ArrayVec<u8, N>,
+    hex: &[u8],
+) -> Result<(), CapacityError<u8>> {
     let (pairs, _) = hex.as_chunks::<2>();
     for [high, low] in pairs {
         case.try_push(digit(*high) * 16 + digit(*low))?;
@@ -137,7 +131,10 @@ fn decimal(digits: &[u8]) -> usize
 }
 
 // The bytes of one word; a count of 0 counts as 1.
-fn push_word(case: &mut CaseBytes, word: &[u8]) -> Result<(), CapacityError<u8>> {
+fn push_word<const N: usize>(
+    case: &mut ArrayVec<u8, N>,
+    word: &[u8],
+) -> Result<(), CapacityError<u8>> {
     match word.iter().position(|x| *x == b'*') {
         None => push_hex(case, word),
         Some(star) => {
@@ -164,7 +161,10 @@ pub fn verb_of(line: &[u8]) -> Verb
 }
 
 // Puts the bytes of a line's words after its verb; an error where the case has no room for all.
-pub fn decode_line(case: &mut CaseBytes, line: &[u8]) -> Result<(), CapacityError<u8>> {
+pub fn decode_line<const N: usize>(
+    case: &mut ArrayVec<u8, N>,
+    line: &[u8],
+) -> Result<(), CapacityError<u8>> {
     for word in line.split(|x| *x == b' ').skip(1) {
         push_word(case, word)?;
     }
