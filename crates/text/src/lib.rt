@@ -30,6 +30,7 @@ enum Rule {
 }
 
 // Whether `b` is in the range.
+#[tactic(auto, unfolding(term_spec::specs::Text::holds, crate::specs::Characters::range))]
 fn within(b: u8, r: Range) -> bool
     ensures { result ≡ holds (range r) b }
 {
@@ -130,6 +131,7 @@ fn check_utf8(s: &[u8]) -> Result<(), usize>
 {
     let mut at = ascii_start(s);
     let mut count = at;
+    // A while and no for: how far the next character reaches is known only when it has been read.
     while at < s.len() {
         if count == sizes::CHARACTERS_MOST {
             return Err(at);
@@ -141,6 +143,7 @@ fn check_utf8(s: &[u8]) -> Result<(), usize>
 }
 
 // Whether `s` is a text of at most 255 characters in Latin-1, or the offset at which it fails.
+#[tactic(auto, unfolding(term_spec::specs::Text::check, crate::specs::Shown::shown))]
 fn check_latin1(s: &[u8]) -> Result<(), usize>
     ensures { result ≡ shown (check latin_1 s.now) }
 {
@@ -158,6 +161,7 @@ pub fn check_text(s: &[u8], utf8: bool) -> Result<(), usize>
 }
 
 // Whether `s` is a text of at most 255 characters in UTF-8.
+#[tactic(auto, using(crate::proofs::Valid::shown_tested))]
 pub fn is_utf8(s: &[u8]) -> bool
     ensures { result ≡ is_valid (check utf_8 s.now) }
 {
@@ -165,6 +169,7 @@ pub fn is_utf8(s: &[u8]) -> bool
 }
 
 // The number of bytes that a Latin-1 character has in UTF-8.
+#[tactic(auto, using(crate::proofs::Latin1::length_low, crate::proofs::Latin1::length_high))]
 fn width(b: u8) -> usize
     ensures { (result ≡ length (encode b)) × (result ≤ 2) }
 {
@@ -184,6 +189,7 @@ pub fn utf8_length(s: &[u8], at: usize, n: usize) -> usize
 }
 
 // Writes a Latin-1 character in UTF-8 from `at` on; the offset past it.
+#[tactic(auto, using(crate::proofs::Latin1::length_low, crate::proofs::Latin1::length_high, crate::proofs::Latin1::sets_low, crate::proofs::Latin1::sets_high))]
 fn put_character(b: u8, dst: &mut [u8], at: usize) -> usize
     requires { at + length (encode b) ≤ length dst.old }
     ensures { (result ≡ at + length (encode b)) × (dst.new ≡ sets dst.old at (encode b)) }
