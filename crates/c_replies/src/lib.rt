@@ -8,11 +8,14 @@ pub mod text_sources;
 
 ghost use Rattle.std.specs.Prelude.{◌≡◌};
 ghost use Rattle.c_replies.specs.Terms.{flat_read, flat_write, flat_number, flat_text, flat_mark};
-ghost use Rattle.c_replies.specs.Packets.{flat_word, flat_state, flat_packet};
+ghost use Rattle.c_replies.specs.Packets.{refusal_in, flat_word, flat_state, flat_packet};
 
-use packet_spec::{PacketAnswer, StateAnswer, WordAnswer};
-use queries::TextAt;
-use term_spec::{MarkAnswer, NumberAnswer, ReadAnswer, WriteAnswer};
+use packet_spec::{PacketAnswer, PacketOutcome, StateAnswer, WordAnswer, WordAt};
+use queries::{TextAnswer, TextAt};
+use term_spec::{
+    Mark, MarkAnswer, NumberAnswer, ReadAnswer, Refusal, RowNumber, TermsRead, TermsWritten,
+    WriteAnswer,
+};
 
 // What reading answers: the refusal's number (0: accepted) and place, the number of terms and of rows.
 #[repr(C)]
@@ -95,200 +98,177 @@ pub struct PacketReply {
     pub gathered: u64,
 }
 
-pub fn flat_read(answer: ReadAnswer) -> ReadReply
-    ensures { result ≡ flat_read answer }
+// The refusal of an answer, 0 and 0 where there is none.
+fn refusal_in<T>(answer: &Result<T, Refusal>) -> StateReply
+    ensures { result ≡ refusal_in answer.now }
 {
     match answer {
-        ReadAnswer::Terms { terms, rows } => ReadReply {
+        Ok(_) => StateReply {
             refusal: 0,
             place: 0,
+        },
+        Err(refusal) => StateReply {
+            refusal: u64::from(refusal.number),
+            place: refusal.place as u64,
+        },
+    }
+}
+
+impl From<ReadAnswer> for ReadReply {
+    ghost from_gives = { λ answer reply. reply ≡ flat_read answer };
+
+    #[tactic(auto, unfolding(crate::specs::Terms::flat_read))]
+    fn from(answer: ReadAnswer) -> ReadReply {
+        let StateReply { refusal, place } = refusal_in(&answer);
+        let TermsRead { terms, rows } = answer.unwrap_or(TermsRead { terms: 0, rows: 0 });
+        ReadReply {
+            refusal,
+            place,
             terms: terms as u64,
             rows: rows as u64,
-        },
-        ReadAnswer::Refused(refusal) => ReadReply {
-            refusal: refusal.number as u64,
-            place: refusal.place as u64,
-            terms: 0,
-            rows: 0,
-        },
+        }
     }
 }
 
-pub fn flat_write(answer: WriteAnswer) -> WriteReply
-    ensures { result ≡ flat_write answer }
-{
-    match answer {
-        WriteAnswer::Written { terms, length } => WriteReply {
-            refusal: 0,
-            place: 0,
+impl From<WriteAnswer> for WriteReply {
+    ghost from_gives = { λ answer reply. reply ≡ flat_write answer };
+
+    #[tactic(auto, unfolding(crate::specs::Terms::flat_write))]
+    fn from(answer: WriteAnswer) -> WriteReply {
+        let StateReply { refusal, place } = refusal_in(&answer);
+        let TermsWritten { terms, length } = answer.unwrap_or(TermsWritten {
+            terms: 0,
+            length: 0,
+        });
+        WriteReply {
+            refusal,
+            place,
             terms: terms as u64,
             length: length as u64,
-        },
-        WriteAnswer::Refused(refusal) => WriteReply {
-            refusal: refusal.number as u64,
-            place: refusal.place as u64,
-            terms: 0,
-            length: 0,
-        },
+        }
     }
 }
 
-pub fn flat_number(answer: NumberAnswer) -> NumberReply
-    ensures { result ≡ flat_number answer }
-{
-    match answer {
-        NumberAnswer::Whole(integer) => NumberReply {
-            refusal: 0,
-            place: 0,
-            kind: numbers::WHOLE,
-            integer: integer,
-            real: 0.0,
-        },
-        NumberAnswer::Float(real) => NumberReply {
-            refusal: 0,
-            place: 0,
-            kind: numbers::FLOAT,
-            integer: 0,
-            real: real,
-        },
-        NumberAnswer::Neither => NumberReply {
-            refusal: 0,
-            place: 0,
-            kind: numbers::NEITHER,
-            integer: 0,
-            real: 0.0,
-        },
-        NumberAnswer::Refused(refusal) => NumberReply {
-            refusal: refusal.number as u64,
-            place: refusal.place as u64,
-            kind: numbers::NEITHER,
-            integer: 0,
-            real: 0.0,
-        },
+impl From<NumberAnswer> for NumberReply {
+    ghost from_gives = { λ answer reply. reply ≡ flat_number answer };
+
+    #[tactic(auto, unfolding(crate::specs::Terms::flat_number))]
+    fn from(answer: NumberAnswer) -> NumberReply {
+        let StateReply { refusal, place } = refusal_in(&answer);
+        let (kind, integer, real) = match answer {
+            Ok(RowNumber::Whole(integer)) => (numbers::WHOLE, integer, 0.0),
+            Ok(RowNumber::Float(real)) => (numbers::FLOAT, 0, real),
+            Ok(RowNumber::Neither) | Err(_) => (numbers::NEITHER, 0, 0.0),
+        };
+        NumberReply {
+            refusal,
+            place,
+            kind,
+            integer,
+            real,
+        }
     }
 }
 
-pub fn flat_text(answer: TextAt) -> TextReply
-    ensures { result ≡ flat_text answer }
-{
-    match answer {
-        TextAt::Message {
-            start,
-            length,
-            latin1,
-        } => TextReply {
-            from: text_sources::MESSAGE,
+impl From<TextAnswer> for TextReply {
+    ghost from_gives = { λ answer reply. reply ≡ flat_text answer };
+
+    #[tactic(auto, unfolding(crate::specs::Terms::flat_text))]
+    fn from(answer: TextAnswer) -> TextReply {
+        let (from, start, length) = match answer {
+            Ok(TextAt::Message { start, length, .. }) => (text_sources::MESSAGE, start, length),
+            Ok(TextAt::List { start, length }) => (text_sources::LIST, start, length),
+            Err(_) => (text_sources::NOWHERE, 0, 0),
+        };
+        TextReply {
+            from,
             start: start as u64,
             length: length as u64,
-        },
-        TextAt::List { start, length } => TextReply {
-            from: text_sources::LIST,
-            start: start as u64,
-            length: length as u64,
-        },
-        TextAt::Refused(refusal) => TextReply {
-            from: text_sources::NOWHERE,
+        }
+    }
+}
+
+impl From<MarkAnswer> for MarkReply {
+    ghost from_gives = { λ answer reply. reply ≡ flat_mark answer };
+
+    #[tactic(auto, unfolding(crate::specs::Terms::flat_mark))]
+    fn from(answer: MarkAnswer) -> MarkReply {
+        let StateReply { refusal, place } = refusal_in(&answer);
+        let mark = match answer {
+            Ok(Mark::Latin1) => marks::LATIN1,
+            Ok(Mark::Utf8) => marks::UTF8,
+            Err(_) => marks::NO_MARK,
+        };
+        MarkReply {
+            refusal,
+            place,
+            mark,
+        }
+    }
+}
+
+impl From<WordAnswer> for WordReply {
+    ghost from_gives = { λ answer reply. reply ≡ flat_word answer };
+
+    #[tactic(auto, unfolding(crate::specs::Packets::flat_word))]
+    fn from(answer: WordAnswer) -> WordReply {
+        let StateReply { refusal, place } = refusal_in(&answer);
+        let WordAt { start, length } = answer.unwrap_or(WordAt {
             start: 0,
             length: 0,
-        },
-    }
-}
-
-pub fn flat_mark(answer: MarkAnswer) -> MarkReply
-    ensures { result ≡ flat_mark answer }
-{
-    match answer {
-        MarkAnswer::Latin1 => MarkReply {
-            refusal: 0,
-            place: 0,
-            mark: marks::LATIN1,
-        },
-        MarkAnswer::Utf8 => MarkReply {
-            refusal: 0,
-            place: 0,
-            mark: marks::UTF8,
-        },
-        MarkAnswer::Refused(refusal) => MarkReply {
-            refusal: refusal.number as u64,
-            place: refusal.place as u64,
-            mark: 0,
-        },
-    }
-}
-
-pub fn flat_word(answer: WordAnswer) -> WordReply
-    ensures { result ≡ flat_word answer }
-{
-    match answer {
-        WordAnswer::Word { start, length } => WordReply {
-            refusal: 0,
-            place: 0,
+        });
+        WordReply {
+            refusal,
+            place,
             start: start as u64,
             length: length as u64,
-        },
-        WordAnswer::Refused(refusal) => WordReply {
-            refusal: refusal.number as u64,
-            place: refusal.place as u64,
-            start: 0,
-            length: 0,
-        },
+        }
     }
 }
 
-pub fn flat_state(answer: StateAnswer) -> StateReply
-    ensures { result ≡ flat_state answer }
-{
-    match answer {
-        StateAnswer::Done => StateReply {
-            refusal: 0,
-            place: 0,
-        },
-        StateAnswer::Refused(refusal) => StateReply {
-            refusal: refusal.number as u64,
-            place: refusal.place as u64,
-        },
+impl From<StateAnswer> for StateReply {
+    ghost from_gives = { λ answer reply. reply ≡ flat_state answer };
+
+    #[tactic(auto, unfolding(crate::specs::Packets::flat_state))]
+    fn from(answer: StateAnswer) -> StateReply {
+        refusal_in(&answer)
     }
 }
 
-pub fn flat_packet(answer: PacketAnswer) -> PacketReply
-    ensures { result ≡ flat_packet answer }
-{
-    match answer {
-        PacketAnswer::Plain { offset, length } => PacketReply {
-            refusal: 0,
-            place: 0,
-            kind: packet_kinds::PLAIN,
-            offset: offset as u64,
-            length: length as u64,
-            due: 0,
-            gathered: 0,
-        },
-        PacketAnswer::Pending { due, gathered } => PacketReply {
-            refusal: 0,
-            place: 0,
-            kind: packet_kinds::PENDING,
-            offset: 0,
-            length: 0,
-            due: due,
-            gathered: gathered,
-        },
-        PacketAnswer::Complete { gathered } => PacketReply {
-            refusal: 0,
-            place: 0,
-            kind: packet_kinds::COMPLETE,
-            offset: 0,
-            length: 0,
-            due: 0,
-            gathered: gathered,
-        },
-        PacketAnswer::Refused(refusal) => PacketReply {
-            refusal: refusal.number as u64,
-            place: refusal.place as u64,
-            kind: 0,
+impl From<PacketAnswer> for PacketReply {
+    ghost from_gives = { λ answer reply. reply ≡ flat_packet answer };
+
+    #[tactic(auto, unfolding(crate::specs::Packets::flat_packet))]
+    fn from(answer: PacketAnswer) -> PacketReply {
+        let StateReply { refusal, place } = refusal_in(&answer);
+        let none = PacketReply {
+            refusal,
+            place,
+            kind: packet_kinds::NO_PACKET,
             offset: 0,
             length: 0,
             due: 0,
             gathered: 0,
-        },
+        };
+        match answer {
+            Ok(PacketOutcome::Plain { offset, length }) => PacketReply {
+                kind: packet_kinds::PLAIN,
+                offset: offset as u64,
+                length: length as u64,
+                ..none
+            },
+            Ok(PacketOutcome::Pending { due, gathered }) => PacketReply {
+                kind: packet_kinds::PENDING,
+                due,
+                gathered,
+                ..none
+            },
+            Ok(PacketOutcome::Complete { gathered }) => PacketReply {
+                kind: packet_kinds::COMPLETE,
+                gathered,
+                ..none
+            },
+            Err(_) => none,
+        }
     }
 }

@@ -1,4 +1,4 @@
-// The kinds of a number.
+// The kinds of a number: numbers and no enum, since C reads them (include/ikparumo.h).
 
 pub const NEITHER: u64 = 0;
 

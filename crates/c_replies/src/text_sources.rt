@@ -1,4 +1,4 @@
-// Where a text stands.
+// Where a text stands: numbers and no enum, since C reads them (include/ikparumo.h).
 
 pub const NOWHERE: u64 = 0;
 
