@@ -127,7 +127,7 @@ fn signed(msg: &[u8], at: usize) -> Content
     if msg.len().saturating_sub(at) < 5 {
         return Content::Nothing;
     }
-    signed_of(octets::big4(msg, at + 1) as u64)
+    signed_of(octets::big::<4>(msg, at + 1))
 }
 
 #[tactic(auto, unfolding(crate::specs::Found::integer_of))]
@@ -172,7 +172,7 @@ fn big(msg: &[u8], w: usize, at: usize) -> Content
         return Content::Nothing;
     };
     let start = at + 2 + w;
-    let negative = 0 < octets::big1(msg, at + 1 + w);
+    let negative = 0 < octets::big::<1>(msg, at + 1 + w);
     of_digits(msg, negative, start, strip(msg, start, end - start))
 }
 
@@ -199,7 +199,7 @@ fn float(msg: &[u8], at: usize) -> Content
     if msg.len().saturating_sub(at) < 9 {
         return Content::Nothing;
     }
-    let bits = octets::big8(msg, at + 1);
+    let bits = octets::big::<8>(msg, at + 1);
     Content::Float { bits }
 }
 
@@ -263,7 +263,7 @@ fn listed(msg: &[u8], places: &[u8], lengths: &[u16], at: usize) -> Content
     if msg.len().saturating_sub(at) < 2 {
         return Content::Nothing;
     }
-    place(places, lengths, octets::big1(msg, at + 1))
+    place(places, lengths, octets::big::<1>(msg, at + 1) as usize)
 }
 
 // The atom whose tag is at `at`.
@@ -339,7 +339,11 @@ fn bits(msg: &[u8], at: usize) -> Content
     let Some(end) = octets::past_counted(msg, at, 4, 1) else {
         return Content::Nothing;
     };
-    of_bits(octets::big1(msg, at + 5), at + 6, end - (at + 6))
+    of_bits(
+        octets::big::<1>(msg, at + 5) as usize,
+        at + 6,
+        end - (at + 6),
+    )
 }
 
 // The binary or bitstring whose tag is at `at`.
@@ -363,8 +367,8 @@ fn pid_from(msg: &[u8], w: usize, end: usize) -> Content
     if msg.len().saturating_sub(end) < 8 + w {
         return Content::Nothing;
     }
-    let id = octets::big4(msg, end) as u64;
-    let serial = octets::big4(msg, end + 4) as u64;
+    let id = octets::big::<4>(msg, end);
+    let serial = octets::big::<4>(msg, end + 4);
     let creation = octets::number(msg, end + 8, w);
     Content::Pid {
         id,
@@ -412,7 +416,7 @@ fn word_from(msg: &[u8], end: usize) -> Content
     if msg.len().saturating_sub(end) < 5 {
         return Content::Nothing;
     }
-    let creation = octets::big1(msg, end + 4) as u64;
+    let creation = octets::big::<1>(msg, end + 4);
     Content::Reference {
         creation,
         start: end,
@@ -429,7 +433,7 @@ fn counted(msg: &[u8], w: usize, at: usize) -> Content
     if msg.len().saturating_sub(at) < 3 {
         return Content::Nothing;
     }
-    let n = octets::big2(msg, at + 1);
+    let n = octets::big::<2>(msg, at + 1) as usize;
     words_from(msg, w, n, atom_end(msg, at + 3))
 }
 
