@@ -43,7 +43,7 @@ fn list_reference(
         }
         Spelled::Cached { place } => {
             let k = place.0;
-            let size = octets::wide16(cache.lengths[k]);
+            let size = usize::from(cache.lengths[k]);
             octets::copy(
                 cache.places,
                 sizes::PLACE_BYTES * k,

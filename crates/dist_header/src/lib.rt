@@ -59,7 +59,7 @@ pub fn half_of(packet: &[u8], at: usize, i: ReferenceIndex) -> usize
     ensures { (result ≡ half (drop (at + 1) packet.now) i.0) × (result < 16) }
 {
     let k = i.0;
-    let flags = octets::wide(packet[at + 1 + k / 2]);
+    let flags = usize::from(packet[at + 1 + k / 2]);
     if k % 2 == 0 {
         return flags % 16;
     }
@@ -74,7 +74,7 @@ fn header_start(packet: &[u8], at: usize) -> Option<HeaderStart>
     if packet.len() <= at {
         return None;
     }
-    let n = octets::wide(packet[at]);
+    let n = usize::from(packet[at]);
     if n == 0 {
         return Some(HeaderStart {
             n: 0,
@@ -102,7 +102,7 @@ pub fn read_reference(packet: &[u8], half: usize, width: usize, at: usize) -> Op
     if packet.len() <= at {
         return None;
     }
-    let place = Place(256 * (half % 8) + octets::wide(packet[at]));
+    let place = Place(256 * (half % 8) + usize::from(packet[at]));
     if half < 8 {
         return Some(Spelled::Cached { place });
     }
@@ -153,7 +153,7 @@ fn check_place(cache: &Cache, place: Place) -> Result<(), u8>
     ensures { result ≡ held_case (held (lent_cache cache.now) place.0) }
 {
     let k = place.0;
-    let size = octets::wide16(cache.lengths[k]);
+    let size = usize::from(cache.lengths[k]);
     if size == packet_spec::sizes::CACHE_EMPTY as usize {
         return Err(refusals::EMPTY_PLACE);
     }

@@ -74,14 +74,6 @@ pub fn laid(first: (usize, u64), second: (usize, u64), third: (usize, u64), body
     }
 }
 
-// The message, or the atom list's places.
-#[inline]
-fn source<'a>(msg: &'a [u8], places: &'a [u8], listed: bool) -> &'a [u8]
-    ensures { result.now ≡ source msg.now places.now listed }
-{
-    if listed { places } else { msg }
-}
-
 // Writes a number from `at` on; the offset past it.
 fn put_number(out: &mut [u8], at: usize, n: Number) -> usize
     requires { (n.width ≤ 8) × (at + n.width ≤ length out.old) }
@@ -153,7 +145,7 @@ pub fn body_length(msg: &[u8], places: &[u8], body: Body) -> usize
             listed,
             start,
             length,
-        } => text::utf8_length(source(msg, places, listed), start, length),
+        } => text::utf8_length(octets::source(msg, places, listed), start, length),
         Body::Digits { number } => count_digits(number),
         Body::Bits { length, .. } => length,
     }
@@ -171,12 +163,12 @@ fn put_body(msg: &[u8], places: &[u8], body: Body, out: &mut [u8], at: usize) ->
             listed,
             start,
             length,
-        } => put_part(source(msg, places, listed), start, length, out, at),
+        } => put_part(octets::source(msg, places, listed), start, length, out, at),
         Body::Latin1 {
             listed,
             start,
             length,
-        } => put_text(source(msg, places, listed), start, length, out, at),
+        } => put_text(octets::source(msg, places, listed), start, length, out, at),
         Body::Digits { number } => put_digits(out, at, number),
         Body::Bits {
             bits,

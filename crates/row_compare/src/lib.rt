@@ -36,12 +36,12 @@ fn spelling(c: usize, b: &[u8], j: usize, k: usize) -> Option<usize>
     ensures { MatchOption result (NotSpelled c (take k (drop j b.now))) (λ r. Spelled c (take k (drop j b.now)) r) }
 {
     if c < 128 {
-        if 0 < k && octets::wide(b[j]) == c {
+        if 0 < k && usize::from(b[j]) == c {
             return Some(1);
         }
         return None;
     }
-    if 1 < k && octets::wide(b[j]) == 192 + c / 64 && octets::wide(b[j + 1]) == 128 + c % 64 {
+    if 1 < k && usize::from(b[j]) == 192 + c / 64 && usize::from(b[j + 1]) == 128 + c % 64 {
         return Some(2);
     }
     None
@@ -54,7 +54,7 @@ fn spelt(a: &[u8], i: usize, n: usize, b: &[u8], j: usize, k: usize) -> bool
 {
     let mut y = 0usize;
     for x in 0..n {
-        let Some(w) = spelling(octets::wide(a[i + x]), b, j + y, k - y) else {
+        let Some(w) = spelling(usize::from(a[i + x]), b, j + y, k - y) else {
             return false;
         };
         y += w;
@@ -115,13 +115,6 @@ fn same_words(msg: &[u8], i: usize, n: usize, j: usize, k: usize) -> bool
     n == k && n <= msg.len() / 4 && same_part(msg, i, msg, j, 4 * n)
 }
 
-// The message, or the atom list's places.
-fn source<'a>(msg: &'a [u8], places: &'a [u8], listed: bool) -> &'a [u8]
-    ensures { result.now ≡ source msg.now places.now listed }
-{
-    if listed { places } else { msg }
-}
-
 // Whether two contents say the same.
 #[tactic(auto, unfolding(crate::specs::Same::same_contents))]
 pub fn same_content(msg: &[u8], places: &[u8], a: Content, b: Content) -> bool
@@ -166,11 +159,11 @@ pub fn same_content(msg: &[u8], places: &[u8], a: Content, b: Content) -> bool
                 length: k,
             },
         ) => same_text(
-            source(msg, places, p),
+            octets::source(msg, places, p),
             i,
             n,
             x,
-            source(msg, places, q),
+            octets::source(msg, places, q),
             j,
             k,
             y,
@@ -277,7 +270,7 @@ fn mix_bytes(factor: u64, s: &[u8], at: usize, n: usize, latin1: bool, h: u64) -
 {
     let mut sum = h;
     for c in &s[at..at + n] {
-        sum = mix_byte(factor, latin1, sum, octets::wide(*c));
+        sum = mix_byte(factor, latin1, sum, usize::from(*c));
     }
     sum
 }
@@ -361,7 +354,7 @@ pub fn hash_content(factor: u64, msg: &[u8], places: &[u8], h: u64, c: Content) 
             let sum = mix_two(factor, h, 0, 0);
             hash_part(
                 factor,
-                source(msg, places, listed),
+                octets::source(msg, places, listed),
                 start,
                 length,
                 latin1,

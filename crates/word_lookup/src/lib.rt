@@ -32,7 +32,7 @@ pub fn locate_word(
         });
     }
     let i = index.0;
-    if octets::wide(n) <= i {
+    if usize::from(n) <= i {
         return Err(Refusal {
             number: refusals::INDEX,
             place: 0,
@@ -46,7 +46,7 @@ pub fn locate_word(
     }
     Ok(WordAt {
         start: sizes::PLACE_BYTES * i,
-        length: octets::wide16(lengths[i]),
+        length: usize::from(lengths[i]),
     })
 }
 

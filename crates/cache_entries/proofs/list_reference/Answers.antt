@@ -41,7 +41,7 @@ overflow_mul-k c = let a = c.args in
 pub copy-requires : goal.copy-requires
 copy-requires c = let a = c.args in
     let e : Spells a.packet.now a.half a.width a.at (Some (spelled.Cached c.in-Cached.place)) = rw c.in-Cached.ensures at c.read_reference.ensures in
-    let i = cached_inside a.packet.now a.half a.width a.at c.in-Cached.place e in let m = stands_cached (coding_of a.utf8) a.cache.now.places.now a.cache.now.lengths.now a.packet.now a.half a.width a.at c.in-Cached.place c.wide16-size.result c.requires.good_reference e c.requires.cache_sized c.wide16-size.ensures in (omega arith, omega arith)
+    let i = cached_inside a.packet.now a.half a.width a.at c.in-Cached.place e in let m = stands_cached (coding_of a.utf8) a.cache.now.places.now a.cache.now.lengths.now a.packet.now a.half a.width a.at c.in-Cached.place c.from-size.result c.requires.good_reference e c.requires.cache_sized c.from-size.ensures in (omega arith, omega arith)
 
 pub returns-in-New : goal.returns-in-New
 returns-in-New c = let a = c.args in
@@ -51,4 +51,4 @@ returns-in-New c = let a = c.args in
 pub returns-in-Cached : goal.returns-in-Cached
 returns-in-Cached c = let a = c.args in
     let e : Spells a.packet.now a.half a.width a.at (Some (spelled.Cached c.in-Cached.place)) = rw c.in-Cached.ensures at c.read_reference.ensures in
-    lists_cached (coding_of a.utf8) a.cache.now.places.now a.cache.now.lengths.now a.packet.now a.half a.width a.at (32 * a.i) a.list_places.now _ c.in-Cached.place c.wide16-size.result e c.requires.cache_sized c.wide16-size.ensures c.copy.ensures
+    lists_cached (coding_of a.utf8) a.cache.now.places.now a.cache.now.lengths.now a.packet.now a.half a.width a.at (32 * a.i) a.list_places.now _ c.in-Cached.place c.from-size.result e c.requires.cache_sized c.from-size.ensures c.copy.ensures

@@ -7,12 +7,12 @@ use Rattle.dist_header.proofs.half_of.Goals as goal
 
 pub returns-then-k-eq0 : goal.returns-then-k-eq0
 returns-then-k-eq0 c = let a = c.args in (
-  ap (λ (b : ℕ). b % 16) c.wide-flags.ensures.0 ∙ half_low a.packet.now a.at a.i.0 c.if-k-eq0.true,
+  ap (λ (b : ℕ). b % 16) c.from-flags.ensures ∙ half_low a.packet.now a.at a.i.0 c.if-k-eq0.true,
   omega arith,
 )
 
 pub returns : goal.returns
 returns c = let a = c.args in (
-  ap (λ (b : ℕ). b / 16) c.wide-flags.ensures.0 ∙ half_high a.packet.now a.at a.i.0 c.if-k-eq0.false,
+  ap (λ (b : ℕ). b / 16) c.from-flags.ensures ∙ half_high a.packet.now a.at a.i.0 c.if-k-eq0.false,
   omega arith,
 )

@@ -8,7 +8,7 @@ pub returns-then-packet-at : goal.returns-then-packet-at
 returns-then-packet-at c = let a = c.args in spells_end a.packet.now a.half a.width a.at c.if-packet-at.true
 
 pub returns-then-half-lt8 : goal.returns-then-half-lt8
-returns-then-half-lt8 c = let a = c.args in spells_cached a.packet.now a.half a.width a.at c.wide.result (omega arith) c.if-half-lt8.true c.wide.ensures.0 c.wide.ensures.1
+returns-then-half-lt8 c = let a = c.args in spells_cached a.packet.now a.half a.width a.at c.from.result (omega arith) c.if-half-lt8.true c.from.ensures (omega (arith, c.from.ensures))
 
 pub returns-then-packet-at-2 : goal.returns-then-packet-at-2
 returns-then-packet-at-2 c = let a = c.args in spells_cut_length a.packet.now a.half a.width a.at (omega arith) (omega arith) (omega arith)
@@ -23,5 +23,5 @@ returns-then-packet-from c = let a = c.args in
 pub returns : goal.returns
 returns c = let a = c.args in
     spells_new a.packet.now a.half a.width a.at (omega arith) (omega arith) c.number-size.result c.number-size.ensures (omega arith)
-    c.wide.result (omega arith) c.wide.ensures.0 c.wide.ensures.1 (omega arith)
+    c.from.result (omega arith) c.from.ensures (omega (arith, c.from.ensures)) (omega arith)
     (omega (arith, length_small a.packet.now (a.at + 1) a.width (λ i. omega (arith, c.type_inv.packet i)) (omega arith) (omega arith)))

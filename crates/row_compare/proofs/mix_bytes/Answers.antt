@@ -10,7 +10,7 @@ unfolding left_after
 loop-c-init c = (c.requires.2, let e : c.args.at + c.args.n - c.args.at ≡ c.args.n = omega arith in rw e)
 
 pub loop-c-preserved : goal.loop-c-preserved
-loop-c-preserved c = (c.mix_byte-sum.ensures.1, bytes_next _ _ _ _ _ _ _ _ c.loop-c.invariant.1 c.loop-c-test.true c.wide.ensures.0 c.mix_byte-sum.ensures.0)
+loop-c-preserved c = (c.mix_byte-sum.ensures.1, bytes_next _ _ _ _ _ _ _ _ c.loop-c.invariant.1 c.loop-c-test.true c.from.ensures c.mix_byte-sum.ensures.0)
 
 pub returns : goal.returns
 returns c = (bytes_end _ _ _ _ _ _ c.loop-c.invariant.1 c.loop-c-test.false, c.loop-c.invariant.0)

@@ -8,12 +8,12 @@ pub loop-x-init : goal.loop-x-init
 loop-x-init c = (omega arith, walk_start c.args.a.now c.args.i c.args.n c.args.b.now c.args.j c.args.k)
 
 pub returns-in_default : goal.returns-in_default
-returns-in_default c = walk_differs c.args.a.now c.args.i c.args.n c.args.b.now c.args.j c.args.k c.loop-x.x c.loop-x.y _ c.requires.0 c.loop-x-test.true c.wide.ensures.0 c.in_default.ensures ∙ sym c.loop-x.invariant.1
+returns-in_default c = walk_differs c.args.a.now c.args.i c.args.n c.args.b.now c.args.j c.args.k c.loop-x.x c.loop-x.y _ c.requires.0 c.loop-x-test.true c.from.ensures c.in_default.ensures ∙ sym c.loop-x.invariant.1
 
 pub loop-x-preserved : goal.loop-x-preserved
 loop-x-preserved c = (
-  walk_inside _ _ _ _ _ _ _ _ _ c.requires.0 c.loop-x-test.true c.wide.ensures.0 _ c.in-Some.ensures c.requires.1 c.loop-x.invariant.0,
-  c.loop-x.invariant.1 ∙ walk_more _ _ _ _ _ _ _ _ _ c.requires.0 c.loop-x-test.true c.wide.ensures.0 _ c.in-Some.ensures,
+  walk_inside _ _ _ _ _ _ _ _ _ c.requires.0 c.loop-x-test.true c.from.ensures _ c.in-Some.ensures c.requires.1 c.loop-x.invariant.0,
+  c.loop-x.invariant.1 ∙ walk_more _ _ _ _ _ _ _ _ _ c.requires.0 c.loop-x-test.true c.from.ensures _ c.in-Some.ensures,
 )
 
 pub returns : goal.returns

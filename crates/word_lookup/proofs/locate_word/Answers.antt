@@ -15,8 +15,8 @@ pub returns-then-not-flags_known : goal.returns-then-not-flags_known
 returns-then-not-flags_known c = let a = c.args in
     not_known _ _ _ (confirmed (c.list_fits.ensures a.n) (ap not c.if-not-list_fits.false)) (refuted c.flags_known.ensures (ap not c.if-not-flags_known.true))
 
-pub returns-then-wide-i : goal.returns-then-wide-i
-returns-then-wide-i c = let a = c.args in
+pub returns-then-from-i : goal.returns-then-from-i
+returns-then-from-i c = let a = c.args in
     not_below _ _ _ (confirmed (c.list_fits.ensures a.n) (ap not c.if-not-list_fits.false)) (confirmed c.flags_known.ensures (ap not c.if-not-flags_known.false)) (omega arith)
 
 pub place_holds_text-requires : goal.place_holds_text-requires
@@ -35,5 +35,5 @@ bounds-lengths-i c = let a = c.args in
 pub returns : goal.returns
 unfolding place_length
 returns c = let a = c.args in
-    rw c.wide16.ensures (word_there _ (lent_list a.n a.places.now a.lengths.now) a.index.0 (confirmed (c.list_fits.ensures a.n) (ap not c.if-not-list_fits.false)) (confirmed c.flags_known.ensures (ap not c.if-not-flags_known.false)) (omega arith) (omega arith)
+    rw c.from-2.ensures (word_there _ (lent_list a.n a.places.now a.lengths.now) a.index.0 (confirmed (c.list_fits.ensures a.n) (ap not c.if-not-list_fits.false)) (confirmed c.flags_known.ensures (ap not c.if-not-flags_known.false)) (omega arith) (omega arith)
     (confirmed (c.place_holds_text.ensures a.n) (ap not c.if-not-place_holds_text.false)))
