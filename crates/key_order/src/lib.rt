@@ -9,81 +9,61 @@ ghost use Rattle.term_writer.specs.InTable.{TermInTable};
 ghost use Rattle.term_writer.specs.PairOrder.{HasOrder};
 ghost use Rattle.key_order.specs.Code.{SlotsFit, SlotsFilled, FormStands, TwoFit, Compared, KeysFit, PlaceFound, PairsFit, KeysSorted, MapFits, MapOrdered, RunFits, SlotsFor, AllInOrder};
 
+use term_rows::Rows;
 use term_spec::sizes;
 
 // How many bytes of the message from its tag on are the canonical form of the term at the row; none where they may not be.
-fn form_stands(msg: &[u8], table: &[u64], row: usize) -> Option<usize>
-    requires { row < length table.now }
-    ensures { (places lengths : List ℕ) (t : Located) → TermInTable msg.now places lengths table.now row t → IfSome result (λ n. FormStands msg.now table.now row n t) }
+fn form_stands(rows: &Rows, row: usize) -> Option<usize>
+    requires { row < length rows.now.table.now }
+    ensures { (places lengths : List ℕ) (t : Located) → TermInTable rows.now.msg.now places lengths rows.now.table.now row t → IfSome result (λ n. FormStands rows.now.msg.now rows.now.table.now row n t) }
 {
-    let word = table[row];
+    let word = rows.table[row];
     if row::parts_in(word) != 0 {
         return None;
     }
-    already_canonical::as_it_stands(msg, word)
+    already_canonical::as_it_stands(rows.msg, word)
 }
 
 // Whether the canonical form of the term at row a may stand before that of the term at row b: both are written, one after the other, and compared.
-fn written_before(
-    msg: &[u8],
-    places: &[u8],
-    lengths: &[u16],
-    table: &[u64],
-    order: &[u16],
-    out: &mut [u8],
-    a: usize,
-    b: usize,
-) -> bool
-    requires { TwoFit msg.now places.now lengths.now table.now order.now a b (length out.old) }
-    ensures { Compared msg.now places.now lengths.now table.now order.now a b out.old result out.new }
+fn written_before(rows: &Rows, order: &[u16], out: &mut [u8], a: usize, b: usize) -> bool
+    requires { TwoFit rows.now.msg.now rows.now.places.now rows.now.lengths.now rows.now.table.now order.now a b (length out.old) }
+    ensures { Compared rows.now.msg.now rows.now.places.now rows.now.lengths.now rows.now.table.now order.now a b out.old result out.new }
 {
-    let first = term_writer::write_term(msg, places, lengths, table, order, a, out, 0);
-    let second = term_writer::write_term(msg, places, lengths, table, order, b, out, first);
+    let first = term_writer::write_term(rows, order, a, out, 0);
+    let second = term_writer::write_term(rows, order, b, out, first);
     octets::bytes_before(out, 0, first, first, second - first)
 }
 
 // The same; terms whose bytes stand in the message as they are written are compared there.
-fn key_before(
-    msg: &[u8],
-    places: &[u8],
-    lengths: &[u16],
-    table: &[u64],
-    order: &[u16],
-    out: &mut [u8],
-    a: usize,
-    b: usize,
-) -> bool
-    requires { TwoFit msg.now places.now lengths.now table.now order.now a b (length out.old) }
-    ensures { Compared msg.now places.now lengths.now table.now order.now a b out.old result out.new }
+fn key_before(rows: &Rows, order: &[u16], out: &mut [u8], a: usize, b: usize) -> bool
+    requires { TwoFit rows.now.msg.now rows.now.places.now rows.now.lengths.now rows.now.table.now order.now a b (length out.old) }
+    ensures { Compared rows.now.msg.now rows.now.places.now rows.now.lengths.now rows.now.table.now order.now a b out.old result out.new }
 {
-    if let Some(n) = form_stands(msg, table, a) {
-        if let Some(k) = form_stands(msg, table, b) {
+    if let Some(n) = form_stands(rows, a) {
+        if let Some(k) = form_stands(rows, b) {
             return octets::bytes_before(
-                msg,
-                row::offset_in(table[a]),
+                rows.msg,
+                row::offset_in(rows.table[a]),
                 n,
-                row::offset_in(table[b]),
+                row::offset_in(rows.table[b]),
                 k,
             );
         }
     }
-    written_before(msg, places, lengths, table, order, out, a, b)
+    written_before(rows, order, out, a, b)
 }
 
 // Where the key goes among the n keys whose rows `run` lists in rising order, found by halving.
 fn place_by_halves(
-    msg: &[u8],
-    places: &[u8],
-    lengths: &[u16],
-    table: &[u64],
+    rows: &Rows,
     order: &[u16],
     out: &mut [u8],
     run: &[u16],
     n: usize,
     key: usize,
 ) -> usize
-    requires { KeysFit msg.now places.now lengths.now table.now order.now run.now n key (length out.old) }
-    ensures { PlaceFound msg.now places.now lengths.now table.now order.now run.now n key out.old result out.new }
+    requires { KeysFit rows.now.msg.now rows.now.places.now rows.now.lengths.now rows.now.table.now order.now run.now n key (length out.old) }
+    ensures { PlaceFound rows.now.msg.now rows.now.places.now rows.now.lengths.now rows.now.table.now order.now run.now n key out.old result out.new }
 {
     let mut low = 0;
     let mut high = n;
@@ -91,7 +71,7 @@ fn place_by_halves(
     while low < high {
         let middle = low + (high - low) / 2;
         let other = usize::from(run[middle]);
-        if key_before(msg, places, lengths, table, order, out, other, key) {
+        if key_before(rows, order, out, other, key) {
             low = middle + 1;
         } else {
             high = middle;
@@ -102,27 +82,24 @@ fn place_by_halves(
 
 // The same; past the last, if it may stand there, at the cost of one comparison.
 fn find_place(
-    msg: &[u8],
-    places: &[u8],
-    lengths: &[u16],
-    table: &[u64],
+    rows: &Rows,
     order: &[u16],
     out: &mut [u8],
     run: &[u16],
     n: usize,
     key: usize,
 ) -> usize
-    requires { KeysFit msg.now places.now lengths.now table.now order.now run.now n key (length out.old) }
-    ensures { PlaceFound msg.now places.now lengths.now table.now order.now run.now n key out.old result out.new }
+    requires { KeysFit rows.now.msg.now rows.now.places.now rows.now.lengths.now rows.now.table.now order.now run.now n key (length out.old) }
+    ensures { PlaceFound rows.now.msg.now rows.now.places.now rows.now.lengths.now rows.now.table.now order.now run.now n key out.old result out.new }
 {
     if n == 0 {
         return 0;
     }
     let last = usize::from(run[n - 1]);
-    if key_before(msg, places, lengths, table, order, out, last, key) {
+    if key_before(rows, order, out, last, key) {
         return n;
     }
-    place_by_halves(msg, places, lengths, table, order, out, run, n - 1, key)
+    place_by_halves(rows, order, out, run, n - 1, key)
 }
 
 // Puts the key's row in at index `at`: the rows from there on, up to the n-th, move one up.
@@ -136,26 +113,23 @@ fn put_at(run: &mut [u16], n: usize, at: usize, key: usize)
 
 // Puts the rows of the n keys of a map, its first at `row`, into `run`, in rising byte order of their canonical forms; whether they stand so.
 fn sort_keys(
-    msg: &[u8],
-    places: &[u8],
-    lengths: &[u16],
-    table: &[u64],
+    rows: &Rows,
     order: &[u16],
     run: &mut [u16],
     out: &mut [u8],
     row: usize,
     n: usize,
 ) -> bool
-    requires { PairsFit msg.now places.now lengths.now table.now order.now row n (length out.old) × (n ≤ length run.old) }
-    ensures { KeysSorted msg.now places.now lengths.now table.now order.now row n out.old run.new result out.new }
+    requires { PairsFit rows.now.msg.now rows.now.places.now rows.now.lengths.now rows.now.table.now order.now row n (length out.old) × (n ≤ length run.old) }
+    ensures { KeysSorted rows.now.msg.now rows.now.places.now rows.now.lengths.now rows.now.table.now order.now row n out.old run.new result out.new }
 {
     let mut rising = true;
     let mut key = row;
     for i in 0..n {
-        let at = find_place(msg, places, lengths, table, order, out, run, i, key);
+        let at = find_place(rows, order, out, run, i, key);
         put_at(run, i, at, key);
-        let value = key + row::size_in(table[key]);
-        key = value + row::size_in(table[value]);
+        let value = key + row::size_in(rows.table[key]);
+        key = value + row::size_in(rows.table[value]);
         if at < i {
             rising = false;
         }
@@ -177,44 +151,26 @@ fn fill_slots(table: &[u64], order: &mut [u16], run: &[u16], row: usize)
 }
 
 // Orders the pairs of the map at the row, which has two or more; the maps in it are ordered. Where they stand in order, the slot at the first key is 0.
-fn order_map(
-    msg: &[u8],
-    places: &[u8],
-    lengths: &[u16],
-    table: &[u64],
-    order: &mut [u16],
-    run: &mut [u16],
-    out: &mut [u8],
-    row: usize,
-)
-    requires { MapFits msg.now places.now lengths.now table.now order.old row (length out.old) (length order.old) (length run.old) × HasOrder (get_or table.now row 0) }
-    ensures { MapOrdered msg.now places.now lengths.now table.now order.old row order.new out.old out.new }
+fn order_map(rows: &Rows, order: &mut [u16], run: &mut [u16], out: &mut [u8], row: usize)
+    requires { MapFits rows.now.msg.now rows.now.places.now rows.now.lengths.now rows.now.table.now order.old row (length out.old) (length order.old) (length run.old) × HasOrder (get_or rows.now.table.now row 0) }
+    ensures { MapOrdered rows.now.msg.now rows.now.places.now rows.now.lengths.now rows.now.table.now order.old row order.new out.old out.new }
 {
-    let n = row::parts_in(table[row]) / sizes::PAIR_PARTS;
-    if sort_keys(msg, places, lengths, table, order, run, out, row + 1, n) {
+    let n = row::parts_in(rows.table[row]) / sizes::PAIR_PARTS;
+    if sort_keys(rows, order, run, out, row + 1, n) {
         order[row + 1] = 0;
         return;
     }
-    fill_slots(table, order, &run[..n], row + 1);
+    fill_slots(rows.table, order, &run[..n], row + 1);
 }
 
-// Orders the pairs of each map in the terms whose rows fill the first `rows` of the table: from the last row to the first, so that the maps in a map come before it.
-pub fn order_keys(
-    msg: &[u8],
-    places: &[u8],
-    lengths: &[u16],
-    table: &[u64],
-    rows: usize,
-    order: &mut [u16],
-    run: &mut [u16],
-    out: &mut [u8],
-)
-    requires { RunFits msg.now places.now lengths.now table.now rows (length out.old) × SlotsFor rows (length order.old) (length run.old) }
-    ensures { AllInOrder msg.now places.now lengths.now table.now rows order.new out.old out.new }
+// Orders the pairs of each map in the terms whose rows are the first `count` of the table: from the last row to the first, so that the maps in a map come before it.
+pub fn order_keys(rows: &Rows, count: usize, order: &mut [u16], run: &mut [u16], out: &mut [u8])
+    requires { RunFits rows.now.msg.now rows.now.places.now rows.now.lengths.now rows.now.table.now count (length out.old) × SlotsFor count (length order.old) (length run.old) }
+    ensures { AllInOrder rows.now.msg.now rows.now.places.now rows.now.lengths.now rows.now.table.now count order.new out.old out.new }
 {
-    for row in (0..rows).rev() {
-        if term_writer::has_order(table[row]) {
-            order_map(msg, places, lengths, table, order, run, out, row);
+    for row in (0..count).rev() {
+        if term_writer::has_order(rows.table[row]) {
+            order_map(rows, order, run, out, row);
         }
     }
 }

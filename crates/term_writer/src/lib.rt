@@ -6,6 +6,7 @@ ghost use Rattle.term_spec.specs.Canonical.{canonical};
 ghost use Rattle.term_writer.specs.PairOrder.{HasOrder};
 ghost use Rattle.term_writer.specs.Code.{canonicals, SomeTerm, SomeRun, SomeSmall, StringTold, SmallTold, CharactersPut, StringPut, TermLength, TermPut, TermFits, RunLength, RunPut, RunFits, PairsPut, PairsFit, PartsPut, PartsFit};
 
+use term_rows::Rows;
 use term_spec::{kinds, sizes, tags};
 
 // A map with so many parts has two pairs: fewer need no order.
@@ -29,19 +30,18 @@ fn slot_at(order: &[u16], row: usize) -> Option<usize>
 }
 
 // Whether the n terms whose rows begin at `row` are all integers 0 to 255.
-fn all_small(
-    msg: &[u8],
-    places: &[u8],
-    lengths: &[u16],
-    table: &[u64],
-    row: usize,
-    n: usize,
-) -> bool
-    requires { SomeRun msg.now places.now lengths.now table.now row n }
-    ensures { SmallTold msg.now places.now lengths.now table.now row n result }
+fn all_small(rows: &Rows, row: usize, n: usize) -> bool
+    requires { SomeRun rows.now.msg.now rows.now.places.now rows.now.lengths.now rows.now.table.now row n }
+    ensures { SmallTold rows.now.msg.now rows.now.places.now rows.now.lengths.now rows.now.table.now row n result }
 {
     for i in 0..n {
-        if characters::character_at(msg, places, lengths, table[row + i]).is_none() {
+        if characters::character_at(
+            rows.msg,
+            rows.places,
+            rows.lengths,
+            rows.table[row + i],
+        ).is_none()
+        {
             return false;
         }
     }
@@ -49,217 +49,132 @@ fn all_small(
 }
 
 // Whether the term at `row` is written as a string.
-fn is_string(msg: &[u8], places: &[u8], lengths: &[u16], table: &[u64], row: usize) -> bool
-    requires { SomeTerm msg.now places.now lengths.now table.now row }
-    ensures { StringTold msg.now places.now lengths.now table.now row result }
+fn is_string(rows: &Rows, row: usize) -> bool
+    requires { SomeTerm rows.now.msg.now rows.now.places.now rows.now.lengths.now rows.now.table.now row }
+    ensures { StringTold rows.now.msg.now rows.now.places.now rows.now.lengths.now rows.now.table.now row result }
 {
-    let word = table[row];
+    let word = rows.table[row];
     let n = row::parts_in(word);
-    row::kind_in(word) == kinds::LIST
-        && n != 0
-        && all_small(msg, places, lengths, table, row + 1, n)
+    row::kind_in(word) == kinds::LIST && n != 0 && all_small(rows, row + 1, n)
 }
 
 // Writes the n integers 0 to 255 whose rows begin at `row` as bytes from `at` on; the offset past them.
-fn put_characters(
-    msg: &[u8],
-    places: &[u8],
-    lengths: &[u16],
-    table: &[u64],
-    row: usize,
-    n: usize,
-    out: &mut [u8],
-    at: usize,
-) -> usize
-    requires { SomeSmall msg.now places.now lengths.now table.now row n × (at + n ≤ length out.old) }
-    ensures { CharactersPut msg.now places.now lengths.now table.now row n out.old at result out.new }
+fn put_characters(rows: &Rows, row: usize, n: usize, out: &mut [u8], at: usize) -> usize
+    requires { SomeSmall rows.now.msg.now rows.now.places.now rows.now.lengths.now rows.now.table.now row n × (at + n ≤ length out.old) }
+    ensures { CharactersPut rows.now.msg.now rows.now.places.now rows.now.lengths.now rows.now.table.now row n out.old at result out.new }
 {
     for i in 0..n {
-        let c = characters::character_at(msg, places, lengths, table[row + i]);
+        let c = characters::character_at(rows.msg, rows.places, rows.lengths, rows.table[row + i]);
         out[at + i] = c.unwrap();
     }
     at + n
 }
 
 // Writes the n integers 0 to 255 whose rows begin at `row` as a string from `at` on; the offset past it.
-fn put_string(
-    msg: &[u8],
-    places: &[u8],
-    lengths: &[u16],
-    table: &[u64],
-    row: usize,
-    n: usize,
-    out: &mut [u8],
-    at: usize,
-) -> usize
-    requires { SomeSmall msg.now places.now lengths.now table.now row n × (at + (n + 3) ≤ length out.old) × (n < 65536) }
-    ensures { StringPut msg.now places.now lengths.now table.now row n out.old at result out.new }
+fn put_string(rows: &Rows, row: usize, n: usize, out: &mut [u8], at: usize) -> usize
+    requires { SomeSmall rows.now.msg.now rows.now.places.now rows.now.lengths.now rows.now.table.now row n × (at + (n + 3) ≤ length out.old) × (n < 65536) }
+    ensures { StringPut rows.now.msg.now rows.now.places.now rows.now.lengths.now rows.now.table.now row n out.old at result out.new }
 {
     out[at] = tags::STRING_EXT;
     octets::put2(out, at + 1, n);
-    put_characters(msg, places, lengths, table, row, n, out, at + 3)
+    put_characters(rows, row, n, out, at + 3)
 }
 
 // How many bytes the canonical form of the term at `row` has.
 #[cycle(length)]
-fn length_term(msg: &[u8], places: &[u8], lengths: &[u16], table: &[u64], row: usize) -> usize
-    requires { SomeTerm msg.now places.now lengths.now table.now row }
-    ensures { TermLength msg.now places.now lengths.now table.now row result }
+fn length_term(rows: &Rows, row: usize) -> usize
+    requires { SomeTerm rows.now.msg.now rows.now.places.now rows.now.lengths.now rows.now.table.now row }
+    ensures { TermLength rows.now.msg.now rows.now.places.now rows.now.lengths.now rows.now.table.now row result }
 {
-    let word = table[row];
+    let word = rows.table[row];
     let n = row::parts_in(word);
     if n == 0 {
-        return field_writer::own_length(msg, places, lengths, word);
+        return field_writer::own_length(rows.msg, rows.places, rows.lengths, word);
     }
-    if is_string(msg, places, lengths, table, row) {
+    if is_string(rows, row) {
         return n + 3;
     }
-    let own = field_writer::own_length(msg, places, lengths, word);
-    let inner = length_run(msg, places, lengths, table, row + 1, n);
+    let own = field_writer::own_length(rows.msg, rows.places, rows.lengths, word);
+    let inner = length_run(rows, row + 1, n);
     own + inner
 }
 
 // How many bytes those of the n terms whose rows begin at `row` have.
 #[cycle(length)]
-pub fn length_run(
-    msg: &[u8],
-    places: &[u8],
-    lengths: &[u16],
-    table: &[u64],
-    row: usize,
-    n: usize,
-) -> usize
-    requires { SomeRun msg.now places.now lengths.now table.now row n }
-    ensures { RunLength msg.now places.now lengths.now table.now row n result }
+pub fn length_run(rows: &Rows, row: usize, n: usize) -> usize
+    requires { SomeRun rows.now.msg.now rows.now.places.now rows.now.lengths.now rows.now.table.now row n }
+    ensures { RunLength rows.now.msg.now rows.now.places.now rows.now.lengths.now rows.now.table.now row n result }
 {
     let mut next = row;
     let mut sum = 0;
     for _ in 0..n {
-        sum += length_term(msg, places, lengths, table, next);
-        next += row::size_in(table[next]);
+        sum += length_term(rows, next);
+        next += row::size_in(rows.table[next]);
     }
     sum
 }
 
 // Writes the canonical form of the term at `row` from `at` on; the offset past it.
 #[cycle(write)]
-pub fn write_term(
-    msg: &[u8],
-    places: &[u8],
-    lengths: &[u16],
-    table: &[u64],
-    order: &[u16],
-    row: usize,
-    out: &mut [u8],
-    at: usize,
-) -> usize
-    requires { TermFits msg.now places.now lengths.now table.now row order.now canonical (length out.old) at }
-    ensures { TermPut msg.now places.now lengths.now table.now row order.now canonical out.old at result out.new }
+pub fn write_term(rows: &Rows, order: &[u16], row: usize, out: &mut [u8], at: usize) -> usize
+    requires { TermFits rows.now.msg.now rows.now.places.now rows.now.lengths.now rows.now.table.now row order.now canonical (length out.old) at }
+    ensures { TermPut rows.now.msg.now rows.now.places.now rows.now.lengths.now rows.now.table.now row order.now canonical out.old at result out.new }
 {
-    let word = table[row];
+    let word = rows.table[row];
     let n = row::parts_in(word);
     if n == 0 {
-        return field_writer::put_leaf(msg, places, lengths, word, out, at);
+        return field_writer::put_leaf(rows.msg, rows.places, rows.lengths, word, out, at);
     }
-    if is_string(msg, places, lengths, table, row) {
-        return put_string(msg, places, lengths, table, row + 1, n, out, at);
+    if is_string(rows, row) {
+        return put_string(rows, row + 1, n, out, at);
     }
-    let first = field_writer::put_before(msg, places, lengths, word, out, at);
-    let end = write_parts(msg, places, lengths, table, order, row, out, first);
-    field_writer::put_after(msg, places, lengths, word, out, end)
+    let first = field_writer::put_before(rows.msg, rows.places, rows.lengths, word, out, at);
+    let end = write_parts(rows, order, row, out, first);
+    field_writer::put_after(rows.msg, rows.places, rows.lengths, word, out, end)
 }
 
 // Writes the parts of the term at `row`, which is not written as a string; the offset past them.
 #[cycle(write)]
-fn write_parts(
-    msg: &[u8],
-    places: &[u8],
-    lengths: &[u16],
-    table: &[u64],
-    order: &[u16],
-    row: usize,
-    out: &mut [u8],
-    at: usize,
-) -> usize
-    requires { PartsFit msg.now places.now lengths.now table.now row order.now (length out.old) at }
-    ensures { PartsPut msg.now places.now lengths.now table.now row order.now out.old at result out.new }
+fn write_parts(rows: &Rows, order: &[u16], row: usize, out: &mut [u8], at: usize) -> usize
+    requires { PartsFit rows.now.msg.now rows.now.places.now rows.now.lengths.now rows.now.table.now row order.now (length out.old) at }
+    ensures { PartsPut rows.now.msg.now rows.now.places.now rows.now.lengths.now rows.now.table.now row order.now out.old at result out.new }
 {
-    let word = table[row];
+    let word = rows.table[row];
     let n = row::parts_in(word);
     if has_order(word) && slot_at(order, row + 1).is_some() {
-        return write_pairs(
-            msg,
-            places,
-            lengths,
-            table,
-            order,
-            row + 1,
-            n / sizes::PAIR_PARTS,
-            out,
-            at,
-        );
+        return write_pairs(rows, order, row + 1, n / sizes::PAIR_PARTS, out, at);
     }
-    write_run(msg, places, lengths, table, order, row + 1, n, out, at)
+    write_run(rows, order, row + 1, n, out, at)
 }
 
 // Writes those of the n terms whose rows begin at `row`, one after the other; the offset past them.
 #[cycle(write)]
-fn write_run(
-    msg: &[u8],
-    places: &[u8],
-    lengths: &[u16],
-    table: &[u64],
-    order: &[u16],
-    row: usize,
-    n: usize,
-    out: &mut [u8],
-    at: usize,
-) -> usize
-    requires { RunFits msg.now places.now lengths.now table.now row order.now canonicals n (length out.old) at }
-    ensures { RunPut msg.now places.now lengths.now table.now row order.now canonicals n out.old at result out.new }
+fn write_run(rows: &Rows, order: &[u16], row: usize, n: usize, out: &mut [u8], at: usize) -> usize
+    requires { RunFits rows.now.msg.now rows.now.places.now rows.now.lengths.now rows.now.table.now row order.now canonicals n (length out.old) at }
+    ensures { RunPut rows.now.msg.now rows.now.places.now rows.now.lengths.now rows.now.table.now row order.now canonicals n out.old at result out.new }
 {
     let mut next = row;
     let mut end = at;
     for _ in 0..n {
-        end = write_term(msg, places, lengths, table, order, next, out, end);
-        next += row::size_in(table[next]);
+        end = write_term(rows, order, next, out, end);
+        next += row::size_in(rows.table[next]);
     }
     end
 }
 
 // Writes the n pairs of a map, the first one's key at `row`, in the order that their slots give; the offset past them.
 #[cycle(write)]
-fn write_pairs(
-    msg: &[u8],
-    places: &[u8],
-    lengths: &[u16],
-    table: &[u64],
-    order: &[u16],
-    row: usize,
-    n: usize,
-    out: &mut [u8],
-    at: usize,
-) -> usize
-    requires { PairsFit msg.now places.now lengths.now table.now row order.now n (length out.old) at }
-    ensures { PairsPut msg.now places.now lengths.now table.now row order.now n out.old at result out.new }
+fn write_pairs(rows: &Rows, order: &[u16], row: usize, n: usize, out: &mut [u8], at: usize) -> usize
+    requires { PairsFit rows.now.msg.now rows.now.places.now rows.now.lengths.now rows.now.table.now row order.now n (length out.old) at }
+    ensures { PairsPut rows.now.msg.now rows.now.places.now rows.now.lengths.now rows.now.table.now row order.now n out.old at result out.new }
 {
     let mut key = row;
     let mut end = at;
     for _ in 0..n {
         let slot = usize::from(order[key]);
-        end = write_run(
-            msg,
-            places,
-            lengths,
-            table,
-            order,
-            slot,
-            sizes::PAIR_PARTS,
-            out,
-            end,
-        );
-        let value = key + row::size_in(table[key]);
-        key = value + row::size_in(table[value]);
+        end = write_run(rows, order, slot, sizes::PAIR_PARTS, out, end);
+        let value = key + row::size_in(rows.table[key]);
+        key = value + row::size_in(rows.table[value]);
     }
     end
 }

@@ -11,25 +11,25 @@ use Rattle.term_spec.specs.AtomList.{AtomList}
 use Rattle.term_spec.specs.Message.{Framing, Terms, read}
 use Rattle.term_spec.specs.Rows.{table_after}
 use Rattle.term_spec.specs.Writing.{written, write, output_after, scratch_after}
-use Rattle.term_spec.specs.Answers.{read_answer, write_answer}
+use Rattle.term_spec.specs.Answers.{ReadAnswer, WriteAnswer, read_answer, write_answer}
 use Rattle.term_spec.specs.Promises.{ReadCall, WriteCall}
 use Rattle.term_spec.specs.declared.Refusal.{Refusal}
-use Rattle.term_spec.specs.declared.ReadAnswer.{ReadAnswer}
-use Rattle.term_spec.specs.declared.ReadAnswer.TheVariants as reads
-use Rattle.term_spec.specs.declared.WriteAnswer.{WriteAnswer}
-use Rattle.term_spec.specs.declared.WriteAnswer.TheVariants as writes
+use Rattle.term_spec.specs.declared.TermsRead.{TermsRead}
+use Rattle.std.specs.Prelude.{Ok, Err}
 use Rattle.term_writer.specs.InTable.{RunInTable}
 use Rattle.writer.specs.Code.{RowsRead, WrittenAndCleared}
 use Rattle.writer.proofs.Read.{read_held}
 use Rattle.writer.proofs.Scratch.{rows_zero}
 
 -- what reading answered
-terms_read : (o : Answer Terms) (r : ReadAnswer) (k rows : ℕ) → r ≡ read_answer o → r ≡ reads.Terms k rows → (ts : Terms) × (o ≡ good ts) × (count ts ≡ k) × (sizes ts ≡ rows)
+terms_read : (o : Answer Terms) (r : ReadAnswer) (v : TermsRead) → r ≡ read_answer o → r ≡ Ok v → (ts : Terms) × (o ≡ good ts) × (count ts ≡ v.terms) × (sizes ts ≡ v.rows)
 unfolding read_answer
-terms_read (good ts) r k rows e f = let c : count ts ≡ k = cc in let d : sizes ts ≡ rows = cc in (ts, refl, c, d)
-terms_read (refused n p) r k rows e f = let no_way : ◌≡◌ {A = ℕ} 0 1 = cc in absurd (omega arith)
+terms_read (good ts) r v e f =
+    let s : record { terms = count ts; rows = sizes ts } ≡ v = cc in
+    (ts, refl, ap (λ (x : TermsRead). x.terms) s, ap (λ (x : TermsRead). x.rows) s)
+terms_read (refused n p) r v e f = let no_way : ◌≡◌ {A = ℕ} 0 1 = cc in absurd (omega arith)
 
-refusal_read : (o : Answer Terms) (r : ReadAnswer) (q : Refusal) → r ≡ read_answer o → r ≡ reads.Refused q → o ≡ refused q.number q.place
+refusal_read : (o : Answer Terms) (r : ReadAnswer) (q : Refusal) → r ≡ read_answer o → r ≡ Err q → o ≡ refused q.number q.place
 unfolding read_answer
 refusal_read (good ts) r q e f = let no_way : ◌≡◌ {A = ℕ} 0 1 = cc in absurd (omega arith)
 refusal_read (refused n p) r q e f =
@@ -41,9 +41,9 @@ module _ {flags : ℕ} {framing : Framing} {atoms : AtomList} {m S : List ℕ} {
   abbrev answer : Answer Terms
   answer = read flags framing atoms (length S) m
 
-  module _ {k rows : ℕ} (f : r ≡ reads.Terms k rows) where
-    terms_are : (ts : Terms) × (answer ≡ good ts) × (count ts ≡ k) × (sizes ts ≡ rows)
-    terms_are = terms_read answer r k rows call.read_answered f
+  module _ {v : TermsRead} (f : r ≡ Ok v) where
+    terms_are : (ts : Terms) × (answer ≡ good ts) × (count ts ≡ v.terms) × (sizes ts ≡ v.rows)
+    terms_are = terms_read answer r v call.read_answered f
 
     terms_held : RunInTable m atoms.places atoms.lengths T 0 terms_are.0
     terms_held =
@@ -51,7 +51,7 @@ module _ {flags : ℕ} {framing : Framing} {atoms : AtomList} {m S : List ℕ} {
         subst (λ (X : List ℕ). RunInTable m atoms.places atoms.lengths X 0 terms_are.0) (sym x)
         (read_held flags framing atoms (length S) m few u terms_are.0 terms_are.1)
 
-    pub message_rows : RowsRead m atoms.places atoms.lengths T k rows
+    pub message_rows : RowsRead m atoms.places atoms.lengths T v.terms v.rows
     message_rows =
         let zero = rows_zero answer (length S) call.read_answered f call.table_left in
         record {
@@ -60,7 +60,7 @@ module _ {flags : ℕ} {framing : Framing} {atoms : AtomList} {m S : List ℕ} {
           others_zero = zero;
         }
 
-    pub message_written : {O P Z : List ℕ} {w : WriteAnswer} → WrittenAndCleared m atoms.places atoms.lengths T k rows O w Z P → length T ≡ length S
+    pub message_written : {O P Z : List ℕ} {w : WriteAnswer} → WrittenAndCleared m atoms.places atoms.lengths T v.terms v.rows O w Z P → length T ≡ length S
         → WriteCall flags framing atoms m S O w Z P
     unfolding write
     message_written {O} g l =
@@ -72,7 +72,7 @@ module _ {flags : ℕ} {framing : Framing} {atoms : AtomList} {m S : List ℕ} {
           output_left = i.1 ∙ ap (λ (o : Answer Terms). output_after O (written (length O) o)) x;
         }
 
-  pub message_refused : {q : Refusal} (O : List ℕ) → r ≡ reads.Refused q → WriteCall flags framing atoms m S O (writes.Refused q) T O
+  pub message_refused : {q : Refusal} (O : List ℕ) → r ≡ Err q → WriteCall flags framing atoms m S O (Err q) T O
   unfolding write written write_answer output_after scratch_after table_after
   message_refused {q} O f =
       let is : answer ≡ refused q.number q.place = refusal_read answer r q call.read_answered f in

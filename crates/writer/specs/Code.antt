@@ -2,7 +2,7 @@
 -- About the code alone, proved against the definitions of term_spec: nothing here has to be believed.
 use Rattle.std.specs.Prelude.{◌≡◌, List, ℕ, ◌≤◌, length, get_or}
 use Rattle.term_spec.specs.Writing.{scratch_after}
-use Rattle.term_spec.specs.declared.WriteAnswer.{WriteAnswer}
+use Rattle.term_spec.specs.Answers.{WriteAnswer}
 use Rattle.table_writer.specs.Code.{SomeRows, RowsWritten}
 
 -- a table whose words from index n on are 0

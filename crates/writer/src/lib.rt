@@ -10,7 +10,8 @@ ghost use Rattle.key_order.specs.Code.{SlotsFor};
 ghost use Rattle.writer.specs.Code.{ZeroPast, RowsRead, WrittenAndCleared};
 
 use connection::Connection;
-use term_spec::{ReadAnswer, WriteAnswer, sizes};
+use term_rows::Rows;
+use term_spec::{TermsRead, WriteAnswer, sizes};
 
 // Terms of at most few, some and more rows, each with as many slots; those of more have ROWS_MOST.
 const FEW_ROWS: usize = 64;
@@ -19,19 +20,21 @@ const SOME_ROWS: usize = 512;
 
 const MORE_ROWS: usize = 2048;
 
-// A key has as many rows at least, with its value.
-const KEY_ROWS: usize = 2;
+// So many keys have as many rows, with their values.
+const FEW_KEYS: usize = FEW_ROWS / sizes::PAIR_PARTS;
+
+const SOME_KEYS: usize = SOME_ROWS / sizes::PAIR_PARTS;
+
+const MORE_KEYS: usize = MORE_ROWS / sizes::PAIR_PARTS;
+
+const MOST_KEYS: usize = sizes::ROWS_MOST / sizes::PAIR_PARTS;
 
 // Clears a table whose words from index `rows` on are 0.
 fn clear_rows(table: &mut [u64], rows: usize)
     requires { ZeroPast table.old rows }
     ensures { table.new ≡ scratch_after (length table.old) }
 {
-    let mut i = 0usize;
-    while i < rows {
-        table[i] = 0;
-        i += 1;
-    }
+    table[..rows].fill(0);
 }
 
 // Writes the terms that were read into a table, with slots for the order of pairs, and clears the table.
@@ -42,96 +45,41 @@ fn write_and_clear(
     table: &mut [u64],
     order: &mut [u16],
     run: &mut [u16],
-    n: usize,
-    rows: usize,
+    read: TermsRead,
     out: &mut [u8],
 ) -> WriteAnswer
-    requires { RowsRead msg.now places.now lengths.now table.old n rows × SlotsFor rows (length order.old) (length run.old) }
-    ensures { WrittenAndCleared msg.now places.now lengths.now table.old n rows out.old result table.new out.new }
+    requires { RowsRead msg.now places.now lengths.now table.old read.terms read.rows × SlotsFor read.rows (length order.old) (length run.old) }
+    ensures { WrittenAndCleared msg.now places.now lengths.now table.old read.terms read.rows out.old result table.new out.new }
 {
-    let answer = table_writer::write_rows(msg, places, lengths, table, order, run, n, rows, out);
-    clear_rows(table, rows);
+    let rows = Rows {
+        msg,
+        places,
+        lengths,
+        table: &*table,
+    };
+    let answer = table_writer::write_rows(&rows, order, run, read, out);
+    clear_rows(table, read.rows);
     answer
 }
 
-// The same with the slots that terms of at most FEW_ROWS need.
-fn write_few(
+// The same with slots for so many rows and so many keys, on a stack of its own.
+#[inline(never)]
+fn write_sized<const ROWS: usize, const KEYS: usize>(
     msg: &[u8],
     places: &[u8],
     lengths: &[u16],
     table: &mut [u64],
-    n: usize,
-    rows: usize,
+    read: TermsRead,
     out: &mut [u8],
 ) -> WriteAnswer
-    requires { RowsRead msg.now places.now lengths.now table.old n rows × (rows ≤ 64) }
-    ensures { WrittenAndCleared msg.now places.now lengths.now table.old n rows out.old result table.new out.new }
+    requires read { RowsRead msg.now places.now lengths.now table.old read.terms read.rows }
+    requires slots { SlotsFor read.rows ROWS KEYS }
+    requires few { (ROWS ≤ 8192) × (KEYS ≤ 8192) }
+    ensures { WrittenAndCleared msg.now places.now lengths.now table.old read.terms read.rows out.old result table.new out.new }
 {
-    let mut order = [0u16; FEW_ROWS];
-    let mut run = [0u16; FEW_ROWS / KEY_ROWS];
-    write_and_clear(
-        msg, places, lengths, table, &mut order, &mut run, n, rows, out,
-    )
-}
-
-// The same with the slots that terms of at most SOME_ROWS need.
-fn write_some(
-    msg: &[u8],
-    places: &[u8],
-    lengths: &[u16],
-    table: &mut [u64],
-    n: usize,
-    rows: usize,
-    out: &mut [u8],
-) -> WriteAnswer
-    requires { RowsRead msg.now places.now lengths.now table.old n rows × (rows ≤ 512) }
-    ensures { WrittenAndCleared msg.now places.now lengths.now table.old n rows out.old result table.new out.new }
-{
-    let mut order = [0u16; SOME_ROWS];
-    let mut run = [0u16; SOME_ROWS / KEY_ROWS];
-    write_and_clear(
-        msg, places, lengths, table, &mut order, &mut run, n, rows, out,
-    )
-}
-
-// The same with the slots that terms of at most MORE_ROWS need.
-fn write_more(
-    msg: &[u8],
-    places: &[u8],
-    lengths: &[u16],
-    table: &mut [u64],
-    n: usize,
-    rows: usize,
-    out: &mut [u8],
-) -> WriteAnswer
-    requires { RowsRead msg.now places.now lengths.now table.old n rows × (rows ≤ 2048) }
-    ensures { WrittenAndCleared msg.now places.now lengths.now table.old n rows out.old result table.new out.new }
-{
-    let mut order = [0u16; MORE_ROWS];
-    let mut run = [0u16; MORE_ROWS / KEY_ROWS];
-    write_and_clear(
-        msg, places, lengths, table, &mut order, &mut run, n, rows, out,
-    )
-}
-
-// The same with the slots that the most rows need.
-fn write_most(
-    msg: &[u8],
-    places: &[u8],
-    lengths: &[u16],
-    table: &mut [u64],
-    n: usize,
-    rows: usize,
-    out: &mut [u8],
-) -> WriteAnswer
-    requires { RowsRead msg.now places.now lengths.now table.old n rows }
-    ensures { WrittenAndCleared msg.now places.now lengths.now table.old n rows out.old result table.new out.new }
-{
-    let mut order = [0u16; sizes::ROWS_MOST];
-    let mut run = [0u16; sizes::ROWS_MOST / KEY_ROWS];
-    write_and_clear(
-        msg, places, lengths, table, &mut order, &mut run, n, rows, out,
-    )
+    let mut order = [0u16; ROWS];
+    let mut run = [0u16; KEYS];
+    write_and_clear(msg, places, lengths, table, &mut order, &mut run, read, out)
 }
 
 // The same with the slots that terms of more than FEW_ROWS need. Fewer do not come here, so that their stack is free of them.
@@ -140,20 +88,37 @@ fn write_larger(
     places: &[u8],
     lengths: &[u16],
     table: &mut [u64],
-    n: usize,
-    rows: usize,
+    read: TermsRead,
     out: &mut [u8],
 ) -> WriteAnswer
-    requires { RowsRead msg.now places.now lengths.now table.old n rows }
-    ensures { WrittenAndCleared msg.now places.now lengths.now table.old n rows out.old result table.new out.new }
+    requires { RowsRead msg.now places.now lengths.now table.old read.terms read.rows }
+    ensures { WrittenAndCleared msg.now places.now lengths.now table.old read.terms read.rows out.old result table.new out.new }
 {
-    if rows <= SOME_ROWS {
-        return write_some(msg, places, lengths, table, n, rows, out);
+    if read.rows <= SOME_ROWS {
+        return write_sized::<SOME_ROWS, SOME_KEYS>(msg, places, lengths, table, read, out);
     }
-    if rows <= MORE_ROWS {
-        return write_more(msg, places, lengths, table, n, rows, out);
+    if read.rows <= MORE_ROWS {
+        return write_sized::<MORE_ROWS, MORE_KEYS>(msg, places, lengths, table, read, out);
     }
-    write_most(msg, places, lengths, table, n, rows, out)
+    write_sized::<{ sizes::ROWS_MOST }, MOST_KEYS>(msg, places, lengths, table, read, out)
+}
+
+// The same for terms of any number of rows that reading answered.
+fn write_read(
+    msg: &[u8],
+    places: &[u8],
+    lengths: &[u16],
+    table: &mut [u64],
+    read: TermsRead,
+    out: &mut [u8],
+) -> WriteAnswer
+    requires { RowsRead msg.now places.now lengths.now table.old read.terms read.rows }
+    ensures { WrittenAndCleared msg.now places.now lengths.now table.old read.terms read.rows out.old result table.new out.new }
+{
+    if read.rows <= FEW_ROWS {
+        return write_sized::<FEW_ROWS, FEW_KEYS>(msg, places, lengths, table, read, out);
+    }
+    write_larger(msg, places, lengths, table, read, out)
 }
 
 // Writes the term of a standalone message, with the connection's flags and this atom list, as a canonical standalone term; the scratch table ends all zero.
@@ -168,15 +133,8 @@ pub fn write_standalone(
 ) -> WriteAnswer
     ensures { WriteCall connection.flags standalone (lent_list n places.now lengths.now) msg.now scratch.old output.old result scratch.new output.new }
 {
-    match reader::read_standalone(connection, msg, n, places, lengths, scratch) {
-        ReadAnswer::Terms { terms, rows } => {
-            if rows <= FEW_ROWS {
-                return write_few(msg, places, lengths, scratch, terms, rows, output);
-            }
-            write_larger(msg, places, lengths, scratch, terms, rows, output)
-        }
-        ReadAnswer::Refused(refusal) => WriteAnswer::Refused(refusal),
-    }
+    let read = reader::read_standalone(connection, msg, n, places, lengths, scratch)?;
+    write_read(msg, places, lengths, scratch, read, output)
 }
 
 // Writes the terms of a payload, with the connection's flags and this atom list, as canonical standalone terms one after the other; the scratch table ends all zero.
@@ -191,13 +149,6 @@ pub fn write_payload(
 ) -> WriteAnswer
     ensures { WriteCall connection.flags payload (lent_list n places.now lengths.now) msg.now scratch.old output.old result scratch.new output.new }
 {
-    match reader::read_payload(connection, msg, n, places, lengths, scratch) {
-        ReadAnswer::Terms { terms, rows } => {
-            if rows <= FEW_ROWS {
-                return write_few(msg, places, lengths, scratch, terms, rows, output);
-            }
-            write_larger(msg, places, lengths, scratch, terms, rows, output)
-        }
-        ReadAnswer::Refused(refusal) => WriteAnswer::Refused(refusal),
-    }
+    let read = reader::read_payload(connection, msg, n, places, lengths, scratch)?;
+    write_read(msg, places, lengths, scratch, read, output)
 }

@@ -9,11 +9,11 @@ form_stands-requires c = term_below _ c.requires.first_ready.held
 pub form_stands-requires-in-Some : goal.form_stands-requires-in-Some
 form_stands-requires-in-Some c = term_below _ c.requires.second_ready.held
 
-pub bounds-table-a : goal.bounds-table-a
-bounds-table-a c = term_below _ c.requires.first_ready.held
+pub bounds-rows-a : goal.bounds-rows-a
+bounds-rows-a c = term_below _ c.requires.first_ready.held
 
-pub bounds-table-b : goal.bounds-table-b
-bounds-table-b c = term_below _ c.requires.second_ready.held
+pub bounds-rows-b : goal.bounds-rows-b
+bounds-rows-b c = term_below _ c.requires.second_ready.held
 
 pub bytes_before-requires : goal.bytes_before-requires
 bytes_before-requires c = forms_there c.in-Some.ensures c.in-Some-form_stands.ensures _ _ c.offset_in.ensures.0 c.offset_in-in-Some-form_stands.ensures.0 c.requires

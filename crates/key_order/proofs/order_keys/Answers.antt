@@ -9,11 +9,11 @@ use Rattle.key_order.proofs.order_keys.Goals as goal
 pub loop-row-init : goal.loop-row-init
 loop-row-init c = ordering_start _ _ _ _ _ _ _ _
 
-pub offset_bounds-table-row : goal.offset_bounds-table-row
-offset_bounds-table-row c = let f = row_fits c.loop-row.invariant c.loop-row-test.true c.requires.0 c.requires.1 in omega (arith, f.ready.node_held.few)
+pub offset_bounds-rows-row : goal.offset_bounds-rows-row
+offset_bounds-rows-row c = let f = row_fits c.loop-row.invariant c.loop-row-test.true c.requires.0 c.requires.1 in omega (arith, f.ready.node_held.few)
 
-pub bounds-table-row : goal.bounds-table-row
-bounds-table-row c = held_below (row_fits c.loop-row.invariant c.loop-row-test.true c.requires.0 c.requires.1).ready.node_held
+pub bounds-rows-row : goal.bounds-rows-row
+bounds-rows-row c = held_below (row_fits c.loop-row.invariant c.loop-row-test.true c.requires.0 c.requires.1).ready.node_held
 
 pub order_map-requires : goal.order_map-requires
 order_map-requires c = (row_fits c.loop-row.invariant c.loop-row-test.true c.requires.0 c.requires.1, c.has_order.ensures.0 c.if-has_order.true)

@@ -5,8 +5,8 @@ use Rattle.term_writer.proofs.InTable.{held_below}
 use Rattle.key_order.proofs.Maps.{map_pairs, map_rows, map_slots, keys_kept, first_there, stands_ordered, slots_ordered}
 use Rattle.key_order.proofs.order_map.Goals as goal
 
-pub bounds-table-row : goal.bounds-table-row
-bounds-table-row c = held_below c.requires.0.ready.node_held
+pub bounds-rows-row : goal.bounds-rows-row
+bounds-rows-row c = held_below c.requires.0.ready.node_held
 
 pub sort_keys-requires : goal.sort_keys-requires
 sort_keys-requires c = let a = c.requires in

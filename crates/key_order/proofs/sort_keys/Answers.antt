@@ -16,20 +16,20 @@ find_place-at-requires c = rw c.loop-i.invariant.out_long (keys_fit c.loop-i.inv
 pub put_at-requires : goal.put_at-requires
 put_at-requires c = let b = (sorting_pair c.loop-i.invariant c.loop-i-test.true c.requires.0).few in (omega (arith, c.find_place-at.ensures.inside), omega (arith, c.loop-i.invariant.run_long), omega arith)
 
-pub offset_bounds-table-key : goal.offset_bounds-table-key
-offset_bounds-table-key c = let b = (sorting_pair c.loop-i.invariant c.loop-i-test.true c.requires.0).few in omega arith
+pub offset_bounds-rows-key : goal.offset_bounds-rows-key
+offset_bounds-rows-key c = let b = (sorting_pair c.loop-i.invariant c.loop-i-test.true c.requires.0).few in omega arith
 
-pub bounds-table-key : goal.bounds-table-key
-bounds-table-key c = (sorting_pair c.loop-i.invariant c.loop-i-test.true c.requires.0).key_below
+pub bounds-rows-key : goal.bounds-rows-key
+bounds-rows-key c = (sorting_pair c.loop-i.invariant c.loop-i-test.true c.requires.0).key_below
 
 pub overflow_add-value : goal.overflow_add-value
 overflow_add-value c = let b = key_step (sorting_pair c.loop-i.invariant c.loop-i-test.true c.requires.0) _ c.size_in.ensures.0 in omega arith
 
-pub offset_bounds-table-value : goal.offset_bounds-table-value
-offset_bounds-table-value c = let b = key_step (sorting_pair c.loop-i.invariant c.loop-i-test.true c.requires.0) _ c.size_in.ensures.0 in omega arith
+pub offset_bounds-rows-value : goal.offset_bounds-rows-value
+offset_bounds-rows-value c = let b = key_step (sorting_pair c.loop-i.invariant c.loop-i-test.true c.requires.0) _ c.size_in.ensures.0 in omega arith
 
-pub bounds-table-value : goal.bounds-table-value
-bounds-table-value c = (key_step (sorting_pair c.loop-i.invariant c.loop-i-test.true c.requires.0) _ c.size_in.ensures.0).0
+pub bounds-rows-value : goal.bounds-rows-value
+bounds-rows-value c = (key_step (sorting_pair c.loop-i.invariant c.loop-i-test.true c.requires.0) _ c.size_in.ensures.0).0
 
 pub overflow_add-key : goal.overflow_add-key
 overflow_add-key c = let b = value_few (sorting_pair c.loop-i.invariant c.loop-i-test.true c.requires.0) _ _ c.size_in.ensures.0 c.size_in-in-loop-i.ensures.0 in omega arith

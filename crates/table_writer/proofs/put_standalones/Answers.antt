@@ -13,11 +13,11 @@ loop-init c = λ ts h o e. put_start canonical_standalone standalones standalone
 pub put_standalone-end-requires : goal.put_standalone-end-requires
 put_standalone-end-requires c = put_fits canonical_standalone standalones standalones_none standalones_more c.requires c.loop.invariant (omega arith) c.loop.auto.out
 
-pub offset_bounds-table-next : goal.offset_bounds-table-next
-offset_bounds-table-next c = let b = left_size _ (put_rest c.requires c.loop.invariant) (omega arith) refl in omega arith
+pub offset_bounds-rows-next : goal.offset_bounds-rows-next
+offset_bounds-rows-next c = let b = left_size _ (put_rest c.requires c.loop.invariant) (omega arith) refl in omega arith
 
-pub bounds-table-next : goal.bounds-table-next
-bounds-table-next c = run_below (put_rest c.requires c.loop.invariant) (omega arith)
+pub bounds-rows-next : goal.bounds-rows-next
+bounds-rows-next c = run_below (put_rest c.requires c.loop.invariant) (omega arith)
 
 pub overflow_add-next : goal.overflow_add-next
 overflow_add-next c = let b = left_size _ (put_rest c.requires c.loop.invariant) (omega arith) c.size_in-next.ensures.0 in omega arith

@@ -14,11 +14,11 @@ length_run-length_term-sum-requires t c = (omega arith, left_term (length_rest c
 pub length_run-overflow_add-sum : goal.length_run-overflow_add-sum
 length_run-overflow_add-sum t c = let b = length_room c.requires c.loop.invariant.1 _ (omega arith) c.length_term-sum.ensures in omega arith
 
-pub length_run-offset_bounds-table-next : goal.length_run-offset_bounds-table-next
-length_run-offset_bounds-table-next t c = let b = left_size _ (length_rest c.requires c.loop.invariant.1) (omega arith) refl in omega arith
+pub length_run-offset_bounds-rows-next : goal.length_run-offset_bounds-rows-next
+length_run-offset_bounds-rows-next t c = let b = left_size _ (length_rest c.requires c.loop.invariant.1) (omega arith) refl in omega arith
 
-pub length_run-bounds-table-next : goal.length_run-bounds-table-next
-length_run-bounds-table-next t c = run_below (length_rest c.requires c.loop.invariant.1) (omega arith)
+pub length_run-bounds-rows-next : goal.length_run-bounds-rows-next
+length_run-bounds-rows-next t c = run_below (length_rest c.requires c.loop.invariant.1) (omega arith)
 
 pub length_run-overflow_add-next : goal.length_run-overflow_add-next
 length_run-overflow_add-next t c = let b = left_size _ (length_rest c.requires c.loop.invariant.1) (omega arith) c.size_in-next.ensures.0 in omega arith
@@ -29,8 +29,8 @@ length_run-loop-preserved t c = (omega arith, λ ts h e. length_step _ _ (c.loop
 pub length_run-returns : goal.length_run-returns
 length_run-returns t c = λ ts h e. length_end (c.loop.invariant.1 ts h e) (omega arith)
 
-pub length_term-bounds-table-row : goal.length_term-bounds-table-row
-length_term-bounds-table-row t c = term_below c.requires
+pub length_term-bounds-rows-row : goal.length_term-bounds-rows-row
+length_term-bounds-rows-row t c = term_below c.requires
 
 pub length_term-own_length-requires : goal.length_term-own_length-requires
 length_term-own_length-requires t c = term_sound c.requires

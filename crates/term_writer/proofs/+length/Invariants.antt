@@ -8,10 +8,10 @@ use Prim.Native.Nat.{◌+◌, ◌*◌, ◌-◌, ◌≤◌}
 use Rattle.term_writer.proofs.+length.Given as goal
 
 abbrev pub decreases-length_run : goal.decreases-length_run
-decreases-length_run l = 2 * (length l.table.now - l.row) + 1
+decreases-length_run l = 2 * (length l.rows.now.table.now - l.row) + 1
 
 abbrev pub decreases-length_term : goal.decreases-length_term
-decreases-length_term l = 2 * (length l.table.now - l.row)
+decreases-length_term l = 2 * (length l.rows.now.table.now - l.row)
 
 abbrev pub invariant-length_run-loop : goal.invariant-length_run-loop
-invariant-length_run-loop l = (l.row ≤ l.next) × ((ts : Terms) → RunInTable l.msg l.places l.lengths l.table l.row ts → count ts ≡ l.n → LengthLeft l.msg l.places l.lengths l.table ts l.next (l.n - l.counter) l.sum)
+invariant-length_run-loop l = (l.row ≤ l.next) × ((ts : Terms) → RunInTable l.rows.msg.now l.rows.places.now l.rows.lengths.now l.rows.table.now l.row ts → count ts ≡ l.n → LengthLeft l.rows.msg.now l.rows.places.now l.rows.lengths.now l.rows.table.now ts l.next (l.n - l.counter) l.sum)

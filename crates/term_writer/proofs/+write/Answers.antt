@@ -23,20 +23,20 @@ write_pairs-offset_bounds-order-key t c = let b = slot_there c.requires c.loop.i
 pub write_pairs-write_run-end-requires : goal.write_pairs-write_run-end-requires
 write_pairs-write_run-end-requires t c = let a = c.requires in let f = pair_from a c.loop.invariant (omega arith) _ c.from-slot.ensures in (omega arith, pair_fits a c.loop.invariant (omega arith) _ c.from-slot.ensures _ c.loop.auto.out)
 
-pub write_pairs-offset_bounds-table-key : goal.write_pairs-offset_bounds-table-key
-write_pairs-offset_bounds-table-key t c = let g = pairs_here c.requires c.loop.invariant in let b = key_size g (omega arith) _ refl in omega arith
+pub write_pairs-offset_bounds-rows-key : goal.write_pairs-offset_bounds-rows-key
+write_pairs-offset_bounds-rows-key t c = let g = pairs_here c.requires c.loop.invariant in let b = key_size g (omega arith) _ refl in omega arith
 
-pub write_pairs-bounds-table-key : goal.write_pairs-bounds-table-key
-write_pairs-bounds-table-key t c = key_below (pairs_here c.requires c.loop.invariant) (omega arith)
+pub write_pairs-bounds-rows-key : goal.write_pairs-bounds-rows-key
+write_pairs-bounds-rows-key t c = key_below (pairs_here c.requires c.loop.invariant) (omega arith)
 
 pub write_pairs-overflow_add-value : goal.write_pairs-overflow_add-value
 write_pairs-overflow_add-value t c = let g = pairs_here c.requires c.loop.invariant in let b = key_size g (omega arith) _ c.size_in.ensures.0 in omega arith
 
-pub write_pairs-offset_bounds-table-value : goal.write_pairs-offset_bounds-table-value
-write_pairs-offset_bounds-table-value t c = let g = pairs_here c.requires c.loop.invariant in let b = value_size g (omega arith) _ c.size_in.ensures.0 _ refl in omega arith
+pub write_pairs-offset_bounds-rows-value : goal.write_pairs-offset_bounds-rows-value
+write_pairs-offset_bounds-rows-value t c = let g = pairs_here c.requires c.loop.invariant in let b = value_size g (omega arith) _ c.size_in.ensures.0 _ refl in omega arith
 
-pub write_pairs-bounds-table-value : goal.write_pairs-bounds-table-value
-write_pairs-bounds-table-value t c = value_below (pairs_here c.requires c.loop.invariant) (omega arith) _ c.size_in.ensures.0
+pub write_pairs-bounds-rows-value : goal.write_pairs-bounds-rows-value
+write_pairs-bounds-rows-value t c = value_below (pairs_here c.requires c.loop.invariant) (omega arith) _ c.size_in.ensures.0
 
 pub write_pairs-overflow_add-key : goal.write_pairs-overflow_add-key
 write_pairs-overflow_add-key t c = let g = pairs_here c.requires c.loop.invariant in let b = value_size g (omega arith) _ c.size_in.ensures.0 _ c.size_in-in-loop.ensures.0 in omega arith
@@ -48,8 +48,8 @@ write_pairs-loop-preserved t c = let here = c.loop in
 pub write_pairs-returns : goal.write_pairs-returns
 write_pairs-returns t c = λ ts h o p e. pairs_end (c.loop.invariant ts h o p e) (omega arith)
 
-pub write_parts-bounds-table-row : goal.write_parts-bounds-table-row
-write_parts-bounds-table-row t c = term_below (parts_some c.requires)
+pub write_parts-bounds-rows-row : goal.write_parts-bounds-rows-row
+write_parts-bounds-rows-row t c = term_below (parts_some c.requires)
 
 pub write_parts-write_pairs-requires : goal.write_parts-write_pairs-requires
 write_parts-write_pairs-requires t c = let a = c.requires in let b = term_below (parts_some a) in (omega arith, pairs_room _ c.parts_in-n.ensures.0 (c.has_order.ensures.0 c.if-has_order.true) (slot_some _ c.slot_at.ensures (sym c.is_some.ensures ∙ c.if-is_some.true)) a)
@@ -78,11 +78,11 @@ write_run-loop-init t c = (omega arith, λ ts h o e. put_start canonical canonic
 pub write_run-write_term-end-requires : goal.write_run-write_term-end-requires
 write_run-write_term-end-requires t c = (omega arith, put_fits canonical canonicals canonicals_none canonicals_more c.requires c.loop.invariant.1 (omega arith) c.loop.auto.out)
 
-pub write_run-offset_bounds-table-next : goal.write_run-offset_bounds-table-next
-write_run-offset_bounds-table-next t c = let b = left_size _ (put_rest c.requires c.loop.invariant.1) (omega arith) refl in omega arith
+pub write_run-offset_bounds-rows-next : goal.write_run-offset_bounds-rows-next
+write_run-offset_bounds-rows-next t c = let b = left_size _ (put_rest c.requires c.loop.invariant.1) (omega arith) refl in omega arith
 
-pub write_run-bounds-table-next : goal.write_run-bounds-table-next
-write_run-bounds-table-next t c = run_below (put_rest c.requires c.loop.invariant.1) (omega arith)
+pub write_run-bounds-rows-next : goal.write_run-bounds-rows-next
+write_run-bounds-rows-next t c = run_below (put_rest c.requires c.loop.invariant.1) (omega arith)
 
 pub write_run-overflow_add-next : goal.write_run-overflow_add-next
 write_run-overflow_add-next t c = let b = left_size _ (put_rest c.requires c.loop.invariant.1) (omega arith) c.size_in-next.ensures.0 in omega arith
@@ -96,8 +96,8 @@ write_run-loop-preserved t c = let here = c.loop in (
 pub write_run-returns : goal.write_run-returns
 write_run-returns t c = λ ts h o e. put_end canonical canonicals canonicals_none canonicals_more (c.loop.invariant.1 ts h o e) (omega arith)
 
-pub write_term-bounds-table-row : goal.write_term-bounds-table-row
-write_term-bounds-table-row t c = term_below (fits_some c.requires)
+pub write_term-bounds-rows-row : goal.write_term-bounds-rows-row
+write_term-bounds-rows-row t c = term_below (fits_some c.requires)
 
 pub write_term-put_leaf-requires : goal.write_term-put_leaf-requires
 write_term-put_leaf-requires t c = let a = c.requires in (term_sound (fits_some a), leaf_room c.parts_in-n.ensures.0 c.if-n-eq0.true a)

@@ -11,11 +11,11 @@ loop-i-init c = λ ts h e. small_start _ _ ts h e
 pub overflow_add-row : goal.overflow_add-row
 overflow_add-row c = let b = run_below (small_rest c.requires c.loop-i.invariant) (omega arith) in omega arith
 
-pub offset_bounds-table-row : goal.offset_bounds-table-row
-offset_bounds-table-row c = let b = run_below (small_rest c.requires c.loop-i.invariant) (omega arith) in omega arith
+pub offset_bounds-rows-row : goal.offset_bounds-rows-row
+offset_bounds-rows-row c = let b = run_below (small_rest c.requires c.loop-i.invariant) (omega arith) in omega arith
 
-pub bounds-table-row : goal.bounds-table-row
-bounds-table-row c = run_below (small_rest c.requires c.loop-i.invariant) (omega arith)
+pub bounds-rows-row : goal.bounds-rows-row
+bounds-rows-row c = run_below (small_rest c.requires c.loop-i.invariant) (omega arith)
 
 pub character_at-requires : goal.character_at-requires
 character_at-requires c = run_sound (small_rest c.requires c.loop-i.invariant) (omega arith)

@@ -6,4 +6,4 @@ use mathlib.Core.Path.{◌≡◌}
 use Rattle.term_writer.proofs.all_small.Given as goal
 
 abbrev pub invariant-loop-i : goal.invariant-loop-i
-invariant-loop-i l = ((ts : Terms) → RunInTable l.msg l.places l.lengths l.table l.row ts → count ts ≡ l.n → SmallLeft l.msg l.places l.lengths l.table l.row l.n ts l.i)
+invariant-loop-i l = ((ts : Terms) → RunInTable l.rows.msg.now l.rows.places.now l.rows.lengths.now l.rows.table.now l.row ts → count ts ≡ l.n → SmallLeft l.rows.msg.now l.rows.places.now l.rows.lengths.now l.rows.table.now l.row l.n ts l.i)

@@ -6,8 +6,8 @@ use mathlib.Core.Bool.{false}
 use mathlib.Core.Logic.{inl, inr}
 use Rattle.term_writer.proofs.is_string.Goals as goal
 
-pub bounds-table-row : goal.bounds-table-row
-bounds-table-row c = term_below c.requires
+pub bounds-rows-row : goal.bounds-rows-row
+bounds-rows-row c = term_below c.requires
 
 pub all_small-requires : goal.all_small-requires
 all_small-requires c = parts_run _ c.parts_in-n.ensures.0 c.requires

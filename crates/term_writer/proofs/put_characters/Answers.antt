@@ -11,11 +11,11 @@ loop-i-init c = λ ts cs h e f. characters_start _ _ _ ts cs _ h e f
 pub overflow_add-row : goal.overflow_add-row
 overflow_add-row c = let b = run_below (characters_rest c.requires.0 c.loop-i.invariant) (omega arith) in omega arith
 
-pub offset_bounds-table-row : goal.offset_bounds-table-row
-offset_bounds-table-row c = let b = run_below (characters_rest c.requires.0 c.loop-i.invariant) (omega arith) in omega arith
+pub offset_bounds-rows-row : goal.offset_bounds-rows-row
+offset_bounds-rows-row c = let b = run_below (characters_rest c.requires.0 c.loop-i.invariant) (omega arith) in omega arith
 
-pub bounds-table-row : goal.bounds-table-row
-bounds-table-row c = run_below (characters_rest c.requires.0 c.loop-i.invariant) (omega arith)
+pub bounds-rows-row : goal.bounds-rows-row
+bounds-rows-row c = run_below (characters_rest c.requires.0 c.loop-i.invariant) (omega arith)
 
 pub character_at-c-requires : goal.character_at-c-requires
 character_at-c-requires c = run_sound (characters_rest c.requires.0 c.loop-i.invariant) (omega arith)

@@ -10,4 +10,4 @@ use mathlib.Core.Path.{◌≡◌}
 use Rattle.term_writer.proofs.put_characters.Given as goal
 
 abbrev pub invariant-loop-i : goal.invariant-loop-i
-invariant-loop-i l = ((ts : Terms) (cs : List ℕ) → RunInTable l.msg l.places l.lengths l.table l.row ts → count ts ≡ l.n → all_small (all_as_read ts) ≡ some cs → CharactersLeft l.msg l.places l.lengths l.table l.row l.n l.at cs l.initial.out l.out l.i)
+invariant-loop-i l = ((ts : Terms) (cs : List ℕ) → RunInTable l.rows.msg.now l.rows.places.now l.rows.lengths.now l.rows.table.now l.row ts → count ts ≡ l.n → all_small (all_as_read ts) ≡ some cs → CharactersLeft l.rows.msg.now l.rows.places.now l.rows.lengths.now l.rows.table.now l.row l.n l.at cs l.initial.out l.out l.i)
