@@ -1,53 +1,32 @@
-// What reading hands down unchanged, in one word: the atom list's count, the connection's flags, the number of rows that may be taken.
+// What reading is given and hands down unchanged.
 #![tactic(auto)]
 
-ghost use Rattle.std.specs.Prelude.{◌≡◌, ◌≤◌, ◌<◌, ltb};
+ghost use Rattle.std.specs.Prelude.{◌≡◌, ltb};
 ghost use Rattle.term_spec.specs.Connection.{v4_nc};
-ghost use Rattle.context.specs.Word.{Packed, count_in, flags_in, capacity_in};
 
-// The fields of a word, from the lowest on: a count and flags below these, then a number of rows.
-const COUNTS: usize = 256;
-
-const FLAGS: usize = 256;
-// What the number of rows is multiplied by: COUNTS * FLAGS.
-const CAPACITIES: usize = 65536;
-
-// The word of these.
-pub fn pack(n: u8, flags: u8, capacity: usize) -> usize
-    requires { capacity ≤ 8192 }
-    ensures { Packed n flags capacity result }
-{
-    usize::from(n) + COUNTS * usize::from(flags) + CAPACITIES * capacity
+// A message, the atom list as it is lent (n of its places count), the connection's flags, and how many rows may be taken.
+#[derive(Clone, Copy)]
+pub struct Context<'a> {
+    pub msg: &'a [u8],
+    pub places: &'a [u8],
+    pub lengths: &'a [u16],
+    pub n: u8,
+    pub flags: u8,
+    pub capacity: usize,
 }
 
-pub fn count_in(context: usize) -> usize
-    ensures { (result ≡ count_in context) × (result < 256) }
-{
-    context % COUNTS
-}
+impl<'a> Context<'a> {
+    // Whether row `row` may be taken.
+    pub fn has_row(&self, row: usize) -> bool
+        ensures { result ≡ ltb row self.now.capacity }
+    {
+        row < self.capacity
+    }
 
-pub fn flags_in(context: usize) -> usize
-    ensures { result ≡ flags_in context }
-{
-    context / COUNTS % FLAGS
-}
-
-pub fn capacity_in(context: usize) -> usize
-    ensures { result ≡ capacity_in context }
-{
-    context / CAPACITIES
-}
-
-// Whether row `row` may be taken.
-pub fn has_row(context: usize, row: usize) -> bool
-    ensures { result ≡ ltb row (capacity_in context) }
-{
-    row < capacity_in(context)
-}
-
-// Whether newer identifiers were agreed on.
-pub fn v4_nc(context: usize) -> bool
-    ensures { result ≡ v4_nc (flags_in context) }
-{
-    flags_in(context) / 2 % 2 == 1
+    // Whether newer identifiers were agreed on.
+    pub fn v4_nc(&self) -> bool
+        ensures { result ≡ v4_nc self.now.flags }
+    {
+        self.flags / 2 % 2 == 1
+    }
 }

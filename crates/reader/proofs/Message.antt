@@ -26,7 +26,6 @@ use Rattle.term_spec.proofs.Rows.{length_rows}
 use Rattle.term_spec.proofs.Words.{length_words_of}
 use Rattle.octets.specs.Cleared.{cleared}
 use Rattle.octets.proofs.Cleared.{cleared_all, cleared_sets}
-use Rattle.context.specs.Word.{Packed, capacity_in, list_in, given_in}
 use Rattle.reader.specs.declared.Framing.{Framing}
 use Rattle.reader.specs.declared.Framing.TheVariants.{Standalone, Payload}
 use Rattle.term_reader.specs.Code.{Step, got, whole_of, Room, Done, TermDone}
@@ -278,23 +277,20 @@ refused_first flags framing list m T k a U e d =
     let w : read flags framing list (length T) m ≡ refused k 0 = read_refused flags list m framing (length T) k e in
     record { read_answered = rw w d.0; table_left = rw w (d.1 ∙ cleared_all T) }
 
--- with the word of the list's count, the flags and the number of rows
-module _ (flags n : ℕ) (places lengths m T : List ℕ) (cap context : ℕ) (e : None ≡ first_refusal flags (lent_list n places lengths) m)
-    (c : cap ≡ min (length T) 8192) (packed : Packed n flags cap context) where
+-- with as many rows as may be taken
+module _ (flags n : ℕ) (places lengths m T : List ℕ) (cap : ℕ) (e : None ≡ first_refusal flags (lent_list n places lengths) m) (c : cap ≡ min (length T) 8192) where
   pub read_settled : (framing : message.Framing) (r a : ReadAnswer) (T' U : List ℕ) → length T' ≡ length T
-      → MessageDone m (capacity_in context) T (terms_framed (given_in context places lengths) (capacity_in context) framing (at_offset m 0 0)) r T'
+      → MessageDone m cap T (terms_framed (given_of flags (lent_list n places lengths)) cap framing (at_offset m 0 0)) r T'
       → (a ≡ r) × (U ≡ cleared (rows_in r) T') → ReadCall flags framing (lent_list n places lengths) m T a U
   read_settled framing r a T' U long d f =
       let list : AtomList = lent_list n places lengths in
       let g : cap ≡ min 8192 (length T) = omega arith in
-      let d' = rw (packed.count_is, packed.flags_are, packed.capacity_is) at d in
-      let h = settled m cap T (terms_framed (given_of flags list) cap framing (at_offset m 0 0)) r T' U (omega arith) long d' f.1 in
+      let h = settled m cap T (terms_framed (given_of flags list) cap framing (at_offset m 0 0)) r T' U (omega arith) long d f.1 in
       let w : read flags framing list (length T) m ≡ result_of (terms_framed (given_of flags list) cap framing (at_offset m 0 0))
       = read_goes flags list m framing (length T) e ∙ ap (λ (j : ℕ). result_of (terms_framed (given_of flags list) j framing (at_offset m 0 0))) (sym g) in
       record { read_answered = rw w (f.0 ∙ h.0); table_left = rw w h.1 }
 
-  pub room_first : Room m (list_in context places lengths) T (capacity_in context) 0 0 0
-  room_first =
+  pub room_first : ((i : ℕ) → get_or m i 0 < 256) → n < 256 → Room m (lent_list n places lengths) T cap 0 0 0
+  room_first bytes listed =
       let h = read_first flags (lent_list n places lengths) m e in
-      let same : capacity_in context ≡ cap = packed.capacity_is in
-      record { sized = rw packed.count_is h.0; short = h.2; near = omega arith; few = omega arith; wide = omega arith; low = omega arith; inside = omega arith }
+      record { sized = h.0; short = h.2; near = omega arith; few = omega arith; wide = omega arith; low = omega arith; inside = omega arith; bytes = bytes; listed = listed }

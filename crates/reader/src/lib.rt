@@ -6,11 +6,12 @@ ghost use Rattle.term_spec.specs.AtomList.{lent_list};
 ghost use Rattle.term_spec.specs.Message.{standalone, payload};
 ghost use Rattle.term_spec.specs.Promises.{ReadCall};
 ghost use Rattle.octets.specs.Cleared.{cleared};
-ghost use Rattle.context.specs.Word.{capacity_in, list_in, given_in};
+ghost use Rattle.context.specs.Given.{list_in, given_in};
 ghost use Rattle.term_reader.specs.Code.{Room};
 ghost use Rattle.reader.specs.Code.{first_refusal, rows_in, framing_of, OutermostRead, MessageRead};
 
 use connection::Connection;
+use context::Context;
 use term_head::Wanted;
 use term_reader::Reached;
 use term_spec::{ReadAnswer, Refusal, TermsRead, refusals, sizes, tags};
@@ -39,24 +40,18 @@ pub enum Framing {
 
 // An outermost term: 64 levels are left for it, and it has no whole.
 fn read_outermost(
-    msg: &[u8],
-    context: usize,
-    places: &[u8],
-    lengths: &[u16],
+    c: &Context,
     table: &mut [u64],
     seen: &mut [u16],
     at: usize,
     row: usize,
 ) -> Result<Reached, Refusal>
-    requires room { Room msg.now (list_in context places.now lengths.now) table.old (capacity_in context) at row 0 }
+    requires room { Room c.now.msg.now (list_in c.now) table.old c.now.capacity at row 0 }
     requires seen_nonzero { 0 < length seen.old }
-    ensures { OutermostRead msg.now (given_in context places.now lengths.now) (capacity_in context) at row table.old result table.new }
+    ensures { OutermostRead c.now.msg.now (given_in c.now) c.now.capacity at row table.old result table.new }
 {
     term_reader::read_run(
-        msg,
-        context,
-        places,
-        lengths,
+        c,
         table,
         seen,
         at,
@@ -82,26 +77,19 @@ fn ended(msg: &[u8], next: usize) -> Result<(), Refusal>
 }
 
 // A standalone term: 131, one term, end.
-fn standalone_terms(
-    msg: &[u8],
-    context: usize,
-    places: &[u8],
-    lengths: &[u16],
-    table: &mut [u64],
-    seen: &mut [u16],
-) -> ReadAnswer
-    requires room { Room msg.now (list_in context places.now lengths.now) table.old (capacity_in context) 0 0 0 }
+fn standalone_terms(c: &Context, table: &mut [u64], seen: &mut [u16]) -> ReadAnswer
+    requires room { Room c.now.msg.now (list_in c.now) table.old c.now.capacity 0 0 0 }
     requires seen_nonzero { 0 < length seen.old }
-    ensures { MessageRead standalone msg.now (given_in context places.now lengths.now) (capacity_in context) table.old result table.new }
+    ensures { MessageRead standalone c.now.msg.now (given_in c.now) c.now.capacity table.old result table.new }
 {
-    if msg.len() == 0 || msg[0] != tags::VERSION {
+    if c.msg.len() == 0 || c.msg[0] != tags::VERSION {
         return Err(Refusal {
             number: refusals::NO_VERSION,
             place: 0,
         });
     }
-    let only = read_outermost(msg, context, places, lengths, table, seen, 1, 0)?;
-    ended(msg, only.next)?;
+    let only = read_outermost(c, table, seen, 1, 0)?;
+    ended(c.msg, only.next)?;
     Ok(TermsRead {
         terms: 1,
         rows: only.rows,
@@ -109,29 +97,20 @@ fn standalone_terms(
 }
 
 // A payload: one or two terms, end.
-fn payload_terms(
-    msg: &[u8],
-    context: usize,
-    places: &[u8],
-    lengths: &[u16],
-    table: &mut [u64],
-    seen: &mut [u16],
-) -> ReadAnswer
-    requires room { Room msg.now (list_in context places.now lengths.now) table.old (capacity_in context) 0 0 0 }
+fn payload_terms(c: &Context, table: &mut [u64], seen: &mut [u16]) -> ReadAnswer
+    requires room { Room c.now.msg.now (list_in c.now) table.old c.now.capacity 0 0 0 }
     requires seen_nonzero { 0 < length seen.old }
-    ensures { MessageRead payload msg.now (given_in context places.now lengths.now) (capacity_in context) table.old result table.new }
+    ensures { MessageRead payload c.now.msg.now (given_in c.now) c.now.capacity table.old result table.new }
 {
-    let first = read_outermost(msg, context, places, lengths, table, seen, 0, 0)?;
-    if msg.len() <= first.next {
+    let first = read_outermost(c, table, seen, 0, 0)?;
+    if c.msg.len() <= first.next {
         return Ok(TermsRead {
             terms: 1,
             rows: first.rows,
         });
     }
-    let second = read_outermost(
-        msg, context, places, lengths, table, seen, first.next, first.rows,
-    )?;
-    ended(msg, second.next)?;
+    let second = read_outermost(c, table, seen, first.next, first.rows)?;
+    ended(c.msg, second.next)?;
     Ok(TermsRead {
         terms: 2,
         rows: second.rows,
@@ -139,22 +118,14 @@ fn payload_terms(
 }
 
 // The terms of a message that are set so.
-fn framed_terms(
-    msg: &[u8],
-    context: usize,
-    places: &[u8],
-    lengths: &[u16],
-    table: &mut [u64],
-    seen: &mut [u16],
-    framing: Framing,
-) -> ReadAnswer
-    requires room { Room msg.now (list_in context places.now lengths.now) table.old (capacity_in context) 0 0 0 }
+fn framed_terms(c: &Context, table: &mut [u64], seen: &mut [u16], framing: Framing) -> ReadAnswer
+    requires room { Room c.now.msg.now (list_in c.now) table.old c.now.capacity 0 0 0 }
     requires seen_nonzero { 0 < length seen.old }
-    ensures { MessageRead (framing_of framing) msg.now (given_in context places.now lengths.now) (capacity_in context) table.old result table.new }
+    ensures { MessageRead (framing_of framing) c.now.msg.now (given_in c.now) c.now.capacity table.old result table.new }
 {
     match framing {
-        Framing::Standalone => standalone_terms(msg, context, places, lengths, table, seen),
-        Framing::Payload => payload_terms(msg, context, places, lengths, table, seen),
+        Framing::Standalone => standalone_terms(c, table, seen),
+        Framing::Payload => payload_terms(c, table, seen),
     }
 }
 
@@ -203,8 +174,15 @@ fn read_with(
     if let Some(number) = first_refusal(flags, msg, places, lengths) {
         return settle(table, Err(Refusal { number, place: 0 }));
     }
-    let context = context::pack(n, flags, table.len().min(sizes::ROWS_MOST));
-    let answer = framed_terms(msg, context, places, lengths, table, seen, framing);
+    let c = Context {
+        msg,
+        places,
+        lengths,
+        n,
+        flags,
+        capacity: table.len().min(sizes::ROWS_MOST),
+    };
+    let answer = framed_terms(&c, table, seen, framing);
     settle(table, answer)
 }
 

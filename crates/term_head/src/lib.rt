@@ -15,9 +15,10 @@ ghost use Rattle.term_spec.specs.Reading.{opening};
 ghost use Rattle.term_spec.specs.AtomList.{of_size};
 ghost use Rattle.term_head.specs.Quick.{fit, quick_later, quick_word};
 ghost use Rattle.octets.specs.Parts.{Width, words_at};
-ghost use Rattle.context.specs.Word.{flags_in, list_in, given_in};
+ghost use Rattle.context.specs.Given.{list_in, given_in};
 ghost use Rattle.term_head.specs.Code.{Bits, head_of, fields_of, later_of, end_of, later_fields, tag_fields, allowed, wanted_of, empty_at, ElementsAt, Skipped, opening_of};
 
+use context::Context;
 use term_spec::{Refusal, kinds, refusals, tags};
 
 // An exponent of all ones, and what a float's bits are divided by to find its 11 bits of exponent.
@@ -282,52 +283,52 @@ fn map(msg: &[u8], at: usize) -> Result<Head, Refusal>
 }
 
 // Whether the wider limits of newer identifiers hold for one with such a Creation.
-fn is_newer(context: usize, width: usize) -> bool
-    ensures { result ≡ (v4_nc (flags_in context) && eqb width 4) }
+fn is_newer(c: &Context, width: usize) -> bool
+    ensures { result ≡ (v4_nc (c.now.flags) && eqb width 4) }
 {
-    context::v4_nc(context) && width == NEWER_WIDTH
+    c.v4_nc() && width == NEWER_WIDTH
 }
 
 // The most words of a reference with such a Creation.
-fn words_most(context: usize, width: usize) -> usize
-    ensures { result ≡ (limits (flags_in context) width).word_count }
+fn words_most(c: &Context, width: usize) -> usize
+    ensures { result ≡ (limits (c.now.flags) width).word_count }
 {
-    if is_newer(context, width) {
+    if is_newer(c, width) {
         return NEWER_WORDS_MOST;
     }
     WORDS_MOST
 }
 
 // The ID of a pid with such a Creation is below this.
-fn pid_ids(context: usize, width: usize) -> usize
-    ensures { (result ≡ (limits (flags_in context) width).id) × (1 ≤ result) × (result ≤ 4294967296) }
+fn pid_ids(c: &Context, width: usize) -> usize
+    ensures { (result ≡ (limits (c.now.flags) width).id) × (1 ≤ result) × (result ≤ 4294967296) }
 {
-    if is_newer(context, width) {
+    if is_newer(c, width) {
         return NEWER_IDS;
     }
     PID_IDS
 }
 
 // Its Serial is below this.
-fn pid_serials(context: usize, width: usize) -> usize
-    ensures { (result ≡ (limits (flags_in context) width).serial) × (1 ≤ result) × (result ≤ 4294967296) }
+fn pid_serials(c: &Context, width: usize) -> usize
+    ensures { (result ≡ (limits (c.now.flags) width).serial) × (1 ≤ result) × (result ≤ 4294967296) }
 {
-    if is_newer(context, width) {
+    if is_newer(c, width) {
         return NEWER_IDS;
     }
     PID_SERIALS
 }
 
 // Tags 90 and 114: a count of words, from 1 to the most.
-fn reference(msg: &[u8], context: usize, at: usize, width: usize) -> Result<Head, Refusal>
-    requires { at < length msg.now }
-    ensures { (given : Given) → given.flags ≡ flags_in context → (rows : ℕ) → result ≡ fields_of given msg.now at (new_reference_ext width) rows }
+fn reference(c: &Context, at: usize, width: usize) -> Result<Head, Refusal>
+    requires { at < length c.now.msg.now }
+    ensures { (given : Given) → given.flags ≡ c.now.flags → (rows : ℕ) → result ≡ fields_of given c.now.msg.now at (new_reference_ext width) rows }
 {
-    if msg.len() - at - 1 < 2 {
+    if c.msg.len() - at - 1 < 2 {
         return Err(cut(at));
     }
-    let words = octets::big2(msg, at + 1);
-    if words < 1 || words_most(context, width) < words {
+    let words = octets::big2(c.msg, at + 1);
+    if words < 1 || words_most(c, width) < words {
         return Err(broken(at));
     }
     Ok(Head::Parts {
@@ -358,27 +359,21 @@ fn atom(msg: &[u8], at: usize, width: usize, utf8: bool) -> Result<Head, Refusal
 }
 
 // Tag 82: an index of this list, and the text at its place.
-fn cached_atom(
-    msg: &[u8],
-    context: usize,
-    places: &[u8],
-    lengths: &[u16],
-    at: usize,
-) -> Result<Head, Refusal>
-    requires { (at < length msg.now) × (of_size (list_in context places.now lengths.now) ≡ true) }
-    ensures { (rows : ℕ) → result ≡ fields_of (given_in context places.now lengths.now) msg.now at atom_cache_ref rows }
+fn cached_atom(c: &Context, at: usize) -> Result<Head, Refusal>
+    requires { (at < length c.now.msg.now) × (of_size (list_in c.now) ≡ true) }
+    ensures { (rows : ℕ) → result ≡ fields_of (given_in c.now) c.now.msg.now at atom_cache_ref rows }
 {
-    if msg.len() - at - 1 < 1 {
+    if c.msg.len() - at - 1 < 1 {
         return Err(cut(at));
     }
-    let i = octets::big1(msg, at + 1);
-    if context::count_in(context) <= i {
+    let i = octets::big1(c.msg, at + 1);
+    if usize::from(c.n) <= i {
         return Err(Refusal {
             number: refusals::INDEX,
             place: at,
         });
     }
-    if !atom_list::place_holds_text(places, lengths, i) {
+    if !atom_list::place_holds_text(c.places, c.lengths, i) {
         return Err(Refusal {
             number: refusals::STATE,
             place: 0,
@@ -430,23 +425,17 @@ fn words_fit(msg: &[u8], at: usize, words: usize, width: usize) -> bool
 }
 
 // ID, Serial, Creation.
-fn pid_fields(
-    msg: &[u8],
-    context: usize,
-    at: usize,
-    place: usize,
-    width: usize,
-) -> Result<usize, Refusal>
-    requires { at ≤ length msg.now }
-    ensures { (rows : ℕ) → result ≡ later_fields (flags_in context) msg.now at place (pid_fields width) rows }
+fn pid_fields(c: &Context, at: usize, place: usize, width: usize) -> Result<usize, Refusal>
+    requires { at ≤ length c.now.msg.now }
+    ensures { (rows : ℕ) → result ≡ later_fields (c.now.flags) c.now.msg.now at place (pid_fields width) rows }
 {
-    let left = msg.len() - at;
+    let left = c.msg.len() - at;
     if left < 8 || left - 8 < width {
         return Err(cut(place));
     }
-    if !below(msg, at, 4, pid_ids(context, width))
-        || !below(msg, at + 4, 4, pid_serials(context, width))
-        || !creation_fits(msg, at + 4 + 4, width)
+    if !below(c.msg, at, 4, pid_ids(c, width))
+        || !below(c.msg, at + 4, 4, pid_serials(c, width))
+        || !creation_fits(c.msg, at + 4 + 4, width)
     {
         return Err(broken(place));
     }
@@ -510,22 +499,16 @@ fn old_reference_fields(msg: &[u8], at: usize, place: usize) -> Result<usize, Re
 }
 
 // The fields after the parts of the term at `place`: all are there (2) before one is judged (4).
-pub fn read_later(
-    msg: &[u8],
-    context: usize,
-    at: usize,
-    place: usize,
-    later: Later,
-) -> Result<usize, Refusal>
-    requires { at ≤ length msg.now }
-    ensures { (l : head_spec.Later) → later_of l ≡ later → (rows : ℕ) → result ≡ end_of (head_spec.later (flags_in context) place l (at_offset msg.now at rows)) }
+pub fn read_later(c: &Context, at: usize, place: usize, later: Later) -> Result<usize, Refusal>
+    requires { at ≤ length c.now.msg.now }
+    ensures { (l : head_spec.Later) → later_of l ≡ later → (rows : ℕ) → result ≡ end_of (head_spec.later (c.now.flags) place l (at_offset c.now.msg.now at rows)) }
 {
     match later {
         Later::Known => Ok(at),
-        Later::Pid { width } => pid_fields(msg, context, at, place, width),
-        Later::Port { id, width } => port_fields(msg, at, place, id, width),
-        Later::Reference { words, width } => reference_fields(msg, at, place, words, width),
-        Later::OldReference => old_reference_fields(msg, at, place),
+        Later::Pid { width } => pid_fields(c, at, place, width),
+        Later::Port { id, width } => port_fields(c.msg, at, place, id, width),
+        Later::Reference { words, width } => reference_fields(c.msg, at, place, words, width),
+        Later::OldReference => old_reference_fields(c.msg, at, place),
     }
 }
 
@@ -544,46 +527,39 @@ fn no_fields(at: usize, kind: usize, wanted: usize, later: Later) -> Head
 }
 
 // The fields that this tag has: the tag table.
-fn by_tag(
-    msg: &[u8],
-    context: usize,
-    places: &[u8],
-    lengths: &[u16],
-    at: usize,
-    tag: u8,
-) -> Result<Head, Refusal>
-    requires { (at < length msg.now) × (length msg.now ≤ 65536) × (of_size (list_in context places.now lengths.now) ≡ true) }
-    ensures { (rows : ℕ) → result ≡ tag_fields (given_in context places.now lengths.now) msg.now at tag rows }
+fn by_tag(c: &Context, at: usize, tag: u8) -> Result<Head, Refusal>
+    requires { (at < length c.now.msg.now) × (length c.now.msg.now ≤ 65536) × (of_size (list_in c.now) ≡ true) }
+    ensures { (rows : ℕ) → result ≡ tag_fields (given_in c.now) c.now.msg.now at tag rows }
 {
     match tag {
-        tags::SMALL_INTEGER_EXT => integer(msg, at, 1),
-        tags::INTEGER_EXT => integer(msg, at, 4),
-        tags::SMALL_BIG_EXT => big(msg, at, 1),
-        tags::LARGE_BIG_EXT => big(msg, at, 4),
-        tags::NEW_FLOAT_EXT => float(msg, at),
-        tags::ATOM_EXT => atom(msg, at, 2, false),
-        tags::SMALL_ATOM_EXT => atom(msg, at, 1, false),
-        tags::ATOM_UTF8_EXT => atom(msg, at, 2, true),
-        tags::SMALL_ATOM_UTF8_EXT => atom(msg, at, 1, true),
-        tags::ATOM_CACHE_REF => cached_atom(msg, context, places, lengths, at),
-        tags::SMALL_TUPLE_EXT => tuple(msg, at, 1),
-        tags::LARGE_TUPLE_EXT => tuple(msg, at, 4),
+        tags::SMALL_INTEGER_EXT => integer(c.msg, at, 1),
+        tags::INTEGER_EXT => integer(c.msg, at, 4),
+        tags::SMALL_BIG_EXT => big(c.msg, at, 1),
+        tags::LARGE_BIG_EXT => big(c.msg, at, 4),
+        tags::NEW_FLOAT_EXT => float(c.msg, at),
+        tags::ATOM_EXT => atom(c.msg, at, 2, false),
+        tags::SMALL_ATOM_EXT => atom(c.msg, at, 1, false),
+        tags::ATOM_UTF8_EXT => atom(c.msg, at, 2, true),
+        tags::SMALL_ATOM_UTF8_EXT => atom(c.msg, at, 1, true),
+        tags::ATOM_CACHE_REF => cached_atom(c, at),
+        tags::SMALL_TUPLE_EXT => tuple(c.msg, at, 1),
+        tags::LARGE_TUPLE_EXT => tuple(c.msg, at, 4),
         tags::NIL_EXT => Ok(Head::Characters {
             count: 0,
             next: at + 1,
         }),
-        tags::STRING_EXT => string(msg, at),
-        tags::LIST_EXT => list(msg, at),
-        tags::BINARY_EXT => binary(msg, at),
-        tags::BIT_BINARY_EXT => bitstring(msg, at),
-        tags::MAP_EXT => map(msg, at),
+        tags::STRING_EXT => string(c.msg, at),
+        tags::LIST_EXT => list(c.msg, at),
+        tags::BINARY_EXT => binary(c.msg, at),
+        tags::BIT_BINARY_EXT => bitstring(c.msg, at),
+        tags::MAP_EXT => map(c.msg, at),
         tags::NEW_PID_EXT => Ok(no_fields(at, kinds::PID, 1, Later::Pid { width: 4 })),
         tags::PID_EXT => Ok(no_fields(at, kinds::PID, 1, Later::Pid { width: 1 })),
         tags::NEW_PORT_EXT => Ok(no_fields(at, kinds::PORT, 1, Later::Port { id: 4, width: 4 })),
         tags::PORT_EXT => Ok(no_fields(at, kinds::PORT, 1, Later::Port { id: 4, width: 1 })),
         tags::V4_PORT_EXT => Ok(no_fields(at, kinds::PORT, 1, Later::Port { id: 8, width: 4 })),
-        tags::NEWER_REFERENCE_EXT => reference(msg, context, at, 4),
-        tags::NEW_REFERENCE_EXT => reference(msg, context, at, 1),
+        tags::NEWER_REFERENCE_EXT => reference(c, at, 4),
+        tags::NEW_REFERENCE_EXT => reference(c, at, 1),
         tags::REFERENCE_EXT => Ok(no_fields(at, kinds::REFERENCE, 1, Later::OldReference)),
         tags::EXPORT_EXT => Ok(no_fields(at, kinds::EXPORT, 3, Later::Known)),
         _ => Err(Refusal {
@@ -619,25 +595,18 @@ fn may_stand(wanted: Wanted, tag: u8) -> bool
 }
 
 // A term's tag and the fields before its first part.
-fn read_head(
-    msg: &[u8],
-    context: usize,
-    places: &[u8],
-    lengths: &[u16],
-    at: usize,
-    wanted: Wanted,
-) -> Result<Head, Refusal>
-    requires { (at ≤ length msg.now) × (length msg.now ≤ 65536) × (of_size (list_in context places.now lengths.now) ≡ true) }
-    ensures { (rows : ℕ) → result ≡ head_of (term_head (given_in context places.now lengths.now) (wanted_of wanted) (at_offset msg.now at rows)) }
+fn read_head(c: &Context, at: usize, wanted: Wanted) -> Result<Head, Refusal>
+    requires { (at ≤ length c.now.msg.now) × (length c.now.msg.now ≤ 65536) × (of_size (list_in c.now) ≡ true) }
+    ensures { (rows : ℕ) → result ≡ head_of (term_head (given_in c.now) (wanted_of wanted) (at_offset c.now.msg.now at rows)) }
 {
-    if msg.len() <= at {
+    if c.msg.len() <= at {
         return Err(cut(at));
     }
-    let tag = msg[at];
+    let tag = c.msg[at];
     if !may_stand(wanted, tag) {
         return Err(broken(at));
     }
-    by_tag(msg, context, places, lengths, at, tag)
+    by_tag(c, at, tag)
 }
 
 // Whether a 106 stands here.
@@ -683,22 +652,15 @@ pub fn skip_empty(msg: &[u8], at: usize) -> usize
 }
 
 // A term's tag and fields, with the tag's offset: what stands in the place of a 108 of length 0 is taken.
-pub fn read_opening(
-    msg: &[u8],
-    context: usize,
-    places: &[u8],
-    lengths: &[u16],
-    at: usize,
-    wanted: Wanted,
-) -> Result<Opening, Refusal>
-    requires { (at ≤ length msg.now) × (length msg.now ≤ 65536) × (of_size (list_in context places.now lengths.now) ≡ true) }
-    ensures { (rows : ℕ) → result ≡ opening_of (opening (given_in context places.now lengths.now) (drop at msg.now) (wanted_of wanted) (at_offset msg.now at rows)) }
+pub fn read_opening(c: &Context, at: usize, wanted: Wanted) -> Result<Opening, Refusal>
+    requires { (at ≤ length c.now.msg.now) × (length c.now.msg.now ≤ 65536) × (of_size (list_in c.now) ≡ true) }
+    ensures { (rows : ℕ) → result ≡ opening_of (opening (given_in c.now) (drop at c.now.msg.now) (wanted_of wanted) (at_offset c.now.msg.now at rows)) }
 {
     let place = match wanted {
-        Wanted::Any => skip_empty(msg, at),
+        Wanted::Any => skip_empty(c.msg, at),
         _ => at,
     };
-    let head = read_head(msg, context, places, lengths, place, wanted)?;
+    let head = read_head(c, place, wanted)?;
     Ok(Opening { place, head })
 }
 
@@ -800,26 +762,19 @@ fn entry_word(msg: &[u8], at: usize, tag: u8) -> usize
 }
 
 // Common terms, with parts and without.
-fn common_word(
-    msg: &[u8],
-    context: usize,
-    places: &[u8],
-    lengths: &[u16],
-    at: usize,
-    tag: u8,
-) -> usize
-    requires { (at < length msg.now) × (length msg.now ≤ 65536) × (of_size (list_in context places.now lengths.now) ≡ true) }
-    ensures { (result ≡ 0 → ⊥) → (rows : ℕ) → result ≡ quick_word (tag_fields (given_in context places.now lengths.now) msg.now at tag rows) }
+fn common_word(c: &Context, at: usize, tag: u8) -> usize
+    requires { (at < length c.now.msg.now) × (length c.now.msg.now ≤ 65536) × (of_size (list_in c.now) ≡ true) }
+    ensures { (result ≡ 0 → ⊥) → (rows : ℕ) → result ≡ quick_word (tag_fields (given_in c.now) c.now.msg.now at tag rows) }
 {
     match tag {
-        tags::SMALL_TUPLE_EXT => word_of(tuple(msg, at, 1)),
-        tags::LARGE_TUPLE_EXT => word_of(tuple(msg, at, 4)),
-        tags::LIST_EXT => word_of(list(msg, at)),
-        tags::MAP_EXT => word_of(map(msg, at)),
-        tags::ATOM_CACHE_REF => word_of(cached_atom(msg, context, places, lengths, at)),
-        tags::ATOM_EXT => word_of(atom(msg, at, 2, false)),
-        tags::SMALL_ATOM_EXT => word_of(atom(msg, at, 1, false)),
-        tags::ATOM_UTF8_EXT => word_of(atom(msg, at, 2, true)),
+        tags::SMALL_TUPLE_EXT => word_of(tuple(c.msg, at, 1)),
+        tags::LARGE_TUPLE_EXT => word_of(tuple(c.msg, at, 4)),
+        tags::LIST_EXT => word_of(list(c.msg, at)),
+        tags::MAP_EXT => word_of(map(c.msg, at)),
+        tags::ATOM_CACHE_REF => word_of(cached_atom(c, at)),
+        tags::ATOM_EXT => word_of(atom(c.msg, at, 2, false)),
+        tags::SMALL_ATOM_EXT => word_of(atom(c.msg, at, 1, false)),
+        tags::ATOM_UTF8_EXT => word_of(atom(c.msg, at, 2, true)),
         _ => 0,
     }
 }
@@ -865,23 +820,16 @@ pub fn node_at(msg: &[u8], at: usize) -> usize
 }
 
 // The head of a common term in one word; 0 of any other, and of one that is not wanted.
-pub fn quick_at(
-    msg: &[u8],
-    context: usize,
-    places: &[u8],
-    lengths: &[u16],
-    at: usize,
-    wanted: Wanted,
-) -> usize
-    requires { (at ≤ length msg.now) × (length msg.now ≤ 65536) × (of_size (list_in context places.now lengths.now) ≡ true) }
-    ensures { (result ≡ 0 → ⊥) → (rows : ℕ) → result ≡ quick_word (head_of (term_head (given_in context places.now lengths.now) (wanted_of wanted) (at_offset msg.now at rows))) }
+pub fn quick_at(c: &Context, at: usize, wanted: Wanted) -> usize
+    requires { (at ≤ length c.now.msg.now) × (length c.now.msg.now ≤ 65536) × (of_size (list_in c.now) ≡ true) }
+    ensures { (result ≡ 0 → ⊥) → (rows : ℕ) → result ≡ quick_word (head_of (term_head (given_in c.now) (wanted_of wanted) (at_offset c.now.msg.now at rows))) }
 {
-    if msg.len() <= at {
+    if c.msg.len() <= at {
         return 0;
     }
-    let tag = msg[at];
+    let tag = c.msg[at];
     if !may_stand(wanted, tag) {
         return 0;
     }
-    common_word(msg, context, places, lengths, at, tag)
+    common_word(c, at, tag)
 }

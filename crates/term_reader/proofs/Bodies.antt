@@ -159,6 +159,8 @@ room_inside m list T cap at row whole room low =
       wide = room.wide;
       low = omega arith;
       inside = omega arith;
+      bytes = room.bytes;
+      listed = room.listed;
     }
 
 -- the room at another offset of the message
@@ -172,4 +174,6 @@ room_at m list T cap at row whole next room near =
       wide = room.wide;
       low = room.low;
       inside = room.inside;
+      bytes = room.bytes;
+      listed = room.listed;
     }

@@ -35,6 +35,8 @@ room_after size_of as_rows From m list T T' cap at row whole next end o r room d
       wide = omega (arith, room.wide);
       low = f.room;
       inside = omega (arith, room.inside);
+      bytes = room.bytes;
+      listed = room.listed;
     }
 
 -- steps that agree agree after the same step

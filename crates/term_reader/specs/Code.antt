@@ -1,6 +1,6 @@
 -- What the contracts of reading terms say of the code's own values.
 -- About the code alone, proved against the definitions of term_spec: nothing here has to be believed.
-use Rattle.std.specs.Prelude.{◌≡◌, true, List, [], ◌∷◌, ◌++◌, ℕ, zero, suc, ◌+◌, ◌-◌, ◌≤◌, ◌<◌, min, Result, Ok, length, drop, replicate}
+use Rattle.std.specs.Prelude.{◌≡◌, true, List, [], ◌∷◌, ◌++◌, ℕ, zero, suc, ◌+◌, ◌-◌, ◌≤◌, ◌<◌, min, Result, Ok, length, get_or, drop, replicate}
 use Rattle.std.proofs.Math.Option.{Option, none, some}
 use Rattle.std.proofs.lemmas.List.Edits.{sets}
 use Rattle.term_spec.specs.Tree.{◌▹▹◌, count, size, sizes, EachNode, EachNodes}
@@ -48,7 +48,7 @@ unfoldable pub character_words : ℕ → ℕ → ℕ → List ℕ
 character_words whole at zero = []
 character_words whole at (suc n) = pack 14 at whole 0 1 ∷ character_words whole (at + 1) n
 
--- what the reader is given: a table with room for cap rows, of which those below `row` are taken
+-- What the reader is given: a table with room for cap rows, of which those below `row` are taken. A message's bytes and a list's count are bytes, as the types of the code say
 pub record Room (m : List ℕ) (list : AtomList) (T : List ℕ) (cap at row whole : ℕ) : Type 0 where
   pub sized : of_size list ≡ true
   pub short : length m ≤ 65536
@@ -57,6 +57,8 @@ pub record Room (m : List ℕ) (list : AtomList) (T : List ℕ) (cap at row whol
   pub wide : cap ≤ length T
   pub low : row ≤ cap
   pub inside : whole ≤ row
+  pub bytes : (i : ℕ) → get_or m i 0 < 256
+  pub listed : list.n < 256
 
 -- what a head at `place` of a message promises of what it says: parts are asked for by their number, characters stand in the message
 unfoldable pub HeadFits : List ℕ → ℕ → Head → Type 0

@@ -4,10 +4,11 @@
 ghost use Rattle.std.specs.Prelude.{◌≡◌, true, ◌+◌, ◌/◌, ◌%◌, ◌≤◌, ◌<◌, min, length, replicate};
 ghost use Rattle.std.proofs.lemmas.List.Edits.{sets};
 ghost use Rattle.term_spec.specs.Head.{any, characters, elements, pairs};
-ghost use Rattle.context.specs.Word.{capacity_in, list_in, given_in};
+ghost use Rattle.context.specs.Given.{list_in, given_in};
 ghost use Rattle.term_head.specs.Code.{wanted_of};
 ghost use Rattle.term_reader.specs.Code.{asked, character_words, Room, HeadRead, LastAt, QuickAt, CharactersRead, TermRead, RunRead, BodyRead, InnerRead, PartsRead, ManyRead, TailRead, LastRead, CommonRead};
 
+use context::Context;
 use term_head::{Head, Later, Wanted};
 use term_spec::{Refusal, kinds, refusals, sizes};
 
@@ -35,10 +36,7 @@ pub struct Parts {
 // A term. `whole` is the row of its whole plus 1, or 0; `left` the levels that are left for it.
 #[cycle(read)]
 fn read_term(
-    msg: &[u8],
-    context: usize,
-    places: &[u8],
-    lengths: &[u16],
+    c: &Context,
     table: &mut [u64],
     seen: &mut [u16],
     at: usize,
@@ -47,22 +45,17 @@ fn read_term(
     left: usize,
     wanted: Wanted,
 ) -> Result<Reached, Refusal>
-    requires room { Room msg.now (list_in context places.now lengths.now) table.old (capacity_in context) at row whole }
+    requires room { Room c.now.msg.now (list_in c.now) table.old c.now.capacity at row whole }
     requires seen_nonzero { 0 < length seen.old }
-    ensures { TermRead msg.now (given_in context places.now lengths.now) (capacity_in context) left at row whole table.old seen.old (wanted_of wanted) result table.new seen.new }
+    ensures { TermRead c.now.msg.now (given_in c.now) c.now.capacity left at row whole table.old seen.old (wanted_of wanted) result table.new seen.new }
 {
-    let word = term_head::quick_at(msg, context, places, lengths, at, wanted);
+    let word = term_head::quick_at(c, at, wanted);
     if word != 0 {
-        return read_quick(
-            msg, context, places, lengths, table, seen, at, row, whole, left, wanted, word,
-        );
+        return read_quick(c, table, seen, at, row, whole, left, wanted, word);
     }
-    let opening = term_head::read_opening(msg, context, places, lengths, at, wanted)?;
+    let opening = term_head::read_opening(c, at, wanted)?;
     read_body(
-        msg,
-        context,
-        places,
-        lengths,
+        c,
         table,
         seen,
         opening.place,
@@ -76,10 +69,7 @@ fn read_term(
 // A common term, whose head is in `word`. Its own row is stored after its parts.
 #[cycle(read)]
 fn read_quick(
-    msg: &[u8],
-    context: usize,
-    places: &[u8],
-    lengths: &[u16],
+    c: &Context,
     table: &mut [u64],
     seen: &mut [u16],
     at: usize,
@@ -89,9 +79,9 @@ fn read_quick(
     wanted: Wanted,
     word: usize,
 ) -> Result<Reached, Refusal>
-    requires room { Room msg.now (list_in context places.now lengths.now) table.old (capacity_in context) at row whole × (word ≡ 0 → ⊥) × QuickAt msg.now (given_in context places.now lengths.now) (wanted_of wanted) at word }
+    requires room { Room c.now.msg.now (list_in c.now) table.old c.now.capacity at row whole × (word ≡ 0 → ⊥) × QuickAt c.now.msg.now (given_in c.now) (wanted_of wanted) at word }
     requires seen_nonzero { 0 < length seen.old }
-    ensures { TermRead msg.now (given_in context places.now lengths.now) (capacity_in context) left at row whole table.old seen.old (wanted_of wanted) result table.new seen.new }
+    ensures { TermRead c.now.msg.now (given_in c.now) c.now.capacity left at row whole table.old seen.old (wanted_of wanted) result table.new seen.new }
 {
     if left == 0 {
         return Err(Refusal {
@@ -99,23 +89,13 @@ fn read_quick(
             place: at,
         });
     }
-    if !context::has_row(context, row) {
+    if !c.has_row(row) {
         return Err(Refusal {
             number: refusals::ROWS,
             place: at,
         });
     }
-    let inner = read_common(
-        msg,
-        context,
-        places,
-        lengths,
-        table,
-        seen,
-        row + 1,
-        left - 1,
-        word,
-    )?;
+    let inner = read_common(c, table, seen, row + 1, left - 1, word)?;
     table[row] = row::pack(inner.kind, at, whole, inner.parts, inner.rows - row);
     Ok(Reached {
         next: inner.next,
@@ -126,19 +106,16 @@ fn read_quick(
 // The parts of a common term, whose head is in `word`, from `row` on; their whole is the row before.
 #[cycle(read)]
 fn read_common(
-    msg: &[u8],
-    context: usize,
-    places: &[u8],
-    lengths: &[u16],
+    c: &Context,
     table: &mut [u64],
     seen: &mut [u16],
     row: usize,
     deep: usize,
     word: usize,
 ) -> Result<Parts, Refusal>
-    requires room { Room msg.now (list_in context places.now lengths.now) table.old (capacity_in context) (word / 16 % 131072) row row }
+    requires room { Room c.now.msg.now (list_in c.now) table.old c.now.capacity (word / 16 % 131072) row row }
     requires seen_nonzero { 0 < length seen.old }
-    ensures { CommonRead msg.now (given_in context places.now lengths.now) (capacity_in context) deep row row table.old seen.old word result table.new seen.new }
+    ensures { CommonRead c.now.msg.now (given_in c.now) c.now.capacity deep row row table.old seen.old word result table.new seen.new }
 {
     let kind = word % term_head::WORD_KINDS;
     let at = word / term_head::WORD_KINDS % term_head::WORD_OFFSETS;
@@ -152,29 +129,12 @@ fn read_common(
         });
     }
     if kind == term_head::WORD_ELEMENTS {
-        return read_list(
-            msg, context, places, lengths, table, seen, at, row, deep, count,
-        );
+        return read_list(c, table, seen, at, row, deep, count);
     }
     if kind == term_head::WORD_PAIRS {
-        return read_pairs(
-            msg, context, places, lengths, table, seen, at, row, deep, count,
-        );
+        return read_pairs(c, table, seen, at, row, deep, count);
     }
-    let run = read_run(
-        msg,
-        context,
-        places,
-        lengths,
-        table,
-        seen,
-        at,
-        row,
-        row,
-        deep,
-        Wanted::Any,
-        count,
-    )?;
+    let run = read_run(c, table, seen, at, row, row, deep, Wanted::Any, count)?;
     Ok(Parts {
         next: run.next,
         rows: run.rows,
@@ -186,10 +146,7 @@ fn read_common(
 // The term at `place`, whose tag and fields are read. Its own row is stored after its parts.
 #[cycle(read)]
 fn read_body(
-    msg: &[u8],
-    context: usize,
-    places: &[u8],
-    lengths: &[u16],
+    c: &Context,
     table: &mut [u64],
     seen: &mut [u16],
     place: usize,
@@ -198,9 +155,9 @@ fn read_body(
     whole: usize,
     left: usize,
 ) -> Result<Reached, Refusal>
-    requires room { Room msg.now (list_in context places.now lengths.now) table.old (capacity_in context) place row whole × HeadRead msg.now place head }
+    requires room { Room c.now.msg.now (list_in c.now) table.old c.now.capacity place row whole × HeadRead c.now.msg.now place head }
     requires seen_nonzero { 0 < length seen.old }
-    ensures { BodyRead msg.now (given_in context places.now lengths.now) (capacity_in context) left place row whole table.old seen.old head result table.new seen.new }
+    ensures { BodyRead c.now.msg.now (given_in c.now) c.now.capacity left place row whole table.old seen.old head result table.new seen.new }
 {
     if left == 0 {
         return Err(Refusal {
@@ -208,24 +165,13 @@ fn read_body(
             place,
         });
     }
-    if !context::has_row(context, row) {
+    if !c.has_row(row) {
         return Err(Refusal {
             number: refusals::ROWS,
             place,
         });
     }
-    let inner = read_inner(
-        msg,
-        context,
-        places,
-        lengths,
-        table,
-        seen,
-        place,
-        head,
-        row + 1,
-        left - 1,
-    )?;
+    let inner = read_inner(c, table, seen, place, head, row + 1, left - 1)?;
     table[row] = row::pack(inner.kind, place, whole, inner.parts, inner.rows - row);
     Ok(Reached {
         next: inner.next,
@@ -236,10 +182,7 @@ fn read_body(
 // The parts of the term at `place`, from `row` on; their whole is the row before.
 #[cycle(read)]
 fn read_inner(
-    msg: &[u8],
-    context: usize,
-    places: &[u8],
-    lengths: &[u16],
+    c: &Context,
     table: &mut [u64],
     seen: &mut [u16],
     place: usize,
@@ -247,9 +190,9 @@ fn read_inner(
     row: usize,
     deep: usize,
 ) -> Result<Parts, Refusal>
-    requires room { Room msg.now (list_in context places.now lengths.now) table.old (capacity_in context) place row row × HeadRead msg.now place head }
+    requires room { Room c.now.msg.now (list_in c.now) table.old c.now.capacity place row row × HeadRead c.now.msg.now place head }
     requires seen_nonzero { 0 < length seen.old }
-    ensures { InnerRead msg.now (given_in context places.now lengths.now) (capacity_in context) deep place row row table.old seen.old head result table.new seen.new }
+    ensures { InnerRead c.now.msg.now (given_in c.now) c.now.capacity deep place row row table.old seen.old head result table.new seen.new }
 {
     match head {
         Head::Parts {
@@ -259,32 +202,20 @@ fn read_inner(
             later,
             next,
         } => read_parts(
-            msg, context, places, lengths, table, seen, place, next, row, deep, kind, wanted,
-            count, later,
+            c, table, seen, place, next, row, deep, kind, wanted, count, later,
         ),
         Head::Characters { count, next } => {
-            read_characters(table, place, count, next, row, row, deep, context, 0)
+            read_characters(c, table, place, count, next, row, row, deep, 0)
         }
-        Head::Elements { count, next } => {
-            read_list(
-                msg, context, places, lengths, table, seen, next, row, deep, count,
-            )
-        }
-        Head::Pairs { count, next } => {
-            read_pairs(
-                msg, context, places, lengths, table, seen, next, row, deep, count,
-            )
-        }
+        Head::Elements { count, next } => { read_list(c, table, seen, next, row, deep, count) }
+        Head::Pairs { count, next } => { read_pairs(c, table, seen, next, row, deep, count) }
     }
 }
 
 // The wanted parts, then `count` parts of any kind, then the later fields.
 #[cycle(read)]
 fn read_parts(
-    msg: &[u8],
-    context: usize,
-    places: &[u8],
-    lengths: &[u16],
+    c: &Context,
     table: &mut [u64],
     seen: &mut [u16],
     place: usize,
@@ -296,18 +227,13 @@ fn read_parts(
     count: usize,
     later: Later,
 ) -> Result<Parts, Refusal>
-    requires room { Room msg.now (list_in context places.now lengths.now) table.old (capacity_in context) at row row }
+    requires room { Room c.now.msg.now (list_in c.now) table.old c.now.capacity at row row }
     requires seen_nonzero { 0 < length seen.old }
-    ensures { PartsRead msg.now (given_in context places.now lengths.now) (capacity_in context) deep at row row table.old seen.old place kind wanted count later result table.new seen.new }
+    ensures { PartsRead c.now.msg.now (given_in c.now) c.now.capacity deep at row row table.old seen.old place kind wanted count later result table.new seen.new }
 {
-    let first = read_wanted(
-        msg, context, places, lengths, table, seen, at, row, row, deep, wanted,
-    )?;
+    let first = read_wanted(c, table, seen, at, row, row, deep, wanted)?;
     let others = read_more(
-        msg,
-        context,
-        places,
-        lengths,
+        c,
         table,
         seen,
         first.next,
@@ -317,7 +243,7 @@ fn read_parts(
         Wanted::Any,
         count,
     )?;
-    let next = term_head::read_later(msg, context, others.next, place, later)?;
+    let next = term_head::read_later(c, others.next, place, later)?;
     Ok(Parts {
         next,
         rows: others.rows,
@@ -329,10 +255,7 @@ fn read_parts(
 // Terms as in a run, where there are any: most terms that go this way have none, and an empty run is no call.
 #[cycle(read)]
 fn read_more(
-    msg: &[u8],
-    context: usize,
-    places: &[u8],
-    lengths: &[u16],
+    c: &Context,
     table: &mut [u64],
     seen: &mut [u16],
     at: usize,
@@ -342,9 +265,9 @@ fn read_more(
     wanted: Wanted,
     count: usize,
 ) -> Result<Reached, Refusal>
-    requires room { Room msg.now (list_in context places.now lengths.now) table.old (capacity_in context) at row whole }
+    requires room { Room c.now.msg.now (list_in c.now) table.old c.now.capacity at row whole }
     requires seen_nonzero { 0 < length seen.old }
-    ensures { RunRead msg.now (given_in context places.now lengths.now) (capacity_in context) deep at row whole table.old seen.old count (replicate count (wanted_of wanted)) result table.new seen.new }
+    ensures { RunRead c.now.msg.now (given_in c.now) c.now.capacity deep at row whole table.old seen.old count (replicate count (wanted_of wanted)) result table.new seen.new }
 {
     if count == 0 {
         return Ok(Reached {
@@ -352,18 +275,13 @@ fn read_more(
             rows: row,
         });
     }
-    read_run(
-        msg, context, places, lengths, table, seen, at, row, whole, deep, wanted, count,
-    )
+    read_run(c, table, seen, at, row, whole, deep, wanted, count)
 }
 
 // `wanted` parts, each an atom; of three the last is an arity. One alone is a node: most are read here, without a call for a run.
 #[cycle(read)]
 fn read_wanted(
-    msg: &[u8],
-    context: usize,
-    places: &[u8],
-    lengths: &[u16],
+    c: &Context,
     table: &mut [u64],
     seen: &mut [u16],
     at: usize,
@@ -372,13 +290,13 @@ fn read_wanted(
     deep: usize,
     wanted: usize,
 ) -> Result<Reached, Refusal>
-    requires room { Room msg.now (list_in context places.now lengths.now) table.old (capacity_in context) at row whole }
+    requires room { Room c.now.msg.now (list_in c.now) table.old c.now.capacity at row whole }
     requires seen_nonzero { 0 < length seen.old }
-    ensures { RunRead msg.now (given_in context places.now lengths.now) (capacity_in context) deep at row whole table.old seen.old wanted (asked wanted) result table.new seen.new }
+    ensures { RunRead c.now.msg.now (given_in c.now) c.now.capacity deep at row whole table.old seen.old wanted (asked wanted) result table.new seen.new }
 {
     if wanted == 1 {
-        let word = term_head::node_at(msg, at);
-        if is_leaf(word, deep, row, context) {
+        let word = term_head::node_at(c.msg, at);
+        if is_leaf(c, word, deep, row) {
             table[row] = row::pack(word % term_head::WORD_KINDS, at, whole, 0, 1);
             return Ok(Reached {
                 next: word / term_head::WORD_KINDS,
@@ -387,25 +305,9 @@ fn read_wanted(
         }
     }
     let atoms = wanted.min(WANTED_ATOMS);
-    let run = read_run(
-        msg,
-        context,
-        places,
-        lengths,
-        table,
-        seen,
-        at,
-        row,
-        whole,
-        deep,
-        Wanted::Atom,
-        atoms,
-    )?;
+    let run = read_run(c, table, seen, at, row, whole, deep, Wanted::Atom, atoms)?;
     read_more(
-        msg,
-        context,
-        places,
-        lengths,
+        c,
         table,
         seen,
         run.next,
@@ -418,19 +320,16 @@ fn read_wanted(
 }
 
 // Whether a word is the head of a term without parts, and there are a level and a row for it.
-fn is_leaf(word: usize, deep: usize, row: usize, context: usize) -> bool
-    ensures { result ≡ true → (word ≡ 0 → ⊥) × (word < 2097152) × (deep ≡ 0 → ⊥) × (row < capacity_in context) }
+fn is_leaf(c: &Context, word: usize, deep: usize, row: usize) -> bool
+    ensures { result ≡ true → (word ≡ 0 → ⊥) × (word < 2097152) × (deep ≡ 0 → ⊥) × (row < c.now.capacity) }
 {
-    word != 0 && word < term_head::WORD_PARTS && deep != 0 && context::has_row(context, row)
+    word != 0 && word < term_head::WORD_PARTS && deep != 0 && c.has_row(row)
 }
 
 // `count` terms in turn.
 #[cycle(read)]
 pub fn read_run(
-    msg: &[u8],
-    context: usize,
-    places: &[u8],
-    lengths: &[u16],
+    c: &Context,
     table: &mut [u64],
     seen: &mut [u16],
     at: usize,
@@ -440,23 +339,21 @@ pub fn read_run(
     wanted: Wanted,
     count: usize,
 ) -> Result<Reached, Refusal>
-    requires room { Room msg.now (list_in context places.now lengths.now) table.old (capacity_in context) at row whole }
+    requires room { Room c.now.msg.now (list_in c.now) table.old c.now.capacity at row whole }
     requires seen_nonzero { 0 < length seen.old }
-    ensures { RunRead msg.now (given_in context places.now lengths.now) (capacity_in context) deep at row whole table.old seen.old count (replicate count (wanted_of wanted)) result table.new seen.new }
+    ensures { RunRead c.now.msg.now (given_in c.now) c.now.capacity deep at row whole table.old seen.old count (replicate count (wanted_of wanted)) result table.new seen.new }
 {
     let mut at_now = at;
     let mut row_now = row;
     for _i in 0..count {
-        let word = term_head::leaf_at(msg, at_now, wanted);
-        if is_leaf(word, deep, row_now, context) {
+        let word = term_head::leaf_at(c.msg, at_now, wanted);
+        if is_leaf(c, word, deep, row_now) {
             table[row_now] = row::pack(word % term_head::WORD_KINDS, at_now, whole, 0, 1);
             at_now = word / term_head::WORD_KINDS;
             row_now += 1;
             continue;
         }
-        let term = read_term(
-            msg, context, places, lengths, table, seen, at_now, row_now, whole, deep, wanted,
-        )?;
+        let term = read_term(c, table, seen, at_now, row_now, whole, deep, wanted)?;
         at_now = term.next;
         row_now = term.rows;
     }
@@ -478,6 +375,7 @@ fn put_characters(table: &mut [u64], at: usize, count: usize, row: usize, whole:
 
 // The characters of the 107 at `place`, or no element where `count` is 0.
 fn read_characters(
+    c: &Context,
     table: &mut [u64],
     place: usize,
     count: usize,
@@ -485,11 +383,10 @@ fn read_characters(
     row: usize,
     whole: usize,
     deep: usize,
-    context: usize,
     before: usize,
 ) -> Result<Parts, Refusal>
-    requires { (capacity_in context ≤ 8192) × (capacity_in context ≤ length table.old) × (row ≤ capacity_in context) × (whole ≤ row) × (before ≤ row) × ((count ≡ 0 → ⊥) → place + 3 + count ≤ 65536) }
-    ensures { CharactersRead (capacity_in context) deep place count next before row whole table.old result table.new }
+    requires { (c.now.capacity ≤ 8192) × (c.now.capacity ≤ length table.old) × (row ≤ c.now.capacity) × (whole ≤ row) × (before ≤ row) × ((count ≡ 0 → ⊥) → place + 3 + count ≤ 65536) }
+    ensures { CharactersRead c.now.capacity deep place count next before row whole table.old result table.new }
 {
     if count == 0 {
         return Ok(Parts {
@@ -505,7 +402,7 @@ fn read_characters(
             place,
         });
     }
-    if context::capacity_in(context) - row < count {
+    if c.capacity - row < count {
         return Err(Refusal {
             number: refusals::ROWS,
             place,
@@ -523,10 +420,7 @@ fn read_characters(
 // The elements of a 108, and what its tail joins on.
 #[cycle(read)]
 fn read_list(
-    msg: &[u8],
-    context: usize,
-    places: &[u8],
-    lengths: &[u16],
+    c: &Context,
     table: &mut [u64],
     seen: &mut [u16],
     at: usize,
@@ -534,36 +428,18 @@ fn read_list(
     deep: usize,
     count: usize,
 ) -> Result<Parts, Refusal>
-    requires room { Room msg.now (list_in context places.now lengths.now) table.old (capacity_in context) at row row }
+    requires room { Room c.now.msg.now (list_in c.now) table.old c.now.capacity at row row }
     requires seen_nonzero { 0 < length seen.old }
-    ensures { ManyRead msg.now (given_in context places.now lengths.now) (capacity_in context) deep at row row table.old seen.old (elements count) result table.new seen.new }
+    ensures { ManyRead c.now.msg.now (given_in c.now) c.now.capacity deep at row row table.old seen.old (elements count) result table.new seen.new }
 {
-    let run = read_run(
-        msg,
-        context,
-        places,
-        lengths,
-        table,
-        seen,
-        at,
-        row,
-        row,
-        deep,
-        Wanted::Any,
-        count,
-    )?;
-    read_tail(
-        msg, context, places, lengths, table, seen, run.next, run.rows, row, deep, count,
-    )
+    let run = read_run(c, table, seen, at, row, row, deep, Wanted::Any, count)?;
+    read_tail(c, table, seen, run.next, run.rows, row, deep, count)
 }
 
 // What follows the elements of a 108, `before` of which are read: tails that are 108s are joined on, up to one that is not.
 #[cycle(read)]
 fn read_tail(
-    msg: &[u8],
-    context: usize,
-    places: &[u8],
-    lengths: &[u16],
+    c: &Context,
     table: &mut [u64],
     seen: &mut [u16],
     at: usize,
@@ -572,16 +448,16 @@ fn read_tail(
     deep: usize,
     before: usize,
 ) -> Result<Parts, Refusal>
-    requires room { Room msg.now (list_in context places.now lengths.now) table.old (capacity_in context) at row whole × (before ≤ row) }
+    requires room { Room c.now.msg.now (list_in c.now) table.old c.now.capacity at row whole × (before ≤ row) }
     requires seen_nonzero { 0 < length seen.old }
-    ensures { TailRead msg.now (given_in context places.now lengths.now) (capacity_in context) deep at row whole table.old seen.old before result table.new seen.new }
+    ensures { TailRead c.now.msg.now (given_in c.now) c.now.capacity deep at row whole table.old seen.old before result table.new seen.new }
 {
     let mut at_now = at;
     let mut row_now = row;
     let mut sum = before;
     loop {
-        let place = term_head::skip_empty(msg, at_now);
-        if term_head::nil_at(msg, place) {
+        let place = term_head::skip_empty(c.msg, at_now);
+        if term_head::nil_at(c.msg, place) {
             return Ok(Parts {
                 next: place + 1,
                 rows: row_now,
@@ -589,16 +465,11 @@ fn read_tail(
                 kind: kinds::LIST,
             });
         }
-        let Some(count) = term_head::elements_at(msg, place) else {
-            return read_last(
-                msg, context, places, lengths, table, seen, place, row_now, whole, deep, sum,
-            );
+        let Some(count) = term_head::elements_at(c.msg, place) else {
+            return read_last(c, table, seen, place, row_now, whole, deep, sum);
         };
         let run = read_run(
-            msg,
-            context,
-            places,
-            lengths,
+            c,
             table,
             seen,
             place + term_head::LIST_HEAD,
@@ -617,10 +488,7 @@ fn read_tail(
 // The tail of a list that is joined no further: the empty list or a 107 ends a proper list.
 #[cycle(read)]
 fn read_last(
-    msg: &[u8],
-    context: usize,
-    places: &[u8],
-    lengths: &[u16],
+    c: &Context,
     table: &mut [u64],
     seen: &mut [u16],
     at: usize,
@@ -629,20 +497,18 @@ fn read_last(
     deep: usize,
     before: usize,
 ) -> Result<Parts, Refusal>
-    requires room { Room msg.now (list_in context places.now lengths.now) table.old (capacity_in context) at row whole × LastAt msg.now at × (before ≤ row) }
+    requires room { Room c.now.msg.now (list_in c.now) table.old c.now.capacity at row whole × LastAt c.now.msg.now at × (before ≤ row) }
     requires seen_nonzero { 0 < length seen.old }
-    ensures { LastRead msg.now (given_in context places.now lengths.now) (capacity_in context) deep at row whole table.old seen.old before result table.new seen.new }
+    ensures { LastRead c.now.msg.now (given_in c.now) c.now.capacity deep at row whole table.old seen.old before result table.new seen.new }
 {
-    let opening = term_head::read_opening(msg, context, places, lengths, at, Wanted::Any)?;
+    let opening = term_head::read_opening(c, at, Wanted::Any)?;
     let place = opening.place;
     match opening.head {
         Head::Characters { count, next } => {
-            read_characters(table, place, count, next, row, whole, deep, context, before)
+            read_characters(c, table, place, count, next, row, whole, deep, before)
         }
         head => {
-            let last = read_body(
-                msg, context, places, lengths, table, seen, place, head, row, whole, deep,
-            )?;
+            let last = read_body(c, table, seen, place, head, row, whole, deep)?;
             Ok(Parts {
                 next: last.next,
                 rows: last.rows,
@@ -657,10 +523,7 @@ fn read_last(
 #[inline(always)]
 #[cycle(read)]
 fn read_entry(
-    msg: &[u8],
-    context: usize,
-    places: &[u8],
-    lengths: &[u16],
+    c: &Context,
     table: &mut [u64],
     seen: &mut [u16],
     at: usize,
@@ -668,41 +531,25 @@ fn read_entry(
     whole: usize,
     deep: usize,
 ) -> Result<Reached, Refusal>
-    requires room { Room msg.now (list_in context places.now lengths.now) table.old (capacity_in context) at row whole }
+    requires room { Room c.now.msg.now (list_in c.now) table.old c.now.capacity at row whole }
     requires seen_nonzero { 0 < length seen.old }
-    ensures { TermRead msg.now (given_in context places.now lengths.now) (capacity_in context) deep at row whole table.old seen.old any result table.new seen.new }
+    ensures { TermRead c.now.msg.now (given_in c.now) c.now.capacity deep at row whole table.old seen.old any result table.new seen.new }
 {
-    let word = term_head::entry_at(msg, at);
-    if is_leaf(word, deep, row, context) {
+    let word = term_head::entry_at(c.msg, at);
+    if is_leaf(c, word, deep, row) {
         table[row] = row::pack(word % term_head::WORD_KINDS, at, whole, 0, 1);
         return Ok(Reached {
             next: word / term_head::WORD_KINDS,
             rows: row + 1,
         });
     }
-    read_run(
-        msg,
-        context,
-        places,
-        lengths,
-        table,
-        seen,
-        at,
-        row,
-        whole,
-        deep,
-        Wanted::Any,
-        1,
-    )
+    read_run(c, table, seen, at, row, whole, deep, Wanted::Any, 1)
 }
 
 // `count` keys, each with its value after it. A key is judged before its value is read.
 #[cycle(read)]
 fn read_pairs(
-    msg: &[u8],
-    context: usize,
-    places: &[u8],
-    lengths: &[u16],
+    c: &Context,
     table: &mut [u64],
     seen: &mut [u16],
     at: usize,
@@ -710,25 +557,21 @@ fn read_pairs(
     deep: usize,
     count: usize,
 ) -> Result<Parts, Refusal>
-    requires room { Room msg.now (list_in context places.now lengths.now) table.old (capacity_in context) at row row }
+    requires room { Room c.now.msg.now (list_in c.now) table.old c.now.capacity at row row }
     requires seen_nonzero { 0 < length seen.old }
-    ensures { ManyRead msg.now (given_in context places.now lengths.now) (capacity_in context) deep at row row table.old seen.old (pairs count) result table.new seen.new }
+    ensures { ManyRead c.now.msg.now (given_in c.now) c.now.capacity deep at row row table.old seen.old (pairs count) result table.new seen.new }
 {
     let mut at_now = at;
     let mut row_now = row;
     for _i in 0..count {
-        let key = read_entry(
-            msg, context, places, lengths, table, seen, at_now, row_now, row, deep,
-        )?;
-        if map_keys::contains_or_insert(msg, places, lengths, table, seen, row, row_now) {
+        let key = read_entry(c, table, seen, at_now, row_now, row, deep)?;
+        if map_keys::contains_or_insert(c.msg, c.places, c.lengths, table, seen, row, row_now) {
             return Err(Refusal {
                 number: refusals::KEY,
                 place: at_now,
             });
         }
-        let value = read_entry(
-            msg, context, places, lengths, table, seen, key.next, key.rows, row, deep,
-        )?;
+        let value = read_entry(c, table, seen, key.next, key.rows, row, deep)?;
         at_now = value.next;
         row_now = value.rows;
     }

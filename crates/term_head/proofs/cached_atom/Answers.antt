@@ -6,17 +6,17 @@ use Rattle.term_head.proofs.Texts.{cached_short, cached_past, cached_false, cach
 use Rattle.std.specs.Prelude.{Ok, Err}
 use Rattle.term_head.proofs.cached_atom.Goals as goal
 
-pub returns-then-msg-at-lt1 : goal.returns-then-msg-at-lt1
-returns-then-msg-at-lt1 c = λ rows. ap Err c.cut.ensures ∙ cached_short _ _ _ _ _ _ _ (omega arith) c.if-msg-at-lt1.true
+pub returns-then-c-at-lt1 : goal.returns-then-c-at-lt1
+returns-then-c-at-lt1 c = λ rows. ap Err c.cut.ensures ∙ cached_short _ _ _ _ _ _ _ (omega arith) c.if-c-at-lt1.true
 
-pub returns-then-count_in-i : goal.returns-then-count_in-i
-returns-then-count_in-i c = λ rows. cached_past _ _ _ _ _ _ _ (omega arith) _ c.if-msg-at-lt1.false c.big1-i.ensures.0 (omega (arith, c.count_in.ensures.0))
+pub returns-then-from-i : goal.returns-then-from-i
+returns-then-from-i c = λ rows. cached_past _ _ _ _ _ _ _ (omega arith) _ c.if-c-at-lt1.false c.big1-i.ensures.0 (omega (arith, c.from.ensures))
 
 pub place_holds_text-requires : goal.place_holds_text-requires
-place_holds_text-requires c = let z = sizes_of _ c.requires.1 in (omega (arith, c.count_in.ensures), z.0, z.1)
+place_holds_text-requires c = let z = sizes_of _ c.requires.1 in (omega (arith, c.from.ensures), z.0, z.1)
 
 pub returns-then-not-place_holds_text : goal.returns-then-not-place_holds_text
-returns-then-not-place_holds_text c = λ rows. cached_false _ _ _ _ _ _ _ (omega arith) _ c.if-msg-at-lt1.false c.big1-i.ensures.0 (omega (arith, c.count_in.ensures.0)) (sym (c.place_holds_text.ensures _) ∙ c.if-not-place_holds_text.true)
+returns-then-not-place_holds_text c = λ rows. cached_false _ _ _ _ _ _ _ (omega arith) _ c.if-c-at-lt1.false c.big1-i.ensures.0 (omega (arith, c.from.ensures)) (sym (c.place_holds_text.ensures _) ∙ c.if-not-place_holds_text.true)
 
 pub returns : goal.returns
-returns c = λ rows. ap Ok c.leaf.ensures ∙ cached_there _ _ _ _ _ _ _ (omega arith) _ c.if-msg-at-lt1.false c.big1-i.ensures.0 (omega (arith, c.count_in.ensures.0)) (sym (c.place_holds_text.ensures _) ∙ c.if-not-place_holds_text.false)
+returns c = λ rows. ap Ok c.leaf.ensures ∙ cached_there _ _ _ _ _ _ _ (omega arith) _ c.if-c-at-lt1.false c.big1-i.ensures.0 (omega (arith, c.from.ensures)) (sym (c.place_holds_text.ensures _) ∙ c.if-not-place_holds_text.false)

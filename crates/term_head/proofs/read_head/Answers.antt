@@ -5,8 +5,8 @@ use Rattle.term_head.proofs.Tags.{head_past, head_barred, head_known}
 use native.Mathlib.Omega.{arith}
 use Rattle.term_head.proofs.read_head.Goals as goal
 
-pub returns-then-msg-at : goal.returns-then-msg-at
-returns-then-msg-at c = λ rows. ap Err c.cut.ensures ∙ head_past _ _ _ _ _ c.if-msg-at.true
+pub returns-then-c-at : goal.returns-then-c-at
+returns-then-c-at c = λ rows. ap Err c.cut.ensures ∙ head_past _ _ _ _ _ c.if-c-at.true
 
 pub returns-then-not-may_stand : goal.returns-then-not-may_stand
 returns-then-not-may_stand c = λ rows. ap Err c.broken.ensures ∙ head_barred _ _ _ _ _ (omega arith) (sym c.may_stand.ensures ∙ c.if-not-may_stand.true)

@@ -8,7 +8,7 @@ use Rattle.term_head.proofs.read_opening.Goals.{in-Any, in_default}
 pub returns-in_err-head : goal.returns-in_err-head
 returns-in_err-head c =
     let p = err_from_is_err_and c.from_residual.result c.from_residual.ensures.1 in
-    let tag : TagAt c.args.msg.now c.args.at c.args.wanted c.match-wanted.place =
+    let tag : TagAt c.args.c.now.msg.now c.args.at c.args.wanted c.match-wanted.place =
     elim c.match-wanted.branch [
       | in-Any w ↦ inl (w.in-Any.is, rw w.place-is w.skip_empty-place.ensures)
       | in_default w ↦ inr (w.in_default.not-Any, w.place-is)
@@ -17,7 +17,7 @@ returns-in_err-head c =
 
 pub returns : goal.returns
 returns c =
-    let tag : TagAt c.args.msg.now c.args.at c.args.wanted c.match-wanted.place =
+    let tag : TagAt c.args.c.now.msg.now c.args.at c.args.wanted c.match-wanted.place =
     elim c.match-wanted.branch [
       | in-Any w ↦ inl (w.in-Any.is, rw w.place-is w.skip_empty-place.ensures)
       | in_default w ↦ inr (w.in_default.not-Any, w.place-is)

@@ -9,9 +9,7 @@ use Rattle.term_reader.proofs.Openings.{opened, opens, elements_opened, last_at}
 use Rattle.term_head.proofs.Openings.{skipped_here}
 use Rattle.map_keys.proofs.KeySet.{keeps_refl, keeps_trans}
 use Rattle.term_head.specs.Code.{wanted_of}
-use Rattle.term_spec.specs.AtomList.{given_of}
-use Rattle.context.specs.Word.{given_in}
-use Rattle.context.proofs.Words.{count_small}
+use Rattle.term_spec.specs.AtomList.{given_of, lent_list}
 use lib.ListN.{length-set}
 use mathlib.Core.List.{[]}
 use mathlib.Core.Path.{◌≡◌, refl, ◌∙◌}
@@ -95,12 +93,12 @@ pub read_more-returns-then-count-eq0 : goal.read_more-returns-then-count-eq0
 read_more-returns-then-count-eq0 t c = record { rows_stored = run_none _ _ _ _ _ _ _ _ _ c.if-count-eq0.true c.requires.room.low c.requires.room.near; keys_kept = keeps_refl _ }
 
 pub read_entry-pack-requires : goal.read_entry-pack-requires
-read_entry-pack-requires t c = let f = c.is_leaf.ensures c.if-is_leaf.true in let w = c.entry_at-word.ensures f.0 in leaf_small _ _ _ _ _ _ _ _ c.requires.room (quick_inside _ _ _ _ c.args.row _ f.0 (w (given_in 0 [] []) c.args.row))
+read_entry-pack-requires t c = let f = c.is_leaf.ensures c.if-is_leaf.true in let w = c.entry_at-word.ensures f.0 in leaf_small _ _ _ _ _ _ _ _ c.requires.room (quick_inside _ _ _ _ c.args.row _ f.0 (w (given_of 0 (lent_list 0 [] [])) c.args.row))
 
 pub read_entry-returns-then-is_leaf : goal.read_entry-returns-then-is_leaf
 read_entry-returns-then-is_leaf t c = let f = c.is_leaf.ensures c.if-is_leaf.true in
     let w = c.entry_at-word.ensures f.0 in
-    record { rows_stored = quick_leaf _ _ _ _ c.args.row _ f.0 (w _ c.args.row) _ _ _ _ f.1 f.2 f.3 (omega (arith, quick_inside _ _ _ _ c.args.row _ f.0 (w (given_in 0 [] []) c.args.row), c.requires.room.short)) _ c.pack.ensures; keys_kept = keeps_refl _ }
+    record { rows_stored = quick_leaf _ _ _ _ c.args.row _ f.0 (w _ c.args.row) _ _ _ _ f.1 f.2 f.3 (omega (arith, quick_inside _ _ _ _ c.args.row _ f.0 (w (given_of 0 (lent_list 0 [] [])) c.args.row), c.requires.room.short)) _ c.pack.ensures; keys_kept = keeps_refl _ }
 
 pub read_entry-returns : goal.read_entry-returns
 unfolding wanted_of
@@ -120,23 +118,23 @@ read_pairs-returns-in_err-key t c = let i = c.loop-i in
 pub read_pairs-returns-then-contains_or_insert : goal.read_pairs-returns-then-contains_or_insert
 read_pairs-returns-then-contains_or_insert t c = let i = c.loop-i in
     record {
-      rows_stored = λ place. key_twice _ _ _ _ _ _ _ _ _ _ _ _ _ _ _ _ _ c.read_entry.ensures.rows_stored _ i.invariant.0 _ _ c.in_ok-key.was (parts_sound _ _ _ _ _ _ _ (λ j. omega (arith, c.type_inv.msg j)) i.invariant.0.few) i.invariant.2 (omega (arith, c.loop-i-test.true)) (keys_told _ _ _ _ _ _ _ i.invariant.0.sized (count_small _) (λ j. omega (arith, c.type_inv.msg j))) _ _ _ c.read_entry.ensures.keys_kept c.contains_or_insert.ensures place _ c.if-contains_or_insert.true;
+      rows_stored = λ place. key_twice _ _ _ _ _ _ _ _ _ _ _ _ _ _ _ _ _ c.read_entry.ensures.rows_stored _ i.invariant.0 _ _ c.in_ok-key.was (parts_sound _ _ _ _ _ _ _ i.invariant.0.bytes i.invariant.0.few) i.invariant.2 (omega (arith, c.loop-i-test.true)) (keys_told _ _ _ _ _ _ _ i.invariant.0.sized i.invariant.0.listed i.invariant.0.bytes) _ _ _ c.read_entry.ensures.keys_kept c.contains_or_insert.ensures place _ c.if-contains_or_insert.true;
       keys_kept = keeps_trans (keeps_trans i.invariant.3 c.read_entry.ensures.keys_kept) c.contains_or_insert.ensures.keys_kept;
     }
 
 pub read_pairs-returns-in_err-value : goal.read_pairs-returns-in_err-value
 read_pairs-returns-in_err-value t c = let i = c.loop-i in
-    let key = key_entered _ _ _ _ _ _ _ _ _ _ _ _ _ _ _ _ _ c.read_entry.ensures.rows_stored _ i.invariant.0 _ _ c.in_ok-key.was (parts_sound _ _ _ _ _ _ _ (λ j. omega (arith, c.type_inv.msg j)) i.invariant.0.few) i.invariant.2 (omega (arith, c.loop-i-test.true)) (keys_told _ _ _ _ _ _ _ i.invariant.0.sized (count_small _) (λ j. omega (arith, c.type_inv.msg j))) _ _ _ c.read_entry.ensures.keys_kept c.contains_or_insert.ensures c.if-contains_or_insert.false in
+    let key = key_entered _ _ _ _ _ _ _ _ _ _ _ _ _ _ _ _ _ c.read_entry.ensures.rows_stored _ i.invariant.0 _ _ c.in_ok-key.was (parts_sound _ _ _ _ _ _ _ i.invariant.0.bytes i.invariant.0.few) i.invariant.2 (omega (arith, c.loop-i-test.true)) (keys_told _ _ _ _ _ _ _ i.invariant.0.sized i.invariant.0.listed i.invariant.0.bytes) _ _ _ c.read_entry.ensures.keys_kept c.contains_or_insert.ensures c.if-contains_or_insert.false in
     rw (handed_on _ c.from_residual-in_err-value.ensures.1)
     (record { rows_stored = λ place. value_refused _ _ _ _ _ _ _ _ _ _ _ _ _ _ _ _ _ c.read_entry-in-loop-i.ensures.rows_stored _ place _ key c.in_err-value.was; keys_kept = keeps_trans (keeps_trans (keeps_trans i.invariant.3 c.read_entry.ensures.keys_kept) c.contains_or_insert.ensures.keys_kept) c.read_entry-in-loop-i.ensures.keys_kept })
 
 pub read_pairs-loop-i-preserved : goal.read_pairs-loop-i-preserved
 read_pairs-loop-i-preserved t c = let i = c.loop-i in
     let room = room_after _ _ _ _ _ _ _ _ _ _ _ _ _ _ _ i.invariant.0 c.read_entry.ensures.rows_stored c.in_ok-key.was c.read_entry.auto.table in
-    let key = key_entered _ _ _ _ _ _ _ _ _ _ _ _ _ _ _ _ _ c.read_entry.ensures.rows_stored _ i.invariant.0 _ _ c.in_ok-key.was (parts_sound _ _ _ _ _ _ _ (λ j. omega (arith, c.type_inv.msg j)) i.invariant.0.few) i.invariant.2 (omega (arith, c.loop-i-test.true)) (keys_told _ _ _ _ _ _ _ i.invariant.0.sized (count_small _) (λ j. omega (arith, c.type_inv.msg j))) _ _ _ c.read_entry.ensures.keys_kept c.contains_or_insert.ensures c.if-contains_or_insert.false in (
+    let key = key_entered _ _ _ _ _ _ _ _ _ _ _ _ _ _ _ _ _ c.read_entry.ensures.rows_stored _ i.invariant.0 _ _ c.in_ok-key.was (parts_sound _ _ _ _ _ _ _ i.invariant.0.bytes i.invariant.0.few) i.invariant.2 (omega (arith, c.loop-i-test.true)) (keys_told _ _ _ _ _ _ _ i.invariant.0.sized i.invariant.0.listed i.invariant.0.bytes) _ _ _ c.read_entry.ensures.keys_kept c.contains_or_insert.ensures c.if-contains_or_insert.false in (
       room_after _ _ _ _ _ _ _ _ _ _ _ _ _ _ _ room c.read_entry-in-loop-i.ensures.rows_stored c.in_ok-value.was c.read_entry-in-loop-i.auto.table,
       c.read_entry-in-loop-i.auto.table ∙ c.read_entry.auto.table ∙ i.invariant.1,
-      value_entered _ _ _ _ _ _ _ _ _ _ _ _ _ _ _ _ _ c.read_entry-in-loop-i.ensures.rows_stored _ room _ _ c.in_ok-value.was (parts_sound _ _ _ _ _ _ _ (λ j. omega (arith, c.type_inv.msg j)) i.invariant.0.few) _ c.read_entry-in-loop-i.ensures.keys_kept key _ (omega arith),
+      value_entered _ _ _ _ _ _ _ _ _ _ _ _ _ _ _ _ _ c.read_entry-in-loop-i.ensures.rows_stored _ room _ _ c.in_ok-value.was (parts_sound _ _ _ _ _ _ _ i.invariant.0.bytes i.invariant.0.few) _ c.read_entry-in-loop-i.ensures.keys_kept key _ (omega arith),
       keeps_trans (keeps_trans (keeps_trans i.invariant.3 c.read_entry.ensures.keys_kept) c.contains_or_insert.ensures.keys_kept) c.read_entry-in-loop-i.ensures.keys_kept,
     )
 
@@ -174,7 +172,7 @@ pub read_run-loop-i-init : goal.read_run-loop-i-init
 read_run-loop-i-init t c = let z : c.args.count - 0 ≡ c.args.count = omega arith in (c.requires.room, refl, (λ s U d. rw z at d), keeps_refl _)
 
 pub read_run-pack-requires : goal.read_run-pack-requires
-read_run-pack-requires t c = let f = c.is_leaf.ensures c.if-is_leaf.true in let w = c.leaf_at-word.ensures f.0 in leaf_small _ _ _ _ _ _ _ _ c.loop-i.invariant.0 (quick_inside _ _ _ _ c.loop-i.row_now _ f.0 (w (given_in 0 [] []) c.loop-i.row_now))
+read_run-pack-requires t c = let f = c.is_leaf.ensures c.if-is_leaf.true in let w = c.leaf_at-word.ensures f.0 in leaf_small _ _ _ _ _ _ _ _ c.loop-i.invariant.0 (quick_inside _ _ _ _ c.loop-i.row_now _ f.0 (w (given_of 0 (lent_list 0 [] [])) c.loop-i.row_now))
 
 pub read_run-bounds-table-row_now : goal.read_run-bounds-table-row_now
 read_run-bounds-table-row_now t c = let f = c.is_leaf.ensures c.if-is_leaf.true in omega (arith, f.3, c.loop-i.invariant.0.wide)
@@ -186,7 +184,7 @@ pub read_run-loop-i-preserved-then-is_leaf : goal.read_run-loop-i-preserved-then
 read_run-loop-i-preserved-then-is_leaf t c = let i = c.loop-i in
     let e : c.args.count - i._i ≡ suc (c.args.count - (i._i + 1)) = omega (arith, c.loop-i-test.true) in
     let f = c.is_leaf.ensures c.if-is_leaf.true in let w = c.leaf_at-word.ensures f.0 in
-    let d = (quick_leaf _ _ _ _ i.row_now _ f.0 (w _ i.row_now) _ _ _ _ f.1 f.2 f.3 (omega (arith, quick_inside _ _ _ _ i.row_now _ f.0 (w (given_in 0 [] []) i.row_now), i.invariant.0.short)) _ c.pack.ensures) in
+    let d = (quick_leaf _ _ _ _ i.row_now _ f.0 (w _ i.row_now) _ _ _ _ f.1 f.2 f.3 (omega (arith, quick_inside _ _ _ _ i.row_now _ f.0 (w (given_of 0 (lent_list 0 [] [])) i.row_now), i.invariant.0.short)) _ c.pack.ensures) in
     (room_after _ _ _ _ _ _ _ _ _ _ _ _ _ _ _ i.invariant.0 d refl (length-set {A = ℕ} i.table i.row_now c.pack.result), length-set {A = ℕ} i.table i.row_now c.pack.result ∙ i.invariant.1, (λ s U g. i.invariant.2 s U (run_more _ _ _ _ _ _ _ _ _ _ e _ _ _ _ s U refl d g)), i.invariant.3)
 
 pub read_run-returns-in_err-term : goal.read_run-returns-in_err-term
@@ -205,45 +203,45 @@ read_run-returns t c = let i = c.loop-i in
     let e : c.args.count - i._i ≡ 0 = omega arith in
     record { rows_stored = i.invariant.2 _ _ (run_none _ _ _ _ _ _ _ _ _ e i.invariant.0.low i.invariant.0.near); keys_kept = i.invariant.3 }
 
-pub read_tail-loop-context-init : goal.read_tail-loop-context-init
-read_tail-loop-context-init t c = (c.requires.room.0, refl, c.requires.room.1, tailed_none _ _ _ _ _ _ _ _ _, keeps_refl _)
+pub read_tail-loop-at-init : goal.read_tail-loop-at-init
+read_tail-loop-at-init t c = (c.requires.room.0, refl, c.requires.room.1, tailed_none _ _ _ _ _ _ _ _ _, keeps_refl _)
 
 pub read_tail-returns-then-nil_at : goal.read_tail-returns-then-nil_at
-read_tail-returns-then-nil_at t c = record { rows_stored = tailed_nil _ _ _ _ _ _ _ _ _ _ (tailed_skipped _ _ _ _ _ _ _ _ _ _ c.loop-context.invariant.3 _ c.skip_empty-place.ensures) (skipped_here _ _ _ c.skip_empty-place.ensures) (c.nil_at.ensures c.if-nil_at.true _ _) c.loop-context.invariant.0.low; keys_kept = c.loop-context.invariant.4 }
+read_tail-returns-then-nil_at t c = record { rows_stored = tailed_nil _ _ _ _ _ _ _ _ _ _ (tailed_skipped _ _ _ _ _ _ _ _ _ _ c.loop-at.invariant.3 _ c.skip_empty-place.ensures) (skipped_here _ _ _ c.skip_empty-place.ensures) (c.nil_at.ensures c.if-nil_at.true _ _) c.loop-at.invariant.0.low; keys_kept = c.loop-at.invariant.4 }
 
 pub read_tail-read_last-requires : goal.read_tail-read_last-requires
-read_tail-read_last-requires t c = (omega (arith, c.decreases), ((room_at _ _ _ _ _ _ _ _ c.loop-context.invariant.0 c.skip_empty-place.ensures.inside, last_at _ _ (skipped_here _ _ _ c.skip_empty-place.ensures) c.in_default.ensures, c.loop-context.invariant.2), omega (arith, c.requires.seen_nonzero, c.loop-context.invariant.4.as_many)))
+read_tail-read_last-requires t c = (omega (arith, c.decreases), ((room_at _ _ _ _ _ _ _ _ c.loop-at.invariant.0 c.skip_empty-place.ensures.inside, last_at _ _ (skipped_here _ _ _ c.skip_empty-place.ensures) c.in_default.ensures, c.loop-at.invariant.2), omega (arith, c.requires.seen_nonzero, c.loop-at.invariant.4.as_many)))
 
 pub read_tail-returns-in_default : goal.read_tail-returns-in_default
-read_tail-returns-in_default t c = record { rows_stored = tailed_last _ _ _ _ _ _ _ _ _ _ (tailed_skipped _ _ _ _ _ _ _ _ _ _ c.loop-context.invariant.3 _ c.skip_empty-place.ensures) _ _ c.read_last.ensures.rows_stored; keys_kept = keeps_trans c.loop-context.invariant.4 c.read_last.ensures.keys_kept }
+read_tail-returns-in_default t c = record { rows_stored = tailed_last _ _ _ _ _ _ _ _ _ _ (tailed_skipped _ _ _ _ _ _ _ _ _ _ c.loop-at.invariant.3 _ c.skip_empty-place.ensures) _ _ c.read_last.ensures.rows_stored; keys_kept = keeps_trans c.loop-at.invariant.4 c.read_last.ensures.keys_kept }
 
 pub read_tail-returns-in_err-run : goal.read_tail-returns-in_err-run
-read_tail-returns-in_err-run t c = rw (handed_on _ c.from_residual.ensures.1) (record { rows_stored = tailed_run_refused _ _ _ _ _ _ _ _ _ _ (tailed_skipped _ _ _ _ _ _ _ _ _ _ c.loop-context.invariant.3 _ c.skip_empty-place.ensures) (elements_opened _ _ _ c.loop-context.row_now (skipped_here _ _ _ c.skip_empty-place.ensures) _ c.in-Some.ensures) _ _ refl _ _ c.read_run.ensures.rows_stored _ _ c.in_err-run.was; keys_kept = keeps_trans c.loop-context.invariant.4 c.read_run.ensures.keys_kept })
+read_tail-returns-in_err-run t c = rw (handed_on _ c.from_residual.ensures.1) (record { rows_stored = tailed_run_refused _ _ _ _ _ _ _ _ _ _ (tailed_skipped _ _ _ _ _ _ _ _ _ _ c.loop-at.invariant.3 _ c.skip_empty-place.ensures) (elements_opened _ _ _ c.loop-at.row_now (skipped_here _ _ _ c.skip_empty-place.ensures) _ c.in-Some.ensures) _ _ refl _ _ c.read_run.ensures.rows_stored _ _ c.in_err-run.was; keys_kept = keeps_trans c.loop-at.invariant.4 c.read_run.ensures.keys_kept })
 
 pub read_tail-overflow_add-sum : goal.read_tail-overflow_add-sum
 read_tail-overflow_add-sum t c = let a = run_many _ _ _ _ _ _ _ _ _ _ _ c.read_run.ensures.rows_stored c.in_ok-run.was in
-    let b = room_after _ _ _ _ _ _ _ _ _ _ _ _ _ _ _ (room_at _ _ _ _ _ _ _ _ c.loop-context.invariant.0 (c.in-Some.ensures.inside _ refl)) c.read_run.ensures.rows_stored c.in_ok-run.was c.read_run.auto.table in
+    let b = room_after _ _ _ _ _ _ _ _ _ _ _ _ _ _ _ (room_at _ _ _ _ _ _ _ _ c.loop-at.invariant.0 (c.in-Some.ensures.inside _ refl)) c.read_run.ensures.rows_stored c.in_ok-run.was c.read_run.auto.table in
     omega arith
 
-pub read_tail-loop-context-smaller : goal.read_tail-loop-context-smaller
-read_tail-loop-context-smaller t c = let a = tailed_further _ _ _ _ _ _ _ _ _ _ (tailed_skipped _ _ _ _ _ _ _ _ _ _ c.loop-context.invariant.3 _ c.skip_empty-place.ensures) (elements_opened _ _ _ c.loop-context.row_now (skipped_here _ _ _ c.skip_empty-place.ensures) _ c.in-Some.ensures) _ _ refl _ _ c.read_run.ensures.rows_stored _ _ c.in_ok-run.was in
+pub read_tail-loop-at-smaller : goal.read_tail-loop-at-smaller
+read_tail-loop-at-smaller t c = let a = tailed_further _ _ _ _ _ _ _ _ _ _ (tailed_skipped _ _ _ _ _ _ _ _ _ _ c.loop-at.invariant.3 _ c.skip_empty-place.ensures) (elements_opened _ _ _ c.loop-at.row_now (skipped_here _ _ _ c.skip_empty-place.ensures) _ c.in-Some.ensures) _ _ refl _ _ c.read_run.ensures.rows_stored _ _ c.in_ok-run.was in
     omega (arith, (run_many _ _ _ _ _ _ _ _ _ _ _ c.read_run.ensures.rows_stored c.in_ok-run.was).1, c.skip_empty-place.ensures.from)
 
-pub read_tail-loop-context-preserved : goal.read_tail-loop-context-preserved
-read_tail-loop-context-preserved t c = (
-  room_after _ _ _ _ _ _ _ _ _ _ _ _ _ _ _ (room_at _ _ _ _ _ _ _ _ c.loop-context.invariant.0 (c.in-Some.ensures.inside _ refl)) c.read_run.ensures.rows_stored c.in_ok-run.was c.read_run.auto.table,
-  c.read_run.auto.table ∙ c.loop-context.invariant.1,
+pub read_tail-loop-at-preserved : goal.read_tail-loop-at-preserved
+read_tail-loop-at-preserved t c = (
+  room_after _ _ _ _ _ _ _ _ _ _ _ _ _ _ _ (room_at _ _ _ _ _ _ _ _ c.loop-at.invariant.0 (c.in-Some.ensures.inside _ refl)) c.read_run.ensures.rows_stored c.in_ok-run.was c.read_run.auto.table,
+  c.read_run.auto.table ∙ c.loop-at.invariant.1,
   omega (arith, (run_many _ _ _ _ _ _ _ _ _ _ _ c.read_run.ensures.rows_stored c.in_ok-run.was).0),
-  tailed_more _ _ _ _ _ _ _ _ _ _ (tailed_skipped _ _ _ _ _ _ _ _ _ _ c.loop-context.invariant.3 _ c.skip_empty-place.ensures) (elements_opened _ _ _ c.loop-context.row_now (skipped_here _ _ _ c.skip_empty-place.ensures) _ c.in-Some.ensures) _ _ refl _ _ c.read_run.ensures.rows_stored _ _ c.in_ok-run.was,
-  keeps_trans c.loop-context.invariant.4 c.read_run.ensures.keys_kept,
+  tailed_more _ _ _ _ _ _ _ _ _ _ (tailed_skipped _ _ _ _ _ _ _ _ _ _ c.loop-at.invariant.3 _ c.skip_empty-place.ensures) (elements_opened _ _ _ c.loop-at.row_now (skipped_here _ _ _ c.skip_empty-place.ensures) _ c.in-Some.ensures) _ _ refl _ _ c.read_run.ensures.rows_stored _ _ c.in_ok-run.was,
+  keeps_trans c.loop-at.invariant.4 c.read_run.ensures.keys_kept,
 )
 
 pub read_wanted-pack-requires : goal.read_wanted-pack-requires
-read_wanted-pack-requires t c = let f = c.is_leaf.ensures c.if-is_leaf.true in leaf_small _ _ _ _ _ _ _ _ c.requires.room (quick_inside _ _ _ _ c.args.row _ f.0 (c.node_at-word.ensures f.0 (given_in 0 [] []) c.args.row))
+read_wanted-pack-requires t c = let f = c.is_leaf.ensures c.if-is_leaf.true in leaf_small _ _ _ _ _ _ _ _ c.requires.room (quick_inside _ _ _ _ c.args.row _ f.0 (c.node_at-word.ensures f.0 (given_of 0 (lent_list 0 [] [])) c.args.row))
 
 pub read_wanted-returns-then-is_leaf : goal.read_wanted-returns-then-is_leaf
 read_wanted-returns-then-is_leaf t c = let f = c.is_leaf.ensures c.if-is_leaf.true in
-    let d = (quick_leaf _ _ _ _ c.args.row _ f.0 (c.node_at-word.ensures f.0 _ c.args.row) _ _ _ _ f.1 f.2 f.3 (omega (arith, quick_inside _ _ _ _ c.args.row _ f.0 (c.node_at-word.ensures f.0 (given_in 0 [] []) c.args.row), c.requires.room.short)) _ c.pack.ensures) in
+    let d = (quick_leaf _ _ _ _ c.args.row _ f.0 (c.node_at-word.ensures f.0 _ c.args.row) _ _ _ _ f.1 f.2 f.3 (omega (arith, quick_inside _ _ _ _ c.args.row _ f.0 (c.node_at-word.ensures f.0 (given_of 0 (lent_list 0 [] [])) c.args.row), c.requires.room.short)) _ c.pack.ensures) in
     record { rows_stored = wanted_node _ _ _ _ _ _ _ _ _ _ _ c.if-wanted-eq1.true d; keys_kept = keeps_refl _ }
 
 pub read_wanted-read_more-requires : goal.read_wanted-read_more-requires

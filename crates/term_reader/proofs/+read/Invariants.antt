@@ -5,7 +5,7 @@ use Rattle.map_keys.specs.KeySet.{Keeps}
 use Rattle.term_head.specs.Code.{wanted_of}
 use Rattle.term_spec.specs.Answer.{at_offset}
 use Rattle.term_spec.specs.Reading.{each, list_tail, body, term}
-use Rattle.context.specs.Word.{capacity_in, list_in, given_in}
+use Rattle.context.specs.Given.{list_in, given_in}
 use lib.ListN.{length, drop, replicate}
 use mathlib.Core.List.{List}
 use mathlib.Core.Path.{◌≡◌}
@@ -55,26 +55,26 @@ abbrev pub decreases-read_wanted : goal.decreases-read_wanted
 decreases-read_wanted l = l.deep * 8 + 4
 
 abbrev pub invariant-read_pairs-loop-i : goal.invariant-read_pairs-loop-i
-invariant-read_pairs-loop-i l = Room l.msg (list_in l.context l.places l.lengths) l.table (capacity_in l.context) l.at_now l.row_now l.row
+invariant-read_pairs-loop-i l = Room l.c.msg.now (list_in l.c) l.table (l.c.capacity) l.at_now l.row_now l.row
     × (length l.table ≡ length l.initial.table)
-    × BeforeKey (given_in l.context l.places l.lengths) (capacity_in l.context) l.deep l.msg l.places l.lengths l.at l.row l.count l.initial.table l.at_now l.row_now (l._i * 2) l.table l.seen
+    × BeforeKey (given_in l.c) (l.c.capacity) l.deep l.c.msg.now l.c.places.now l.c.lengths.now l.at l.row l.count l.initial.table l.at_now l.row_now (l._i * 2) l.table l.seen
     × Keeps l.initial.seen l.seen
 
 abbrev pub invariant-read_run-loop-i : goal.invariant-read_run-loop-i
-invariant-read_run-loop-i l = Room l.msg (list_in l.context l.places l.lengths) l.table (capacity_in l.context) l.at_now l.row_now l.whole
+invariant-read_run-loop-i l = Room l.c.msg.now (list_in l.c) l.table (l.c.capacity) l.at_now l.row_now l.whole
     × (length l.table ≡ length l.initial.table)
     × ((s : Step) (U : List ℕ)
-    → RunDone l.msg (l.count - l._i) (capacity_in l.context) l.row_now l.whole l.table (each (term (given_in l.context l.places l.lengths) (capacity_in l.context) l.deep) (replicate (l.count - l._i) (wanted_of l.wanted)) (at_offset l.msg l.at_now l.row_now)) s U
-    → RunDone l.msg l.count (capacity_in l.context) l.row l.whole l.initial.table (each (term (given_in l.context l.places l.lengths) (capacity_in l.context) l.deep) (replicate l.count (wanted_of l.wanted)) (at_offset l.msg l.at l.row)) s U)
+    → RunDone l.c.msg.now (l.count - l._i) (l.c.capacity) l.row_now l.whole l.table (each (term (given_in l.c) (l.c.capacity) l.deep) (replicate (l.count - l._i) (wanted_of l.wanted)) (at_offset l.c.msg.now l.at_now l.row_now)) s U
+    → RunDone l.c.msg.now l.count (l.c.capacity) l.row l.whole l.initial.table (each (term (given_in l.c) (l.c.capacity) l.deep) (replicate l.count (wanted_of l.wanted)) (at_offset l.c.msg.now l.at l.row)) s U)
     × Keeps l.initial.seen l.seen
 
-abbrev pub invariant-read_tail-loop-context : goal.invariant-read_tail-loop-context
-invariant-read_tail-loop-context l = Room l.msg (list_in l.context l.places l.lengths) l.table (capacity_in l.context) l.at_now l.row_now l.whole
+abbrev pub invariant-read_tail-loop-at : goal.invariant-read_tail-loop-at
+invariant-read_tail-loop-at l = Room l.c.msg.now (list_in l.c) l.table (l.c.capacity) l.at_now l.row_now l.whole
     × (length l.table ≡ length l.initial.table)
     × (l.sum ≤ l.row_now)
-    × Tailed (given_in l.context l.places l.lengths) (capacity_in l.context) l.deep l.msg l.at_now l.row_now l.whole l.table l.sum
-    (PartsDone l.msg l.before (capacity_in l.context) l.row l.whole l.initial.table (list_tail (given_in l.context l.places l.lengths) (capacity_in l.context) l.deep (body (given_in l.context l.places l.lengths) (capacity_in l.context) l.deep) (drop l.at l.msg) (at_offset l.msg l.at l.row)))
+    × Tailed (given_in l.c) (l.c.capacity) l.deep l.c.msg.now l.at_now l.row_now l.whole l.table l.sum
+    (PartsDone l.c.msg.now l.before (l.c.capacity) l.row l.whole l.initial.table (list_tail (given_in l.c) (l.c.capacity) l.deep (body (given_in l.c) (l.c.capacity) l.deep) (drop l.at l.c.msg.now) (at_offset l.c.msg.now l.at l.row)))
     × Keeps l.initial.seen l.seen
 
-abbrev pub decreases-read_tail-loop-context : goal.decreases-read_tail-loop-context
-decreases-read_tail-loop-context l = length l.msg - l.at_now
+abbrev pub decreases-read_tail-loop-at : goal.decreases-read_tail-loop-at
+decreases-read_tail-loop-at l = length l.c.msg.now - l.at_now

@@ -10,8 +10,8 @@ returns-then-count-eq0 c = λ given m cs same near. characters_none given m cs _
 pub returns-then-deep-eq0 : goal.returns-then-deep-eq0
 returns-then-deep-eq0 c = λ given m cs same near. characters_deep given m cs _ _ _ _ _ _ _ _ _ _ same c.if-count-eq0.false c.if-deep-eq0.true
 
-pub returns-then-capacity_in-row : goal.returns-then-capacity_in-row
-returns-then-capacity_in-row c = λ given m cs same near. characters_full given m cs _ _ _ _ _ _ _ _ _ _ same c.if-deep-eq0.false (omega arith) (omega (arith, c.capacity_in.ensures, c.if-capacity_in-row.true))
+pub returns-then-c-row : goal.returns-then-c-row
+returns-then-c-row c = λ given m cs same near. characters_full given m cs _ _ _ _ _ _ _ _ _ _ same c.if-deep-eq0.false (omega arith) (omega (arith, c.if-c-row.true))
 
 pub overflow_add-place : goal.overflow_add-place
 overflow_add-place c = let f = c.requires.5 c.if-count-eq0.false in omega arith
