@@ -5,6 +5,7 @@ use Prim.Native.Nat.{ℕ, suc, ◌+◌, ◌*◌, ◌-◌, ◌≤◌, ◌<◌}
 use native.Mathlib.Omega.{arith}
 use lib.ListN.{length, replicate, set, length-append}
 use lib.Seq.{sets}
+use Rattle.term_spec.specs.AtomList.{lent_list}
 use Rattle.term_spec.specs.Text.{Coding}
 use Rattle.term_spec.specs.Answer.{Answer, good, Position, at_offset}
 use Rattle.packet_spec.specs.Memory.{Cache, Held, held}
@@ -122,18 +123,18 @@ module _ (agreed : Coding) (c : Cache) (s : List ℕ) (at : ℕ) (start : Header
           two : {p q : ℕ} → p ≡ 32 * i → q ≡ 32 → p + q ≡ 32 * (i + 1)
           two e f = omega arith
 
-  pub list_all : (i next : ℕ) (list sizes : List ℕ) → ListWalk i next list sizes → i ≡ start.n → start.n < 256 → ListWritten agreed c s at start list sizes
+  pub list_all : (i next : ℕ) (list sizes : List ℕ) → ListWalk i next list sizes → i ≡ start.n → ListWritten agreed c s at start (lent_list start.n list sizes)
   unfolding list_of zeros_to
-  list_all i next list sizes w e few =
+  list_all i next list sizes w e =
       record {
         list_written = λ rs t f.
             let d : w.way.done ≡ rs =
             done_is _ w.way.done rs (at_offset s next 0) t (along_all agreed (held c) s (flags_of s at start.n) start.width _ start.n i next w.way.earlier w.way.done w.way.along e) f in
             let lt : 8160 - 32 * i ≡ 8160 - length (texts_in_places w.way.done) = ap (λ (m : ℕ). 8160 - m) (sym w.long) in
-            let ll : 255 - i ≡ 255 - length (lengths_of w.way.done) = ap (λ (m : ℕ). 255 - m) (sym (length_lengths w.way.done ∙ w.way.count)) in (
-              w.places_are ∙ ap (λ (m : ℕ). texts_in_places w.way.done ++ replicate m 0) lt ∙ ap (λ (x : List Reference). texts_in_places x ++ replicate (8160 - length (texts_in_places x)) 0) d,
-              w.lengths_are ∙ ap (λ (m : ℕ). lengths_of w.way.done ++ replicate m 0) ll ∙ ap (λ (x : List Reference). lengths_of x ++ replicate (255 - length (lengths_of x)) 0) d,
-            );
+            let ll : 255 - i ≡ 255 - length (lengths_of w.way.done) = ap (λ (m : ℕ). 255 - m) (sym (length_lengths w.way.done ∙ w.way.count)) in
+            ap₂ (lent_list start.n) (w.places_are ∙ ap (λ (m : ℕ). texts_in_places w.way.done ++ replicate m 0) lt) (w.lengths_are ∙ ap (λ (m : ℕ). lengths_of w.way.done ++ replicate m 0) ll)
+            ∙ ap (λ (m : ℕ). lent_list m (zeros_to 8160 (texts_in_places w.way.done)) (zeros_to 255 (lengths_of w.way.done))) (sym (w.way.count ∙ e))
+            ∙ ap list_of d;
       }
 
 -- ---- the cache

@@ -3,13 +3,30 @@
 use Rattle.std.specs.Prelude.{◌≡◌, true, List, ℕ, ◌≤◌, ◌<◌, length, take, drop}
 use Rattle.std.proofs.lemmas.List.Edits.{sets}
 use Rattle.term_spec.specs.Text.{Coding, valid, check, encodes}
+use denote.MutBor.{MutBor}
+use Rattle.term_spec.specs.AtomList.{AtomList, lent_list}
 use Rattle.term_spec.specs.Answer.{good, Position, at_offset}
-use Rattle.packet_spec.specs.Memory.{Cache, CacheSized, Held, held}
+use Rattle.packet_spec.specs.Memory.{Cache, cache_of, CacheSized, Held, held}
 use Rattle.packet_spec.specs.Header.{Reference}
 use Rattle.packet_spec.specs.Calls.{enter, entered, list_of}
 use Rattle.dist_header.specs.declared.HeaderStart.{HeaderStart}
 use Rattle.dist_header.specs.Code.{references_from, ReferenceAt, reference_from, GoodHeader}
+use Rattle.cache_entries.specs.declared.CacheMut.{CacheMut}
+use Rattle.cache_entries.specs.declared.ListMut.{ListMut}
 use Rattle.cache_entries.specs.declared.ListedText.{ListedText}
+
+-- the cache and a list as they are lent, and as they are left
+abbrev pub cache_lent : CacheMut → Cache
+cache_lent c = cache_of c.places.now c.lengths.now
+
+abbrev pub cache_left : MutBor (List ℕ) × (MutBor (List ℕ) × Unit {0}) → Cache
+cache_left c = cache_of c.0.now c.1.0.now
+
+abbrev pub list_lent : ListMut → AtomList
+list_lent l = lent_list l.n.now l.places.now l.lengths.now
+
+abbrev pub list_left : MutBor ℕ × (MutBor (List ℕ) × (MutBor (List ℕ) × Unit {0})) → AtomList
+list_left l = lent_list l.0.now l.1.0.now l.1.1.0.now
 
 -- an atom list of its stated size
 pub record ListSized (places lengths : List ℕ) : Type 0 where
@@ -49,10 +66,9 @@ pub record Lists (agreed : Coding) (c : Cache) (s : List ℕ) (h width at to : �
   pub lists : (earlier : List Reference) (i : ℕ) (x : Reference) (t : Position) → reference_from agreed (held c) s h width at earlier i ≡ good (x, t)
       → (t ≡ at_offset s r.next 0) × (r.next ≤ length s) × (r.size ≡ length x.text) × (r.size ≤ 32) × (after ≡ sets before to x.text)
 
--- the list's places and lengths are those of the references
-pub record ListWritten (agreed : Coding) (c : Cache) (s : List ℕ) (at : ℕ) (start : HeaderStart) (places lengths : List ℕ) : Type 0 where
-  pub list_written : (rs : List Reference) (t : Position) → references_from agreed (held c) s at start ≡ good (rs, t)
-      → (places ≡ (list_of rs).places) × (lengths ≡ (list_of rs).lengths)
+-- the list is that of the references
+pub record ListWritten (agreed : Coding) (c : Cache) (s : List ℕ) (at : ℕ) (start : HeaderStart) (after : AtomList) : Type 0 where
+  pub list_written : (rs : List Reference) (t : Position) → references_from agreed (held c) s at start ≡ good (rs, t) → after ≡ list_of rs
 
 -- the text of the `size` bytes from `from` on is in the place
 pub record StoresText (agreed : Coding) (s : List ℕ) (from size p : ℕ) (before after : Cache) : Type 0 where

@@ -1,5 +1,5 @@
 -- `write_list` meets its contract.
-use mathlib.Core.Path.{sym, ◌∙◌}
+use mathlib.Core.Path.{◌∙◌}
 use Prim.Native.Nat.{◌*◌}
 use native.Mathlib.Omega.{arith}
 use lib.ListN.{length-set}
@@ -14,7 +14,7 @@ use Rattle.cache_entries.proofs.write_list.Goals as goal
 
 pub loop-i-init : goal.loop-i-init
 loop-i-init c = let a = c.args in
-    let p = c.requires in (p.0.good_header.stands.first_inside, record { places_are = omega (arith, p.1.places_are); lengths_are = omega (arith, p.1.lengths_are) }, list_none (coding_of a.utf8) (lent_cache a.cache.now) a.packet.now a.at a.start _ _ a.list_places.now a.list_lengths.now p.1.places_are p.1.lengths_are (c.fill.ensures.after (λ y e. e)) (c.fill-2.ensures.after (λ y e. e)))
+    let p = c.requires in (p.0.good_header.stands.first_inside, record { places_are = omega (arith, p.1.places_are); lengths_are = omega (arith, p.1.lengths_are) }, list_none (coding_of a.utf8) (lent_cache a.cache.now) a.packet.now a.at a.start _ _ a.list.places.now a.list.lengths.now p.1.places_are p.1.lengths_are (c.fill.ensures.after (λ y e. e)) (c.fill-2.ensures.after (λ y e. e)))
 
 pub half_of-half-requires : goal.half_of-half-requires
 half_of-half-requires c = flags_inside _ _ _ _ c.requires.0.good_header.stands (omega arith)
@@ -26,40 +26,28 @@ list_reference-stored-requires c = let a = c.args in
     let h = p.good_header in
     record {
       read_at = record { half_small = c.half_of-half.ensures.1; width_least = h.stands.width_least; width_most = h.stands.width_most; inside = l.invariant.0 };
-      good_reference = rw (c.half_of-half.ensures.0 ∙ flags_half a.packet.now a.at a.start.n l.i (omega arith) (omega arith)) (list_stands (coding_of a.utf8) (lent_cache a.cache.now) a.packet.now a.at a.start h l.i l.next l.list_places l.list_lengths l.invariant.2 c.loop-i-test.true);
+      good_reference = rw (c.half_of-half.ensures.0 ∙ flags_half a.packet.now a.at a.start.n l.i (omega arith) (omega arith)) (list_stands (coding_of a.utf8) (lent_cache a.cache.now) a.packet.now a.at a.start h l.i l.next l.list.places.now l.list.lengths.now l.invariant.2 c.loop-i-test.true);
       cache_sized = p.cache_sized;
       i_small = omega (arith, h.stands.few);
       places_are = l.invariant.1.places_are;
     }
 
-pub overflow_cast-list_lengths : goal.overflow_cast-list_lengths
-overflow_cast-list_lengths c = let a = c.args in
+pub overflow_cast-list : goal.overflow_cast-list
+overflow_cast-list c = let a = c.args in
     let l = c.loop-i in
-    let e : Lists (coding_of a.utf8) (lent_cache a.cache.now) a.packet.now (half (flags_of a.packet.now a.at a.start.n) l.i) a.start.width l.next (32 * l.i) l.list_places _ c.list_reference-stored.result = rw (c.half_of-half.ensures.0 ∙ flags_half a.packet.now a.at a.start.n l.i (omega arith) (omega arith)) at c.list_reference-stored.ensures in
-    let m = list_inside (coding_of a.utf8) (lent_cache a.cache.now) a.packet.now a.at a.start c.requires.0.good_header l.i l.next l.list_places l.list_lengths l.invariant.2 c.loop-i-test.true _ _ _ e in omega (arith, m.1)
-
-pub offset_bounds-list_lengths-i : goal.offset_bounds-list_lengths-i
-offset_bounds-list_lengths-i c = let h = c.requires.0.good_header.stands in omega (arith, h.few)
-
-pub bounds-list_lengths-i : goal.bounds-list_lengths-i
-bounds-list_lengths-i c = let h = c.requires.0.good_header.stands in omega (arith, h.few)
+    let e : Lists (coding_of a.utf8) (lent_cache a.cache.now) a.packet.now (half (flags_of a.packet.now a.at a.start.n) l.i) a.start.width l.next (32 * l.i) l.list.places.now _ c.list_reference-stored.result = rw (c.half_of-half.ensures.0 ∙ flags_half a.packet.now a.at a.start.n l.i (omega arith) (omega arith)) at c.list_reference-stored.ensures in
+    let m = list_inside (coding_of a.utf8) (lent_cache a.cache.now) a.packet.now a.at a.start c.requires.0.good_header l.i l.next l.list.places.now l.list.lengths.now l.invariant.2 c.loop-i-test.true _ _ _ e in omega (arith, m.1)
 
 pub loop-i-preserved : goal.loop-i-preserved
 loop-i-preserved c = let a = c.args in
     let l = c.loop-i in
-    let e : Lists (coding_of a.utf8) (lent_cache a.cache.now) a.packet.now (half (flags_of a.packet.now a.at a.start.n) l.i) a.start.width l.next (32 * l.i) l.list_places _ c.list_reference-stored.result = rw (c.half_of-half.ensures.0 ∙ flags_half a.packet.now a.at a.start.n l.i (omega arith) (omega arith)) at c.list_reference-stored.ensures in (
-      (list_inside (coding_of a.utf8) (lent_cache a.cache.now) a.packet.now a.at a.start c.requires.0.good_header l.i l.next l.list_places l.list_lengths l.invariant.2 c.loop-i-test.true _ _ _ e).0,
+    let e : Lists (coding_of a.utf8) (lent_cache a.cache.now) a.packet.now (half (flags_of a.packet.now a.at a.start.n) l.i) a.start.width l.next (32 * l.i) l.list.places.now _ c.list_reference-stored.result = rw (c.half_of-half.ensures.0 ∙ flags_half a.packet.now a.at a.start.n l.i (omega arith) (omega arith)) at c.list_reference-stored.ensures in (
+      (list_inside (coding_of a.utf8) (lent_cache a.cache.now) a.packet.now a.at a.start c.requires.0.good_header l.i l.next l.list.places.now l.list.lengths.now l.invariant.2 c.loop-i-test.true _ _ _ e).0,
       record { places_are = search rules; lengths_are = simp length-set l.invariant.1.lengths_are },
-      list_more (coding_of a.utf8) (lent_cache a.cache.now) a.packet.now a.at a.start c.requires.0.good_header l.i l.next l.list_places l.list_lengths l.invariant.2 c.loop-i-test.true _ _ _ e,
+      list_more (coding_of a.utf8) (lent_cache a.cache.now) a.packet.now a.at a.start c.requires.0.good_header l.i l.next l.list.places.now l.list.lengths.now l.invariant.2 c.loop-i-test.true _ _ _ e,
     )
-
-pub shape_of-list_places : goal.shape_of-list_places
-shape_of-list_places c = c.loop-i.invariant.1.places_are ∙ sym c.requires.1.places_are
-
-pub shape_of-list_lengths : goal.shape_of-list_lengths
-shape_of-list_lengths c = c.loop-i.invariant.1.lengths_are ∙ sym c.requires.1.lengths_are
 
 pub returns : goal.returns
 returns c = let a = c.args in
     let l = c.loop-i in
-    list_all (coding_of a.utf8) (lent_cache a.cache.now) a.packet.now a.at a.start l.i l.next l.list_places l.list_lengths l.invariant.2 (omega arith) c.requires.0.good_header.stands.few
+    list_all (coding_of a.utf8) (lent_cache a.cache.now) a.packet.now a.at a.start l.i l.next l.list.places.now l.list.lengths.now l.invariant.2 (omega arith)

@@ -7,4 +7,4 @@ use Rattle.cache_entries.proofs.Loops.{ListWalk}
 use Rattle.cache_entries.proofs.write_list.Given as goal
 
 abbrev pub invariant-loop-i : goal.invariant-loop-i
-invariant-loop-i l = (l.next ≤ length l.packet) × ListSized l.list_places l.list_lengths × ListWalk (coding_of l.utf8) (lent_cache l.cache) l.packet l.at l.start l.i l.next l.list_places l.list_lengths
+invariant-loop-i l = (l.next ≤ length l.packet) × ListSized l.list.places.now l.list.lengths.now × ListWalk (coding_of l.utf8) (lent_cache l.cache) l.packet l.at l.start l.i l.next l.list.places.now l.list.lengths.now
