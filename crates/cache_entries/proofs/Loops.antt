@@ -17,7 +17,8 @@ use Rattle.dist_header.specs.declared.HeaderStart.{HeaderStart}
 use Rattle.dist_header.specs.Code.{flags_of, GoodHeader}
 use Rattle.dist_header.proofs.Walk.{along_more, along_all, Turned, turned}
 use Rattle.dist_header.proofs.Accepted.{HalfWay, begun}
-use Rattle.cache_entries.specs.Code.{GoodReference, Lists, ListWritten, Enters, CacheWritten}
+use Rattle.cache_entries.specs.declared.ListMut.{ListMut}
+use Rattle.cache_entries.specs.Code.{SameList, GoodReference, Lists, ListWritten, Enters, CacheWritten}
 use Rattle.cache_entries.proofs.Storing.{stored_next, length_next}
 
 texts_more : (done : List Reference) (x : Reference) → texts_in_places (done ++ (x ∷ [])) ≡ texts_in_places done ++ zeros_to 32 x.text
@@ -62,6 +63,9 @@ module _ (agreed : Coding) (holding : ℕ → Held) (s : List ℕ) (at : ℕ) (s
         }
 
 -- ---- a list
+
+pub list_same : (l : ListMut) → SameList l l
+list_same l = record { n_same = refl; places_same = refl; lengths_same = refl }
 
 module _ (agreed : Coding) (c : Cache) (s : List ℕ) (at : ℕ) (start : HeaderStart) where
   pub record ListWalk (i next : ℕ) (list sizes : List ℕ) : Type 0 where

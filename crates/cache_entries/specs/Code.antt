@@ -3,35 +3,30 @@
 use Rattle.std.specs.Prelude.{◌≡◌, true, List, ℕ, ◌≤◌, ◌<◌, length, take, drop}
 use Rattle.std.proofs.lemmas.List.Edits.{sets}
 use Rattle.term_spec.specs.Text.{Coding, valid, check, encodes}
-use denote.MutBor.{MutBor}
 use Rattle.term_spec.specs.AtomList.{AtomList, lent_list}
 use Rattle.term_spec.specs.Answer.{good, Position, at_offset}
-use Rattle.packet_spec.specs.Memory.{Cache, cache_of, CacheSized, Held, held}
+use Rattle.packet_spec.specs.Memory.{Cache, CacheSized, Held, held}
 use Rattle.packet_spec.specs.Header.{Reference}
 use Rattle.packet_spec.specs.Calls.{enter, entered, list_of}
 use Rattle.dist_header.specs.declared.HeaderStart.{HeaderStart}
 use Rattle.dist_header.specs.Code.{references_from, ReferenceAt, reference_from, GoodHeader}
-use Rattle.cache_entries.specs.declared.CacheMut.{CacheMut}
 use Rattle.cache_entries.specs.declared.ListMut.{ListMut}
 use Rattle.cache_entries.specs.declared.ListedText.{ListedText}
 
--- the cache and a list as they are lent, and as they are left
-abbrev pub cache_lent : CacheMut → Cache
-cache_lent c = cache_of c.places.now c.lengths.now
-
-abbrev pub cache_left : MutBor (List ℕ) × (MutBor (List ℕ) × Unit {0}) → Cache
-cache_left c = cache_of c.0.now c.1.0.now
-
+-- the list that is lent
 abbrev pub list_lent : ListMut → AtomList
 list_lent l = lent_list l.n.now l.places.now l.lengths.now
 
-abbrev pub list_left : MutBor ℕ × (MutBor (List ℕ) × (MutBor (List ℕ) × Unit {0})) → AtomList
-list_left l = lent_list l.0.now l.1.0.now l.1.1.0.now
+-- it is written where it was lent
+pub record SameList (old new : ListMut) : Type 0 where
+  pub n_same : new.n.ghost_name ≡ old.n.ghost_name
+  pub places_same : new.places.ghost_name ≡ old.places.ghost_name
+  pub lengths_same : new.lengths.ghost_name ≡ old.lengths.ghost_name
 
 -- an atom list of its stated size
-pub record ListSized (places lengths : List ℕ) : Type 0 where
-  pub places_are : length places ≡ 8160
-  pub lengths_are : length lengths ≡ 255
+pub record ListSized (list : AtomList) : Type 0 where
+  pub places_are : length list.places ≡ 8160
+  pub lengths_are : length list.lengths ≡ 255
 
 -- a good header, judged with a cache of its stated size
 pub record HeaderIn (agreed : Coding) (c : Cache) (s : List ℕ) (at : ℕ) (start : HeaderStart) : Type 0 where

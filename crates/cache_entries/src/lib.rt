@@ -5,18 +5,11 @@ ghost use Rattle.std.specs.Prelude.{◌*◌, ◌<◌};
 ghost use Rattle.packet_spec.specs.Memory.{cache_of, CacheSized};
 ghost use Rattle.term_spec.specs.Text.{coding_of};
 ghost use Rattle.dist_header.specs.Code.{lent_cache, TextFits};
-ghost use Rattle.cache_entries.specs.Code.{cache_lent, cache_left, list_left, ListSized, HeaderIn, Listable, Lists, ListWritten, StoresText, Enterable, Enters, CacheWritten};
+ghost use Rattle.cache_entries.specs.Code.{list_lent, SameList, ListSized, HeaderIn, Listable, Lists, ListWritten, StoresText, Enterable, Enters, CacheWritten};
 
 use dist_header::{Cache, HeaderStart, Spelled};
 use packet_spec::{Place, ReferenceIndex};
 use term_spec::sizes;
-
-// The cache as it is written: its places, and their lengths.
-#[derive(Drop)]
-pub struct CacheMut<'a> {
-    pub places: &'a mut [u8],
-    pub lengths: &'a mut [u16],
-}
 
 // An atom list as it is written: the number of its texts, its places, and their lengths.
 #[derive(Drop)]
@@ -78,10 +71,11 @@ pub fn write_list(
     at: usize,
     start: HeaderStart,
     cache: &Cache,
-    list: ListMut,
+    list: &mut ListMut,
 )
-    requires { HeaderIn (coding_of utf8) (lent_cache cache.now) packet.now at start × ListSized list.places.now list.lengths.now }
-    ensures { ListWritten (coding_of utf8) (lent_cache cache.now) packet.now at start (list_left list.exit) }
+    requires { HeaderIn (coding_of utf8) (lent_cache cache.now) packet.now at start × ListSized (list_lent list.old) }
+    ensures written { ListWritten (coding_of utf8) (lent_cache cache.now) packet.now at start (list_lent list.new) }
+    ensures same { SameList list.old list.new }
 {
     list.places.fill(0);
     list.lengths.fill(0);
@@ -137,15 +131,21 @@ fn enter_reference(
     }
 }
 
-// Enters the new references of the header at `at` into the cache.
-pub fn write_cache(utf8: bool, packet: &[u8], at: usize, start: HeaderStart, cache: CacheMut)
-    requires { HeaderIn (coding_of utf8) (cache_lent cache) packet.now at start }
-    ensures { CacheWritten (coding_of utf8) packet.now at start (cache_lent cache.entry) (cache_left cache.exit) }
+// Enters the new references of the header at `at` into the cache. Two slices and no struct behind a `&mut`: its two fields could not be lent at once, to be read as a `Cache`.
+pub fn write_cache(
+    utf8: bool,
+    packet: &[u8],
+    at: usize,
+    start: HeaderStart,
+    cache: &mut [u8],
+    cache_lengths: &mut [u16],
+)
+    requires { HeaderIn (coding_of utf8) (cache_of cache.old cache_lengths.old) packet.now at start }
+    ensures { CacheWritten (coding_of utf8) packet.now at start (cache_of cache.old cache_lengths.old) (cache_of cache.new cache_lengths.new) }
 {
-    let CacheMut { places, lengths } = cache;
     let mut next = start.first;
     for i in 0..start.n {
         let half = dist_header::half_of(packet, at, ReferenceIndex(i));
-        next = enter_reference(utf8, packet, half, start.width, next, places, lengths);
+        next = enter_reference(utf8, packet, half, start.width, next, cache, cache_lengths);
     }
 }

@@ -1,5 +1,5 @@
 -- A header taken: one law for each way out.
-use mathlib.Core.Path.{◌≡◌, refl, sym, ◌∙◌, ap, ap₂}
+use mathlib.Core.Path.{◌≡◌, refl, sym, ◌∙◌}
 use mathlib.Core.List.{List}
 use Prim.Native.Nat.{ℕ, ◌+◌, ◌-◌, ◌≤◌, ◌<◌}
 use native.Mathlib.Omega.{arith}
@@ -8,7 +8,7 @@ use borrow.Author.Tests.{le-leb, lt-leb}
 use Rattle.std.specs.Prelude.{Ok, Err}
 use Rattle.term_spec.specs.Text.{Coding}
 use Rattle.term_spec.specs.Answer.{good, after, at_offset}
-use Rattle.term_spec.specs.AtomList.{AtomList, lent_list}
+use Rattle.term_spec.specs.AtomList.{AtomList}
 use Rattle.term_spec.specs.declared.Refusal.{Refusal}
 use Rattle.packet_spec.specs.Answers.{refusal_of}
 use Rattle.packet_spec.specs.Memory.{Cache, held}
@@ -17,7 +17,7 @@ use Rattle.packet_spec.specs.Packet.{payload_after}
 use Rattle.packet_spec.specs.Calls.{list_of}
 use Rattle.dist_header.specs.Code.{GoodHeader, HeaderIs}
 use Rattle.dist_header.specs.declared.Header.{Header}
-use Rattle.dist_header.proofs.Accepted.{header_references, header_is, references_are, header_count, payload_inside, good_of}
+use Rattle.dist_header.proofs.Accepted.{header_references, header_is, references_are, payload_inside, good_of}
 use Rattle.cache_entries.specs.Code.{ListWritten, CacheWritten}
 use Rattle.headed_packets.specs.Code.{headed, Heads}
 use Rattle.headed_packets.specs.declared.Payload.{Payload}
@@ -46,13 +46,12 @@ module _ (agreed : Coding) (c : Cache) (s : List ℕ) (at : ℕ) where
     unfolding Heads payload_after
     heads_long list l = record { is = after_header ∙ rw (lt-leb (0 + length (drop h.payload s)) 65536 (omega (arith, left))); cache_stays = refl; list_stays = refl }
 
-    pub heads_good : (list : AtomList) (c' : Cache) (list_places' list_lengths' : List ℕ) → length s - h.payload ≤ 65536 → ListWritten agreed c s at h.start list_places' list_lengths' → CacheWritten agreed s at h.start c c'
-        → Heads agreed s at c list (Ok (record { offset = h.payload; size = length s - h.payload })) c' (lent_list h.start.n list_places' list_lengths')
+    pub heads_good : (list : AtomList) (c' : Cache) (list' : AtomList) → length s - h.payload ≤ 65536 → ListWritten agreed c s at h.start list' → CacheWritten agreed s at h.start c c'
+        → Heads agreed s at c list (Ok (record { offset = h.payload; size = length s - h.payload })) c' list'
     unfolding Heads payload_after list_of
-    heads_good list c' list_places' list_lengths' l list_written all =
+    heads_good list c' list' l list_written all =
         let rs : List Reference = header_references agreed (held c) s at h told in
         let e = references_are agreed (held c) s at h told in
-        let k = list_written.list_written rs (at_offset s h.payload 0) e in
         let inside = told_inside in
         record {
           references = rs;
@@ -61,9 +60,7 @@ module _ (agreed : Coding) (c : Cache) (s : List ℕ) (at : ℕ) where
           inside = omega arith;
           small = l;
           cache_is = all.cache_written rs (at_offset s h.payload 0) e;
-          list_is =
-              ap (λ (m : ℕ). lent_list m list_places' list_lengths') (sym (header_count agreed (held c) s at h told))
-              ∙ ap₂ (λ (x y : List ℕ). lent_list (length rs) x y) k.0 k.1;
+          list_is = list_written.list_written rs (at_offset s h.payload 0) e;
         }
 
 -- the payload of a header that is taken

@@ -2,12 +2,12 @@
 #![tactic(auto)]
 
 ghost use Rattle.std.specs.Prelude.{◌≤◌, ◌<◌, ◌≡◌, length};
-ghost use Rattle.term_spec.specs.AtomList.{lent_list};
 ghost use Rattle.term_spec.specs.Text.{coding_of};
 ghost use Rattle.packet_spec.specs.Memory.{cache_of, CacheSized};
-ghost use Rattle.cache_entries.specs.Code.{ListSized};
+ghost use Rattle.cache_entries.specs.Code.{list_lent, SameList, ListSized};
 ghost use Rattle.headed_packets.specs.Code.{Heads, TakesPlain, TakesStart};
 
+use cache_entries::ListMut;
 use dist_header::Cache;
 use packet_spec::{Ids, PacketAnswer, PacketOutcome, Pending, Taken, sizes};
 use term_spec::{Refusal, refusals};
@@ -19,24 +19,23 @@ struct Payload {
     size: usize,
 }
 
-// Takes the header at `at`: judges it and the payload's length, then writes the list and the cache.
+// Takes the header at `at`: judges it and the payload's length, then writes the list and the cache. The cache is two slices, so that both can be lent as a `Cache`.
 fn take_header(
     utf8: bool,
     packet: &[u8],
     at: usize,
     cache: &mut [u8],
     cache_lengths: &mut [u16],
-    list_n: &mut u8,
-    list_places: &mut [u8],
-    list_lengths: &mut [u16],
+    list: &mut ListMut,
 ) -> Result<Payload, Refusal>
-    requires { (at ≤ length packet.now) × CacheSized (cache_of cache.old cache_lengths.old) × ListSized list_places.old list_lengths.old }
-    ensures { Heads (coding_of utf8) packet.now at
+    requires { (at ≤ length packet.now) × CacheSized (cache_of cache.old cache_lengths.old) × ListSized (list_lent list.old) }
+    ensures heads { Heads (coding_of utf8) packet.now at
         (cache_of cache.old cache_lengths.old)
-        (lent_list list_n.old list_places.old list_lengths.old)
+        (list_lent list.old)
         result
         (cache_of cache.new cache_lengths.new)
-        (lent_list list_n.new list_places.new list_lengths.new) }
+        (list_lent list.new) }
+    ensures same { SameList list.old list.new }
 {
     let shared = Cache {
         places: cache,
@@ -50,17 +49,8 @@ fn take_header(
             place: 0,
         });
     }
-    cache_entries::write_list(
-        utf8,
-        packet,
-        at,
-        header.start,
-        &shared,
-        list_places,
-        list_lengths,
-    );
+    cache_entries::write_list(utf8, packet, at, header.start, &shared, list);
     cache_entries::write_cache(utf8, packet, at, header.start, cache, cache_lengths);
-    *list_n = header.start.n as u8;
     Ok(Payload {
         offset: header.payload,
         size,
@@ -73,17 +63,16 @@ pub fn take_plain(
     packet: &[u8],
     cache: &mut [u8],
     cache_lengths: &mut [u16],
-    plain_n: &mut u8,
-    plain_places: &mut [u8],
-    plain_lengths: &mut [u16],
+    list: &mut ListMut,
 ) -> PacketAnswer
-    requires { (2 ≤ length packet.now) × CacheSized (cache_of cache.old cache_lengths.old) × ListSized plain_places.old plain_lengths.old }
-    ensures { TakesPlain (coding_of utf8) packet.now
+    requires { (2 ≤ length packet.now) × CacheSized (cache_of cache.old cache_lengths.old) × ListSized (list_lent list.old) }
+    ensures takes { TakesPlain (coding_of utf8) packet.now
         (cache_of cache.old cache_lengths.old)
-        (lent_list plain_n.old plain_places.old plain_lengths.old)
+        (list_lent list.old)
         result
         (cache_of cache.new cache_lengths.new)
-        (lent_list plain_n.new plain_places.new plain_lengths.new) }
+        (list_lent list.new) }
+    ensures same { SameList list.old list.new }
 {
     let payload = take_header(
         utf8,
@@ -91,9 +80,7 @@ pub fn take_plain(
         sizes::PLAIN_PREAMBLE,
         cache,
         cache_lengths,
-        plain_n,
-        plain_places,
-        plain_lengths,
+        list,
     )?;
     Ok(PacketOutcome::Plain {
         offset: payload.offset,
@@ -108,21 +95,20 @@ pub fn take_start(
     ids: Ids,
     cache: &mut [u8],
     cache_lengths: &mut [u16],
-    pending_n: &mut u8,
-    pending_places: &mut [u8],
-    pending_lengths: &mut [u16],
+    list: &mut ListMut,
     pending: Pending,
     gather: &mut [u8],
 ) -> Taken
-    requires { (18 ≤ length packet.now) × CacheSized (cache_of cache.old cache_lengths.old) × ListSized pending_places.old pending_lengths.old
+    requires { (18 ≤ length packet.now) × CacheSized (cache_of cache.old cache_lengths.old) × ListSized (list_lent list.old)
         × (length gather.old ≡ 65536) × (0 < ids.fragment) }
-    ensures { TakesStart (coding_of utf8) packet.now ids.sequence ids.fragment
+    ensures takes { TakesStart (coding_of utf8) packet.now ids.sequence ids.fragment
         (cache_of cache.old cache_lengths.old)
-        (lent_list pending_n.old pending_places.old pending_lengths.old)
+        (list_lent list.old)
         pending gather.old result
         (cache_of cache.new cache_lengths.new)
-        (lent_list pending_n.new pending_places.new pending_lengths.new)
+        (list_lent list.new)
         gather.new }
+    ensures same { SameList list.old list.new }
 {
     if pending.due != 0 {
         return packet_spec::refused(refusals::PENDING, pending);
@@ -133,9 +119,7 @@ pub fn take_start(
         sizes::FRAGMENT_PREAMBLE,
         cache,
         cache_lengths,
-        pending_n,
-        pending_places,
-        pending_lengths,
+        list,
     ) {
         Err(refusal) => Taken {
             answer: Err(refusal),

@@ -10,6 +10,9 @@ use Rattle.term_spec.specs.Connection.{coding_agreed, flags_known}
 use Rattle.term_spec.specs.Answer.{Answer, good, refused, Position, at_offset, after}
 use Rattle.term_spec.specs.Message.{result_of}
 use Rattle.term_spec.proofs.Tests.{refuted, confirmed}
+use Rattle.term_spec.specs.AtomList.{AtomList, lent_list}
+use Rattle.cache_entries.specs.declared.ListMut.{ListMut}
+use Rattle.cache_entries.specs.Code.{list_lent}
 use Rattle.packet_spec.specs.declared.Pending.{Pending}
 use Rattle.packet_spec.specs.declared.Ids.{Ids}
 use Rattle.packet_spec.specs.Memory.{Memory, memory_of_size, record_true, held}
@@ -78,3 +81,8 @@ module _ (flags : ℕ) (m : Memory) (s : List ℕ) where
             → Takes m (result_of (rest (coding_agreed flags) (held m.cache) m.pending (continuing i.sequence i.fragment) (at_offset s 18 0))) r.answer m' → PacketCall flags s m r m'
         unfolding PreambleIs
         more_done i e r m' g t = done_as _ (preamble_read (good (continuing i.sequence i.fragment, at_offset s 18 0)) e.0) r.answer r.pending m' g t
+
+-- a list that is left as these are says what they say
+pub list_told : (F : AtomList → Type 0) {n : ℕ} {places lengths : List ℕ} (list : ListMut) → n ≡ list.n.now → places ≡ list.places.now → lengths ≡ list.lengths.now
+    → F (list_lent list) → F (lent_list n places lengths)
+list_told F list a b c f = rw (a, b, c) f

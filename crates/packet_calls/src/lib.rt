@@ -5,12 +5,14 @@ ghost use Rattle.term_spec.specs.AtomList.{lent_list};
 ghost use Rattle.packet_spec.specs.Memory.{cache_of, memory_of};
 ghost use Rattle.packet_spec.specs.Promises.{PacketCall};
 
+use cache_entries::ListMut;
 use connection::Connection;
 use packet_preamble::Preamble;
 use packet_spec::{Pending, Taken};
 use term_spec::refusals;
 
-// Takes a packet, over all lent memory: the cache, the list for a plain packet, the list for the pending sequence, the record, the gather buffer.
+// Takes a packet, over all lent memory: the cache, the list for a plain packet, the list for the pending sequence, the record, the gather buffer. Twelve
+// parameters and no structs: C lends each slice, and docs/API.md has them so.
 pub fn take_packet(
     connection: Connection,
     packet: &[u8],
@@ -56,30 +58,32 @@ pub fn take_packet(
     let utf8 = connection::utf8_agreed(connection.flags);
     match packet_preamble::read_preamble(packet) {
         Err(number) => packet_spec::refused(number, pending),
-        Ok(Preamble::Plain) => Taken {
-            answer: headed_packets::take_plain(
+        Ok(Preamble::Plain) => {
+            let mut list = ListMut {
+                n: plain_n,
+                places: plain_places,
+                lengths: plain_lengths,
+            };
+            let answer = headed_packets::take_plain(utf8, packet, cache, cache_lengths, &mut list);
+            Taken { answer, pending }
+        }
+        Ok(Preamble::Start(ids)) => {
+            let mut list = ListMut {
+                n: pending_n,
+                places: pending_places,
+                lengths: pending_lengths,
+            };
+            headed_packets::take_start(
                 utf8,
                 packet,
+                ids,
                 cache,
                 cache_lengths,
-                plain_n,
-                plain_places,
-                plain_lengths,
-            ),
-            pending,
-        },
-        Ok(Preamble::Start(ids)) => headed_packets::take_start(
-            utf8,
-            packet,
-            ids,
-            cache,
-            cache_lengths,
-            pending_n,
-            pending_places,
-            pending_lengths,
-            pending,
-            gather,
-        ),
+                &mut list,
+                pending,
+                gather,
+            )
+        }
         Ok(Preamble::Continuation(ids)) => {
             fragments::take_continuation(packet, ids, pending, gather)
         }

@@ -1,5 +1,5 @@
 -- `write_list` meets its contract.
-use mathlib.Core.Path.{◌∙◌}
+use mathlib.Core.Path.{refl, ◌∙◌}
 use Prim.Native.Nat.{◌*◌}
 use native.Mathlib.Omega.{arith}
 use lib.ListN.{length-set}
@@ -14,7 +14,7 @@ use Rattle.cache_entries.proofs.write_list.Goals as goal
 
 pub loop-i-init : goal.loop-i-init
 loop-i-init c = let a = c.args in
-    let p = c.requires in (p.0.good_header.stands.first_inside, record { places_are = omega (arith, p.1.places_are); lengths_are = omega (arith, p.1.lengths_are) }, list_none (coding_of a.utf8) (lent_cache a.cache.now) a.packet.now a.at a.start _ _ a.list.places.now a.list.lengths.now p.1.places_are p.1.lengths_are (c.fill.ensures.after (λ y e. e)) (c.fill-2.ensures.after (λ y e. e)))
+    let p = c.requires in (p.0.good_header.stands.first_inside, record { places_are = omega (arith, p.1.places_are); lengths_are = omega (arith, p.1.lengths_are) }, list_none (coding_of a.utf8) (lent_cache a.cache.now) a.packet.now a.at a.start _ _ a.list.now.places.now a.list.now.lengths.now p.1.places_are p.1.lengths_are (c.fill.ensures.after (λ y e. e)) (c.fill-2.ensures.after (λ y e. e)), record { n_same = refl; places_same = refl; lengths_same = refl })
 
 pub half_of-half-requires : goal.half_of-half-requires
 half_of-half-requires c = flags_inside _ _ _ _ c.requires.0.good_header.stands (omega arith)
@@ -45,9 +45,13 @@ loop-i-preserved c = let a = c.args in
       (list_inside (coding_of a.utf8) (lent_cache a.cache.now) a.packet.now a.at a.start c.requires.0.good_header l.i l.next l.list.places.now l.list.lengths.now l.invariant.2 c.loop-i-test.true _ _ _ e).0,
       record { places_are = search rules; lengths_are = simp length-set l.invariant.1.lengths_are },
       list_more (coding_of a.utf8) (lent_cache a.cache.now) a.packet.now a.at a.start c.requires.0.good_header l.i l.next l.list.places.now l.list.lengths.now l.invariant.2 c.loop-i-test.true _ _ _ e,
+      record { n_same = l.invariant.3.n_same; places_same = l.invariant.3.places_same; lengths_same = l.invariant.3.lengths_same },
     )
 
 pub returns : goal.returns
 returns c = let a = c.args in
     let l = c.loop-i in
-    list_all (coding_of a.utf8) (lent_cache a.cache.now) a.packet.now a.at a.start l.i l.next l.list.places.now l.list.lengths.now l.invariant.2 (omega arith)
+    record {
+      written = list_all (coding_of a.utf8) (lent_cache a.cache.now) a.packet.now a.at a.start l.i l.next l.list.places.now l.list.lengths.now l.invariant.2 (omega arith);
+      same = record { n_same = l.invariant.3.n_same; places_same = l.invariant.3.places_same; lengths_same = l.invariant.3.lengths_same };
+    }
