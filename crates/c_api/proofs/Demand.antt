@@ -10,19 +10,19 @@ use native.Mathlib.Omega.{arith}
 use contract.Lifetimes.{Lfts}
 use contract.Monad.{fact}
 use borrow.Fn.World.{World}
+use Rattle.std.specs.Prelude.{Ok, Err}
 use Rattle.term_spec.specs.AtomList.{AtomList, lent_list}
 use Rattle.term_spec.specs.Message.{standalone, payload}
 use Rattle.term_spec.specs.Connection.{flags_known}
 use Rattle.term_spec.specs.Numbers.{Under}
 use Rattle.term_spec.specs.Answer.{good}
 use Rattle.packet_spec.specs.declared.Pending.{Pending}
-use Rattle.packet_spec.specs.declared.PacketAnswer.{PacketAnswer}
-use Rattle.packet_spec.specs.declared.PacketAnswer.TheVariants as packets
+use Rattle.packet_spec.specs.declared.PacketOutcome.TheVariants as packets
 use Rattle.packet_spec.specs.Memory.{Cache, Memory, cache_of, memory_of}
 use Rattle.packet_spec.specs.Header.{Reference}
 use Rattle.packet_spec.specs.Packet.{plain, judged}
 use Rattle.packet_spec.specs.Words.{own_word}
-use Rattle.packet_spec.specs.Answers.{word_answer}
+use Rattle.packet_spec.specs.Answers.{PacketAnswer, word_answer}
 use Rattle.packet_spec.specs.Runs.{Call, taking, dropping, resetting, AllBytes, with_state}
 use Rattle.packet_spec.specs.Demands.{Ran, ended, packet_then, drop_then, reset_then}
 use Rattle.packet_spec.specs.OwnWords.{Says, OwnWords}
@@ -117,12 +117,12 @@ plain_replied {flags} {packet} {m} {m'} {reply} v p k = go p.taken.answer refl
     kind_is a e = ap (λ (x : PacketAnswer). (flat_packet x).kind) (sym e) ∙ ap (λ (x : PacketReply). x.kind) (sym p.reply_is) ∙ k
 
     go : (a : PacketAnswer) → p.taken.answer ≡ a → (rs : List Reference) × ((bs : List ℕ) × (judged flags m packet ≡ good (plain rs reply.offset bs)))
-    go (packets.Plain offset size) e =
+    go (Ok (packets.Plain offset size)) e =
         let at : reply.offset ≡ offset = ap (λ (x : PacketReply). x.offset) p.reply_is ∙ ap (λ (x : PacketAnswer). (flat_packet x).offset) e in
         rw at ((definitions.own_words v tt p.called ended).plain_told offset size e)
-    go (packets.Pending due gathered) e = let no_way : ◌≡◌ {A = ℕ} 2 1 = kind_is _ e in absurd (omega arith)
-    go (packets.Complete gathered) e = let no_way : ◌≡◌ {A = ℕ} 3 1 = kind_is _ e in absurd (omega arith)
-    go (packets.Refused f) e = let no_way : ◌≡◌ {A = ℕ} 0 1 = kind_is _ e in absurd (omega arith)
+    go (Ok (packets.Pending due gathered)) e = let no_way : ◌≡◌ {A = ℕ} 2 1 = kind_is _ e in absurd (omega arith)
+    go (Ok (packets.Complete gathered)) e = let no_way : ◌≡◌ {A = ℕ} 3 1 = kind_is _ e in absurd (omega arith)
+    go (Err f) e = let no_way : ◌≡◌ {A = ℕ} 0 1 = kind_is _ e in absurd (omega arith)
 
 -- .. and on such a list `ik_word`, with flags that are known, replies, for every index, what that reference says
 pub word_replied : {flags : ℕ} {list : AtomList} {rs : List Reference} {i : ℕ} {reply : WordReply} → flags_known flags ≡ true → Says list rs → IsWordReply flags list i reply

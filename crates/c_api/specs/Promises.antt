@@ -4,14 +4,11 @@ use Rattle.std.specs.Prelude.{◌≡◌, List, ℕ}
 use Rattle.term_spec.specs.AtomList.{AtomList}
 use Rattle.term_spec.specs.Message.{Framing}
 use Rattle.term_spec.specs.Promises.{ReadCall, WriteCall}
-use Rattle.term_spec.specs.declared.ReadAnswer.{ReadAnswer}
-use Rattle.term_spec.specs.declared.WriteAnswer.{WriteAnswer}
+use Rattle.term_spec.specs.Answers.{ReadAnswer, WriteAnswer}
 use Rattle.packet_spec.specs.Memory.{Cache, Memory}
 use Rattle.packet_spec.specs.Promises.{PacketCall, DropCall, ResetCall, LocateWordCall}
 use Rattle.packet_spec.specs.declared.Pending.{Pending}
-use Rattle.packet_spec.specs.declared.Taken.{Taken}
-use Rattle.packet_spec.specs.declared.Settled.{Settled}
-use Rattle.packet_spec.specs.declared.WordAnswer.{WordAnswer}
+use Rattle.packet_spec.specs.Answers.{Taken, Settled, WordAnswer}
 use Rattle.c_replies.specs.Terms.{flat_read, flat_write}
 use Rattle.c_replies.specs.Packets.{flat_packet, flat_state, flat_word}
 use Rattle.c_replies.specs.declared.ReadReply.{ReadReply}

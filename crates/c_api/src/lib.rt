@@ -29,14 +29,7 @@ pub extern "C" fn ik_read_standalone(
 ) -> ReadReply
     ensures { IsReadReply flags standalone (lent_list n places.now lengths.now) msg.now table.old result table.new }
 {
-    c_replies::flat_read(reader::read_standalone(
-        Connection { flags },
-        msg,
-        n,
-        places,
-        lengths,
-        table,
-    ))
+    reader::read_standalone(Connection { flags }, msg, n, places, lengths, table).into()
 }
 
 // Reads a payload into the table.
@@ -51,7 +44,7 @@ pub extern "C" fn ik_read_payload(
 ) -> ReadReply
     ensures { IsReadReply flags payload (lent_list n places.now lengths.now) msg.now table.old result table.new }
 {
-    c_replies::flat_read(reader::read_payload(Connection { flags }, msg, n, places, lengths, table))
+    reader::read_payload(Connection { flags }, msg, n, places, lengths, table).into()
 }
 
 // Writes the canonical form of a standalone term.
@@ -67,7 +60,7 @@ pub extern "C" fn ik_write_standalone(
 ) -> WriteReply
     ensures { IsWriteReply flags standalone (lent_list n places.now lengths.now) msg.now scratch.old output.old result scratch.new output.new }
 {
-    c_replies::flat_write(writer::write_standalone(
+    writer::write_standalone(
         Connection { flags },
         msg,
         n,
@@ -75,7 +68,8 @@ pub extern "C" fn ik_write_standalone(
         lengths,
         scratch,
         output,
-    ))
+    )
+    .into()
 }
 
 // Writes the canonical form of each term of a payload.
@@ -91,7 +85,7 @@ pub extern "C" fn ik_write_payload(
 ) -> WriteReply
     ensures { IsWriteReply flags payload (lent_list n places.now lengths.now) msg.now scratch.old output.old result scratch.new output.new }
 {
-    c_replies::flat_write(writer::write_payload(
+    writer::write_payload(
         Connection { flags },
         msg,
         n,
@@ -99,7 +93,8 @@ pub extern "C" fn ik_write_payload(
         lengths,
         scratch,
         output,
-    ))
+    )
+    .into()
 }
 
 // The number of a row of a standalone term.
@@ -114,14 +109,7 @@ pub extern "C" fn ik_number_standalone(
 ) -> NumberReply
     ensures { result ≡ flat_number (number_answer (number_in flags standalone (lent_list n places.now lengths.now) msg.now row)) }
 {
-    c_replies::flat_number(queries::number_standalone(
-        Connection { flags },
-        msg,
-        n,
-        places,
-        lengths,
-        row,
-    ))
+    queries::number_standalone(Connection { flags }, msg, n, places, lengths, row).into()
 }
 
 // Where the text stands of the atom whose tag is at this offset of a standalone term.
@@ -136,14 +124,7 @@ pub extern "C" fn ik_text_standalone(
 ) -> TextReply
     ensures { result ≡ flat_text (text_at (text_in flags standalone (lent_list n places.now lengths.now) msg.now offset)) }
 {
-    c_replies::flat_text(queries::locate_standalone(
-        Connection { flags },
-        msg,
-        n,
-        places,
-        lengths,
-        offset,
-    ))
+    queries::locate_standalone(Connection { flags }, msg, n, places, lengths, offset).into()
 }
 
 // The mark of the atom whose tag is at this offset of a standalone term.
@@ -158,14 +139,7 @@ pub extern "C" fn ik_mark_standalone(
 ) -> MarkReply
     ensures { result ≡ flat_mark (mark_answer (text_in flags standalone (lent_list n places.now lengths.now) msg.now offset)) }
 {
-    c_replies::flat_mark(queries::mark_standalone(
-        Connection { flags },
-        msg,
-        n,
-        places,
-        lengths,
-        offset,
-    ))
+    queries::mark_standalone(Connection { flags }, msg, n, places, lengths, offset).into()
 }
 
 // The number of a row of a payload.
@@ -180,14 +154,7 @@ pub extern "C" fn ik_number_payload(
 ) -> NumberReply
     ensures { result ≡ flat_number (number_answer (number_in flags payload (lent_list n places.now lengths.now) msg.now row)) }
 {
-    c_replies::flat_number(queries::number_payload(
-        Connection { flags },
-        msg,
-        n,
-        places,
-        lengths,
-        row,
-    ))
+    queries::number_payload(Connection { flags }, msg, n, places, lengths, row).into()
 }
 
 // Where the text stands of the atom whose tag is at this offset of a payload.
@@ -202,14 +169,7 @@ pub extern "C" fn ik_text_payload(
 ) -> TextReply
     ensures { result ≡ flat_text (text_at (text_in flags payload (lent_list n places.now lengths.now) msg.now offset)) }
 {
-    c_replies::flat_text(queries::locate_payload(
-        Connection { flags },
-        msg,
-        n,
-        places,
-        lengths,
-        offset,
-    ))
+    queries::locate_payload(Connection { flags }, msg, n, places, lengths, offset).into()
 }
 
 // The mark of the atom whose tag is at this offset of a payload.
@@ -224,14 +184,7 @@ pub extern "C" fn ik_mark_payload(
 ) -> MarkReply
     ensures { result ≡ flat_mark (mark_answer (text_in flags payload (lent_list n places.now lengths.now) msg.now offset)) }
 {
-    c_replies::flat_mark(queries::mark_payload(
-        Connection { flags },
-        msg,
-        n,
-        places,
-        lengths,
-        offset,
-    ))
+    queries::mark_payload(Connection { flags }, msg, n, places, lengths, offset).into()
 }
 
 // The text of reference `index` of a message, by that message's own list.
@@ -245,100 +198,14 @@ pub extern "C" fn ik_word(
 ) -> WordReply
     ensures { IsWordReply flags (lent_list n places.now lengths.now) index result }
 {
-    c_replies::flat_word(word_lookup::locate_word(
+    word_lookup::locate_word(
         Connection { flags },
         n,
         places,
         lengths,
         ReferenceIndex(index),
-    ))
-}
-
-// What a drop or a reset answers, and the record as it is then.
-#[derive(Drop)]
-pub struct Kept {
-    pub answer: StateReply,
-    pub pending: Pending,
-}
-
-// What taking a packet answers, and the record as it is then.
-#[derive(Drop)]
-pub struct Received {
-    pub answer: PacketReply,
-    pub pending: Pending,
-}
-
-// A drop, by value.
-pub fn drop_by_value(flags: u8, pending: Pending) -> Kept
-    ensures { IsDropReply flags pending result.answer result.pending }
-{
-    let settled = link_state::drop_sequence(Connection { flags }, pending);
-    let answer = settled.answer;
-    let then = settled.pending;
-    let reply = c_replies::flat_state(answer);
-    Kept {
-        answer: reply,
-        pending: then,
-    }
-}
-
-// A reset, the record by value.
-pub fn reset_by_value(cache: &mut [u8], cache_lengths: &mut [u16], pending: Pending) -> Kept
-    ensures { IsResetReply (cache_of cache.old cache_lengths.old) pending result.answer (cache_of cache.new cache_lengths.new) result.pending }
-{
-    let settled = link_state::reset(cache, cache_lengths, pending);
-    let answer = settled.answer;
-    let then = settled.pending;
-    let reply = c_replies::flat_state(answer);
-    Kept {
-        answer: reply,
-        pending: then,
-    }
-}
-
-// Takes a packet, the record by value.
-pub fn packet_by_value(
-    flags: u8,
-    packet: &[u8],
-    cache: &mut [u8],
-    cache_lengths: &mut [u16],
-    plain_n: &mut u8,
-    plain_places: &mut [u8],
-    plain_lengths: &mut [u16],
-    pending_n: &mut u8,
-    pending_places: &mut [u8],
-    pending_lengths: &mut [u16],
-    pending: Pending,
-    gather: &mut [u8],
-) -> Received
-    ensures { IsPacketReply flags packet.now
-        (memory_of (cache_of cache.old cache_lengths.old) (lent_list plain_n.old plain_places.old plain_lengths.old)
-        (lent_list pending_n.old pending_places.old pending_lengths.old) pending gather.old)
-        result.answer
-        (memory_of (cache_of cache.new cache_lengths.new) (lent_list plain_n.new plain_places.new plain_lengths.new)
-        (lent_list pending_n.new pending_places.new pending_lengths.new) result.pending gather.new) }
-{
-    let taken = packet_calls::take_packet(
-        Connection { flags },
-        packet,
-        cache,
-        cache_lengths,
-        plain_n,
-        plain_places,
-        plain_lengths,
-        pending_n,
-        pending_places,
-        pending_lengths,
-        pending,
-        gather,
-    );
-    let answer = taken.answer;
-    let then = taken.pending;
-    let reply = c_replies::flat_packet(answer);
-    Received {
-        answer: reply,
-        pending: then,
-    }
+    )
+    .into()
 }
 
 // Drops the pending sequence of the record lent.
@@ -346,9 +213,9 @@ pub fn packet_by_value(
 pub extern "C" fn ik_drop(flags: u8, pending: &mut Pending) -> StateReply
     ensures { IsDropReply flags pending.old result pending.new }
 {
-    let d = drop_by_value(flags, *pending);
-    *pending = d.pending;
-    d.answer
+    let settled = link_state::drop_sequence(Connection { flags }, *pending);
+    *pending = settled.pending;
+    settled.answer.into()
 }
 
 // Empties the cache and drops the pending sequence of the record lent, if there is one.
@@ -360,9 +227,9 @@ pub extern "C" fn ik_reset(
 ) -> StateReply
     ensures { IsResetReply (cache_of cache.old cache_lengths.old) pending.old result (cache_of cache.new cache_lengths.new) pending.new }
 {
-    let d = reset_by_value(cache, cache_lengths, *pending);
-    *pending = d.pending;
-    d.answer
+    let settled = link_state::reset(cache, cache_lengths, *pending);
+    *pending = settled.pending;
+    settled.answer.into()
 }
 
 // Takes a packet, over all lent memory.
@@ -388,8 +255,8 @@ pub extern "C" fn ik_packet(
         (memory_of (cache_of cache.new cache_lengths.new) (lent_list plain_n.new plain_places.new plain_lengths.new)
         (lent_list pending_n.new pending_places.new pending_lengths.new) pending.new gather.new) }
 {
-    let d = packet_by_value(
-        flags,
+    let taken = packet_calls::take_packet(
+        Connection { flags },
         packet,
         cache,
         cache_lengths,
@@ -402,6 +269,6 @@ pub extern "C" fn ik_packet(
         *pending,
         gather,
     );
-    *pending = d.pending;
-    d.answer
+    *pending = taken.pending;
+    taken.answer.into()
 }
