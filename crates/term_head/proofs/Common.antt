@@ -1,8 +1,9 @@
--- What a word that is not 0 tells of the term whose head it is: for the reader of terms.
+-- What a word tells of the term whose head it is: for the reader of terms.
 use mathlib.Core.Path.{◌≡◌, refl, ap, ◌∙◌}
 use mathlib.Core.Bool.{Bool, true, false}
 use mathlib.Core.List.{List, [], ◌∷◌}
-use Prim.Native.Nat.{ℕ, zero, suc, ◌+◌, ◌≤◌, ◌<◌}
+use Rattle.std.specs.Prelude.{Option, Some}
+use Prim.Native.Nat.{ℕ, zero, suc, ◌+◌, ◌≤◌, ◌<◌, ◌*◌}
 use native.Mathlib.Omega.{arith}
 use lib.Dec.{eqb, ltb}
 use lib.ListN.{length, drop}
@@ -17,48 +18,49 @@ use Rattle.term_head.specs.Code.{kind_later, later_of, head_at, head_of}
 use Rattle.term_head.specs.Quick.{only_if, fit, quick_later, head_word, quick_word, Common, some_parts, no_characters, some_elements, some_pairs, HoldsWord, Told}
 use Rattle.term_head.proofs.HeadFacts.{Past, past_is, head_past_tag}
 
-held : (b : Bool) (w v : ℕ) → (w ≡ 0 → ⊥) → w ≡ only_if b v → (b ≡ true) × (w ≡ v)
+held : (b : Bool) (w : ℕ) (v : Option ℕ) → Some w ≡ only_if b v → (b ≡ true) × (Some w ≡ v)
 unfolding only_if
-held true w v some e = (refl, e)
-held false w v some e = absurd (some e)
+held true w v e = (refl, e)
+held false w v e = absurd (cc)
 
-fit_held : (w kind next count : ℕ) → (w ≡ 0 → ⊥) → w ≡ fit kind next count → HoldsWord w kind next count
+fit_held : (w kind next count : ℕ) → Some w ≡ fit kind next count → HoldsWord w kind next count
 unfolding fit
-fit_held w kind next count some e =
-    let a = held (ltb kind 16) w _ some e in
-    let b = held (ltb next 131072) w _ some a.1 in
-    let c = held (ltb count 4294967296) w _ some b.1 in
-    record { few_kinds = ltb-true kind 16 a.0; near = ltb-true next 131072 b.0; few = ltb-true count 4294967296 c.0; word_is = c.1 }
+fit_held w kind next count e =
+    let a = held (ltb kind 16) w _ e in
+    let b = held (ltb next 131072) w _ a.1 in
+    let c = held (ltb count 4294967296) w _ b.1 in
+    let is : w ≡ kind + 16 * next + 2097152 * count = cc in
+    record { few_kinds = ltb-true kind 16 a.0; near = ltb-true next 131072 b.0; few = ltb-true count 4294967296 c.0; word_is = is }
 
 none_left : {A : Type 0} (xs : List A) → length xs ≡ 0 → xs ≡ []
 none_left [] e = refl
 none_left (x ∷ xs) e = absurd (omega arith)
 
-module _ (w : ℕ) (some : w ≡ 0 → ⊥) (next : ℕ) where
-  known_told : (n : ℕ) (l : head_spec.Later) → w ≡ quick_later (later_of l) (fit (kind_later l) next n) → Told w (parts [] n l) next
+module _ (w : ℕ) (next : ℕ) where
+  known_told : (n : ℕ) (l : head_spec.Later) → Some w ≡ quick_later (later_of l) (fit (kind_later l) next n) → Told w (parts [] n l) next
   unfolding quick_later later_of kind_later
-  known_told n (known l) e = record { kind = kind_of l; count = n; common = some_parts l n; holds = fit_held w (kind_of l) next n some e }
-  known_told n (head_spec.pid_fields v) e = absurd (some e)
-  known_told n (head_spec.port_fields v x) e = absurd (some e)
-  known_told n (head_spec.reference_fields k v) e = absurd (some e)
-  known_told n head_spec.old_reference_fields e = absurd (some e)
+  known_told n (known l) e = record { kind = kind_of l; count = n; common = some_parts l n; holds = fit_held w (kind_of l) next n e }
+  known_told n (head_spec.pid_fields v) e = absurd (cc)
+  known_told n (head_spec.port_fields v x) e = absurd (cc)
+  known_told n (head_spec.reference_fields k v) e = absurd (cc)
+  known_told n head_spec.old_reference_fields e = absurd (cc)
 
-  told : (h : head_spec.Head) → w ≡ head_word (head_at h next) → Told w h next
+  told : (h : head_spec.Head) → Some w ≡ head_word (head_at h next) → Told w h next
   unfolding head_at head_word
   told (parts ws n l) e =
-      let a = held (eqb (length ws) 0) w _ some e in
+      let a = held (eqb (length ws) 0) w _ e in
       let b : ws ≡ [] = none_left ws (eqb-true (length ws) 0 a.0) in
       rw b (known_told n l a.1)
   told (characters cs) e =
-      let a = held (eqb (length cs) 0) w _ some e in
+      let a = held (eqb (length cs) 0) w _ e in
       let b : cs ≡ [] = none_left cs (eqb-true (length cs) 0 a.0) in
-      rw b (record { kind = 5; count = 0; common = no_characters; holds = fit_held w 5 next 0 some a.1 })
+      rw b (record { kind = 5; count = 0; common = no_characters; holds = fit_held w 5 next 0 a.1 })
   told (elements n) e =
-      let a = held (ltb 0 n) w _ some e in
-      record { kind = 15; count = n; common = some_elements n (λ z. let b = ltb-true 0 n a.0 in omega arith); holds = fit_held w 15 next n some a.1 }
+      let a = held (ltb 0 n) w _ e in
+      record { kind = 15; count = n; common = some_elements n (λ z. let b = ltb-true 0 n a.0 in omega arith); holds = fit_held w 15 next n a.1 }
   told (pairs n) e =
-      let a = held (ltb 0 n) w _ some e in
-      record { kind = 0; count = n; common = some_pairs n (λ z. let b = ltb-true 0 n a.0 in omega arith); holds = fit_held w 0 next n some a.1 }
+      let a = held (ltb 0 n) w _ e in
+      record { kind = 0; count = n; common = some_pairs n (λ z. let b = ltb-true 0 n a.0 in omega arith); holds = fit_held w 0 next n a.1 }
 
 -- it is no 108 of length 0
 common_stays : (h : head_spec.Head) (kind count : ℕ) → Common h kind count → empty_108 h ≡ false
@@ -85,15 +87,15 @@ module _ (given : Given) (wanted : Wanted) (m : List ℕ) (at row w : ℕ) where
     pub near : next ≤ length m
     pub told_by : Told w h next
 
-  pub quickly : (w ≡ 0 → ⊥) → w ≡ quick_word (head_of (term_head given wanted (at_offset m at row))) → Quickly
+  pub quickly : Some w ≡ quick_word (head_of (term_head given wanted (at_offset m at row))) → Quickly
   unfolding head_of quick_word
-  quickly some e = go (term_head given wanted (at_offset m at row)) refl e
+  quickly e = go (term_head given wanted (at_offset m at row)) refl e
     where
-      go : (o : Answer (head_spec.Head × Position)) → term_head given wanted (at_offset m at row) ≡ o → w ≡ quick_word (head_of o) → Quickly
-      go (refused n p) f g = absurd (some g)
+      go : (o : Answer (head_spec.Head × Position)) → term_head given wanted (at_offset m at row) ≡ o → Some w ≡ quick_word (head_of o) → Quickly
+      go (refused n p) f g = absurd (cc)
       go (good x) f g =
           let i : Past m (at + 1) row x.1 = (head_past_tag given m at row wanted).known x.0 x.1 f in
-          let t : Told w x.0 x.1.at = told w some x.1.at x.0 g in
+          let t : Told w x.0 x.1.at = told w x.1.at x.0 g in
           let inside : at < length m = omega (arith, i.later, i.in_step.inside) in
           let s : x.1 ≡ at_offset m x.1.at row = past_is m (at + 1) row x.1 i in
           record {

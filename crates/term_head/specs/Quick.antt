@@ -1,6 +1,6 @@
 -- The head of a common term in one word, which is handed about faster than a head: its kind, the offset past it, the number of its parts.
 -- About the code alone, proved against the definitions of term_spec: nothing here has to be believed.
-use Rattle.std.specs.Prelude.{◌≡◌, Bool, true, false, [], ℕ, ◌+◌, ◌*◌, ◌<◌, Result, Ok, Err, eqb, ltb}
+use Rattle.std.specs.Prelude.{◌≡◌, Bool, true, false, [], ℕ, ◌+◌, ◌*◌, ◌<◌, Option, Some, None, Result, Ok, Err, eqb, ltb}
 use Rattle.term_spec.specs.Term.{Label}
 use Rattle.term_spec.specs.Head.{known, parts, characters, elements, pairs}
 use Rattle.term_spec.specs.Head as head_spec
@@ -11,33 +11,33 @@ use Rattle.term_head.specs.declared.Later.TheVariants.{Known, Pid, Port, Referen
 use Rattle.term_head.specs.declared.Head.{Head}
 use Rattle.term_head.specs.declared.Head.TheVariants.{Parts, Characters, Elements, Pairs}
 
-unfoldable pub only_if : Bool → ℕ → ℕ
+unfoldable pub only_if : Bool → Option ℕ → Option ℕ
 only_if true w = w
-only_if false w = 0
+only_if false w = None
 
--- 0 where they do not fit
-unfoldable pub fit : ℕ → ℕ → ℕ → ℕ
-fit kind next count = only_if (ltb kind 16) (only_if (ltb next 131072) (only_if (ltb count 4294967296) (kind + 16 * next + 2097152 * count)))
+-- None where they do not fit
+unfoldable pub fit : ℕ → ℕ → ℕ → Option ℕ
+fit kind next count = only_if (ltb kind 16) (only_if (ltb next 131072) (only_if (ltb count 4294967296) (Some (kind + 16 * next + 2097152 * count))))
 
-unfoldable pub quick_later : Later → ℕ → ℕ
+unfoldable pub quick_later : Later → Option ℕ → Option ℕ
 quick_later Known w = w
-quick_later (Pid a) w = 0
-quick_later (Port a b) w = 0
-quick_later (Reference a b) w = 0
-quick_later OldReference w = 0
+quick_later (Pid a) w = None
+quick_later (Port a b) w = None
+quick_later (Reference a b) w = None
+quick_later OldReference w = None
 
 -- Of a head with no wanted parts and no later fields. In the kind's place some elements have 15, some pairs 0, which are no kinds of a row. Where there are none, and
--- for characters, the word is 0
-unfoldable pub head_word : Head → ℕ
+-- for characters, there is no word
+unfoldable pub head_word : Head → Option ℕ
 head_word (Parts kind wanted count later next) = only_if (eqb wanted 0) (quick_later later (fit kind next count))
 head_word (Characters count next) = only_if (eqb count 0) (fit 5 next 0)
 head_word (Elements count next) = only_if (ltb 0 count) (fit 15 next count)
 head_word (Pairs count next) = only_if (ltb 0 count) (fit 0 next count)
 
--- where a head is refused, the word is 0
-unfoldable pub quick_word : Result Head Refusal → ℕ
+-- where a head is refused, there is no word
+unfoldable pub quick_word : Result Head Refusal → Option ℕ
 quick_word (Ok h) = head_word h
-quick_word (Err x) = 0
+quick_word (Err x) = None
 
 -- The heads that have a word, each with what stands in the kind's place and with the number of parts
 pub data Common : head_spec.Head → ℕ → ℕ → Type 0 where

@@ -49,6 +49,7 @@ const WORDS_MOST: usize = 3;
 pub const LIST_HEAD: usize = 5;
 
 // The head of a common term in one word: a kind, the offset past the head, the number of parts, each below its bound here.
+// A number and no struct: a struct is returned through memory, a number in a register (docs/DECISIONS.md, common terms).
 pub const WORD_KINDS: usize = 16;
 
 pub const WORD_OFFSETS: usize = 131072;
@@ -664,32 +665,32 @@ pub fn read_opening(c: &Context, at: usize, wanted: Wanted) -> Result<Opening, R
     Ok(Opening { place, head })
 }
 
-// A kind, the offset past a head and a number of parts in one word; 0 where they do not fit.
-fn fit(kind: usize, next: usize, count: usize) -> usize
+// A kind, the offset past a head and a number of parts in one word; None where they do not fit.
+fn fit(kind: usize, next: usize, count: usize) -> Option<usize>
     ensures { result ≡ fit kind next count }
 {
     if WORD_KINDS <= kind || WORD_OFFSETS <= next || WORD_COUNTS <= count {
-        return 0;
+        return None;
     }
-    kind + WORD_KINDS * next + WORD_PARTS * count
+    Some(kind + WORD_KINDS * next + WORD_PARTS * count)
 }
 
 // A head without wanted parts in one word, if it has no later fields either.
-fn word_of_parts(kind: usize, count: usize, later: Later, next: usize) -> usize
+fn word_of_parts(kind: usize, count: usize, later: Later, next: usize) -> Option<usize>
     ensures { result ≡ quick_later later (fit kind next count) }
 {
     match later {
         Later::Known => fit(kind, next, count),
-        _ => 0,
+        _ => None,
     }
 }
 
-// The head of a common term in one word, or 0.
-fn word_of(head: Result<Head, Refusal>) -> usize
+// The head of a common term in one word, if it has one.
+fn word_of(head: Result<Head, Refusal>) -> Option<usize>
     ensures { result ≡ quick_word head }
 {
     let Ok(head) = head else {
-        return 0;
+        return None;
     };
     match head {
         Head::Parts {
@@ -700,25 +701,25 @@ fn word_of(head: Result<Head, Refusal>) -> usize
             next,
         } => {
             if wanted != 0 {
-                return 0;
+                return None;
             }
             word_of_parts(kind, count, later, next)
         }
         Head::Characters { count, next } => {
             if count != 0 {
-                return 0;
+                return None;
             }
             fit(kinds::LIST, next, 0)
         }
         Head::Elements { count, next } => {
             if count == 0 {
-                return 0;
+                return None;
             }
             fit(WORD_ELEMENTS, next, count)
         }
         Head::Pairs { count, next } => {
             if count == 0 {
-                return 0;
+                return None;
             }
             fit(WORD_PAIRS, next, count)
         }
@@ -726,9 +727,9 @@ fn word_of(head: Result<Head, Refusal>) -> usize
 }
 
 // The commonest terms without parts.
-fn leaf_word(msg: &[u8], at: usize, tag: u8) -> usize
+fn leaf_word(msg: &[u8], at: usize, tag: u8) -> Option<usize>
     requires { (at < length msg.now) × (length msg.now ≤ 65536) }
-    ensures { (result ≡ 0 → ⊥) → (given : Given) (rows : ℕ) → result ≡ quick_word (tag_fields given msg.now at tag rows) }
+    ensures { (w : ℕ) → result ≡ Some w → (given : Given) (rows : ℕ) → Some w ≡ quick_word (tag_fields given msg.now at tag rows) }
 {
     match tag {
         tags::SMALL_INTEGER_EXT => word_of(integer(msg, at, 1)),
@@ -742,14 +743,14 @@ fn leaf_word(msg: &[u8], at: usize, tag: u8) -> usize
         })),
         tags::BIT_BINARY_EXT => word_of(bitstring(msg, at)),
         tags::SMALL_BIG_EXT => word_of(big(msg, at, 1)),
-        _ => 0,
+        _ => None,
     }
 }
 
 // The commonest keys and values of a map, without parts.
-fn entry_word(msg: &[u8], at: usize, tag: u8) -> usize
+fn entry_word(msg: &[u8], at: usize, tag: u8) -> Option<usize>
     requires { (at < length msg.now) × (length msg.now ≤ 65536) }
-    ensures { (result ≡ 0 → ⊥) → (given : Given) (rows : ℕ) → result ≡ quick_word (tag_fields given msg.now at tag rows) }
+    ensures { (w : ℕ) → result ≡ Some w → (given : Given) (rows : ℕ) → Some w ≡ quick_word (tag_fields given msg.now at tag rows) }
 {
     match tag {
         tags::SMALL_ATOM_UTF8_EXT => word_of(atom(msg, at, 1, true)),
@@ -757,14 +758,14 @@ fn entry_word(msg: &[u8], at: usize, tag: u8) -> usize
         tags::INTEGER_EXT => word_of(integer(msg, at, 4)),
         tags::BINARY_EXT => word_of(binary(msg, at)),
         tags::NEW_FLOAT_EXT => word_of(float(msg, at)),
-        _ => 0,
+        _ => None,
     }
 }
 
 // Common terms, with parts and without.
-fn common_word(c: &Context, at: usize, tag: u8) -> usize
+fn common_word(c: &Context, at: usize, tag: u8) -> Option<usize>
     requires { (at < length c.now.msg.now) × (length c.now.msg.now ≤ 65536) × (of_size (list_in c.now) ≡ true) }
-    ensures { (result ≡ 0 → ⊥) → (rows : ℕ) → result ≡ quick_word (tag_fields (given_in c.now) c.now.msg.now at tag rows) }
+    ensures { (w : ℕ) → result ≡ Some w → (rows : ℕ) → Some w ≡ quick_word (tag_fields (given_in c.now) c.now.msg.now at tag rows) }
 {
     match tag {
         tags::SMALL_TUPLE_EXT => word_of(tuple(c.msg, at, 1)),
@@ -775,61 +776,58 @@ fn common_word(c: &Context, at: usize, tag: u8) -> usize
         tags::ATOM_EXT => word_of(atom(c.msg, at, 2, false)),
         tags::SMALL_ATOM_EXT => word_of(atom(c.msg, at, 1, false)),
         tags::ATOM_UTF8_EXT => word_of(atom(c.msg, at, 2, true)),
-        _ => 0,
+        _ => None,
     }
 }
 
-// The head of one of the commonest terms without parts in one word; 0 of any other, and of one that is not wanted.
-pub fn leaf_at(msg: &[u8], at: usize, wanted: Wanted) -> usize
+// The head of one of the commonest terms without parts in one word; None of any other, and of one that is not wanted.
+pub fn leaf_at(msg: &[u8], at: usize, wanted: Wanted) -> Option<usize>
     requires { (at ≤ length msg.now) × (length msg.now ≤ 65536) }
-    ensures { (result ≡ 0 → ⊥) → (given : Given) (rows : ℕ) → result ≡ quick_word (head_of (term_head given (wanted_of wanted) (at_offset msg.now at rows))) }
+    ensures { (w : ℕ) → result ≡ Some w → (given : Given) (rows : ℕ) → Some w ≡ quick_word (head_of (term_head given (wanted_of wanted) (at_offset msg.now at rows))) }
 {
     if msg.len() <= at {
-        return 0;
+        return None;
     }
     let tag = msg[at];
     if !may_stand(wanted, tag) {
-        return 0;
+        return None;
     }
     leaf_word(msg, at, tag)
 }
 
-// The head of one of the commonest keys and values of a map, without parts, in one word; 0 of any other. As `leaf_at`, it has one caller, so that both are inlined.
-pub fn entry_at(msg: &[u8], at: usize) -> usize
+// The head of one of the commonest keys and values of a map, without parts, in one word; None of any other. As `leaf_at`, it has one caller, so that both are inlined.
+pub fn entry_at(msg: &[u8], at: usize) -> Option<usize>
     requires { (at ≤ length msg.now) × (length msg.now ≤ 65536) }
-    ensures { (result ≡ 0 → ⊥) → (given : Given) (rows : ℕ) → result ≡ quick_word (head_of (term_head given any (at_offset msg.now at rows))) }
+    ensures { (w : ℕ) → result ≡ Some w → (given : Given) (rows : ℕ) → Some w ≡ quick_word (head_of (term_head given any (at_offset msg.now at rows))) }
 {
     if msg.len() <= at {
-        return 0;
+        return None;
     }
     entry_word(msg, at, msg[at])
 }
 
-// The head of a 119, the commonest node, in one word; 0 of any other term. It has one caller, too.
-pub fn node_at(msg: &[u8], at: usize) -> usize
+// The head of a 119, the commonest node, in one word; None of any other term. It has one caller, too.
+pub fn node_at(msg: &[u8], at: usize) -> Option<usize>
     requires { (at ≤ length msg.now) × (length msg.now ≤ 65536) }
-    ensures { (result ≡ 0 → ⊥) → (given : Given) (rows : ℕ) → result ≡ quick_word (head_of (term_head given an_atom (at_offset msg.now at rows))) }
+    ensures { (w : ℕ) → result ≡ Some w → (given : Given) (rows : ℕ) → Some w ≡ quick_word (head_of (term_head given an_atom (at_offset msg.now at rows))) }
 {
-    if msg.len() <= at {
-        return 0;
-    }
-    if msg[at] != tags::SMALL_ATOM_UTF8_EXT {
-        return 0;
+    if msg.len() <= at || msg[at] != tags::SMALL_ATOM_UTF8_EXT {
+        return None;
     }
     word_of(atom(msg, at, 1, true))
 }
 
-// The head of a common term in one word; 0 of any other, and of one that is not wanted.
-pub fn quick_at(c: &Context, at: usize, wanted: Wanted) -> usize
+// The head of a common term in one word; None of any other, and of one that is not wanted.
+pub fn quick_at(c: &Context, at: usize, wanted: Wanted) -> Option<usize>
     requires { (at ≤ length c.now.msg.now) × (length c.now.msg.now ≤ 65536) × (of_size (list_in c.now) ≡ true) }
-    ensures { (result ≡ 0 → ⊥) → (rows : ℕ) → result ≡ quick_word (head_of (term_head (given_in c.now) (wanted_of wanted) (at_offset c.now.msg.now at rows))) }
+    ensures { (w : ℕ) → result ≡ Some w → (rows : ℕ) → Some w ≡ quick_word (head_of (term_head (given_in c.now) (wanted_of wanted) (at_offset c.now.msg.now at rows))) }
 {
     if c.msg.len() <= at {
-        return 0;
+        return None;
     }
     let tag = c.msg[at];
     if !may_stand(wanted, tag) {
-        return 0;
+        return None;
     }
     common_word(c, at, tag)
 }

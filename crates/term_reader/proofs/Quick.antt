@@ -16,7 +16,7 @@ use Rattle.term_head.specs.declared.Wanted.TheVariants.{Any}
 use Rattle.term_head.specs.Code.{wanted_of, kind_later, head_of, end_of}
 use Rattle.term_head.specs.Quick.{quick_word, Common, some_parts, no_characters, some_elements, some_pairs, Told}
 use Rattle.term_head.proofs.Common.{Quickly, quickly}
-use Rattle.std.specs.Prelude.{Ok, Err}
+use Rattle.std.specs.Prelude.{Some, Ok, Err}
 use Rattle.term_spec.specs.declared.Refusal.{Refusal}
 use Rattle.term_reader.specs.Code.{Step, PartsStep, got, got_parts}
 use Rattle.term_reader.specs.Code.{asked, Room, inner, Done, TermDone, RunDone, PartsDone}
@@ -110,9 +110,9 @@ module _ (given : Given) (cap deep : ℕ) (m : List ℕ) (place row : ℕ) (T : 
 
 -- ---- `read_quick`, and a leaf in `read_run`, `read_entry` and `read_wanted`
 
-module _ (given : Given) (w : Wanted) (m : List ℕ) (at row word : ℕ) (some : word ≡ 0 → ⊥) (is : word ≡ quick_word (head_of (term_head given w (at_offset m at row)))) where
+module _ (given : Given) (w : Wanted) (m : List ℕ) (at row word : ℕ) (is : Some word ≡ quick_word (head_of (term_head given w (at_offset m at row)))) where
   abbrev pub opened_quickly : Quickly given w m at row word
-  opened_quickly = quickly given w m at row word some is
+  opened_quickly = quickly given w m at row word is
 
   pub quick_near : word / 16 % 131072 ≤ length m
   quick_near = omega (arith, opened_quickly.near, told_next opened_quickly.told_by)

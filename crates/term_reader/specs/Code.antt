@@ -1,6 +1,6 @@
 -- What the contracts of reading terms say of the code's own values.
 -- About the code alone, proved against the definitions of term_spec: nothing here has to be believed.
-use Rattle.std.specs.Prelude.{◌≡◌, true, List, [], ◌∷◌, ◌++◌, ℕ, zero, suc, ◌+◌, ◌-◌, ◌≤◌, ◌<◌, min, Result, Ok, length, get_or, drop, replicate}
+use Rattle.std.specs.Prelude.{◌≡◌, true, List, [], ◌∷◌, ◌++◌, ℕ, zero, suc, ◌+◌, ◌-◌, ◌≤◌, ◌<◌, min, Result, Ok, length, get_or, drop, replicate, Some}
 use Rattle.std.proofs.Math.Option.{Option, none, some}
 use Rattle.std.proofs.lemmas.List.Edits.{sets}
 use Rattle.term_spec.specs.Tree.{◌▹▹◌, count, size, sizes, EachNode, EachNodes}
@@ -136,7 +136,7 @@ PartsDone m before cap row whole =
 
 -- this word says the head of the term at an offset
 abbrev pub QuickAt : List ℕ → Given → Wanted → ℕ → ℕ → Type 0
-QuickAt m given wanted at word = (rows : ℕ) → word ≡ quick_word (head_of (term_head given wanted (at_offset m at rows)))
+QuickAt m given wanted at word = (rows : ℕ) → Some word ≡ quick_word (head_of (term_head given wanted (at_offset m at rows)))
 
 -- a 107 at `place` with any `count` characters, whatever else is given
 abbrev pub CharactersRead : ℕ → ℕ → ℕ → ℕ → ℕ → ℕ → ℕ → ℕ → List ℕ → PartsStep → List ℕ → Type 0

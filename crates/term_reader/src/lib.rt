@@ -49,8 +49,7 @@ fn read_term(
     requires seen_nonzero { 0 < length seen.old }
     ensures { TermRead c.now.msg.now (given_in c.now) c.now.capacity left at row whole table.old seen.old (wanted_of wanted) result table.new seen.new }
 {
-    let word = term_head::quick_at(c, at, wanted);
-    if word != 0 {
+    if let Some(word) = term_head::quick_at(c, at, wanted) {
         return read_quick(c, table, seen, at, row, whole, left, wanted, word);
     }
     let opening = term_head::read_opening(c, at, wanted)?;
@@ -79,7 +78,7 @@ fn read_quick(
     wanted: Wanted,
     word: usize,
 ) -> Result<Reached, Refusal>
-    requires room { Room c.now.msg.now (list_in c.now) table.old c.now.capacity at row whole × (word ≡ 0 → ⊥) × QuickAt c.now.msg.now (given_in c.now) (wanted_of wanted) at word }
+    requires room { Room c.now.msg.now (list_in c.now) table.old c.now.capacity at row whole × QuickAt c.now.msg.now (given_in c.now) (wanted_of wanted) at word }
     requires seen_nonzero { 0 < length seen.old }
     ensures { TermRead c.now.msg.now (given_in c.now) c.now.capacity left at row whole table.old seen.old (wanted_of wanted) result table.new seen.new }
 {
@@ -295,8 +294,9 @@ fn read_wanted(
     ensures { RunRead c.now.msg.now (given_in c.now) c.now.capacity deep at row whole table.old seen.old wanted (asked wanted) result table.new seen.new }
 {
     if wanted == 1 {
-        let word = term_head::node_at(c.msg, at);
-        if is_leaf(c, word, deep, row) {
+        if let Some(word) = term_head::node_at(c.msg, at)
+            && is_leaf(c, word, deep, row)
+        {
             table[row] = row::pack(word % term_head::WORD_KINDS, at, whole, 0, 1);
             return Ok(Reached {
                 next: word / term_head::WORD_KINDS,
@@ -321,9 +321,9 @@ fn read_wanted(
 
 // Whether a word is the head of a term without parts, and there are a level and a row for it.
 fn is_leaf(c: &Context, word: usize, deep: usize, row: usize) -> bool
-    ensures { result ≡ true → (word ≡ 0 → ⊥) × (word < 2097152) × (deep ≡ 0 → ⊥) × (row < c.now.capacity) }
+    ensures { result ≡ true → (word < 2097152) × (deep ≡ 0 → ⊥) × (row < c.now.capacity) }
 {
-    word != 0 && word < term_head::WORD_PARTS && deep != 0 && c.has_row(row)
+    word < term_head::WORD_PARTS && deep != 0 && c.has_row(row)
 }
 
 // `count` terms in turn.
@@ -346,8 +346,9 @@ pub fn read_run(
     let mut at_now = at;
     let mut row_now = row;
     for _i in 0..count {
-        let word = term_head::leaf_at(c.msg, at_now, wanted);
-        if is_leaf(c, word, deep, row_now) {
+        if let Some(word) = term_head::leaf_at(c.msg, at_now, wanted)
+            && is_leaf(c, word, deep, row_now)
+        {
             table[row_now] = row::pack(word % term_head::WORD_KINDS, at_now, whole, 0, 1);
             at_now = word / term_head::WORD_KINDS;
             row_now += 1;
@@ -535,8 +536,9 @@ fn read_entry(
     requires seen_nonzero { 0 < length seen.old }
     ensures { TermRead c.now.msg.now (given_in c.now) c.now.capacity deep at row whole table.old seen.old any result table.new seen.new }
 {
-    let word = term_head::entry_at(c.msg, at);
-    if is_leaf(c, word, deep, row) {
+    if let Some(word) = term_head::entry_at(c.msg, at)
+        && is_leaf(c, word, deep, row)
+    {
         table[row] = row::pack(word % term_head::WORD_KINDS, at, whole, 0, 1);
         return Ok(Reached {
             next: word / term_head::WORD_KINDS,

@@ -9,4 +9,4 @@ use Rattle.term_head.proofs.entry_at.Goals as goal
 
 pub returns : goal.returns
 unfolding allowed wanted_of
-returns c = λ some given rows. c.entry_word.ensures some given rows ∙ ap quick_word (head_known _ _ _ _ Any (omega arith) _ refl refl)
+returns c = λ w e given rows. c.entry_word.ensures w e given rows ∙ ap quick_word (head_known _ _ _ _ Any (omega arith) _ refl refl)

@@ -1,5 +1,5 @@
 -- `leaf_word` meets its contract.
-use mathlib.Core.Path.{refl, ap, ◌∙◌}
+use mathlib.Core.Path.{refl, ap, ◌∙◌, sym}
 use lib.IntN.{pos}
 use Rattle.term_spec.specs.Head.{forms, form_in, fields, atom_ext, big_ext, binary_ext, bit_binary_ext, integer_ext, new_float_ext, nil_ext, small_integer_ext}
 use Rattle.term_spec.specs.Numbers.{signed32}
@@ -11,32 +11,32 @@ use Rattle.term_head.proofs.leaf_word.Goals as goal
 
 pub returns-in-97 : goal.returns-in-97
 unfolding form_in forms fields_of fields
-returns-in-97 c = λ _ given rows. c.word_of.ensures ∙ ap quick_word (c.integer.ensures pos rows ∙ at_tag _ _ _ _ _ 97 c.in-97.is small_integer_ext refl)
+returns-in-97 c = λ w e given rows. sym e ∙ c.word_of.ensures ∙ ap quick_word (c.integer.ensures pos rows ∙ at_tag _ _ _ _ _ 97 c.in-97.is small_integer_ext refl)
 
 pub returns-in-98 : goal.returns-in-98
 unfolding form_in forms fields_of fields
-returns-in-98 c = λ _ given rows. c.word_of-in-98.ensures ∙ ap quick_word (c.integer-in-98.ensures signed32 rows ∙ at_tag _ _ _ _ _ 98 c.in-98.is integer_ext refl)
+returns-in-98 c = λ w e given rows. sym e ∙ c.word_of-in-98.ensures ∙ ap quick_word (c.integer-in-98.ensures signed32 rows ∙ at_tag _ _ _ _ _ 98 c.in-98.is integer_ext refl)
 
 pub returns-in-70 : goal.returns-in-70
 unfolding form_in forms
-returns-in-70 c = λ _ given rows. c.word_of-in-70.ensures ∙ ap quick_word (c.float.ensures _ rows ∙ at_tag _ _ _ _ _ 70 c.in-70.is new_float_ext refl)
+returns-in-70 c = λ w e given rows. sym e ∙ c.word_of-in-70.ensures ∙ ap quick_word (c.float.ensures _ rows ∙ at_tag _ _ _ _ _ 70 c.in-70.is new_float_ext refl)
 
 pub returns-in-119 : goal.returns-in-119
 unfolding form_in forms coding_of
-returns-in-119 c = λ _ given rows. c.word_of-in-119.ensures ∙ ap quick_word (c.atom.ensures _ rows ∙ at_tag _ _ _ _ _ 119 c.in-119.is (atom_ext utf_8 1) refl)
+returns-in-119 c = λ w e given rows. sym e ∙ c.word_of-in-119.ensures ∙ ap quick_word (c.atom.ensures _ rows ∙ at_tag _ _ _ _ _ 119 c.in-119.is (atom_ext utf_8 1) refl)
 
 pub returns-in-109 : goal.returns-in-109
 unfolding form_in forms
-returns-in-109 c = λ _ given rows. c.word_of-in-109.ensures ∙ ap quick_word (c.binary.ensures _ rows ∙ at_tag _ _ _ _ _ 109 c.in-109.is binary_ext refl)
+returns-in-109 c = λ w e given rows. sym e ∙ c.word_of-in-109.ensures ∙ ap quick_word (c.binary.ensures _ rows ∙ at_tag _ _ _ _ _ 109 c.in-109.is binary_ext refl)
 
 pub returns-in-106 : goal.returns-in-106
 unfolding form_in forms
-returns-in-106 c = λ _ given rows. c.word_of-in-106.ensures ∙ ap quick_word (nil_head _ _ _ _ ∙ at_tag _ _ _ _ _ 106 c.in-106.is nil_ext refl)
+returns-in-106 c = λ w e given rows. sym e ∙ c.word_of-in-106.ensures ∙ ap quick_word (nil_head _ _ _ _ ∙ at_tag _ _ _ _ _ 106 c.in-106.is nil_ext refl)
 
 pub returns-in-77 : goal.returns-in-77
 unfolding form_in forms
-returns-in-77 c = λ _ given rows. c.word_of-in-77.ensures ∙ ap quick_word (c.bitstring.ensures _ rows ∙ at_tag _ _ _ _ _ 77 c.in-77.is bit_binary_ext refl)
+returns-in-77 c = λ w e given rows. sym e ∙ c.word_of-in-77.ensures ∙ ap quick_word (c.bitstring.ensures _ rows ∙ at_tag _ _ _ _ _ 77 c.in-77.is bit_binary_ext refl)
 
 pub returns-in-110 : goal.returns-in-110
 unfolding form_in forms
-returns-in-110 c = λ _ given rows. c.word_of-in-110.ensures ∙ ap quick_word (c.big.ensures _ rows ∙ at_tag _ _ _ _ _ 110 c.in-110.is (big_ext 1) refl)
+returns-in-110 c = λ w e given rows. sym e ∙ c.word_of-in-110.ensures ∙ ap quick_word (c.big.ensures _ rows ∙ at_tag _ _ _ _ _ 110 c.in-110.is (big_ext 1) refl)

@@ -11,6 +11,6 @@ use Rattle.term_head.proofs.node_at.Goals as goal
 
 pub returns : goal.returns
 unfolding form_in forms coding_of allowed wanted_of
-returns c = λ _ given rows. c.word_of.ensures
+returns c = λ w e given rows. sym e ∙ c.word_of.ensures
     ∙ ap quick_word (head_known _ _ _ _ Atom (omega arith) _ (sym (atom_tag _ 119 c.if-msg-at-ne-SMALL_ATOM_UTF8_EXT.false refl))
     (c.atom.ensures _ rows ∙ at_tag _ _ _ _ _ 119 c.if-msg-at-ne-SMALL_ATOM_UTF8_EXT.false (atom_ext utf_8 1) refl))

@@ -6,4 +6,4 @@ use Rattle.term_head.proofs.Tags.{head_known}
 use Rattle.term_head.proofs.quick_at.Goals as goal
 
 pub returns : goal.returns
-returns c = λ some rows. c.common_word.ensures some rows ∙ ap quick_word (head_known _ _ _ _ _ (omega arith) _ (sym c.may_stand.ensures ∙ c.if-not-may_stand.false) refl)
+returns c = λ w e rows. c.common_word.ensures w e rows ∙ ap quick_word (head_known _ _ _ _ _ (omega arith) _ (sym c.may_stand.ensures ∙ c.if-not-may_stand.false) refl)

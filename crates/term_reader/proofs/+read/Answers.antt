@@ -93,16 +93,15 @@ pub read_more-returns-then-count-eq0 : goal.read_more-returns-then-count-eq0
 read_more-returns-then-count-eq0 t c = record { rows_stored = run_none _ _ _ _ _ _ _ _ _ c.if-count-eq0.true c.requires.room.low c.requires.room.near; keys_kept = keeps_refl _ }
 
 pub read_entry-pack-requires : goal.read_entry-pack-requires
-read_entry-pack-requires t c = let f = c.is_leaf.ensures c.if-is_leaf.true in let w = c.entry_at-word.ensures f.0 in leaf_small _ _ _ _ _ _ _ _ c.requires.room (quick_inside _ _ _ _ c.args.row _ f.0 (w (given_of 0 (lent_list 0 [] [])) c.args.row))
-
-pub read_entry-returns-then-is_leaf : goal.read_entry-returns-then-is_leaf
-read_entry-returns-then-is_leaf t c = let f = c.is_leaf.ensures c.if-is_leaf.true in
-    let w = c.entry_at-word.ensures f.0 in
-    record { rows_stored = quick_leaf _ _ _ _ c.args.row _ f.0 (w _ c.args.row) _ _ _ _ f.1 f.2 f.3 (omega (arith, quick_inside _ _ _ _ c.args.row _ f.0 (w (given_of 0 (lent_list 0 [] [])) c.args.row), c.requires.room.short)) _ c.pack.ensures; keys_kept = keeps_refl _ }
+read_entry-pack-requires t c = let f = c.is_leaf.ensures c.if-is_leaf.true in leaf_small _ _ _ _ _ _ _ _ c.requires.room (quick_inside _ _ _ _ c.args.row _ (c.in-Some.ensures _ refl (given_of 0 (lent_list 0 [] [])) c.args.row))
 
 pub read_entry-returns : goal.read_entry-returns
+read_entry-returns t c = let f = c.is_leaf.ensures c.if-is_leaf.true in
+    record { rows_stored = quick_leaf _ _ _ _ c.args.row _ (c.in-Some.ensures _ refl _ c.args.row) _ _ _ _ f.0 f.1 f.2 (omega (arith, quick_inside _ _ _ _ c.args.row _ (c.in-Some.ensures _ refl (given_of 0 (lent_list 0 [] [])) c.args.row), c.requires.room.short)) _ c.pack.ensures; keys_kept = keeps_refl _ }
+
+pub read_entry-returns-2 : goal.read_entry-returns-2
 unfolding wanted_of
-read_entry-returns t c = record { rows_stored = run_one _ _ _ _ _ _ _ _ _ _ c.read_run.ensures.rows_stored; keys_kept = c.read_run.ensures.keys_kept }
+read_entry-returns-2 t c = record { rows_stored = run_one _ _ _ _ _ _ _ _ _ _ c.read_run.ensures.rows_stored; keys_kept = c.read_run.ensures.keys_kept }
 
 pub read_pairs-loop-i-init : goal.read_pairs-loop-i-init
 read_pairs-loop-i-init t c = (c.requires.room, refl, none_read _ _ _ _ _ _ _ _ _ _ _, keeps_refl _)
@@ -172,19 +171,19 @@ pub read_run-loop-i-init : goal.read_run-loop-i-init
 read_run-loop-i-init t c = let z : c.args.count - 0 ≡ c.args.count = omega arith in (c.requires.room, refl, (λ s U d. rw z at d), keeps_refl _)
 
 pub read_run-pack-requires : goal.read_run-pack-requires
-read_run-pack-requires t c = let f = c.is_leaf.ensures c.if-is_leaf.true in let w = c.leaf_at-word.ensures f.0 in leaf_small _ _ _ _ _ _ _ _ c.loop-i.invariant.0 (quick_inside _ _ _ _ c.loop-i.row_now _ f.0 (w (given_of 0 (lent_list 0 [] [])) c.loop-i.row_now))
+read_run-pack-requires t c = let f = c.is_leaf.ensures c.if-is_leaf.true in leaf_small _ _ _ _ _ _ _ _ c.loop-i.invariant.0 (quick_inside _ _ _ _ c.loop-i.row_now _ (c.in-Some.ensures _ refl (given_of 0 (lent_list 0 [] [])) c.loop-i.row_now))
 
 pub read_run-bounds-table-row_now : goal.read_run-bounds-table-row_now
-read_run-bounds-table-row_now t c = let f = c.is_leaf.ensures c.if-is_leaf.true in omega (arith, f.3, c.loop-i.invariant.0.wide)
+read_run-bounds-table-row_now t c = let f = c.is_leaf.ensures c.if-is_leaf.true in omega (arith, f.2, c.loop-i.invariant.0.wide)
 
 pub read_run-overflow_add-row_now : goal.read_run-overflow_add-row_now
-read_run-overflow_add-row_now t c = let f = c.is_leaf.ensures c.if-is_leaf.true in omega (arith, f.3, c.loop-i.invariant.0.few)
+read_run-overflow_add-row_now t c = let f = c.is_leaf.ensures c.if-is_leaf.true in omega (arith, f.2, c.loop-i.invariant.0.few)
 
-pub read_run-loop-i-preserved-then-is_leaf : goal.read_run-loop-i-preserved-then-is_leaf
-read_run-loop-i-preserved-then-is_leaf t c = let i = c.loop-i in
+pub read_run-loop-i-preserved-in-loop-i : goal.read_run-loop-i-preserved-in-loop-i
+read_run-loop-i-preserved-in-loop-i t c = let i = c.loop-i in
     let e : c.args.count - i._i ≡ suc (c.args.count - (i._i + 1)) = omega (arith, c.loop-i-test.true) in
-    let f = c.is_leaf.ensures c.if-is_leaf.true in let w = c.leaf_at-word.ensures f.0 in
-    let d = (quick_leaf _ _ _ _ i.row_now _ f.0 (w _ i.row_now) _ _ _ _ f.1 f.2 f.3 (omega (arith, quick_inside _ _ _ _ i.row_now _ f.0 (w (given_of 0 (lent_list 0 [] [])) i.row_now), i.invariant.0.short)) _ c.pack.ensures) in
+    let f = c.is_leaf.ensures c.if-is_leaf.true in
+    let d = (quick_leaf _ _ _ _ i.row_now _ (c.in-Some.ensures _ refl _ i.row_now) _ _ _ _ f.0 f.1 f.2 (omega (arith, quick_inside _ _ _ _ i.row_now _ (c.in-Some.ensures _ refl (given_of 0 (lent_list 0 [] [])) i.row_now), i.invariant.0.short)) _ c.pack.ensures) in
     (room_after _ _ _ _ _ _ _ _ _ _ _ _ _ _ _ i.invariant.0 d refl (length-set {A = ℕ} i.table i.row_now c.pack.result), length-set {A = ℕ} i.table i.row_now c.pack.result ∙ i.invariant.1, (λ s U g. i.invariant.2 s U (run_more _ _ _ _ _ _ _ _ _ _ e _ _ _ _ s U refl d g)), i.invariant.3)
 
 pub read_run-returns-in_err-term : goal.read_run-returns-in_err-term
@@ -237,11 +236,11 @@ read_tail-loop-at-preserved t c = (
 )
 
 pub read_wanted-pack-requires : goal.read_wanted-pack-requires
-read_wanted-pack-requires t c = let f = c.is_leaf.ensures c.if-is_leaf.true in leaf_small _ _ _ _ _ _ _ _ c.requires.room (quick_inside _ _ _ _ c.args.row _ f.0 (c.node_at-word.ensures f.0 (given_of 0 (lent_list 0 [] [])) c.args.row))
+read_wanted-pack-requires t c = let f = c.is_leaf.ensures c.if-is_leaf.true in leaf_small _ _ _ _ _ _ _ _ c.requires.room (quick_inside _ _ _ _ c.args.row _ (c.in-Some.ensures _ refl (given_of 0 (lent_list 0 [] [])) c.args.row))
 
-pub read_wanted-returns-then-is_leaf : goal.read_wanted-returns-then-is_leaf
-read_wanted-returns-then-is_leaf t c = let f = c.is_leaf.ensures c.if-is_leaf.true in
-    let d = (quick_leaf _ _ _ _ c.args.row _ f.0 (c.node_at-word.ensures f.0 _ c.args.row) _ _ _ _ f.1 f.2 f.3 (omega (arith, quick_inside _ _ _ _ c.args.row _ f.0 (c.node_at-word.ensures f.0 (given_of 0 (lent_list 0 [] [])) c.args.row), c.requires.room.short)) _ c.pack.ensures) in
+pub read_wanted-returns-then-wanted-eq1 : goal.read_wanted-returns-then-wanted-eq1
+read_wanted-returns-then-wanted-eq1 t c = let f = c.is_leaf.ensures c.if-is_leaf.true in
+    let d = (quick_leaf _ _ _ _ c.args.row _ (c.in-Some.ensures _ refl _ c.args.row) _ _ _ _ f.0 f.1 f.2 (omega (arith, quick_inside _ _ _ _ c.args.row _ (c.in-Some.ensures _ refl (given_of 0 (lent_list 0 [] [])) c.args.row), c.requires.room.short)) _ c.pack.ensures) in
     record { rows_stored = wanted_node _ _ _ _ _ _ _ _ _ _ _ c.if-wanted-eq1.true d; keys_kept = keeps_refl _ }
 
 pub read_wanted-read_more-requires : goal.read_wanted-read_more-requires
@@ -269,25 +268,25 @@ pub read_common-returns : goal.read_common-returns
 read_common-returns t c = record { rows_stored = λ place h next told. common_got _ _ _ _ place _ _ _ told c.if-count-eq0.false c.if-kind-eq-WORD_ELEMENTS.false c.if-kind-eq-WORD_PAIRS.false (omega (arith, told_next told, c.requires.room.near)) c.requires.room.low _ _ c.read_run.ensures.rows_stored _ _ c.in_ok-run.was; keys_kept = c.read_run.ensures.keys_kept }
 
 pub read_quick-returns-then-left-eq0 : goal.read_quick-returns-then-left-eq0
-read_quick-returns-then-left-eq0 t c = record { rows_stored = quick_term _ _ _ _ c.args.row _ c.requires.room.1 (c.requires.room.2 c.args.row) _ _ _ _ _ _ (body_deep _ _ _ _ _ _ _ _ _ _ _ c.if-left-eq0.true); keys_kept = keeps_refl _ }
+read_quick-returns-then-left-eq0 t c = record { rows_stored = quick_term _ _ _ _ c.args.row _ (c.requires.room.1 c.args.row) _ _ _ _ _ _ (body_deep _ _ _ _ _ _ _ _ _ _ _ c.if-left-eq0.true); keys_kept = keeps_refl _ }
 
 pub read_quick-returns-then-not-has_row : goal.read_quick-returns-then-not-has_row
-read_quick-returns-then-not-has_row t c = record { rows_stored = quick_term _ _ _ _ c.args.row _ c.requires.room.1 (c.requires.room.2 c.args.row) _ _ _ _ _ _ (body_full _ _ _ _ _ _ _ _ _ _ c.if-left-eq0.false _ (no_row c.has_row.ensures c.if-not-has_row.true)); keys_kept = keeps_refl _ }
+read_quick-returns-then-not-has_row t c = record { rows_stored = quick_term _ _ _ _ c.args.row _ (c.requires.room.1 c.args.row) _ _ _ _ _ _ (body_full _ _ _ _ _ _ _ _ _ _ c.if-left-eq0.false _ (no_row c.has_row.ensures c.if-not-has_row.true)); keys_kept = keeps_refl _ }
 
 pub read_quick-read_common-requires : goal.read_quick-read_common-requires
-read_quick-read_common-requires t c = (omega (arith, c.decreases, c.if-left-eq0.false), (room_at _ _ _ _ _ _ _ _ (room_inside _ _ _ _ _ _ _ c.requires.room.0 (some_row c.has_row.ensures c.if-not-has_row.false)) (quick_near _ _ _ _ c.args.row _ c.requires.room.1 (c.requires.room.2 c.args.row)), c.requires.seen_nonzero))
+read_quick-read_common-requires t c = (omega (arith, c.decreases, c.if-left-eq0.false), (room_at _ _ _ _ _ _ _ _ (room_inside _ _ _ _ _ _ _ c.requires.room.0 (some_row c.has_row.ensures c.if-not-has_row.false)) (quick_near _ _ _ _ c.args.row _ (c.requires.room.1 c.args.row)), c.requires.seen_nonzero))
 
 pub read_quick-overflow_sub-inner : goal.read_quick-overflow_sub-inner
-read_quick-overflow_sub-inner t c = let q = opened_quickly _ _ _ _ c.args.row _ c.requires.room.1 (c.requires.room.2 c.args.row) in let g = parts_past _ _ _ _ _ _ _ _ _ _ _ _ _ c.in_ok-inner.was (c.read_common.ensures.rows_stored c.args.at q.h q.next q.told_by) in omega arith
+read_quick-overflow_sub-inner t c = let q = opened_quickly _ _ _ _ c.args.row _ (c.requires.room.1 c.args.row) in let g = parts_past _ _ _ _ _ _ _ _ _ _ _ _ _ c.in_ok-inner.was (c.read_common.ensures.rows_stored c.args.at q.h q.next q.told_by) in omega arith
 
 pub read_quick-pack-requires : goal.read_quick-pack-requires
-read_quick-pack-requires t c = let q = opened_quickly _ _ _ _ c.args.row _ c.requires.room.1 (c.requires.room.2 c.args.row) in body_small _ _ _ _ _ q.h q.next _ _ _ c.if-left-eq0.false (some_row c.has_row.ensures c.if-not-has_row.false) _ _ (c.read_common.ensures.rows_stored c.args.at q.h q.next q.told_by) _ _ _ _ _ _ c.in_ok-inner.was c.requires.room.0 (omega (arith, quick_inside _ _ _ _ c.args.row _ c.requires.room.1 (c.requires.room.2 c.args.row), c.requires.room.0.short))
+read_quick-pack-requires t c = let q = opened_quickly _ _ _ _ c.args.row _ (c.requires.room.1 c.args.row) in body_small _ _ _ _ _ q.h q.next _ _ _ c.if-left-eq0.false (some_row c.has_row.ensures c.if-not-has_row.false) _ _ (c.read_common.ensures.rows_stored c.args.at q.h q.next q.told_by) _ _ _ _ _ _ c.in_ok-inner.was c.requires.room.0 (omega (arith, quick_inside _ _ _ _ c.args.row _ (c.requires.room.1 c.args.row), c.requires.room.0.short))
 
 pub read_quick-returns-in_err-inner : goal.read_quick-returns-in_err-inner
-read_quick-returns-in_err-inner t c = let q = opened_quickly _ _ _ _ c.args.row _ c.requires.room.1 (c.requires.room.2 c.args.row) in rw (handed_on _ c.from_residual.ensures.1) (record { rows_stored = quick_term _ _ _ _ c.args.row _ c.requires.room.1 (c.requires.room.2 c.args.row) _ _ _ _ _ _ (body_refused _ _ _ _ _ q.h q.next _ _ _ c.if-left-eq0.false (some_row c.has_row.ensures c.if-not-has_row.false) _ _ (c.read_common.ensures.rows_stored c.args.at q.h q.next q.told_by) _ _ c.in_err-inner.was); keys_kept = c.read_common.ensures.keys_kept })
+read_quick-returns-in_err-inner t c = let q = opened_quickly _ _ _ _ c.args.row _ (c.requires.room.1 c.args.row) in rw (handed_on _ c.from_residual.ensures.1) (record { rows_stored = quick_term _ _ _ _ c.args.row _ (c.requires.room.1 c.args.row) _ _ _ _ _ _ (body_refused _ _ _ _ _ q.h q.next _ _ _ c.if-left-eq0.false (some_row c.has_row.ensures c.if-not-has_row.false) _ _ (c.read_common.ensures.rows_stored c.args.at q.h q.next q.told_by) _ _ c.in_err-inner.was); keys_kept = c.read_common.ensures.keys_kept })
 
 pub read_quick-returns : goal.read_quick-returns
-read_quick-returns t c = let q = opened_quickly _ _ _ _ c.args.row _ c.requires.room.1 (c.requires.room.2 c.args.row) in record { rows_stored = quick_term _ _ _ _ c.args.row _ c.requires.room.1 (c.requires.room.2 c.args.row) _ _ _ _ _ _ (body_got _ _ _ _ _ q.h q.next _ _ _ c.if-left-eq0.false (some_row c.has_row.ensures c.if-not-has_row.false) _ _ (c.read_common.ensures.rows_stored c.args.at q.h q.next q.told_by) _ _ _ _ _ c.in_ok-inner.was (omega (arith, quick_inside _ _ _ _ c.args.row _ c.requires.room.1 (c.requires.room.2 c.args.row), c.requires.room.0.short)) c.pack.ensures); keys_kept = c.read_common.ensures.keys_kept }
+read_quick-returns t c = let q = opened_quickly _ _ _ _ c.args.row _ (c.requires.room.1 c.args.row) in record { rows_stored = quick_term _ _ _ _ c.args.row _ (c.requires.room.1 c.args.row) _ _ _ _ _ _ (body_got _ _ _ _ _ q.h q.next _ _ _ c.if-left-eq0.false (some_row c.has_row.ensures c.if-not-has_row.false) _ _ (c.read_common.ensures.rows_stored c.args.at q.h q.next q.told_by) _ _ _ _ _ c.in_ok-inner.was (omega (arith, quick_inside _ _ _ _ c.args.row _ (c.requires.room.1 c.args.row), c.requires.room.0.short)) c.pack.ensures); keys_kept = c.read_common.ensures.keys_kept }
 
 pub read_term-read_body-requires : goal.read_term-read_body-requires
 read_term-read_body-requires t c = let o = opened _ _ _ c.args.row _ _ c.in_ok-opening.ensures c.requires.room.near in
