@@ -6,13 +6,12 @@ use Prim.Native.Nat.{ℕ, ◌+◌, ◌*◌, ◌-◌, ◌/◌, ◌%◌, ◌≤◌
 use native.Mathlib.Nat.{mul-le-mul_left}
 use native.Mathlib.Omega.{arith}
 use lib.Dec.{eqb, leb, ltb}
-use lib.ListN.{length, get_or, take, drop, drop_of_length-le}
-use lib.Seq.{take-take, drop_at, drop-cons}
+use lib.ListN.{length, get_or, drop, drop_of_length-le}
+use lib.Seq.{drop-cons}
 use native.Mathlib.Numerals.{add-one}
-use borrow.Author.Tests.{eqb-true, eqb-false, eq-eqb, ne_eqb, le-leb, lt-leb, leb-true}
+use borrow.Author.Tests.{eqb-true, eqb-false, eq-eqb, ne_eqb}
 use Rattle.term_spec.specs.Text.{encode, encodes}
 use Rattle.term_spec.proofs.Tests.{never}
-use Rattle.octets.proofs.Parts.{length_part, part_add}
 use Rattle.row_fields.specs.declared.Content.{Content}
 use Rattle.row_fields.specs.declared.Content.TheVariants.{Nothing, Whole, Big, Float, Text, Bytes, Bits, Pid, Port, Reference}
 use Rattle.row_fields.specs.Meaning.{stretch, sign}
@@ -37,21 +36,7 @@ unfolding as_utf8 encodes
 utf8_cons true c cs = ap (λ (l : List ℕ). l ++ encodes cs) (sym (append-nil (encode c)))
 utf8_cons false c cs = refl
 
--- ---- both ends of a stretch
-
-module _ (s : List ℕ) (at n : ℕ) (inside : at + n ≤ length s) where
-  is_long : length (take n (drop at s)) ≡ n
-  is_long = length_part s at n inside
-
-  first_bytes : 1024 < n → take 512 (take n (drop at s)) ≡ take 512 (drop at s)
-  first_bytes l = take-take 512 n (drop at s) (omega arith)
-
-  last_bytes : 1024 < n → drop (n - 512) (take n (drop at s)) ≡ take 512 (drop (at + (n - 512)) s)
-  last_bytes l =
-      let e : n - 512 + 512 ≡ n = omega arith in
-      ap (λ (k : ℕ). drop (n - 512) (take k (drop at s))) (sym e)
-      ∙ ap (drop (n - 512)) (part_add s at (n - 512) 512)
-      ∙ drop_at (take (n - 512) (drop at s)) (take 512 (drop (at + (n - 512)) s)) (n - 512) (length_part s at (n - 512) (omega arith))
+-- ---- the last byte
 
 module _ (m : List ℕ) (bits at n : ℕ) where
   pub last_none : n ≡ 0 → 0 ≡ last_bits m bits at n
@@ -120,19 +105,6 @@ module _ (factor : ℕ) where
         none : (b : Bool) → mix_all factor sum (as_utf8 b []) ≡ sum
         none true = refl
         none false = refl
-
-  module _ (s : List ℕ) (at n h : ℕ) (t : Bool) (e : t ≡ leb (at + n) (length s)) where
-    module _ (f : t ≡ true) where
-      there : at + n ≤ length s
-      there = leb-true (at + n) (length s) (sym e ∙ f)
-
-      pub ends_all : (r : ℕ) → n ≤ 1024 → r ≡ mix_all factor h (as_utf8 false (take n (drop at s))) → r ≡ hash_ends factor s at n h
-      unfolding hash_ends mix_ends as_utf8
-      ends_all r l g = rw (← e, f, is_long s at n there, le-leb n 1024 l) g
-
-      pub ends_two : (x y r : ℕ) → 1024 < n → x ≡ mix factor h n → y ≡ mix_all factor x (as_utf8 false (take 512 (drop at s))) → r ≡ mix_all factor y (as_utf8 false (take 512 (drop (at + (n - 512)) s))) → r ≡ hash_ends factor s at n h
-      unfolding hash_ends mix_ends as_utf8
-      ends_two x y r l g i k = rw (← e, f, is_long s at n there, lt-leb n 1024 l, first_bytes s at n there l, last_bytes s at n there l, ← g, ← i) k
 
   -- ---- contents that say the same
 

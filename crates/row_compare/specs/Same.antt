@@ -1,6 +1,6 @@
 -- Whether two contents say the same label, with the tests of the code in their order.
 -- About the code alone, proved against the definitions of term_spec: nothing here has to be believed.
-use Rattle.std.specs.Prelude.{◌≡◌, Bool, true, false, cond, List, [], ◌∷◌, ◌++◌, ℕ, ◌+◌, ◌*◌, ◌-◌, ◌/◌, ◌≤◌, eqb, leb, ltb, length, get_or, drop}
+use Rattle.std.specs.Prelude.{◌≡◌, Bool, true, false, cond, List, [], ◌∷◌, ◌++◌, ℕ, ◌+◌, ◌*◌, ◌-◌, ◌/◌, eqb, leb, ltb, length, get_or}
 use Rattle.term_spec.specs.Text.{encode, encodes}
 use Rattle.octets.specs.Parts.{stretch}
 use Rattle.row_fields.specs.Meaning.{sign}
@@ -22,12 +22,11 @@ same_part a i b j n =
 unfoldable pub same_stretch : List ℕ → ℕ → ℕ → List ℕ → ℕ → ℕ → Bool
 same_stretch a i n b j k = cond (eqb n k) (same_part a i b j n) false
 
--- r bytes of bs spell the character c, and the rest of bs is compared with what follows c
-pub record Spelled (c : ℕ) (bs : List ℕ) (r : ℕ) : Type 0 where
-  pub fits : r ≤ length bs
-  pub spells : (more : List ℕ) → same_list (encode c ++ more) bs ≡ same_list more (drop r bs)
+-- bs spell the character c and then what is left
+abbrev pub Spelled : ℕ → List ℕ → List ℕ → Type 0
+Spelled c bs left = (more : List ℕ) → same_list (encode c ++ more) bs ≡ same_list more left
 
--- no bytes of bs spell the character c
+-- bs do not begin with the character c
 abbrev pub NotSpelled : ℕ → List ℕ → Type 0
 NotSpelled c bs = (more : List ℕ) → same_list (encode c ++ more) bs ≡ false
 

@@ -15,12 +15,22 @@ fn inside(s: &[u8], at: usize, n: usize) -> bool
     at <= s.len() && n <= s.len() - at
 }
 
+// The n bytes from `at` on, where they are there.
+fn part(s: &[u8], at: usize, n: usize) -> Option<&[u8]>
+    ensures { MatchOption result (length s.now < at + n) (λ bytes. (at + n ≤ length s.now) × (bytes.now ≡ take n (drop at s.now))) }
+{
+    s.get(at..)?.get(..n)
+}
+
 // Whether the n bytes of a from i on are there and are those of b from j on.
 #[tactic(auto, unfolding(crate::specs::Same::same_part))]
 fn same_part(a: &[u8], i: usize, b: &[u8], j: usize, n: usize) -> bool
     ensures { result ≡ same_part a.now i b.now j n }
 {
-    inside(a, i, n) && inside(b, j, n) && octets::same(a, i, b, j, n)
+    match (part(a, i, n), part(b, j, n)) {
+        (Some(x), Some(y)) => x == y,
+        _ => false,
+    }
 }
 
 #[tactic(auto, unfolding(crate::specs::Same::same_stretch))]
@@ -30,43 +40,48 @@ fn same_stretch(a: &[u8], i: usize, n: usize, b: &[u8], j: usize, k: usize) -> b
     n == k && same_part(a, i, b, j, n)
 }
 
-// How many bytes of b from j on, of the k there, are the character c in UTF-8.
-fn spelling(c: usize, b: &[u8], j: usize, k: usize) -> Option<usize>
-    requires { (c < 256) × (j + k ≤ length b.now) }
-    ensures { MatchOption result (NotSpelled c (take k (drop j b.now))) (λ r. Spelled c (take k (drop j b.now)) r) }
+// What comes after the character c, in UTF-8, at the start of bytes.
+fn after_character(c: usize, bytes: &[u8]) -> Option<&[u8]>
+    requires { c < 256 }
+    ensures { MatchOption result (NotSpelled c bytes.now) (λ rest. Spelled c bytes.now rest.now) }
 {
     if c < 128 {
-        if 0 < k && usize::from(b[j]) == c {
-            return Some(1);
+        if 0 < bytes.len() && usize::from(bytes[0]) == c {
+            return Some(&bytes[1..]);
         }
         return None;
     }
-    if 1 < k && usize::from(b[j]) == 192 + c / 64 && usize::from(b[j + 1]) == 128 + c % 64 {
-        return Some(2);
+    if 1 < bytes.len()
+        && usize::from(bytes[0]) == 192 + c / 64
+        && usize::from(bytes[1]) == 128 + c % 64
+    {
+        return Some(&bytes[2..]);
     }
     None
 }
 
-// Whether the n bytes of a from i on, as characters, are in UTF-8 the k bytes of b from j on.
-fn spelt(a: &[u8], i: usize, n: usize, b: &[u8], j: usize, k: usize) -> bool
-    requires { (i + n ≤ length a.now) × (j + k ≤ length b.now) }
-    ensures { result ≡ same_list (encodes (take n (drop i a.now))) (take k (drop j b.now)) }
+// Whether the bytes of a, as characters, are in UTF-8 those of b.
+fn spelt(a: &[u8], b: &[u8]) -> bool
+    ensures { result ≡ same_list (encodes a.now) b.now }
 {
-    let mut y = 0usize;
-    for x in 0..n {
-        let Some(w) = spelling(usize::from(a[i + x]), b, j + y, k - y) else {
+    let mut left = b;
+    for c in a {
+        let Some(rest) = after_character(usize::from(*c), left) else {
             return false;
         };
-        y += w;
+        left = rest;
     }
-    y == k
+    left.is_empty()
 }
 
 #[tactic(auto, unfolding(crate::specs::Same::same_spelling))]
 fn same_spelling(a: &[u8], i: usize, n: usize, b: &[u8], j: usize, k: usize) -> bool
     ensures { result ≡ same_spelling a.now i n b.now j k }
 {
-    inside(a, i, n) && inside(b, j, k) && spelt(a, i, n, b, j, k)
+    match (part(a, i, n), part(b, j, k)) {
+        (Some(x), Some(y)) => spelt(x, y),
+        _ => false,
+    }
 }
 
 // Whether two texts, each in Latin-1 or UTF-8, have the same characters.
@@ -263,46 +278,52 @@ fn mix_byte(factor: u64, latin1: bool, h: u64, c: usize) -> u64
     mix(factor, h, c as u64)
 }
 
-// A hash after the n bytes of s from `at` on.
-fn mix_bytes(factor: u64, s: &[u8], at: usize, n: usize, latin1: bool, h: u64) -> u64
-    requires { (factor < 4294967296) × (at + n ≤ length s.now) × (h < 4294967296) }
-    ensures { (result ≡ mix_all factor h (as_utf8 latin1 (take n (drop at s.now)))) × (result < 4294967296) }
+// A hash after bytes.
+fn mix_bytes(factor: u64, bytes: &[u8], latin1: bool, h: u64) -> u64
+    requires { (factor < 4294967296) × (h < 4294967296) }
+    ensures { (result ≡ mix_all factor h (as_utf8 latin1 bytes.now)) × (result < 4294967296) }
 {
     let mut sum = h;
-    for c in &s[at..at + n] {
+    for c in bytes {
         sum = mix_byte(factor, latin1, sum, usize::from(*c));
     }
     sum
 }
 
+// A hash after the n bytes of s from `at` on.
 #[tactic(auto, unfolding(crate::specs::Hash::hash_part))]
 fn hash_part(factor: u64, s: &[u8], at: usize, n: usize, latin1: bool, h: u64) -> u64
     requires { (factor < 4294967296) × (h < 4294967296) }
     ensures { (result ≡ hash_part factor s.now at n latin1 h) × (result < 4294967296) }
 {
-    if inside(s, at, n) {
-        mix_bytes(factor, s, at, n, latin1, h)
-    } else {
-        h
+    match part(s, at, n) {
+        Some(bytes) => mix_bytes(factor, bytes, latin1, h),
+        None => h,
     }
 }
 
-// A hash after the n bytes of s from `at` on: where they are many, after their number and those at both ends.
-#[tactic(auto, unfolding(crate::specs::Hash::hash_ends))]
+// The same of plain bytes: where they are many, after their number and those at both ends.
+#[tactic(auto, unfolding(crate::specs::Hash::hash_ends, crate::specs::Hash::mix_ends, crate::specs::Hash::as_utf8))]
 fn hash_ends(factor: u64, s: &[u8], at: usize, n: usize, h: u64) -> u64
     requires { (factor < 4294967296) × (h < 4294967296) }
     ensures { (result ≡ hash_ends factor s.now at n h) × (result < 4294967296) }
 {
-    if !inside(s, at, n) {
+    let Some(bytes) = part(s, at, n) else {
         return h;
+    };
+    let count = bytes.len();
+    if count <= WHOLE_STRETCH {
+        return mix_bytes(factor, bytes, false, h);
     }
-    if n <= WHOLE_STRETCH {
-        return mix_bytes(factor, s, at, n, false, h);
-    }
-    let counted = mix(factor, h, n as u64);
-    let begun = mix_bytes(factor, s, at, END_OF_STRETCH, false, counted);
-    let last = at + (n - END_OF_STRETCH);
-    mix_bytes(factor, s, last, END_OF_STRETCH, false, begun)
+    let counted = mix(factor, h, count as u64);
+    let first = &bytes[0..END_OF_STRETCH];
+    let last = &bytes[count - END_OF_STRETCH..];
+    mix_bytes(
+        factor,
+        last,
+        false,
+        mix_bytes(factor, first, false, counted),
+    )
 }
 
 // How many bytes n words have that are there; none of more than the message can hold.
