@@ -2,67 +2,57 @@
 #![tactic(auto)]
 
 mod ask;
-mod parts;
+mod case;
 mod read;
 mod word;
 mod write;
 
-ghost use Rattle.io.specs.Counts.{IsPrefixLen};
-
+use arrayvec::ArrayVec;
+use case::{Case, Line};
+use std::io::Write;
 use vector_lines::Verb;
 
 // Standard output's number.
 const STDOUT: i32 = 1;
 
-fn put_line<'a>(
-    dst: &mut [u8],
-    verb: Verb,
-    case: &[u8],
-    msg: &'a [u8],
-    places: &'a [u8],
-    lengths: &[u16],
-) -> usize
-    ensures { IsPrefixLen result dst.new }
-{
+fn put_line(line: &mut Line, verb: Verb, case: Case) -> std::io::Result<()> {
     match verb {
-        Verb::Read => read::put_line(dst, case, msg, places, lengths),
-        Verb::Write => write::put_line(dst, case, msg, places, lengths),
-        Verb::Ask => ask::put_line(dst, case, msg, places, lengths),
-        Verb::Word => word::put_line(dst, case, places, lengths),
-        Verb::Unknown => vector_lines::put_word(dst, 0, b"unknown\n"),
+        Verb::Read => read::put_line(line, case),
+        Verb::Write => write::put_line(line, case),
+        Verb::Ask => ask::put_line(line, case),
+        Verb::Word => word::put_line(line, case),
+        Verb::Unknown => writeln!(line, "unknown"),
     }
 }
 
-fn run(verb: Verb, case: &[u8]) {
+// Puts the answer to the case that has these bytes.
+fn put_case(line: &mut Line, verb: Verb, bytes: &[u8]) -> std::io::Result<()> {
     let mut places = [0u8; 8161];
     let mut lengths = [0u16; 256];
-    let start = vector_lines::fill_list(case, &mut places, &mut lengths);
-    let p = vector_lines::places_lent(case, &places);
-    let l = vector_lines::lengths_lent(case, &lengths);
-    let mut out = [0u8; 140000];
-    let n = put_line(
-        &mut out,
-        verb,
-        case,
-        &case[start..],
-        &places[..p],
-        &lengths[..l],
-    );
-    io::write_all(STDOUT, &out[..n]);
+    let start = vector_lines::fill_list(bytes, &mut places, &mut lengths);
+    let p = vector_lines::places_lent(bytes, &places);
+    let l = vector_lines::lengths_lent(bytes, &lengths);
+    let case = Case {
+        bytes,
+        msg: &bytes[start..],
+        places: &places[..p],
+        lengths: &lengths[..l],
+    };
+    put_line(line, verb, case)
 }
 
-fn run_line(line: &[u8]) {
-    let mut case = [0u8; 80000];
-    let n = vector_lines::decode_line(&mut case, line);
-    run(vector_lines::verb_of(line), &case[..n]);
-}
-
-fn run_all(src: &[u8]) {
-    let mut i = 0usize;
-    while i < src.len() {
-        let end = vector_lines::line_end(src, i);
-        run_line(&src[i..end]);
-        i = end + 1;
+fn run_all(book: &[u8]) {
+    let mut case: ArrayVec<u8, 80000> = ArrayVec::new();
+    let mut answer = Line::new();
+    for line in book.split_inclusive(|x| *x == b'\n') {
+        let line = line.strip_suffix(b"\n").unwrap_or(line);
+        case.clear();
+        // Of a case that is too long the first bytes alone are asked about.
+        let _ = vector_lines::decode_line(&mut case, line);
+        answer.clear();
+        // An answer that is too long is printed as far as there is room.
+        let _ = put_case(&mut answer, vector_lines::verb_of(line), case.as_slice());
+        io::write_all(STDOUT, answer.as_slice());
     }
 }
 
