@@ -8,18 +8,16 @@ use native.Mathlib.Numerals.{add-one}
 use lib.Dec.{ltb}
 use lib.Pow.{pow-add}
 use borrow.Author.Tests.{ltb-true, ltb-false, lt-ltb, le-ltb}
-use lib.ListN.{length, get_or, set, take, drop, replicate, length-append, length-drop}
-use lib.Seq.{sets, sets-eq, take-suc, take_all, take-append_seam}
+use lib.ListN.{length, get_or, set, take, drop, replicate, length-append}
+use lib.Seq.{sets-eq, take-suc, take_all, take-append_seam}
 use Rattle.io.specs.Digits.{hex_digit_ascii, last_digits, IsDigitCount}
-use Rattle.io.specs.Counts.{IsPrefixLen}
-use Rattle.io.proofs.Counting.{prefix_len_of_le}
 use Rattle.term_spec.specs.Answer.{Answer, good, refused}
 use Rattle.term_spec.specs.Message.{standalone}
 use Rattle.term_spec.specs.Writing.{Written, write, output_after}
-use Rattle.term_spec.specs.Answers.{write_answer}
+use Rattle.std.specs.Prelude.{Ok, Err}
+use Rattle.term_spec.specs.Answers.{WriteAnswer, write_answer}
 use Rattle.term_spec.specs.declared.Refusal.{Refusal}
-use Rattle.term_spec.specs.declared.WriteAnswer.{WriteAnswer}
-use Rattle.term_spec.specs.declared.WriteAnswer.TheVariants as writes
+use Rattle.term_spec.specs.declared.TermsWritten.{TermsWritten}
 use Rattle.layout.specs.Layout.{Put}
 use Rattle.layout.proofs.Puts.{put_then, put_same}
 use Rattle.bench_line.specs.Line.{hex, decimal_within, decimal, ok_line, refused_line, line_of, Stored, bench_answer}
@@ -64,10 +62,6 @@ hex_put {O} {P} bs {at} {next} i {u} {v} p h d e =
 
 pub hex_all : {O P : List ℕ} (bs : List ℕ) {at next : ℕ} (i : ℕ) → Put O at (hex (take i bs)) next P → length bs ≤ i → Put O at (hex bs) next P
 hex_all bs i p h = put_same (ap hex (take_all i bs h)) p
-
--- a whole text copied
-pub text_put : {O P : List ℕ} (at : ℕ) (t : List ℕ) → P ≡ sets O at (take (length t) (drop 0 t)) → Put O at t (at + length t) P
-text_put {O} at t e = record { past = refl; stored = e ∙ ap (λ (x : List ℕ). sets O at x) (take_all (length t) t (omega arith)) }
 
 -- a machine word has at most 20 decimal digits
 power_more : (j : ℕ) → 10 ^ suc j ≡ 10 * 10 ^ j
@@ -161,55 +155,43 @@ refused_put {O} {P} {Q} {R} {S} {T} n p {a} {b} {c} {d} {r} first number few tab
     front_put (put_then first (put_then number (put_then tab (put_then place last)))) (omega arith)
 
 length_of : WriteAnswer → ℕ
-length_of (writes.Written t n) = n
-length_of (writes.Refused r) = 0
-
-is_written : WriteAnswer → ℕ
-is_written (writes.Written t n) = 1
-is_written (writes.Refused r) = 0
+length_of (Ok t) = t.length
+length_of (Err r) = 0
 
 refusal_of : WriteAnswer → Refusal
-refusal_of (writes.Written t n) = record { number = 0; place = 0 }
-refusal_of (writes.Refused r) = r
+refusal_of (Ok t) = record { number = 0; place = 0 }
+refusal_of (Err r) = r
 
 -- the bytes that an answer counts are those in the output
-pub answer_good : (w : Answer Written) (O P : List ℕ) {D E : List ℕ} {t n r : ℕ} → writes.Written t n ≡ write_answer w → P ≡ output_after O w
-    → Stored (ok_line (take n P)) D r E → Stored (line_of w) D r E
-unfolding write_answer output_after length_of is_written line_of
-answer_good (good w) O P {D} {E} {t} {n} {r} e f s =
+pub answer_good : (w : Answer Written) (O P : List ℕ) {D E : List ℕ} {t : TermsWritten} {r : ℕ} → ◌≡◌ {A = WriteAnswer} (Ok t) (write_answer w) → P ≡ output_after O w
+    → Stored (ok_line (take t.length P)) D r E → Stored (line_of w) D r E
+unfolding write_answer output_after line_of length_of
+answer_good (good w) O P {D} {E} {t} {r} e f s =
     let bs : List ℕ = w.bytes in
-    let k : n ≡ length bs = ap length_of e in
-    let g : take n P ≡ bs = ap (λ (m : ℕ). take m P) k ∙ ap (λ (l : List ℕ). take (length bs) l) f ∙ take-append_seam bs (drop (length bs) O) in
+    let k : t.length ≡ length bs = ap length_of e in
+    let g : take t.length P ≡ bs = ap (λ (m : ℕ). take m P) k ∙ ap (λ (l : List ℕ). take (length bs) l) f ∙ take-append_seam bs (drop (length bs) O) in
     subst (λ (l : List ℕ). Stored (ok_line l) D r E) g s
-answer_good (refused m p) O P e f s = let z : ◌≡◌ {A = ℕ} 1 0 = ap is_written e in absurd (omega arith)
+answer_good (refused m p) O P e f s = absurd cc
 
-pub answer_fits : (w : Answer Written) (O P : List ℕ) {t n : ℕ} → writes.Written t n ≡ write_answer w → P ≡ output_after O w → n ≤ length P
-unfolding write_answer output_after length_of is_written
-answer_fits (good w) O P {t} {n} e f =
+pub answer_fits : (w : Answer Written) (O P : List ℕ) {t : TermsWritten} → ◌≡◌ {A = WriteAnswer} (Ok t) (write_answer w) → P ≡ output_after O w → t.length ≤ length P
+unfolding write_answer output_after length_of
+answer_fits (good w) O P {t} e f =
     let bs : List ℕ = w.bytes in
-    let k : n ≡ length bs = ap length_of e in
+    let k : t.length ≡ length bs = ap length_of e in
     let g : length P ≡ length bs + length (drop (length bs) O) = ap length f ∙ length-append bs (drop (length bs) O) in
     omega arith
-answer_fits (refused m p) O P e f = let z : ◌≡◌ {A = ℕ} 1 0 = ap is_written e in absurd (omega arith)
+answer_fits (refused m p) O P e f = absurd cc
 
 -- a refusal's line is the answer's
-pub answer_refused : (w : Answer Written) {D E : List ℕ} {x : Refusal} {k r : ℕ} → k ≡ x.number → writes.Refused x ≡ write_answer w
-    → Stored (refused_line k x.place) D r E → Stored (line_of w) D r E
-unfolding write_answer is_written refusal_of line_of
-answer_refused (good w) n e s = let z : ◌≡◌ {A = ℕ} 0 1 = ap is_written e in absurd (omega arith)
-answer_refused (refused m p) {D} {E} {x} {k} {r} n e s =
-    subst (λ (y : Refusal). Stored (refused_line y.number y.place) D r E) (ap refusal_of e) (subst (λ (j : ℕ). Stored (refused_line j x.place) D r E) n s)
-
-stored_length : (text : List ℕ) {D E : List ℕ} {r : ℕ} → Stored text D r E → length E ≡ length D
-stored_length text {D} {E} {r} s =
-    let n : length E ≡ length text + length (drop (length text) D) = ap length s.bytes_left ∙ length-append text (drop (length text) D) in
-    let d = length-drop (length text) D in
-    let fits : length text ≤ length D = omega arith in
-    omega arith
+pub answer_refused : (w : Answer Written) {D E : List ℕ} {x : Refusal} {r : ℕ} → ◌≡◌ {A = WriteAnswer} (Err x) (write_answer w)
+    → Stored (refused_line x.number x.place) D r E → Stored (line_of w) D r E
+unfolding write_answer line_of refusal_of
+answer_refused (good w) e s = absurd cc
+answer_refused (refused m p) {D} {E} {x} {r} e s = subst (λ (y : Refusal). Stored (refused_line y.number y.place) D r E) (ap refusal_of e) s
 
 -- the line at the start of the buffer, with the bench's list, rows and output
 pub bench_line : (m : List ℕ) {places lengths D E : List ℕ} {rows room r : ℕ} → places ≡ replicate 8160 0 → lengths ≡ replicate 255 0 → rows ≡ 8192 → room ≡ 65536
-    → Stored (line_of (write 3 standalone (lent_list 0 places lengths) rows room m)) D r E → Stored (line_of (bench_answer m)) D r E × IsPrefixLen r E
+    → Stored (line_of (write 3 standalone (lent_list 0 places lengths) rows room m)) D r E → Stored (line_of (bench_answer m)) D r E
 unfolding bench_answer
 bench_line m {places} {lengths} {D} {E} {rows} {room} {r} p l n o s =
     let w : write 3 standalone (lent_list 0 places lengths) rows room m ≡ bench_answer m =
@@ -217,6 +199,4 @@ bench_line m {places} {lengths} {D} {E} {rows} {room} {r} p l n o s =
     ∙ ap (λ (x : List ℕ). write 3 standalone (lent_list 0 (replicate 8160 0) x) rows room m) l
     ∙ ap (λ (k : ℕ). write 3 standalone empty_list k room m) n
     ∙ ap (λ (k : ℕ). write 3 standalone empty_list 8192 k m) o in
-    let fits : r ≤ length D = s.inside in
-    let size : length E ≡ length D = stored_length (line_of (write 3 standalone (lent_list 0 places lengths) rows room m)) s in
-    (subst (λ (a : Answer Written). Stored (line_of a) D r E) w s, prefix_len_of_le r E (omega arith))
+    subst (λ (a : Answer Written). Stored (line_of a) D r E) w s

@@ -11,14 +11,14 @@ ghost use Rattle.bench_line.specs.Line.{hex, decimal, ok_line, refused_line, lin
 ghost use Rattle.term_spec.specs.AtomList.{lent_list};
 
 use connection::Connection;
-use term_spec::{WriteAnswer, sizes};
+use term_spec::{Refusal, TermsWritten, sizes};
 
 // A hexadecimal digit, in lower case.
 fn digit(d: u8) -> u8
     requires { d < 16 }
     ensures { result ≡ hex_digit_ascii d }
 {
-    if d < 10 { 48 + d } else { 87 + d }
+    if d < 10 { b'0' + d } else { b'a' - 10 + d }
 }
 
 // Stores the bytes in hex from `at` on; the offset past them.
@@ -27,18 +27,16 @@ fn put_hex(dst: &mut [u8], at: usize, bytes: &[u8]) -> usize
     ensures { Put dst.old at (hex bytes.now) result dst.new × (result ≡ at + 2 * length bytes.now) }
 {
     let mut next = at;
-    let mut i = 0usize;
-    while i < bytes.len() {
-        let x = bytes[i];
-        dst[next] = digit(x / 16);
-        dst[next + 1] = digit(x % 16);
+    for x in bytes {
+        dst[next] = digit(*x / 16);
+        dst[next + 1] = digit(*x % 16);
         next += 2;
-        i += 1;
     }
     next
 }
 
 // Stores a text from `at` on; the offset past it.
+// By hand, as digits and numbers are: `write!` promises its bytes only where it answers Ok, and `line` promises its line of every input.
 fn put_text(dst: &mut [u8], at: usize, text: &[u8]) -> usize
     requires { at + length text.now ≤ length dst.old }
     ensures { Put dst.old at text.now result dst.new }
@@ -68,14 +66,14 @@ fn put_ok(dst: &mut [u8], bytes: &[u8]) -> usize
 }
 
 // The line of a refusal.
-fn put_refused(dst: &mut [u8], number: usize, place: usize) -> usize
+fn put_refused(dst: &mut [u8], r: Refusal) -> usize
     requires { 50 ≤ length dst.old }
-    ensures { Stored (refused_line number place) dst.old result dst.new }
+    ensures { Stored (refused_line r.number r.place) dst.old result dst.new }
 {
     let a = put_text(dst, 0, b"refused\t");
-    let b = put_decimal(dst, a, number as u64);
+    let b = put_decimal(dst, a, r.number as u64);
     let c = put_text(dst, b, b"\t");
-    let d = put_decimal(dst, c, place as u64);
+    let d = put_decimal(dst, c, r.place as u64);
     put_text(dst, d, b"\n")
 }
 
@@ -95,8 +93,8 @@ fn put_answer(
 {
     let connection = Connection { flags: BOTH_FLAGS };
     match writer::write_standalone(connection, msg, 0, places, lengths, scratch, output) {
-        WriteAnswer::Written { terms, length } => put_ok(dst, &output[..length]),
-        WriteAnswer::Refused(r) => put_refused(dst, octets::wide(r.number), r.place),
+        Ok(TermsWritten { length, .. }) => put_ok(dst, &output[..length]),
+        Err(r) => put_refused(dst, r),
     }
 }
 

@@ -5,7 +5,5 @@ use lib.ListN.{length-replicate}
 use Rattle.bench_line.proofs.Laws.{bench_line}
 use Rattle.bench_line.proofs.line.Goals as goal
 
-pub returns : goal.returns
-returns c =
-    let b = bench_line c.args.input.now refl refl (length-replicate {A = ℕ} 8192 0) (length-replicate {A = ℕ} 65536 0) c.put_answer.ensures in
-    record { stored = b.0; prefix_len = b.1 }
+pub returns-clause-stored : goal.returns-clause-stored
+returns-clause-stored c = bench_line c.args.input.now refl refl (length-replicate {A = ℕ} 8192 0) (length-replicate {A = ℕ} 65536 0) c.put_answer.ensures
