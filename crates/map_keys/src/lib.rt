@@ -235,7 +235,7 @@ fn same_key(keys: &Keys, levels: usize, first: usize, key: usize, row: usize) ->
     whole_in(row_at(keys.rows.table, row)) == first && same_terms(keys, levels, key, row)
 }
 
-// The row of the key in a slot: its row + 1 stands there, and 0 where there is none.
+// The row of the key in a slot. In the lent memory its row + 1 stands there, and 0 where there is none.
 fn key_in(slot: u16) -> Option<usize>
     ensures { MatchOption result (slot ≡ 0) (λ row. row + 1 ≡ slot) }
 {

@@ -334,7 +334,7 @@ fn words_length(msg: &[u8], n: usize) -> usize
     if n <= msg.len() / 4 { 4 * n } else { 0 }
 }
 
-// The bits that count of the last of n bytes, as a number; 0 where there is none.
+// The bits that count of the last of n bytes, as a hash takes them in. A number and no Option: without a byte it takes in 0.
 #[tactic(auto, unfolding(crate::specs::Hash::last_bits))]
 fn last_bits(msg: &[u8], bits: usize, at: usize, n: usize) -> u64
     ensures { result ≡ last_bits msg.now bits at n }

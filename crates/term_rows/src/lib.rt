@@ -12,7 +12,7 @@ use row_compare::same_content;
 use row_fields::{Content, content_at};
 use term_spec::{kinds, sizes};
 
-// The row at an index of the table as its word, 0 past its end.
+// The row at an index of the table as its word, 0 past its end. A number and no Option: 0 is no row's word, and the definitions of hashes and comparisons read a table so.
 pub fn row_at(table: &[u64], i: usize) -> u64
     ensures { result ≡ get_or table.now i 0 }
 {
@@ -65,7 +65,7 @@ impl Rows<'_> {
     }
 }
 
-// How many rows after a row stand in no order: of a map that has pairs all others of its term, else none.
+// How many rows after a row stand in no order: of a map that has pairs all others of its term, else none. A count, and 0 is one.
 #[tactic(auto, unfolding(crate::specs::Rows::unordered_rows))]
 pub fn unordered_rows(w: u64) -> usize
     ensures { (result ≡ unordered_rows w) × (result < 16384) }
