@@ -60,10 +60,7 @@ pub fn half_of(packet: &[u8], at: usize, i: ReferenceIndex) -> usize
 {
     let k = i.0;
     let flags = usize::from(packet[at + 1 + k / 2]);
-    if k % 2 == 0 {
-        return flags % 16;
-    }
-    flags / 16
+    if k % 2 == 0 { flags % 16 } else { flags / 16 }
 }
 
 // The count, the flags and the width of lengths of the header at `at`; none where it is cut off.

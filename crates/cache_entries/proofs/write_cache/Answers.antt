@@ -38,12 +38,6 @@ loop-i-preserved c = let a = c.args in
       cache_more (coding_of a.utf8) (cache_of a.cache.now a.cache_lengths.now) a.packet.now a.at a.start c.requires.good_header l.i l.next (cache_of l.cache l.cache_lengths) l.invariant.2 c.loop-i-test.true _ _ e,
     )
 
-pub shape_of-cache : goal.shape_of-cache
-shape_of-cache c = c.loop-i.invariant.1.places_are ∙ sym c.requires.cache_sized.places_are
-
-pub shape_of-cache_lengths : goal.shape_of-cache_lengths
-shape_of-cache_lengths c = c.loop-i.invariant.1.lengths_are ∙ sym c.requires.cache_sized.lengths_are
-
 pub returns : goal.returns
 returns c = let a = c.args in
     let l = c.loop-i in

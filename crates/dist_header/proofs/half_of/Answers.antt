@@ -11,8 +11,8 @@ returns-then-k-eq0 c = let a = c.args in (
   omega arith,
 )
 
-pub returns : goal.returns
-returns c = let a = c.args in (
+pub returns-else-k-eq0 : goal.returns-else-k-eq0
+returns-else-k-eq0 c = let a = c.args in (
   ap (λ (b : ℕ). b / 16) c.from-flags.ensures ∙ half_high a.packet.now a.at a.i.0 c.if-k-eq0.false,
   omega arith,
 )
