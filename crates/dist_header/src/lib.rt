@@ -144,7 +144,7 @@ pub fn put_text(
     text::put_latin1(packet, from, size, dst, at)
 }
 
-// Whether a place of the cache holds a text: 21 where it is empty, 14 where its bytes or its length are no text's.
+// Whether a place of the cache holds a text: 21 where it is empty, 14 where its bytes or its length are no text's. A number and no enum: the definitions name refusals so.
 fn check_place(cache: &Cache, place: Place) -> Result<(), u8>
     requires { (place.0 < 2048) × CacheSized (lent_cache cache.now) }
     ensures { result ≡ held_case (held (lent_cache cache.now) place.0) }

@@ -14,7 +14,7 @@ pub fn cache_fits(cache: &[u8], cache_lengths: &[u16]) -> bool
     cache.len() == sizes::CACHE_BYTES && cache_lengths.len() == sizes::CACHE_PLACES
 }
 
-// Whether all lent memory is of its stated size.
+// Whether all lent memory is of its stated size. Slices and no structs: each is asked for its length alone, as take_packet is lent it.
 pub fn memory_fits(
     cache: &[u8],
     cache_lengths: &[u16],

@@ -27,7 +27,7 @@ pub fn drop_sequence(connection: Connection, pending: Pending) -> Settled
     }
 }
 
-// Empties the cache and zeroes the record: 13.
+// Empties the cache and zeroes the record: 13. Two slices and no struct: C lends each, and docs/API.md has them so.
 pub fn reset(cache: &mut [u8], cache_lengths: &mut [u16], pending: Pending) -> Settled
     ensures { ResetCall (cache_of cache.old cache_lengths.old) pending result
         (cache_of cache.new cache_lengths.new) }

@@ -31,7 +31,7 @@ fn read_ids(packet: &[u8]) -> Result<Ids, u8>
     Ok(Ids { sequence, fragment })
 }
 
-// The packet's kind: 1, 2, 20, ids with 24 for zero; or the number of the refusal.
+// The packet's kind: 1, 2, 20, ids with 24 for zero; or the number of the refusal. A number and no enum: the definitions name refusals by their numbers.
 pub fn read_preamble(packet: &[u8]) -> Result<Preamble, u8>
     ensures { PreambleIs packet.now result }
 {

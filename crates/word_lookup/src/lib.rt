@@ -9,7 +9,7 @@ use connection::Connection;
 use packet_spec::{ReferenceIndex, WordAnswer, WordAt};
 use term_spec::{Refusal, refusals, sizes};
 
-// Where the word of reference `index` stands in this list's places: 13, 14 for an unknown flag, 6, 14.
+// Where the word of reference `index` stands in this list's places: 13, 14 for an unknown flag, 6, 14. A list's parts and no struct: C lends each, and docs/API.md has them so.
 pub fn locate_word(
     connection: Connection,
     n: u8,

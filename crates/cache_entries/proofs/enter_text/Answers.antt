@@ -2,16 +2,8 @@
 use Prim.Native.Nat.{◌*◌}
 use native.Mathlib.Omega.{arith}
 use Rattle.term_spec.specs.Text.{coding_of}
-use Rattle.cache_entries.proofs.Storing.{zeros_put, fits_at, stored_small, text_entered}
+use Rattle.cache_entries.proofs.Storing.{zeros_put, text_entered}
 use Rattle.cache_entries.proofs.enter_text.Goals as goal
-
-pub put_text-stored-requires : goal.put_text-stored-requires
-put_text-stored-requires c = let a = c.args in
-    fits_at (coding_of a.utf8) a.packet.now a.from a.size (32 * a.place.0) _ c.requires.2 (omega arith)
-
-pub overflow_cast-cache_lengths : goal.overflow_cast-cache_lengths
-overflow_cast-cache_lengths c = let a = c.args in
-    let m = stored_small (coding_of a.utf8) a.packet.now a.from a.size _ _ _ c.put_text-stored.result c.requires.2 c.put_text-stored.ensures in omega arith
 
 pub returns : goal.returns
 returns c = let a = c.args in

@@ -1,5 +1,5 @@
 -- `write_cache` meets its contract.
-use mathlib.Core.Path.{sym, ◌∙◌}
+use mathlib.Core.Path.{◌∙◌}
 use native.Mathlib.Omega.{arith}
 use borrow.Author.Rules.{rules}
 use Rattle.term_spec.specs.Text.{coding_of}

@@ -16,13 +16,6 @@ loop-i-init c = let a = c.args in (refl, checking_none (coding_of a.utf8) (held 
 pub half_of-half-requires : goal.half_of-half-requires
 half_of-half-requires c = let a = c.args in flags_inside a.packet.now a.at c.loop-i.i a.start c.requires.0 c.loop-i-test.true
 
-pub judge_reference-requires : goal.judge_reference-requires
-judge_reference-requires c = let h = c.requires.0 in (
-  record { half_small = omega arith; width_least = h.width_least; width_most = h.width_most; inside = c.loop-i.invariant.1.inside },
-  c.requires.1,
-  c.loop-i.invariant.0,
-)
-
 pub returns-in_err-next : goal.returns-in_err-next
 returns-in_err-next c = let a = c.args in
     let l = c.loop-i in
