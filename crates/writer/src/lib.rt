@@ -7,6 +7,7 @@ ghost use Rattle.term_spec.specs.Message.{standalone, payload};
 ghost use Rattle.term_spec.specs.Promises.{WriteCall};
 ghost use Rattle.term_spec.specs.Writing.{scratch_after};
 ghost use Rattle.key_order.specs.Code.{SlotsFor};
+ghost use Rattle.table_writer.specs.Code.{SomeRows, RowsWritten};
 ghost use Rattle.writer.specs.Code.{ZeroPast, RowsRead, WrittenAndCleared};
 
 use connection::Connection;
@@ -37,18 +38,51 @@ fn clear_rows(table: &mut [u64], rows: usize)
     table[..rows].fill(0);
 }
 
-// Writes the terms that were read into a table, with slots for the order of pairs, and clears the table.
+// Writes the terms that were read into a table, with slots for so many rows and so many keys, on a stack of its own.
+#[inline(never)]
+fn write_sized<const ROWS: usize, const KEYS: usize>(
+    rows: &Rows,
+    read: TermsRead,
+    out: &mut [u8],
+) -> WriteAnswer
+    requires terms { SomeRows rows.now.msg.now rows.now.places.now rows.now.lengths.now rows.now.table.now read.terms read.rows }
+    requires slots { SlotsFor read.rows ROWS KEYS }
+    requires few { (ROWS ≤ 8192) × (KEYS ≤ 8192) }
+    ensures { RowsWritten rows.now.msg.now rows.now.places.now rows.now.lengths.now rows.now.table.now read.terms read.rows out.old result out.new }
+{
+    let mut order = [0u16; ROWS];
+    let mut run = [0u16; KEYS];
+    table_writer::write_rows(rows, &mut order, &mut run, read, out)
+}
+
+// The same with the fewest slots that do for so many rows: terms of few rows take a small stack.
+fn write_fitted(rows: &Rows, read: TermsRead, out: &mut [u8]) -> WriteAnswer
+    requires terms { SomeRows rows.now.msg.now rows.now.places.now rows.now.lengths.now rows.now.table.now read.terms read.rows }
+    requires few { read.rows ≤ 8192 }
+    ensures { RowsWritten rows.now.msg.now rows.now.places.now rows.now.lengths.now rows.now.table.now read.terms read.rows out.old result out.new }
+{
+    if read.rows <= FEW_ROWS {
+        return write_sized::<FEW_ROWS, FEW_KEYS>(rows, read, out);
+    }
+    if read.rows <= SOME_ROWS {
+        return write_sized::<SOME_ROWS, SOME_KEYS>(rows, read, out);
+    }
+    if read.rows <= MORE_ROWS {
+        return write_sized::<MORE_ROWS, MORE_KEYS>(rows, read, out);
+    }
+    write_sized::<{ sizes::ROWS_MOST }, MOST_KEYS>(rows, read, out)
+}
+
+// The same, and clears the table.
 fn write_and_clear(
     msg: &[u8],
     places: &[u8],
     lengths: &[u16],
     table: &mut [u64],
-    order: &mut [u16],
-    run: &mut [u16],
     read: TermsRead,
     out: &mut [u8],
 ) -> WriteAnswer
-    requires { RowsRead msg.now places.now lengths.now table.old read.terms read.rows × SlotsFor read.rows (length order.old) (length run.old) }
+    requires { RowsRead msg.now places.now lengths.now table.old read.terms read.rows }
     ensures { WrittenAndCleared msg.now places.now lengths.now table.old read.terms read.rows out.old result table.new out.new }
 {
     let rows = Rows {
@@ -57,68 +91,9 @@ fn write_and_clear(
         lengths,
         table: &*table,
     };
-    let answer = table_writer::write_rows(&rows, order, run, read, out);
+    let answer = write_fitted(&rows, read, out);
     clear_rows(table, read.rows);
     answer
-}
-
-// The same with slots for so many rows and so many keys, on a stack of its own.
-#[inline(never)]
-fn write_sized<const ROWS: usize, const KEYS: usize>(
-    msg: &[u8],
-    places: &[u8],
-    lengths: &[u16],
-    table: &mut [u64],
-    read: TermsRead,
-    out: &mut [u8],
-) -> WriteAnswer
-    requires read { RowsRead msg.now places.now lengths.now table.old read.terms read.rows }
-    requires slots { SlotsFor read.rows ROWS KEYS }
-    requires few { (ROWS ≤ 8192) × (KEYS ≤ 8192) }
-    ensures { WrittenAndCleared msg.now places.now lengths.now table.old read.terms read.rows out.old result table.new out.new }
-{
-    let mut order = [0u16; ROWS];
-    let mut run = [0u16; KEYS];
-    write_and_clear(msg, places, lengths, table, &mut order, &mut run, read, out)
-}
-
-// The same with the slots that terms of more than FEW_ROWS need. Fewer do not come here, so that their stack is free of them.
-fn write_larger(
-    msg: &[u8],
-    places: &[u8],
-    lengths: &[u16],
-    table: &mut [u64],
-    read: TermsRead,
-    out: &mut [u8],
-) -> WriteAnswer
-    requires { RowsRead msg.now places.now lengths.now table.old read.terms read.rows }
-    ensures { WrittenAndCleared msg.now places.now lengths.now table.old read.terms read.rows out.old result table.new out.new }
-{
-    if read.rows <= SOME_ROWS {
-        return write_sized::<SOME_ROWS, SOME_KEYS>(msg, places, lengths, table, read, out);
-    }
-    if read.rows <= MORE_ROWS {
-        return write_sized::<MORE_ROWS, MORE_KEYS>(msg, places, lengths, table, read, out);
-    }
-    write_sized::<{ sizes::ROWS_MOST }, MOST_KEYS>(msg, places, lengths, table, read, out)
-}
-
-// The same for terms of any number of rows that reading answered.
-fn write_read(
-    msg: &[u8],
-    places: &[u8],
-    lengths: &[u16],
-    table: &mut [u64],
-    read: TermsRead,
-    out: &mut [u8],
-) -> WriteAnswer
-    requires { RowsRead msg.now places.now lengths.now table.old read.terms read.rows }
-    ensures { WrittenAndCleared msg.now places.now lengths.now table.old read.terms read.rows out.old result table.new out.new }
-{
-    if read.rows <= FEW_ROWS {
-        return write_sized::<FEW_ROWS, FEW_KEYS>(msg, places, lengths, table, read, out);
-    }
-    write_larger(msg, places, lengths, table, read, out)
 }
 
 // Writes the term of a standalone message, with the connection's flags and this atom list, as a canonical standalone term; the scratch table ends all zero.
@@ -134,7 +109,7 @@ pub fn write_standalone(
     ensures { WriteCall connection.flags standalone (lent_list n places.now lengths.now) msg.now scratch.old output.old result scratch.new output.new }
 {
     let read = reader::read_standalone(connection, msg, n, places, lengths, scratch)?;
-    write_read(msg, places, lengths, scratch, read, output)
+    write_and_clear(msg, places, lengths, scratch, read, output)
 }
 
 // Writes the terms of a payload, with the connection's flags and this atom list, as canonical standalone terms one after the other; the scratch table ends all zero.
@@ -150,5 +125,5 @@ pub fn write_payload(
     ensures { WriteCall connection.flags payload (lent_list n places.now lengths.now) msg.now scratch.old output.old result scratch.new output.new }
 {
     let read = reader::read_payload(connection, msg, n, places, lengths, scratch)?;
-    write_read(msg, places, lengths, scratch, read, output)
+    write_and_clear(msg, places, lengths, scratch, read, output)
 }

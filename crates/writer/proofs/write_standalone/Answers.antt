@@ -5,11 +5,11 @@ use native.Mathlib.Omega.{arith}
 use Rattle.std.proofs.lemmas.Result.{err_from_is_err_and}
 use Rattle.writer.proofs.write_standalone.Goals as goal
 
-pub write_read-requires : goal.write_read-requires
-write_read-requires c = message_rows c.read_standalone.ensures (omega arith) (under_all c.args.msg.now (λ i _. omega (arith, c.type_inv.msg i))) c.in_ok-read.was
+pub write_and_clear-requires : goal.write_and_clear-requires
+write_and_clear-requires c = message_rows c.read_standalone.ensures (omega arith) (under_all c.args.msg.now (λ i _. omega (arith, c.type_inv.msg i))) c.in_ok-read.was
 
 pub returns : goal.returns
-returns c = message_written c.read_standalone.ensures (omega arith) (under_all c.args.msg.now (λ i _. omega (arith, c.type_inv.msg i))) c.in_ok-read.was c.write_read.ensures c.read_standalone.auto.table
+returns c = message_written c.read_standalone.ensures (omega arith) (under_all c.args.msg.now (λ i _. omega (arith, c.type_inv.msg i))) c.in_ok-read.was c.write_and_clear.ensures c.read_standalone.auto.table
 
 pub returns-in_err-read : goal.returns-in_err-read
 returns-in_err-read c = let p = err_from_is_err_and c.from_residual.result c.from_residual.ensures.1 in
