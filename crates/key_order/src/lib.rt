@@ -157,6 +157,7 @@ fn order_map(rows: &Rows, order: &mut [u16], run: &mut [u16], out: &mut [u8], ro
 {
     let n = row::parts_in(rows.table[row]) / sizes::PAIR_PARTS;
     if sort_keys(rows, order, run, out, row + 1, n) {
+        // A 0 and no Option: a slot has 16 bits of fixed memory, and no key stands at row 0.
         order[row + 1] = 0;
         return;
     }
