@@ -221,12 +221,3 @@ enters_cached agreed s h width at c p e =
           good_cached agreed holding earlier i p.0 (at_offset s (at + 1) 0) x t (sym (e.0 agreed holding earlier i) ∙ f) in
           (g.ends, omega (arith, e.2), ap (enter c) (sym g.is));
     }
-
--- a text of 32 bytes at most fits where 32 bytes do, and its length is small
-pub fits_at : (agreed : Coding) (s : List ℕ) (from size to room : ℕ) → TextFits agreed s from size 0 32 → to + 32 ≤ room → TextFits agreed s from size to room
-fits_at agreed s from size to room f l = record { inside = f.inside; small = f.small; characters = f.characters; is = f.is; fits = omega (arith, f.fits) }
-
-pub stored_small : (agreed : Coding) (s : List ℕ) (from size at : ℕ) (before now : List ℕ) (stored : ℕ) → TextFits agreed s from size 0 32
-    → PutsText agreed (take size (drop from s)) at before now stored → stored ≤ 32
-stored_small agreed s from size at before now stored f put =
-    let e : stored ≡ length (encodes f.characters) = (put.puts f.characters f.is).0 in omega (arith, f.fits)

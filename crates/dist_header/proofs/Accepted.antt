@@ -1,28 +1,17 @@
 -- The references of an accepted header: what they are, and where the next one stands.
-use mathlib.Core.Path.{◌≡◌, refl, sym, ◌∙◌, ap}
-use mathlib.Core.List.{List, [], ◌∷◌}
-use Prim.Native.Nat.{ℕ, zero, suc, ◌+◌, ◌≤◌}
+use mathlib.Core.Path.{◌≡◌, refl, sym, ◌∙◌}
+use mathlib.Core.List.{List, []}
+use Prim.Native.Nat.{ℕ, ◌≤◌}
 use lib.ListN.{length}
 use Rattle.std.specs.Prelude.{Ok}
 use Rattle.term_spec.specs.Text.{Coding}
-use Rattle.term_spec.specs.Answer.{good, Position, at_offset}
-use Rattle.term_spec.proofs.Holds.{Holds, next, done_holds}
+use Rattle.term_spec.specs.Answer.{good, at_offset}
 use Rattle.packet_spec.specs.Memory.{Held}
-use Rattle.packet_spec.specs.Header.{Reference, half, reference, references, header}
+use Rattle.packet_spec.specs.Header.{Reference, header}
 use Rattle.dist_header.specs.Code.{flags_of, references_from, HeaderStarts, GoodHeader, HeaderIs}
 use Rattle.dist_header.specs.declared.HeaderStart.{HeaderStart}
 use Rattle.dist_header.specs.declared.Header.{Header}
 use Rattle.dist_header.proofs.Walk.{Along, along_none}
-
--- as many references are read as there are to be
-module _ (agreed : Coding) (holding : ℕ → Held) (flags : List ℕ) (width : ℕ) where
-  counted : (more : ℕ) (earlier : List Reference) (i : ℕ) (s : Position) → Holds (references agreed holding flags width earlier i more s) (λ rs t. length rs ≡ more)
-  unfolding references
-  counted zero earlier i s = done_holds [] s refl
-  counted (suc more) earlier i s =
-      next {o = reference agreed holding width earlier i (half flags i) s} (λ r t. Unit {0}) (record { known = λ _ _ _. tt }) λ r t _.
-      next _ (counted more (r ∷ earlier) (i + 1) t) λ rs u k.
-      done_holds (r ∷ rs) u (ap suc k)
 
 -- a good header, with where its references stand
 module _ (agreed : Coding) (holding : ℕ → Held) (s : List ℕ) (at : ℕ) (h : Header) (is : HeaderIs agreed holding s at (Ok h)) where
@@ -38,9 +27,6 @@ module _ (agreed : Coding) (holding : ℕ → Held) (s : List ℕ) (at : ℕ) (h
   pub references_are : references_from agreed holding s at h.start ≡ good (header_references, at_offset s h.payload 0)
   unfolding HeaderIs HeaderStarts
   references_are = sym (is.0.0 agreed holding) ∙ header_is
-
-  pub header_count : length header_references ≡ h.start.n
-  header_count = (counted agreed holding (flags_of s at h.start.n) h.start.width h.start.n [] 0 (at_offset s h.start.first 0)).known header_references (at_offset s h.payload 0) references_are
 
   pub payload_inside : h.payload ≤ length s
   unfolding HeaderIs
