@@ -34,6 +34,7 @@ pub struct Parts {
 }
 
 // A term. `whole` is the row of its whole plus 1, or 0; `left` the levels that are left for it.
+// `whole` is a number and no Option: docs/ROWS.md has it so in the row's word, which C reads.
 #[cycle(read)]
 fn read_term(
     c: &Context,
