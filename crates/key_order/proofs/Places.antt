@@ -4,7 +4,8 @@ use mathlib.Core.Bool.{Bool, true, false}
 use mathlib.Core.List.{List}
 use Prim.Native.Nat.{ℕ, ◌+◌, ◌-◌, ◌≤◌, ◌<◌}
 use native.Mathlib.Omega.{arith}
-use lib.ListN.{length, get_or, drop}
+use lib.ListN.{length, get_or, take, drop}
+use lib.Seq.{get_or-take, length-take-le}
 use Rattle.term_spec.specs.Order.{compare_lists}
 use Rattle.term_spec.specs.Canonical.{canonical}
 use Rattle.term_spec.specs.Reading.{as_read}
@@ -36,6 +37,30 @@ module _ {m places lengths T R : List ℕ} where
   module _ {S : List ℕ} {n key : ℕ} where
     pub fit_at : {room free : ℕ} (i x : ℕ) → KeysFit m places lengths T R S n key room → i < n → x ≡ get_or S i 0 → free ≡ room → TwoFit m places lengths T R x key free
     fit_at i x f l e g = rw (e, g) (f.each_fits i l)
+
+    -- ---- the first of them
+
+    module _ (short : n ≤ length S) where
+      pub taken_fit : {room : ℕ} → KeysFit m places lengths T R S n key room → KeysFit m places lengths T R (take n S) (length (take n S)) key room
+      taken_fit {room} f =
+          let e = length-take-le n S short in
+          record {
+            all_there = omega arith;
+            each_fits = λ i l.
+                let h : i < n = omega arith in
+                subst (λ (y : ℕ). TwoFit m places lengths T R y key room) (sym (get_or-take n S i 0 h)) (f.each_fits i h);
+          }
+
+      pub taken_place : {O P : List ℕ} {r : ℕ} → PlaceFound m places lengths T R (take n S) (length (take n S)) key O r P → PlaceFound m places lengths T R S n key O r P
+      taken_place {r = r} p =
+          let e = length-take-le n S short in
+          let b : r ≤ length (take n S) = p.inside in
+          record {
+            inside = omega arith;
+            after_last = λ l. subst (λ (y : ℕ). Before m places lengths T R y key) (get_or-take n S (r - 1) 0 (omega arith)) (p.after_last l);
+            before_next = λ l. subst (λ (y : ℕ). Before m places lengths T R key y) (get_or-take n S r 0 l) (p.before_next (omega arith));
+            past_keys = λ total f. p.past_keys total (taken_fit f);
+          }
 
     -- ---- by halving
 

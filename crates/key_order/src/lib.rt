@@ -53,24 +53,17 @@ fn key_before(rows: &Rows, order: &[u16], out: &mut [u8], a: usize, b: usize) ->
     written_before(rows, order, out, a, b)
 }
 
-// Where the key goes among the n keys whose rows `run` lists in rising order, found by halving.
-fn place_by_halves(
-    rows: &Rows,
-    order: &[u16],
-    out: &mut [u8],
-    run: &[u16],
-    n: usize,
-    key: usize,
-) -> usize
-    requires { KeysFit rows.now.msg.now rows.now.places.now rows.now.lengths.now rows.now.table.now order.now run.now n key (length out.old) }
-    ensures { PlaceFound rows.now.msg.now rows.now.places.now rows.now.lengths.now rows.now.table.now order.now run.now n key out.old result out.new }
+// Where the key goes among those whose rows `keys` lists in rising order, found by halving.
+fn place_by_halves(rows: &Rows, order: &[u16], out: &mut [u8], keys: &[u16], key: usize) -> usize
+    requires { KeysFit rows.now.msg.now rows.now.places.now rows.now.lengths.now rows.now.table.now order.now keys.now (length keys.now) key (length out.old) }
+    ensures { PlaceFound rows.now.msg.now rows.now.places.now rows.now.lengths.now rows.now.table.now order.now keys.now (length keys.now) key out.old result out.new }
 {
     let mut low = 0;
-    let mut high = n;
+    let mut high = keys.len();
     // A search by hand: partition_point asks that its test leave what it captures as it was, and key_before writes into out.
     while low < high {
         let middle = low + (high - low) / 2;
-        let other = usize::from(run[middle]);
+        let other = usize::from(keys[middle]);
         if key_before(rows, order, out, other, key) {
             low = middle + 1;
         } else {
@@ -81,25 +74,19 @@ fn place_by_halves(
 }
 
 // The same; past the last, if it may stand there, at the cost of one comparison.
-fn find_place(
-    rows: &Rows,
-    order: &[u16],
-    out: &mut [u8],
-    run: &[u16],
-    n: usize,
-    key: usize,
-) -> usize
-    requires { KeysFit rows.now.msg.now rows.now.places.now rows.now.lengths.now rows.now.table.now order.now run.now n key (length out.old) }
-    ensures { PlaceFound rows.now.msg.now rows.now.places.now rows.now.lengths.now rows.now.table.now order.now run.now n key out.old result out.new }
+fn find_place(rows: &Rows, order: &[u16], out: &mut [u8], keys: &[u16], key: usize) -> usize
+    requires { KeysFit rows.now.msg.now rows.now.places.now rows.now.lengths.now rows.now.table.now order.now keys.now (length keys.now) key (length out.old) }
+    ensures { PlaceFound rows.now.msg.now rows.now.places.now rows.now.lengths.now rows.now.table.now order.now keys.now (length keys.now) key out.old result out.new }
 {
+    let n = keys.len();
     if n == 0 {
         return 0;
     }
-    let last = usize::from(run[n - 1]);
+    let last = usize::from(keys[n - 1]);
     if key_before(rows, order, out, last, key) {
         return n;
     }
-    place_by_halves(rows, order, out, run, n - 1, key)
+    place_by_halves(rows, order, out, &keys[..n - 1], key)
 }
 
 // Puts the key's row in at index `at`: the rows from there on, up to the n-th, move one up.
@@ -126,7 +113,7 @@ fn sort_keys(
     let mut rising = true;
     let mut key = row;
     for i in 0..n {
-        let at = find_place(rows, order, out, run, i, key);
+        let at = find_place(rows, order, out, &run[..i], key);
         put_at(run, i, at, key);
         let value = key + row::size_in(rows.table[key]);
         key = value + row::size_in(rows.table[value]);
