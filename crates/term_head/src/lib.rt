@@ -290,7 +290,7 @@ fn is_newer(c: &Context, width: usize) -> bool
     c.v4_nc() && width == NEWER_WIDTH
 }
 
-// The most words of a reference with such a Creation.
+// The most words of a reference with such a Creation. Three functions and no struct of limits: each caller asks for one.
 fn words_most(c: &Context, width: usize) -> usize
     ensures { result ≡ (limits (c.now.flags) width).word_count }
 {
@@ -640,7 +640,7 @@ fn empty_list_at(msg: &[u8], at: usize) -> bool
     }
 }
 
-// The offset past all 108s of length 0.
+// The offset past all 108s of length 0. A while and no for: how many there are is known only when they have been read.
 pub fn skip_empty(msg: &[u8], at: usize) -> usize
     requires { at ≤ length msg.now }
     ensures { Skipped msg.now at result }

@@ -457,6 +457,7 @@ fn read_tail(
     let mut at_now = at;
     let mut row_now = row;
     let mut sum = before;
+    // A loop and no for: how many tails are joined is known only when they have been read.
     loop {
         let place = term_head::skip_empty(c.msg, at_now);
         if term_head::nil_at(c.msg, place) {

@@ -12,6 +12,7 @@ use arrayvec::{ArrayVec, CapacityError};
 use std::io::{self, Write};
 use term_spec::{ReadAnswer, Refusal, TermsRead, kinds, sizes};
 
+// What a line asks; a verb that is not known has an answer too, so it is a case and no None.
 #[derive(Clone, Copy, Debug, PartialEq, Eq)]
 pub enum Verb {
     Read,
