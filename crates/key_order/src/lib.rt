@@ -94,7 +94,12 @@ fn put_at(run: &mut [u16], n: usize, at: usize, key: usize)
     requires { (at ≤ n) × (n < length run.old) × (key < 65536) }
     ensures { run.new ≡ sets run.old at (key ∷ stretch run.old at (n - at)) }
 {
-    run.copy_within(at..n, at + 1);
+    let mut i = n;
+    // A loop and no copy_within: for the C interface the library needs memset alone (docs/API.md).
+    while at < i {
+        run[i] = run[i - 1];
+        i -= 1;
+    }
     run[at] = key as u16;
 }
 

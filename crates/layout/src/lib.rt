@@ -80,7 +80,7 @@ fn put_number(out: &mut [u8], at: usize, n: Number) -> usize
     ensures { Put out.old at (number_bytes n) result out.new }
 {
     let end = at + n.width;
-    out[at..end].copy_from_slice(&n.value.to_be_bytes()[8 - n.width..]);
+    octets::copy(&n.value.to_be_bytes(), 8 - n.width, out, at, n.width);
     end
 }
 
@@ -98,7 +98,7 @@ fn put_digits(out: &mut [u8], at: usize, n: u64) -> usize
 {
     let count = count_digits(n);
     let end = at + count;
-    out[at..end].copy_from_slice(&n.to_le_bytes()[..count]);
+    octets::copy(&n.to_le_bytes(), 0, out, at, count);
     end
 }
 
