@@ -9,7 +9,7 @@ ghost use Rattle.io.specs.Counts.{IsPrefixLen};
 ghost use Rattle.vector_lines.specs.Fields.{verb, payload_form};
 
 use arrayvec::{ArrayVec, CapacityError};
-use std::io::{self, Write};
+use std::io::Write;
 use term_spec::{ReadAnswer, Refusal, TermsRead, kinds, sizes};
 
 // What a line asks; a verb that is not known has an answer too, so it is a case and no None.
@@ -22,17 +22,16 @@ pub enum Verb {
     Unknown,
 }
 
-// Two digits for each byte.
-pub fn put_hex<W: Write>(line: &mut W, bytes: &[u8]) -> io::Result<()> {
+// Puts two digits for each byte on the line, as far as it has room; so do all functions `put_..`.
+pub fn put_hex<const N: usize>(line: &mut ArrayVec<u8, N>, bytes: &[u8]) {
     for x in bytes {
-        write!(line, "{x:02x}")?;
+        let _ = write!(line, "{x:02x}");
     }
-    Ok(())
 }
 
-pub fn put_refused<W: Write>(line: &mut W, r: Refusal) -> io::Result<()> {
+pub fn put_refused<const N: usize>(line: &mut ArrayVec<u8, N>, r: Refusal) {
     let Refusal { number, place } = r;
-    write!(line, "refused {number} {place}")
+    let _ = write!(line, "refused {number} {place}");
 }
 
 // The name of a kind; a list of no parts has its own.
@@ -56,40 +55,41 @@ fn kind_name(kind: usize, parts: usize) -> &'static str {
 }
 
 // A space, then kind, offset and whole, or - for none, parted by commas.
-fn put_row<W: Write>(line: &mut W, w: u64) -> io::Result<()> {
+fn put_row<const N: usize>(line: &mut ArrayVec<u8, N>, w: u64) {
     let kind = kind_name(row::kind_in(w), row::parts_in(w));
     let offset = row::offset_in(w);
-    write!(line, " {kind},{offset},")?;
-    match row::whole_in(w).checked_sub(1) {
+    let _ = write!(line, " {kind},{offset},");
+    let _ = match row::whole_in(w).checked_sub(1) {
         Some(whole) => write!(line, "{whole}"),
         None => write!(line, "-"),
-    }
+    };
 }
 
 // ` dirty` if a word is not 0, and the line's end.
-pub fn put_end<W: Write>(line: &mut W, words: &[u64]) -> io::Result<()> {
-    if words.iter().all(|w| *w == 0) {
-        return writeln!(line);
-    }
-    writeln!(line, " dirty")
+pub fn put_end<const N: usize>(line: &mut ArrayVec<u8, N>, words: &[u64]) {
+    let _ = if words.iter().all(|w| *w == 0) {
+        writeln!(line)
+    } else {
+        writeln!(line, " dirty")
+    };
 }
 
 // A reading's answer and the table after it, as one line; the rows where they are at most 100.
-pub fn put_read<W: Write>(line: &mut W, table: &[u64], answer: ReadAnswer) -> io::Result<()> {
+pub fn put_read<const N: usize>(line: &mut ArrayVec<u8, N>, table: &[u64], answer: ReadAnswer) {
     match answer {
         Err(r) => {
-            put_refused(line, r)?;
-            put_end(line, table)
+            put_refused(line, r);
+            put_end(line, table);
         }
         Ok(TermsRead { terms, rows }) => {
-            write!(line, "ok {terms} {rows}")?;
+            let _ = write!(line, "ok {terms} {rows}");
             let (used, rest) = table.split_at(rows.min(table.len()));
             if rows <= 100 {
                 for w in used {
-                    put_row(line, *w)?;
+                    put_row(line, *w);
                 }
             }
-            put_end(line, rest)
+            put_end(line, rest);
         }
     }
 }
@@ -161,15 +161,13 @@ pub fn verb_of(line: &[u8]) -> Verb
     }
 }
 
-// Puts the bytes of a line's words after its verb; an error where the case has no room for all.
-pub fn decode_line<const N: usize>(
-    case: &mut ArrayVec<u8, N>,
-    line: &[u8],
-) -> Result<(), CapacityError<u8>> {
+// Puts the bytes of a line's words after its verb, as far as the case has room.
+pub fn decode_line<const N: usize>(case: &mut ArrayVec<u8, N>, line: &[u8]) {
     for word in line.split(|x| *x == b' ').skip(1) {
-        push_word(case, word)?;
+        if push_word(case, word).is_err() {
+            return;
+        }
     }
-    Ok(())
 }
 
 // The byte at `at`; 0 where there is none.

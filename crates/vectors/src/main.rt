@@ -48,7 +48,7 @@ fn run_all(book: &[u8]) {
         let line = line.strip_suffix(b"\n").unwrap_or(line);
         case.clear();
         // Of a case that is too long the first bytes alone are asked about.
-        let _ = vector_lines::decode_line(&mut case, line);
+        vector_lines::decode_line(&mut case, line);
         answer.clear();
         // An answer that is too long is printed as far as there is room.
         let _ = put_case(&mut answer, vector_lines::verb_of(line), case.as_slice());

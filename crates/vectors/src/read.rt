@@ -18,5 +18,6 @@ pub fn put_line(line: &mut Line, case: Case) -> io::Result<()> {
     let rows = vector_lines::rows_lent(case.bytes, &table);
     let lent = &mut table[..rows];
     let answer = read(case, lent);
-    vector_lines::put_read(line, lent, answer)
+    vector_lines::put_read(line, lent, answer);
+    Ok(())
 }

@@ -13,20 +13,21 @@ fn put_written(
 ) -> io::Result<()> {
     let rest = match answer {
         Err(r) => {
-            vector_lines::put_refused(line, r)?;
+            vector_lines::put_refused(line, r);
             output
         }
         Ok(TermsWritten { length, .. }) => {
             let (written, rest) = output.split_at(length.min(output.len()));
             write!(line, "ok ")?;
-            vector_lines::put_hex(line, written)?;
+            vector_lines::put_hex(line, written);
             rest
         }
     };
     if !rest.iter().all(|x| *x == 165) {
         write!(line, " touched")?;
     }
-    vector_lines::put_end(line, scratch)
+    vector_lines::put_end(line, scratch);
+    Ok(())
 }
 
 fn write(case: Case, scratch: &mut [u64], output: &mut [u8]) -> WriteAnswer {
