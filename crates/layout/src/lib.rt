@@ -1,7 +1,8 @@
 // Layouts of terms' own fields: numbers in their widths and a body, measured and written.
 #![tactic(auto)]
 
-ghost use Rattle.std.specs.Prelude.{◌≡◌, ◌+◌, ◌≤◌, length};
+ghost use Rattle.std.specs.Prelude.{◌≡◌, ◌+◌, ◌≤◌, length, take, drop};
+ghost use Rattle.std.proofs.lemmas.List.Edits.{sets};
 ghost use Rattle.term_spec.specs.Numbers.{digits};
 ghost use Rattle.term_spec.specs.Text.{encodes};
 ghost use Rattle.term_spec.specs.Head.{clear_low};
@@ -74,13 +75,22 @@ pub fn laid(first: (usize, u64), second: (usize, u64), third: (usize, u64), body
     }
 }
 
+// Writes the n bytes of a number from `from` on. Never inlined: beside the number's own array LLVM would call memcpy, and for the C interface the library needs memset alone.
+#[inline(never)]
+fn put_bytes(bytes: &[u8], from: usize, out: &mut [u8], at: usize, n: usize)
+    requires { (from + n ≤ length bytes.now) × (at + n ≤ length out.old) }
+    ensures { out.new ≡ sets out.old at (take n (drop from bytes.now)) }
+{
+    octets::copy(bytes, from, out, at, n);
+}
+
 // Writes a number from `at` on; the offset past it.
 fn put_number(out: &mut [u8], at: usize, n: Number) -> usize
     requires { (n.width ≤ 8) × (at + n.width ≤ length out.old) }
     ensures { Put out.old at (number_bytes n) result out.new }
 {
     let end = at + n.width;
-    octets::copy(&n.value.to_be_bytes(), 8 - n.width, out, at, n.width);
+    put_bytes(&n.value.to_be_bytes(), 8 - n.width, out, at, n.width);
     end
 }
 
@@ -98,7 +108,7 @@ fn put_digits(out: &mut [u8], at: usize, n: u64) -> usize
 {
     let count = count_digits(n);
     let end = at + count;
-    octets::copy(&n.to_le_bytes(), 0, out, at, count);
+    put_bytes(&n.to_le_bytes(), 0, out, at, count);
     end
 }
 

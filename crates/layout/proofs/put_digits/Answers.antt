@@ -13,7 +13,7 @@ returns c = let args = c.args in
     record {
       past = omega (arith, c.count_digits-count.ensures.0);
       stored =
-          c.copy.ensures
+          c.put_bytes.ensures
           ∙ ap (λ (bs : List ℕ). sets args.out.now args.at bs)
           (ap₂ (λ (k : ℕ) (bs : List ℕ). take k bs) c.count_digits-count.ensures.0 c.to_le_bytes.ensures ∙ word_low _ (omega arith));
     }

@@ -15,7 +15,7 @@ returns c = let args = c.args in
     record {
       past = omega (arith, length_in_bytes args.n.width args.n.value);
       stored =
-          c.copy.ensures
+          c.put_bytes.ensures
           ∙ ap (λ (bs : List ℕ). sets args.out.now args.at bs)
           (ap₂ (λ (k : ℕ) (bs : List ℕ). take k (drop (8 - args.n.width) bs)) w c.to_be_bytes.ensures ∙ last_part _ _ c.requires.0);
     }
