@@ -6,7 +6,7 @@
  *   its type: 2 bytes for uint16_t, 8 for uint64_t and struct ik_pending. It is not null, even where its length is 0.
  * - Memory that a call may write overlaps no other memory lent to that call.
  * - Nobody else (a thread, an interrupt, a device) changes lent memory during the call.
- * - The stack has room: at most 140,944 bytes for one call, on x86-64; docs/STACK.md has each call.
+ * - The stack has room: at most 136,056 bytes for one call, on x86-64; docs/STACK.md has each call.
  * - The archive is x86-64 code that uses SSE registers and the red zone (128 bytes below the stack pointer). In a kernel, or in an
  *   interrupt handler on the stack of what it interrupts, call it only where both are yours to use.
  * Calls that share no memory that either may write can run at the same time.
