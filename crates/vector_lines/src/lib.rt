@@ -22,16 +22,22 @@ pub enum Verb {
     Unknown,
 }
 
-// Puts two digits for each byte on the line, as far as it has room; so do all functions `put_..`.
-pub fn put_hex<const N: usize>(line: &mut ArrayVec<u8, N>, bytes: &[u8]) {
+// Puts two digits for each byte on the line, as far as it has room, and answers how many bytes it then has; so do all functions `put_..`.
+pub fn put_hex<const N: usize>(line: &mut ArrayVec<u8, N>, bytes: &[u8]) -> usize
+    ensures { (result ≡ length line.new.items) × (result ≤ N) }
+{
     for x in bytes {
         let _ = write!(line, "{x:02x}");
     }
+    line.len()
 }
 
-pub fn put_refused<const N: usize>(line: &mut ArrayVec<u8, N>, r: Refusal) {
+pub fn put_refused<const N: usize>(line: &mut ArrayVec<u8, N>, r: Refusal) -> usize
+    ensures { (result ≡ length line.new.items) × (result ≤ N) }
+{
     let Refusal { number, place } = r;
     let _ = write!(line, "refused {number} {place}");
+    line.len()
 }
 
 // The name of a kind; a list of no parts has its own.
@@ -66,16 +72,25 @@ fn put_row<const N: usize>(line: &mut ArrayVec<u8, N>, w: u64) {
 }
 
 // ` dirty` if a word is not 0, and the line's end.
-pub fn put_end<const N: usize>(line: &mut ArrayVec<u8, N>, words: &[u64]) {
+pub fn put_end<const N: usize>(line: &mut ArrayVec<u8, N>, words: &[u64]) -> usize
+    ensures { (result ≡ length line.new.items) × (result ≤ N) }
+{
     let _ = if words.iter().all(|w| *w == 0) {
         writeln!(line)
     } else {
         writeln!(line, " dirty")
     };
+    line.len()
 }
 
 // A reading's answer and the table after it, as one line; the rows where they are at most 100.
-pub fn put_read<const N: usize>(line: &mut ArrayVec<u8, N>, table: &[u64], answer: ReadAnswer) {
+pub fn put_read<const N: usize>(
+    line: &mut ArrayVec<u8, N>,
+    table: &[u64],
+    answer: ReadAnswer,
+) -> usize
+    ensures { (result ≡ length line.new.items) × (result ≤ N) }
+{
     match answer {
         Err(r) => {
             put_refused(line, r);
@@ -92,6 +107,7 @@ pub fn put_read<const N: usize>(line: &mut ArrayVec<u8, N>, table: &[u64], answe
             put_end(line, rest);
         }
     }
+    line.len()
 }
 
 // The value of a hex digit.
@@ -161,13 +177,16 @@ pub fn verb_of(line: &[u8]) -> Verb
     }
 }
 
-// Puts the bytes of a line's words after its verb, as far as the case has room.
-pub fn decode_line<const N: usize>(case: &mut ArrayVec<u8, N>, line: &[u8]) {
+// Puts the bytes of a line's words after its verb, as far as the case has room, and answers how many bytes it then has.
+pub fn decode_line<const N: usize>(case: &mut ArrayVec<u8, N>, line: &[u8]) -> usize
+    ensures { (result ≡ length case.new.items) × (result ≤ N) }
+{
     for word in line.split(|x| *x == b' ').skip(1) {
         if push_word(case, word).is_err() {
-            return;
+            return case.len();
         }
     }
+    case.len()
 }
 
 // The byte at `at`; 0 where there is none.

@@ -1,5 +1,6 @@
 // A case, and what the lines of `ask` and `word` are made of.
 ghost use Rattle.std.specs.Prelude.{◌≡◌, slice_index};
+ghost use Rattle.vector_lines.specs.Fields.{payload_form};
 
 use arrayvec::ArrayVec;
 use connection::Connection;
@@ -29,11 +30,16 @@ impl Case<'_> {
     }
 
     // n of the atom list.
-    pub fn list_count(self) -> u8 {
+    pub fn list_count(self) -> u8
+        ensures { result ≡ slice_index self.entry.bytes.now 6 }
+    {
         vector_lines::list_count(self.bytes)
     }
 
-    pub fn is_payload(self) -> bool {
+    // Whether the message is a payload, by the case's form.
+    pub fn is_payload(self) -> bool
+        ensures { result ≡ payload_form (slice_index self.entry.bytes.now 0) }
+    {
         vector_lines::is_payload(self.bytes)
     }
 }
