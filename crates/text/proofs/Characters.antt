@@ -1,6 +1,6 @@
 -- The ways through a character, and over the characters of a text.
 use mathlib.Core.Path.{◌≡◌, refl, sym, ◌∙◌, ap}
-use mathlib.Core.Bool.{true, false}
+use mathlib.Core.Bool.{Bool, true, false}
 use mathlib.Core.List.{List, [], ◌∷◌}
 use mathlib.Core.Option.{Option, none, some}
 use Prim.Native.Nat.{ℕ, zero, suc, ◌+◌, ◌-◌, ◌≤◌, ◌<◌}
@@ -9,14 +9,14 @@ use native.Mathlib.Numerals.{add-one}
 use native.Mathlib.Omega.{arith}
 use lib.ListN.{length, get_or, drop, drop_of_length-le}
 use lib.Seq.{drop-cons}
-use borrow.Author.Tests.{le-leb, lt-leb, ltb-true, lt-ltb}
+use borrow.Author.Tests.{le-leb, ltb-true, lt-ltb}
 use Rattle.term_spec.specs.Text as text
 use Rattle.term_spec.specs.Text.{Range, ◌to◌, holds, Line, line, lines, marker, Begun, begun, first, valid, invalid_at, emit, decode, utf_8, check}
-use Rattle.term_spec.proofs.Tests.{both_true, by_less}
+use Rattle.term_spec.proofs.Tests.{both_true}
 use Rattle.term_spec.proofs.Text.{decode_first, between, pending}
 use Rattle.text.specs.Shown.{shown}
 use Rattle.text.specs.Characters.{text_from, onward, Within, due, byte_in, Completes, CharacterAt, Ascii}
-use Rattle.std.proofs.Common.{Some, None, Result, Ok, Err, MatchResult}
+use Rattle.std.proofs.Common.{Some, None, Result, Ok, Err}
 use Rattle.text.proofs.Ascii.{ascii_rest}
 
 -- a character that is put down leaves the rest as it is found
@@ -67,14 +67,12 @@ module _ (s : List ℕ) where
     unfolding byte_in
     byte_inside e = ltb-true at (length s) (both_true _ _ e).0
 
-    -- the same of what is due after it
-    pub completes_on : (lead next : ℕ) (rs : List Range) (c : Result ℕ ℕ) → (next ≡ at + 1) × (byte_in s at r ≡ true) → Completes s lead next rs c → Completes s lead at (r ∷ rs) c
-    completes_on lead next rs c h m = completes_more lead at r rs c (byte_inside h.1) (byte_there (byte_inside h.1) ∙ h.1) (rw h.0 at m)
+    -- the same of what is due after it, and where nothing is
+    pub completes_on : (lead next : ℕ) (rs : List Range) (c : Result ℕ ℕ) → next ≡ at + 1 → byte_in s at r ≡ true → Completes s lead next rs c → Completes s lead at (r ∷ rs) c
+    completes_on lead next rs c f e m = completes_more lead at r rs c (byte_inside e) (byte_there (byte_inside e) ∙ e) (rw f at m)
 
-    pub completes_last : (lead : ℕ) (c : Result ℕ ℕ) → MatchResult c (λ next. (next ≡ at + 1) × (byte_in s at r ≡ true)) (λ k. (rs : List Range) → Completes s lead at (r ∷ rs) (Err k))
-        → Completes s lead at (r ∷ []) c
-    completes_last lead (Ok next) h = let inside = byte_inside h.1 in completes_on lead next [] (Ok next) h (completes_none lead next (omega (arith, h.0)))
-    completes_last lead (Err k) h = h []
+    pub completes_last : (lead next : ℕ) → next ≡ at + 1 → byte_in s at r ≡ true → Completes s lead at (r ∷ []) (Ok next)
+    completes_last lead next f e = completes_on lead next [] (Ok next) f e (completes_none lead next (omega (arith, byte_inside e)))
 
   -- a first byte that is in a line, or in none
   module _ (at : ℕ) (h : at < length s) where
@@ -106,60 +104,23 @@ Left b ls = first b lines ≡ first b ls
 
 -- it is past the first of them, in it, or none are left
 module _ (b : ℕ) where
-  outside : (lo hi : ℕ) → (lo ≤ b → hi < b) → holds (lo to hi) b ≡ false
-  unfolding holds
-  outside lo hi h = by_less b lo (λ less. rw (lt-leb lo b less)) (λ from. rw (le-leb lo b from, lt-leb b hi (h from)))
-
-  past : (lo hi : ℕ) (rs : List Range) (ls : List Line) → (lo ≤ b → hi < b) → Left b (line (lo to hi) rs ∷ ls) → Left b ls
+  pub past_line : (r : Range) (rs : List Range) (ls : List Line) {t : Bool} → Left b (line r rs ∷ ls) → t ≡ holds r b → t ≡ false → Left b ls
   unfolding first
-  past lo hi rs ls h left = left ∙ rw (outside lo hi h, first)
+  past_line r rs ls left told e = left ∙ rw (sym told ∙ e, first)
 
-  pub in_line : (lo hi : ℕ) (rs : List Range) (ls : List Line) → lo ≤ b → b ≤ hi → Left b (line (lo to hi) rs ∷ ls) → Some rs ≡ due (first b lines)
-  unfolding first due holds
-  in_line lo hi rs ls h k left =
-      let is : first b lines ≡ some (begun (b - marker rs) rs) = left ∙ rw (le-leb lo b h, le-leb b hi k, first) in
+  pub in_line : (r : Range) (rs : List Range) (ls : List Line) {t : Bool} → Left b (line r rs ∷ ls) → t ≡ holds r b → t ≡ true → Some rs ≡ due (first b lines)
+  unfolding first due
+  in_line r rs ls left told e =
+      let is : first b lines ≡ some (begun (b - marker rs) rs) = left ∙ rw (sym told ∙ e, first) in
       sym (ap due is)
 
   pub no_line : Left b [] → None ≡ due (first b lines)
   unfolding first due
   no_line left = sym (ap due left)
 
-  -- past each of the table's lines, which are in order
-  pub past_1 : 0x7F < b → Left b (drop 1 lines)
-  unfolding lines
-  past_1 h = past 0x00 0x7F _ _ (λ l. h) refl
-
-  pub past_2 : 0x7F < b → (0xC2 ≤ b → 0xDF < b) → Left b (drop 2 lines)
-  unfolding lines
-  past_2 h k = past 0xC2 0xDF _ _ (λ l. omega arith) (past_1 h)
-
-  pub past_3 : 0x7F < b → (0xC2 ≤ b → 0xE0 < b) → Left b (drop 3 lines)
-  unfolding lines
-  past_3 h k = past 0xE0 0xE0 _ _ (λ l. omega arith) (past_2 h (λ l. omega arith))
-
-  pub past_4 : 0x7F < b → (0xC2 ≤ b → 0xEC < b) → Left b (drop 4 lines)
-  unfolding lines
-  past_4 h k = past 0xE1 0xEC _ _ (λ l. omega arith) (past_3 h (λ l. omega arith))
-
-  pub past_5 : 0x7F < b → (0xC2 ≤ b → 0xED < b) → Left b (drop 5 lines)
-  unfolding lines
-  past_5 h k = past 0xED 0xED _ _ (λ l. omega arith) (past_4 h (λ l. omega arith))
-
-  pub past_6 : 0x7F < b → (0xC2 ≤ b → 0xEF < b) → Left b (drop 6 lines)
-  unfolding lines
-  past_6 h k = past 0xEE 0xEF _ _ (λ l. omega arith) (past_5 h (λ l. omega arith))
-
-  pub past_7 : 0x7F < b → (0xC2 ≤ b → 0xF0 < b) → Left b (drop 7 lines)
-  unfolding lines
-  past_7 h k = past 0xF0 0xF0 _ _ (λ l. omega arith) (past_6 h (λ l. omega arith))
-
-  pub past_8 : 0x7F < b → (0xC2 ≤ b → 0xF3 < b) → Left b (drop 8 lines)
-  unfolding lines
-  past_8 h k = past 0xF1 0xF3 _ _ (λ l. omega arith) (past_7 h (λ l. omega arith))
-
-  pub past_9 : 0x7F < b → (0xC2 ≤ b → 0xF4 < b) → Left b (drop 9 lines)
-  unfolding lines
-  past_9 h k = past 0xF4 0xF4 _ _ (λ l. omega arith) (past_8 h (λ l. omega arith))
+holds_low : (b : ℕ) → b < 0x80 → holds (0x00 to 0x7F) b ≡ true
+unfolding holds
+holds_low b h = rw (le-leb 0 b (omega arith), le-leb b 0x7F (omega arith))
 
 -- Over the characters: `count` of them stand before offset `at`.
 abbrev pub Counted : List ℕ → ℕ → ℕ → Type 0
@@ -199,7 +160,7 @@ module _ (s : List ℕ) where
   ascii_character : (at : ℕ) → at < length s → get_or s at 0 < 0x80 → CharacterAt s at (Ok (at + 1))
   unfolding lines
   ascii_character at h low =
-      character_by s at h [] _ (in_line (get_or s at 0) 0x00 0x7F [] _ (omega arith) (omega arith) refl) (completes_none s at (at + 1) (omega arith))
+      character_by s at h [] _ (in_line (get_or s at 0) (0x00 to 0x7F) [] _ refl refl (holds_low _ low)) (completes_none s at (at + 1) (omega arith))
 
   counted_ascii : (n count at : ℕ) → Counted s count at → count + n ≤ 255 → Ascii s at n → Counted s (count + n) (at + n)
   counted_ascii zero count at so_far few a = rw (add-zero count, add-zero at) so_far

@@ -41,59 +41,78 @@ fn within(b: u8, r: Range) -> bool
 fn rule_of(b: u8) -> Option<Rule>
     ensures { after result ≡ due (first b lines) }
 {
-    match b {
-        // UTF8-1 = %x00-7F
-        0x00..=0x7F => Some(Rule::One),
-        // UTF8-2 = %xC2-DF UTF8-tail
-        0xC2..=0xDF => Some(Rule::Two(UTF8_TAIL)),
-        // UTF8-3 = %xE0 %xA0-BF UTF8-tail
-        0xE0 => Some(Rule::Three(Range(0xA0, 0xBF), UTF8_TAIL)),
-        // UTF8-3 / %xE1-EC 2( UTF8-tail )
-        0xE1..=0xEC => Some(Rule::Three(UTF8_TAIL, UTF8_TAIL)),
-        // UTF8-3 / %xED %x80-9F UTF8-tail
-        0xED => Some(Rule::Three(Range(0x80, 0x9F), UTF8_TAIL)),
-        // UTF8-3 / %xEE-EF 2( UTF8-tail )
-        0xEE..=0xEF => Some(Rule::Three(UTF8_TAIL, UTF8_TAIL)),
-        // UTF8-4 = %xF0 %x90-BF 2( UTF8-tail )
-        0xF0 => Some(Rule::Four(Range(0x90, 0xBF), UTF8_TAIL, UTF8_TAIL)),
-        // UTF8-4 / %xF1-F3 3( UTF8-tail )
-        0xF1..=0xF3 => Some(Rule::Four(UTF8_TAIL, UTF8_TAIL, UTF8_TAIL)),
-        // UTF8-4 / %xF4 %x80-8F 2( UTF8-tail )
-        0xF4 => Some(Rule::Four(Range(0x80, 0x8F), UTF8_TAIL, UTF8_TAIL)),
-        _ => None,
+    // Tests in turn and no match: a match on ranges becomes a jump table, measured slower (docs/DECISIONS.md).
+
+    // UTF8-1 = %x00-7F
+    if within(b, Range(0x00, 0x7F)) {
+        return Some(Rule::One);
     }
+    // UTF8-2 = %xC2-DF UTF8-tail
+    if within(b, Range(0xC2, 0xDF)) {
+        return Some(Rule::Two(UTF8_TAIL));
+    }
+    // UTF8-3 = %xE0 %xA0-BF UTF8-tail
+    if within(b, Range(0xE0, 0xE0)) {
+        return Some(Rule::Three(Range(0xA0, 0xBF), UTF8_TAIL));
+    }
+    // UTF8-3 / %xE1-EC 2( UTF8-tail )
+    if within(b, Range(0xE1, 0xEC)) {
+        return Some(Rule::Three(UTF8_TAIL, UTF8_TAIL));
+    }
+    // UTF8-3 / %xED %x80-9F UTF8-tail
+    if within(b, Range(0xED, 0xED)) {
+        return Some(Rule::Three(Range(0x80, 0x9F), UTF8_TAIL));
+    }
+    // UTF8-3 / %xEE-EF 2( UTF8-tail )
+    if within(b, Range(0xEE, 0xEF)) {
+        return Some(Rule::Three(UTF8_TAIL, UTF8_TAIL));
+    }
+    // UTF8-4 = %xF0 %x90-BF 2( UTF8-tail )
+    if within(b, Range(0xF0, 0xF0)) {
+        return Some(Rule::Four(Range(0x90, 0xBF), UTF8_TAIL, UTF8_TAIL));
+    }
+    // UTF8-4 / %xF1-F3 3( UTF8-tail )
+    if within(b, Range(0xF1, 0xF3)) {
+        return Some(Rule::Four(UTF8_TAIL, UTF8_TAIL, UTF8_TAIL));
+    }
+    // UTF8-4 / %xF4 %x80-8F 2( UTF8-tail )
+    if within(b, Range(0xF4, 0xF4)) {
+        return Some(Rule::Four(Range(0x80, 0x8F), UTF8_TAIL, UTF8_TAIL));
+    }
+    None
 }
 
-// The offset past the byte at `at`, due in the range, of the character at `lead`, or the offset at which the text fails: a character that the text's end cuts off fails at its first byte.
-fn continued(s: &[u8], lead: usize, at: usize, r: Range) -> Result<usize, usize>
-    ensures { MatchResult result (λ next. (next ≡ at + 1) × (byte_in s.now at (range r) ≡ true)) (λ k. (rs : List texts.Range) → Completes s.now lead at (range r ∷ rs) (Err k)) }
+// Whether the byte at `at`, due in the range, of the character at `lead` is there, or the offset at which the text fails: a character that the text's end cuts off fails at its first byte.
+fn continued(s: &[u8], lead: usize, at: usize, r: Range) -> Result<(), usize>
+    ensures { MatchResult result (λ _. byte_in s.now at (range r) ≡ true) (λ k. (rs : List texts.Range) → Completes s.now lead at (range r ∷ rs) (Err k)) }
 {
     if s.len() <= at {
         return Err(lead);
     }
-    if within(s[at], r) {
-        Ok(at + 1)
-    } else {
-        Err(at)
-    }
+    if within(s[at], r) { Ok(()) } else { Err(at) }
 }
 
-// The offset past the character at `at`, or the offset at which it fails.
+// The offset past the character at `at`, or the offset at which it fails. It is counted from `at`, and not from what `continued` answers: else it waits for every byte.
 fn character_at(s: &[u8], at: usize) -> Result<usize, usize>
     requires { at < length s.now }
     ensures { CharacterAt s.now at result }
 {
     match rule_of(s[at]) {
         Some(Rule::One) => Ok(at + 1),
-        Some(Rule::Two(a)) => continued(s, at, at + 1, a),
+        Some(Rule::Two(a)) => {
+            continued(s, at, at + 1, a)?;
+            Ok(at + 2)
+        }
         Some(Rule::Three(a, b)) => {
-            let third = continued(s, at, at + 1, a)?;
-            continued(s, at, third, b)
+            continued(s, at, at + 1, a)?;
+            continued(s, at, at + 2, b)?;
+            Ok(at + 3)
         }
         Some(Rule::Four(a, b, c)) => {
-            let third = continued(s, at, at + 1, a)?;
-            let fourth = continued(s, at, third, b)?;
-            continued(s, at, fourth, c)
+            continued(s, at, at + 1, a)?;
+            continued(s, at, at + 2, b)?;
+            continued(s, at, at + 3, c)?;
+            Ok(at + 4)
         }
         None => Err(at),
     }

@@ -1,51 +1,85 @@
 -- `rule_of` meets its contract. A byte that is past some lines of the table is in the next, or past it too.
 use mathlib.Core.Path.{refl}
-use native.Mathlib.Omega.{arith}
+use lib.ListN.{drop}
 use Rattle.term_spec.specs.Text.{lines}
 use Rattle.text.specs.Characters.{range, after}
-use Rattle.text.proofs.Characters.{in_line, no_line, past_1, past_2, past_3, past_4, past_5, past_6, past_7, past_8, past_9}
+use Rattle.text.proofs.Characters.{Left, past_line, in_line, no_line}
+use Rattle.text.proofs.rule_of.Goals.{Else-within, Else-within-2, Else-within-3, Else-within-4, Else-within-5, Else-within-6, Else-within-7, Else-within-8, Else-within-9}
 use Rattle.text.proofs.rule_of.Goals as goal
 
-pub returns-in-0-to-127 : goal.returns-in-0-to-127
-unfolding lines range after
-returns-in-0-to-127 c = in_line c.args.b 0x00 0x7F _ _ (omega arith) (omega arith) refl
+-- the lines that are left of the table where the test of each line fails
+past-1 : (c : Else-within) → Left c.args.b (drop 1 lines)
+unfolding lines range
+past-1 c = past_line _ _ _ _ refl c.within.ensures c.if-within.false
 
-pub returns-in-194-to-223 : goal.returns-in-194-to-223
-unfolding lines range after
-returns-in-194-to-223 c = in_line c.args.b 0xC2 0xDF _ _ (omega arith) (omega arith) (past_1 _ (omega arith))
+past-2 : (c : Else-within-2) → Left c.args.b (drop 2 lines)
+unfolding lines range
+past-2 c = past_line _ _ _ _ (past-1 c.before.before) c.within-2.ensures c.if-within-2.false
 
-pub returns-in-224 : goal.returns-in-224
-unfolding lines range after
-returns-in-224 c = in_line c.args.b 0xE0 0xE0 _ _ (omega arith) (omega arith) (past_2 _ (omega arith) (λ l. omega arith))
+past-3 : (c : Else-within-3) → Left c.args.b (drop 3 lines)
+unfolding lines range
+past-3 c = past_line _ _ _ _ (past-2 c.before.before) c.within-3.ensures c.if-within-3.false
 
-pub returns-in-225-to-236 : goal.returns-in-225-to-236
-unfolding lines range after
-returns-in-225-to-236 c = in_line c.args.b 0xE1 0xEC _ _ (omega arith) (omega arith) (past_3 _ (omega arith) (λ l. omega arith))
+past-4 : (c : Else-within-4) → Left c.args.b (drop 4 lines)
+unfolding lines range
+past-4 c = past_line _ _ _ _ (past-3 c.before.before) c.within-4.ensures c.if-within-4.false
 
-pub returns-in-237 : goal.returns-in-237
-unfolding lines range after
-returns-in-237 c = in_line c.args.b 0xED 0xED _ _ (omega arith) (omega arith) (past_4 _ (omega arith) (λ l. omega arith))
+past-5 : (c : Else-within-5) → Left c.args.b (drop 5 lines)
+unfolding lines range
+past-5 c = past_line _ _ _ _ (past-4 c.before.before) c.within-5.ensures c.if-within-5.false
 
-pub returns-in-238-to-239 : goal.returns-in-238-to-239
-unfolding lines range after
-returns-in-238-to-239 c = in_line c.args.b 0xEE 0xEF _ _ (omega arith) (omega arith) (past_5 _ (omega arith) (λ l. omega arith))
+past-6 : (c : Else-within-6) → Left c.args.b (drop 6 lines)
+unfolding lines range
+past-6 c = past_line _ _ _ _ (past-5 c.before.before) c.within-6.ensures c.if-within-6.false
 
-pub returns-in-240 : goal.returns-in-240
-unfolding lines range after
-returns-in-240 c = in_line c.args.b 0xF0 0xF0 _ _ (omega arith) (omega arith) (past_6 _ (omega arith) (λ l. omega arith))
+past-7 : (c : Else-within-7) → Left c.args.b (drop 7 lines)
+unfolding lines range
+past-7 c = past_line _ _ _ _ (past-6 c.before.before) c.within-7.ensures c.if-within-7.false
 
-pub returns-in-241-to-243 : goal.returns-in-241-to-243
-unfolding lines range after
-returns-in-241-to-243 c = in_line c.args.b 0xF1 0xF3 _ _ (omega arith) (omega arith) (past_7 _ (omega arith) (λ l. omega arith))
+past-8 : (c : Else-within-8) → Left c.args.b (drop 8 lines)
+unfolding lines range
+past-8 c = past_line _ _ _ _ (past-7 c.before.before) c.within-8.ensures c.if-within-8.false
 
-pub returns-in-244 : goal.returns-in-244
-unfolding lines range after
-returns-in-244 c = in_line c.args.b 0xF4 0xF4 _ _ (omega arith) (omega arith) (past_8 _ (omega arith) (λ l. omega arith))
+past-9 : (c : Else-within-9) → Left c.args.b (drop 9 lines)
+unfolding lines range
+past-9 c = past_line _ _ _ _ (past-8 c.before.before) c.within-9.ensures c.if-within-9.false
 
-pub returns-in_default : goal.returns-in_default
+pub returns-then-within : goal.returns-then-within
+unfolding lines range after
+returns-then-within c = in_line _ _ _ _ refl c.within.ensures c.if-within.true
+
+pub returns-then-within-2 : goal.returns-then-within-2
+unfolding lines range after
+returns-then-within-2 c = in_line _ _ _ _ (past-1 (goal.at.returns-then-within-2 c).Else-within) c.within-2.ensures c.if-within-2.true
+
+pub returns-then-within-3 : goal.returns-then-within-3
+unfolding lines range after
+returns-then-within-3 c = in_line _ _ _ _ (past-2 (goal.at.returns-then-within-3 c).Else-within-2) c.within-3.ensures c.if-within-3.true
+
+pub returns-then-within-4 : goal.returns-then-within-4
+unfolding lines range after
+returns-then-within-4 c = in_line _ _ _ _ (past-3 (goal.at.returns-then-within-4 c).Else-within-3) c.within-4.ensures c.if-within-4.true
+
+pub returns-then-within-5 : goal.returns-then-within-5
+unfolding lines range after
+returns-then-within-5 c = in_line _ _ _ _ (past-4 (goal.at.returns-then-within-5 c).Else-within-4) c.within-5.ensures c.if-within-5.true
+
+pub returns-then-within-6 : goal.returns-then-within-6
+unfolding lines range after
+returns-then-within-6 c = in_line _ _ _ _ (past-5 (goal.at.returns-then-within-6 c).Else-within-5) c.within-6.ensures c.if-within-6.true
+
+pub returns-then-within-7 : goal.returns-then-within-7
+unfolding lines range after
+returns-then-within-7 c = in_line _ _ _ _ (past-6 (goal.at.returns-then-within-7 c).Else-within-6) c.within-7.ensures c.if-within-7.true
+
+pub returns-then-within-8 : goal.returns-then-within-8
+unfolding lines range after
+returns-then-within-8 c = in_line _ _ _ _ (past-7 (goal.at.returns-then-within-8 c).Else-within-7) c.within-8.ensures c.if-within-8.true
+
+pub returns-then-within-9 : goal.returns-then-within-9
+unfolding lines range after
+returns-then-within-9 c = in_line _ _ _ _ (past-8 (goal.at.returns-then-within-9 c).Else-within-8) c.within-9.ensures c.if-within-9.true
+
+pub returns : goal.returns
 unfolding lines after
-returns-in_default c = no_line c.args.b (past_9 _ (omega arith) (λ l. omega arith))
-
-pub returns-in_default-2 : goal.returns-in_default-2
-unfolding lines after
-returns-in_default-2 c = no_line c.args.b (past_9 _ (omega arith) (λ l. omega arith))
+returns c = no_line _ (past-9 (goal.at.returns c).Else-within-9)
