@@ -198,7 +198,7 @@ fn bytes_at<'a>(msg: &'a [u8], places: &'a [u8], t: TextAnswer) -> &'a [u8]
     match t {
         Ok(TextAt::Message { start, length, .. }) => &msg[start..start + length],
         Ok(TextAt::List { start, length }) => &places[start..start + length],
-        Err(_) => &[],
+        Err(_) => &msg[..0],
     }
 }
 

@@ -39,24 +39,10 @@ same_unequal xs ys f = go (same_list xs ys) refl
     go true e = absurd (f (same_true xs ys e))
     go false e = sym e
 
--- what `==` answers at slices
-pointwise_same : (xs ys : List ℕ) → pointwise eqb xs ys ≡ same_list xs ys
-unfolding same_list
-pointwise_same [] [] = refl
-pointwise_same [] (y ∷ ys) = refl
-pointwise_same (x ∷ xs) [] = refl
-pointwise_same (x ∷ xs) (y ∷ ys) = go (eqb x y) (pointwise_same xs ys)
-  where
-    go : (t : Bool) → pointwise eqb xs ys ≡ same_list xs ys → (t && pointwise eqb xs ys) ≡ cond t (same_list xs ys) false
-    go true e = e
-    go false e = refl
-
--- two parts that are there
-pub parts_compared : (a : List ℕ) (i : ℕ) (b : List ℕ) (j n : ℕ) (x y : List ℕ) (r : Bool) → i + n ≤ length a → x ≡ take n (drop i a) → j + n ≤ length b → y ≡ take n (drop j b)
-    → r ≡ pointwise eqb x y → r ≡ same_part a i b j n
-unfolding same_part
-parts_compared a i b j n x y r h e g f k =
-    k ∙ pointwise_same x y ∙ rw (le-leb (i + n) (length a) h, le-leb (j + n) (length b) g) (ap₂ same_list e f)
+-- by the outcome of a comparison of parts
+pub same_by : (xs ys : List ℕ) (r : Bool) → (r ≡ true → xs ≡ ys) → (r ≡ false → xs ≡ ys → ⊥) → r ≡ same_list xs ys
+same_by xs ys true f g = sym (rw (f refl) (same_self ys))
+same_by xs ys false f g = same_unequal xs ys (g refl)
 
 same_cons : (x : ℕ) (xs : List ℕ) (y : ℕ) (ys : List ℕ) → x ≡ y → same_list (x ∷ xs) (y ∷ ys) ≡ same_list xs ys
 unfolding same_list

@@ -27,10 +27,10 @@ fn part(s: &[u8], at: usize, n: usize) -> Option<&[u8]>
 fn same_part(a: &[u8], i: usize, b: &[u8], j: usize, n: usize) -> bool
     ensures { result ≡ same_part a.now i b.now j n }
 {
-    match (part(a, i, n), part(b, j, n)) {
-        (Some(x), Some(y)) => x == y,
-        _ => false,
+    if !inside(a, i, n) || !inside(b, j, n) {
+        return false;
     }
+    octets::same(a, i, b, j, n)
 }
 
 #[tactic(auto, unfolding(crate::specs::Same::same_stretch))]

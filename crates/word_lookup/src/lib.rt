@@ -62,6 +62,6 @@ pub fn word<'a>(
 {
     match locate_word(connection, n, places, lengths, index) {
         Ok(WordAt { start, length }) => &places[start..start + length],
-        Err(_) => &[],
+        Err(_) => &places[..0],
     }
 }

@@ -1,9 +1,11 @@
 -- `same_part` meets its contract: parts that are there are compared.
-use Rattle.row_compare.proofs.Lists.{parts_compared}
+use Rattle.row_compare.specs.Same.{same_part}
+use Rattle.row_compare.proofs.Lists.{same_by}
+use Rattle.row_fields.proofs.Tests.{yes_way}
 use Rattle.row_compare.proofs.same_part.Goals as goal
 
-pub returns-in-Some-Some : goal.returns-in-Some-Some
-returns-in-Some-Some c =
-    let x = c.in-Some-Some.ensures in
-    let y = c.in-Some-Some.ensures' in
-    parts_compared _ _ _ _ _ _ _ _ x.0 x.1 y.0 y.1 c.eq.ensures
+pub returns : goal.returns
+unfolding same_part
+returns c =
+    yes_way _ c.inside.ensures.0 c.if-not-inside.false
+    (yes_way _ c.inside-else-not-inside.ensures.0 c.if-not-inside-2.false (same_by _ _ _ c.same.ensures.0 c.same.ensures.1))
