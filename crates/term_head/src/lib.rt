@@ -796,6 +796,7 @@ pub fn leaf_at(msg: &[u8], at: usize, wanted: Wanted) -> Option<usize>
 }
 
 // The head of one of the commonest keys and values of a map, without parts, in one word; None of any other. As `leaf_at`, it has one caller, so that both are inlined.
+#[inline(always)]
 pub fn entry_at(msg: &[u8], at: usize) -> Option<usize>
     requires { (at ≤ length msg.now) × (length msg.now ≤ 65536) }
     ensures { (w : ℕ) → result ≡ Some w → (given : Given) (rows : ℕ) → Some w ≡ quick_word (head_of (term_head given any (at_offset msg.now at rows))) }
