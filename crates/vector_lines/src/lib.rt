@@ -4,12 +4,10 @@
 // byte short, 't', 'q' with a length too many. No function has a `requires`: what is missing counts as 0, what has no room is left out.
 #![tactic(auto)]
 
-ghost use Rattle.std.specs.Prelude.{◌≡◌, ◌≤◌, ◌<◌, length, get_or};
+ghost use Rattle.std.specs.Prelude.{◌≡◌, ◌≤◌, ◌<◌, min, length, get_or};
 ghost use Rattle.io.specs.Counts.{IsPrefixLen};
 ghost use Rattle.vector_lines.specs.Fields.{verb, payload_form};
 
-use arrayvec::{ArrayVec, CapacityError};
-use std::io::Write;
 use term_spec::{ReadAnswer, Refusal, TermsRead, kinds, sizes};
 
 // What a line asks; a verb that is not known has an answer too, so it is a case and no None.
@@ -22,22 +20,72 @@ pub enum Verb {
     Unknown,
 }
 
-// Puts two digits for each byte on the line, as far as it has room, and answers how many bytes it then has; so do all functions `put_..`.
-pub fn put_hex<const N: usize>(line: &mut ArrayVec<u8, N>, bytes: &[u8]) -> usize
-    ensures { (result ≡ length line.new.items) × (result ≤ N) }
+// Puts x after the first `at` bytes of dst, as far as there is room, and answers how many bytes it then has; so do all functions `put_..`.
+pub fn put_byte(dst: &mut [u8], at: usize, x: u8) -> usize
+    ensures { IsPrefixLen result dst.new }
 {
-    for x in bytes {
-        let _ = write!(line, "{x:02x}");
+    match dst.get_mut(at) {
+        Some(byte) => {
+            *byte = x;
+            at + 1
+        }
+        None => dst.len(),
     }
-    line.len()
 }
 
-pub fn put_refused<const N: usize>(line: &mut ArrayVec<u8, N>, r: Refusal) -> usize
-    ensures { (result ≡ length line.new.items) × (result ≤ N) }
+pub fn put_word(dst: &mut [u8], at: usize, word: &[u8]) -> usize
+    ensures { IsPrefixLen result dst.new }
+{
+    let mut next = inside(dst, at);
+    for x in word {
+        next = put_byte(dst, next, *x);
+    }
+    next
+}
+
+pub fn put_decimal(dst: &mut [u8], at: usize, n: u64) -> usize
+    ensures { IsPrefixLen result dst.new }
+{
+    let mut digits = [0u8; 20];
+    let k = io::decimal(n, &mut digits);
+    put_word(dst, at, &digits[..k])
+}
+
+// A space, and n in decimal.
+fn put_number(dst: &mut [u8], at: usize, n: usize) -> usize
+    ensures { IsPrefixLen result dst.new }
+{
+    let next = put_byte(dst, at, b' ');
+    put_decimal(dst, next, n as u64)
+}
+
+// Two digits.
+fn put_hex_byte(dst: &mut [u8], at: usize, x: u8) -> usize
+    ensures { IsPrefixLen result dst.new }
+{
+    let digits = b"0123456789abcdef";
+    let next = put_byte(dst, at, digits[usize::from(x / 16)]);
+    put_byte(dst, next, digits[usize::from(x % 16)])
+}
+
+// Two digits for each byte.
+pub fn put_hex(dst: &mut [u8], at: usize, bytes: &[u8]) -> usize
+    ensures { IsPrefixLen result dst.new }
+{
+    let mut next = inside(dst, at);
+    for x in bytes {
+        next = put_hex_byte(dst, next, *x);
+    }
+    next
+}
+
+pub fn put_refused(dst: &mut [u8], at: usize, r: Refusal) -> usize
+    ensures { IsPrefixLen result dst.new }
 {
     let Refusal { number, place } = r;
-    let _ = write!(line, "refused {number} {place}");
-    line.len()
+    let a = put_word(dst, at, b"refused");
+    let b = put_number(dst, a, usize::from(number));
+    put_number(dst, b, place)
 }
 
 // The name of a kind; a list of no parts has its own.
@@ -60,54 +108,80 @@ fn kind_name(kind: usize, parts: usize) -> &'static str {
     }
 }
 
-// A space, then kind, offset and whole, or - for none, parted by commas.
-fn put_row<const N: usize>(line: &mut ArrayVec<u8, N>, w: u64) {
+// A space, then kind, offset and whole, parted by commas.
+fn put_row(dst: &mut [u8], at: usize, w: u64) -> usize
+    ensures { IsPrefixLen result dst.new }
+{
     let kind = kind_name(row::kind_in(w), row::parts_in(w));
-    let offset = row::offset_in(w);
-    let _ = write!(line, " {kind},{offset},");
-    let _ = match row::whole_in(w).checked_sub(1) {
-        Some(whole) => write!(line, "{whole}"),
-        None => write!(line, "-"),
-    };
+    let a = put_byte(dst, at, b' ');
+    let b = put_word(dst, a, kind.as_bytes());
+    let c = put_byte(dst, b, b',');
+    let d = put_decimal(dst, c, row::offset_in(w) as u64);
+    let e = put_byte(dst, d, b',');
+    put_whole(dst, e, row::whole_in(w))
 }
 
-// ` dirty` if a word is not 0, and the line's end.
-pub fn put_end<const N: usize>(line: &mut ArrayVec<u8, N>, words: &[u64]) -> usize
-    ensures { (result ≡ length line.new.items) × (result ≤ N) }
+// The whole's row, where `whole` is that row plus 1, or - for none.
+fn put_whole(dst: &mut [u8], at: usize, whole: usize) -> usize
+    ensures { IsPrefixLen result dst.new }
 {
-    let _ = if words.iter().all(|w| *w == 0) {
-        writeln!(line)
-    } else {
-        writeln!(line, " dirty")
-    };
-    line.len()
+    match whole.checked_sub(1) {
+        Some(row) => put_decimal(dst, at, row as u64),
+        None => put_byte(dst, at, b'-'),
+    }
+}
+
+// Each of the rows.
+fn put_rows(dst: &mut [u8], at: usize, rows: &[u64]) -> usize
+    ensures { IsPrefixLen result dst.new }
+{
+    let mut next = inside(dst, at);
+    for w in rows {
+        next = put_row(dst, next, *w);
+    }
+    next
+}
+
+// ` dirty` if a word from `from` on is not 0, and the line's end.
+pub fn put_end(dst: &mut [u8], at: usize, table: &[u64], from: usize) -> usize
+    ensures { IsPrefixLen result dst.new }
+{
+    if table[from.min(table.len())..].iter().all(|w| *w == 0) {
+        return put_byte(dst, at, b'\n');
+    }
+    put_word(dst, at, b" dirty\n")
 }
 
 // A reading's answer and the table after it, as one line; the rows where they are at most 100.
-pub fn put_read<const N: usize>(
-    line: &mut ArrayVec<u8, N>,
-    table: &[u64],
-    answer: ReadAnswer,
-) -> usize
-    ensures { (result ≡ length line.new.items) × (result ≤ N) }
+pub fn put_read(dst: &mut [u8], table: &[u64], answer: ReadAnswer) -> usize
+    ensures { IsPrefixLen result dst.new }
 {
     match answer {
         Err(r) => {
-            put_refused(line, r);
-            put_end(line, table);
+            let a = put_refused(dst, 0, r);
+            put_end(dst, a, table, 0)
         }
         Ok(TermsRead { terms, rows }) => {
-            let _ = write!(line, "ok {terms} {rows}");
-            let (used, rest) = table.split_at(rows.min(table.len()));
-            if rows <= 100 {
-                for w in used {
-                    put_row(line, *w);
-                }
-            }
-            put_end(line, rest);
+            let shown = if rows <= 100 { rows } else { 0 };
+            let a = put_word(dst, 0, b"ok");
+            let b = put_number(dst, a, terms);
+            let c = put_number(dst, b, rows);
+            let d = put_rows(dst, c, &table[..shown.min(table.len())]);
+            put_end(dst, d, table, rows)
         }
     }
-    line.len()
+}
+
+// The end of the line that starts at `from`.
+pub fn line_end(src: &[u8], from: usize) -> usize
+    ensures { IsPrefixLen result src.now × (min from (length src.now) ≤ result) }
+{
+    for i in from..src.len() {
+        if src[i] == b'\n' {
+            return i;
+        }
+    }
+    src.len()
 }
 
 // The value of a hex digit.
@@ -122,15 +196,15 @@ fn digit(x: u8) -> u8
 }
 
 // The bytes that pairs of hex digits stand for.
-fn push_hex<const N: usize>(
-    case: &mut ArrayVec<u8, N>,
-    hex: &[u8],
-) -> Result<(), CapacityError<u8>> {
+fn decode_hex(dst: &mut [u8], at: usize, hex: &[u8]) -> usize
+    ensures { IsPrefixLen result dst.new }
+{
+    let mut next = inside(dst, at);
     let (pairs, _) = hex.as_chunks::<2>();
     for [high, low] in pairs {
-        case.try_push(digit(*high) * 16 + digit(*low))?;
+        next = put_byte(dst, next, digit(*high) * 16 + digit(*low));
     }
-    Ok(())
+    next
 }
 
 // The number that decimal digits stand for; of more than six digits the first ones alone.
@@ -147,18 +221,41 @@ fn decimal(digits: &[u8]) -> usize
     n
 }
 
+// The bytes of dst from `from` up to `to` once more, after the first `at`.
+fn put_again(dst: &mut [u8], at: usize, from: usize, to: usize) -> usize
+    ensures { IsPrefixLen result dst.new }
+{
+    let mut next = inside(dst, at);
+    for i in from..inside(dst, to) {
+        let x = dst[i];
+        next = put_byte(dst, next, x);
+    }
+    next
+}
+
+// The bytes of dst from `from` up to `to`, which are its last, repeated until they stand there `times` times or dst is full.
+fn repeat(dst: &mut [u8], from: usize, to: usize, times: usize) -> usize
+    ensures { IsPrefixLen result dst.new }
+{
+    let mut next = inside(dst, to);
+    for _ in 1..times {
+        if next == dst.len() {
+            return next;
+        }
+        next = put_again(dst, next, from, to);
+    }
+    next
+}
+
 // The bytes of one word; a count of 0 counts as 1.
-fn push_word<const N: usize>(
-    case: &mut ArrayVec<u8, N>,
-    word: &[u8],
-) -> Result<(), CapacityError<u8>> {
+fn decode_word(dst: &mut [u8], at: usize, word: &[u8]) -> usize
+    ensures { IsPrefixLen result dst.new }
+{
     match word.iter().position(|x| *x == b'*') {
-        None => push_hex(case, word),
+        None => decode_hex(dst, at, word),
         Some(star) => {
-            for _ in 0..decimal(&word[..star]).max(1) {
-                push_hex(case, &word[star + 1..])?;
-            }
-            Ok(())
+            let next = decode_hex(dst, at, &word[star + 1..]);
+            repeat(dst, at, next, decimal(&word[..star]))
         }
     }
 }
@@ -177,16 +274,15 @@ pub fn verb_of(line: &[u8]) -> Verb
     }
 }
 
-// Puts the bytes of a line's words after its verb, as far as the case has room, and answers how many bytes it then has.
-pub fn decode_line<const N: usize>(case: &mut ArrayVec<u8, N>, line: &[u8]) -> usize
-    ensures { (result ≡ length case.new.items) × (result ≤ N) }
+// The bytes of a line's words after its verb.
+pub fn decode_line(dst: &mut [u8], line: &[u8]) -> usize
+    ensures { IsPrefixLen result dst.new }
 {
+    let mut next = 0usize;
     for word in line.split(|x| *x == b' ').skip(1) {
-        if push_word(case, word).is_err() {
-            return case.len();
-        }
+        next = decode_word(dst, next, word);
     }
-    case.len()
+    next
 }
 
 // The byte at `at`; 0 where there is none.
@@ -216,6 +312,13 @@ pub fn is_payload(case: &[u8]) -> bool
     matches!(byte(case, 0), b'p' | b'P' | b'q')
 }
 
+// n, but at most all the bytes.
+pub fn inside(bytes: &[u8], n: usize) -> usize
+    ensures { IsPrefixLen result bytes.now }
+{
+    n.min(bytes.len())
+}
+
 // How many words of the table are lent.
 pub fn rows_lent(case: &[u8], table: &[u64]) -> usize
     ensures { IsPrefixLen result table.now }
@@ -227,7 +330,7 @@ pub fn rows_lent(case: &[u8], table: &[u64]) -> usize
 pub fn room_lent(case: &[u8], out: &[u8]) -> usize
     ensures { IsPrefixLen result out.now }
 {
-    number3(case, 3).min(out.len())
+    inside(out, number3(case, 3))
 }
 
 // n of the atom list.
@@ -252,7 +355,7 @@ pub fn places_lent(case: &[u8], places: &[u8]) -> usize
         b'S' | b'P' => sizes::LIST_BYTES - 1,
         _ => sizes::LIST_BYTES,
     };
-    n.min(places.len())
+    inside(places, n)
 }
 
 // How many of the atom list's lengths are lent.

@@ -1,14 +1,11 @@
 // A case, and what the lines of `ask` and `word` are made of.
 ghost use Rattle.std.specs.Prelude.{◌≡◌, slice_index};
+ghost use Rattle.io.specs.Counts.{IsPrefixLen};
 ghost use Rattle.vector_lines.specs.Fields.{payload_form};
 
-use arrayvec::ArrayVec;
 use connection::Connection;
-use std::io::{self, Write};
 use term_spec::Refusal;
-
-// The line that answers a case.
-pub type Line = ArrayVec<u8, 140000>;
+use vector_lines::{put_byte, put_decimal, put_word};
 
 // All bytes of a case, the message among them, and what is lent of the atom list.
 #[derive(Clone, Copy)]
@@ -44,38 +41,61 @@ impl Case<'_> {
     }
 }
 
+// A word, then a comma and n in decimal.
+pub fn put_named(dst: &mut [u8], at: usize, word: &[u8], n: u64) -> usize
+    ensures { IsPrefixLen result dst.new }
+{
+    let a = put_word(dst, at, word);
+    let b = put_byte(dst, a, b',');
+    put_decimal(dst, b, n)
+}
+
+// A word and two numbers, parted by commas.
+pub fn put_pair(dst: &mut [u8], at: usize, word: &[u8], first: usize, second: usize) -> usize
+    ensures { IsPrefixLen result dst.new }
+{
+    let a = put_named(dst, at, word, first as u64);
+    put_named(dst, a, b"", second as u64)
+}
+
 // A refusal's number and place.
-pub fn put_refused(line: &mut Line, r: Refusal) -> io::Result<()> {
-    let Refusal { number, place } = r;
-    write!(line, "refused,{number},{place}")
+pub fn put_refused(dst: &mut [u8], at: usize, r: Refusal) -> usize
+    ensures { IsPrefixLen result dst.new }
+{
+    put_pair(dst, at, b"refused", usize::from(r.number), r.place)
 }
 
 // Whether the text is the n bytes of src from `start` on.
 fn stands(src: &[u8], start: usize, n: usize, text: &[u8]) -> bool {
-    match src.get(start..) {
-        Some(rest) => text.len() == n && rest.starts_with(text),
-        None => false,
+    if text.len() != n || src.len() < start || src.len() - start < n {
+        return false;
     }
+    octets::same(src, start, text, 0, n)
 }
 
 // ` differs` if the text is not that stretch of src.
 pub fn put_differs(
-    line: &mut Line,
+    dst: &mut [u8],
+    at: usize,
     src: &[u8],
     start: usize,
     n: usize,
     text: &[u8],
-) -> io::Result<()> {
+) -> usize
+    ensures { IsPrefixLen result dst.new }
+{
     if stands(src, start, n, text) {
-        return Ok(());
+        return put_word(dst, at, b"");
     }
-    write!(line, " differs")
+    put_word(dst, at, b" differs")
 }
 
 // A space, but not at the line's start.
-pub fn put_space(line: &mut Line) -> io::Result<()> {
-    if line.is_empty() {
-        return Ok(());
+pub fn put_space(dst: &mut [u8], at: usize) -> usize
+    ensures { IsPrefixLen result dst.new }
+{
+    if at == 0 {
+        return 0;
     }
-    write!(line, " ")
+    put_byte(dst, at, b' ')
 }

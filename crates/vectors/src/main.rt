@@ -7,26 +7,30 @@ mod read;
 mod word;
 mod write;
 
-use arrayvec::ArrayVec;
-use case::{Case, Line};
-use std::io::Write;
+ghost use Rattle.io.specs.Counts.{IsPrefixLen};
+
+use case::Case;
 use vector_lines::Verb;
 
 // Standard output's number.
 const STDOUT: i32 = 1;
 
-fn put_line(line: &mut Line, verb: Verb, case: Case) -> std::io::Result<()> {
+fn put_line(dst: &mut [u8], verb: Verb, case: Case) -> usize
+    ensures { IsPrefixLen result dst.new }
+{
     match verb {
-        Verb::Read => read::put_line(line, case),
-        Verb::Write => write::put_line(line, case),
-        Verb::Ask => ask::put_line(line, case),
-        Verb::Word => word::put_line(line, case),
-        Verb::Unknown => writeln!(line, "unknown"),
+        Verb::Read => read::put_line(dst, case),
+        Verb::Write => write::put_line(dst, case),
+        Verb::Ask => ask::put_line(dst, case),
+        Verb::Word => word::put_line(dst, case),
+        Verb::Unknown => vector_lines::put_word(dst, 0, b"unknown\n"),
     }
 }
 
 // Puts the answer to the case that has these bytes.
-fn put_case(line: &mut Line, verb: Verb, bytes: &[u8]) -> std::io::Result<()> {
+fn put_case(dst: &mut [u8], verb: Verb, bytes: &[u8]) -> usize
+    ensures { IsPrefixLen result dst.new }
+{
     let mut places = [0u8; 8161];
     let mut lengths = [0u16; 256];
     let start = vector_lines::fill_list(bytes, &mut places, &mut lengths);
@@ -38,21 +42,18 @@ fn put_case(line: &mut Line, verb: Verb, bytes: &[u8]) -> std::io::Result<()> {
         places: &places[..p],
         lengths: &lengths[..l],
     };
-    put_line(line, verb, case)
+    put_line(dst, verb, case)
 }
 
 fn run_all(book: &[u8]) {
-    let mut case: ArrayVec<u8, 80000> = ArrayVec::new();
-    let mut answer = Line::new();
+    // Of a case that is too long the first bytes alone are asked about, and of an answer that is too long the first alone are printed.
+    let mut case = [0u8; 80000];
+    let mut answer = [0u8; 140000];
     for line in book.split_inclusive(|x| *x == b'\n') {
         let line = line.strip_suffix(b"\n").unwrap_or(line);
-        case.clear();
-        // Of a case that is too long the first bytes alone are asked about.
-        vector_lines::decode_line(&mut case, line);
-        answer.clear();
-        // An answer that is too long is printed as far as there is room.
-        let _ = put_case(&mut answer, vector_lines::verb_of(line), case.as_slice());
-        io::write_all(STDOUT, answer.as_slice());
+        let n = vector_lines::decode_line(&mut case, line);
+        let k = put_case(&mut answer, vector_lines::verb_of(line), &case[..n]);
+        io::write_all(STDOUT, &answer[..k]);
     }
 }
 

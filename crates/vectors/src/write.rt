@@ -1,33 +1,37 @@
 // A case that is written: `refused N P`, or `ok HEX`; ` touched` after it if a byte of the output past those written changed, and ` dirty` at
 // the end if a word of the scratch table is not zero. Before, every byte of the output is 165 and the table has ones in every bit.
-use crate::case::{Case, Line};
-use std::io::{self, Write};
+ghost use Rattle.io.specs.Counts.{IsPrefixLen};
+
+use crate::case::Case;
 use term_spec::{TermsWritten, WriteAnswer};
 
+// ` touched` if a byte of the rest of the output is not 165, then ` dirty` if a word is not 0, and the line's end.
+fn put_after(dst: &mut [u8], at: usize, scratch: &[u64], rest: &[u8]) -> usize
+    ensures { IsPrefixLen result dst.new }
+{
+    if rest.iter().all(|x| *x == 165) {
+        return vector_lines::put_end(dst, at, scratch, 0);
+    }
+    let a = vector_lines::put_word(dst, at, b" touched");
+    vector_lines::put_end(dst, a, scratch, 0)
+}
+
 // A writing's answer, and output and table after it, as one line.
-fn put_written(
-    line: &mut Line,
-    scratch: &[u64],
-    output: &[u8],
-    answer: WriteAnswer,
-) -> io::Result<()> {
-    let rest = match answer {
+fn put_written(dst: &mut [u8], scratch: &[u64], output: &[u8], answer: WriteAnswer) -> usize
+    ensures { IsPrefixLen result dst.new }
+{
+    match answer {
         Err(r) => {
-            vector_lines::put_refused(line, r);
-            output
+            let a = vector_lines::put_refused(dst, 0, r);
+            put_after(dst, a, scratch, output)
         }
         Ok(TermsWritten { length, .. }) => {
-            let (written, rest) = output.split_at(length.min(output.len()));
-            write!(line, "ok ")?;
-            vector_lines::put_hex(line, written);
-            rest
+            let (written, rest) = output.split_at(vector_lines::inside(output, length));
+            let a = vector_lines::put_word(dst, 0, b"ok ");
+            let b = vector_lines::put_hex(dst, a, written);
+            put_after(dst, b, scratch, rest)
         }
-    };
-    if !rest.iter().all(|x| *x == 165) {
-        write!(line, " touched")?;
     }
-    vector_lines::put_end(line, scratch);
-    Ok(())
 }
 
 fn write(case: Case, scratch: &mut [u64], output: &mut [u8]) -> WriteAnswer {
@@ -45,7 +49,9 @@ fn write(case: Case, scratch: &mut [u64], output: &mut [u8]) -> WriteAnswer {
     writer::write_standalone(connection, msg, n, places, lengths, scratch, output)
 }
 
-pub fn put_line(line: &mut Line, case: Case) -> io::Result<()> {
+pub fn put_line(dst: &mut [u8], case: Case) -> usize
+    ensures { IsPrefixLen result dst.new }
+{
     let mut scratch = [u64::MAX; 8193];
     let mut output = [165u8; 65600];
     let rows = vector_lines::rows_lent(case.bytes, &scratch);
@@ -53,5 +59,5 @@ pub fn put_line(line: &mut Line, case: Case) -> io::Result<()> {
     let scratch = &mut scratch[..rows];
     let output = &mut output[..room];
     let answer = write(case, scratch, output);
-    put_written(line, scratch, output, answer)
+    put_written(dst, scratch, output, answer)
 }
