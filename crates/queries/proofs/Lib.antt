@@ -3,3 +3,4 @@ pub mod Numbers
 pub mod Texts
 pub mod Rows
 pub mod Calls
+pub mod Ways
