@@ -1,7 +1,7 @@
 // Texts: whether bytes are a text in UTF-8 or Latin-1, and Latin-1 as UTF-8.
 #![tactic(auto)]
 
-ghost use Rattle.std.specs.Prelude.{◌≡◌, true, false, List, [], ◌∷◌, ◌+◌, ◌*◌, ◌≤◌, ◌<◌, length, take, drop, Err, IfErr, MatchResult};
+ghost use Rattle.std.specs.Prelude.{◌≡◌, true, false, List, [], ◌∷◌, ◌+◌, ◌*◌, ◌≤◌, ◌<◌, length, take, drop, Ok, Err, IfErr, MatchResult};
 ghost use Rattle.std.proofs.lemmas.List.Edits.{sets};
 ghost use Rattle.term_spec.specs.Text.{holds, lines, first, utf_8, latin_1, coding_of, check, encode, encodes};
 ghost use Rattle.term_spec.specs.Text as texts;
@@ -144,21 +144,36 @@ fn ascii_start(s: &[u8]) -> usize
     n
 }
 
-// Whether `s` is a text of at most 255 characters in UTF-8, or the offset at which it fails.
-fn check_utf8(s: &[u8]) -> Result<(), usize>
-    ensures { result ≡ shown (check utf_8 s.now) }
+// How far `s` goes as a text of at most 255 characters in UTF-8: to the offset at which it fails, else to its end. A number and no Result: a Result's case would be set in the loop for each character (docs/DECISIONS.md).
+fn utf8_reach(s: &[u8]) -> usize
+    ensures { (result < length s.now → Err result ≡ shown (check utf_8 s.now)) × (length s.now ≤ result → Ok tt ≡ shown (check utf_8 s.now)) }
 {
     let mut at = ascii_start(s);
     let mut count = at;
     // A while and no for: how far the next character reaches is known only when it has been read.
     while at < s.len() {
         if count == sizes::CHARACTERS_MOST {
-            return Err(at);
+            return at;
         }
-        at = character_at(s, at)?;
+        match character_at(s, at) {
+            Ok(next) => {
+                at = next;
+            }
+            Err(place) => {
+                return place;
+            }
+        }
         count += 1;
     }
-    Ok(())
+    s.len()
+}
+
+// Whether `s` is a text of at most 255 characters in UTF-8, or the offset at which it fails.
+fn check_utf8(s: &[u8]) -> Result<(), usize>
+    ensures { result ≡ shown (check utf_8 s.now) }
+{
+    let at = utf8_reach(s);
+    if at < s.len() { Err(at) } else { Ok(()) }
 }
 
 // Whether `s` is a text of at most 255 characters in Latin-1, or the offset at which it fails.
